@@ -1,0 +1,16 @@
+-- What a frame is: its geometry, its line and its bytes.
+use Rattle.std.specs.Prelude.{◌≡◌, ℕ, List}
+use Rattle.frame_view.specs.declared.geometry.Geometry.{Geometry}
+use Rattle.frame_view.specs.declared.frame.Frame.{Frame}
+
+abbrev pub line_of : Frame → List ℕ
+line_of f = f.line.items
+
+abbrev pub bytes_of : Frame → List ℕ
+bytes_of f = f.bytes.items
+
+-- a frame of this geometry with this line and these bytes
+pub record IsFrameWith (its_geometry : Geometry) (its_line its_bytes : List ℕ) (f : Frame) : Type 0 where
+  pub geometry : f.geometry ≡ its_geometry
+  pub line : line_of f ≡ its_line
+  pub bytes : bytes_of f ≡ its_bytes

@@ -1,0 +1,39 @@
+-- The rows of a frame's planes, seen in its flat bytes.
+use Rattle.std.specs.Prelude.{◌≡◌, ℕ, ◌+◌, ◌*◌, ◌<◌, List, map, slice_index, slice_range}
+use Rattle.std.specs.List.{range_with_len}
+use Rattle.y4m_header.specs.Chroma.{plane_count}
+use Rattle.frame_view.specs.declared.geometry.Geometry.{Geometry}
+use Rattle.frame_view.specs.declared.plane.Plane.{Plane}
+use Rattle.frame_view.specs.Places.{plane_width, plane_height, row_start, frame_len}
+
+abbrev pub sample : Geometry → List ℕ → ℕ → ℕ → ℕ → ℕ
+sample g bytes p y x = slice_index bytes (row_start g p y + x)
+
+-- there is a sample at this plane, row and column
+pub record IsPlace (g : Geometry) (p y x : ℕ) : Type 0 where
+  pub plane : p < plane_count g.chroma
+  pub row : y < plane_height g p
+  pub column : x < plane_width g p
+
+-- each byte of a frame is the sample of one place, and of one alone
+abbrev pub EachByteInOneRow : Geometry → Type 0
+EachByteInOneRow g = (i : ℕ) → i < frame_len g
+    → (p y x : ℕ) × IsPlace g p y x × (i ≡ row_start g p y + x) × ((q z v : ℕ) → IsPlace g q z v → i ≡ row_start g q z + v → (q ≡ p) × (z ≡ y) × (v ≡ x))
+
+-- the rows from one place on to another, which is left out, one after another
+abbrev pub run_of : Geometry → List ℕ → ℕ → ℕ → ℕ → List ℕ
+run_of g bytes p from to = slice_range bytes (row_start g p from) (row_start g p to)
+
+abbrev pub row_of : Geometry → List ℕ → ℕ → ℕ → List ℕ
+row_of g bytes p y = run_of g bytes p y (y + 1)
+
+-- the rows of a plane, from the top
+abbrev pub rows_of : Geometry → List ℕ → ℕ → List (List ℕ)
+rows_of g bytes p = map (row_of g bytes p) (range_with_len 0 (plane_height g p))
+
+abbrev pub plane_run : Plane → ℕ → ℕ → List ℕ
+plane_run plane from to = slice_range plane.samples.now (from * plane.columns) (to * plane.columns)
+
+-- what a plane is: its rows, from the top
+abbrev pub plane_rows : Plane → List (List ℕ)
+plane_rows plane = map (λ y. plane_run plane y (y + 1)) (range_with_len 0 plane.rows)

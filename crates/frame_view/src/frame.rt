@@ -1,0 +1,189 @@
+// A frame.
+ghost use Rattle.std.specs.Prelude.{◌≡◌, vec_len};
+ghost use Rattle.y4m_header.specs.Chroma.{data_len};
+ghost use Rattle.y4m_header.specs.FrameLine.{IsFrameLine};
+
+use crate::geometry::Geometry;
+use crate::plane::Plane;
+use std::alloc::{AllocError, Global};
+use thiserror::Error;
+
+/// One frame: its geometry, its frame line without the line feed, and the samples of its planes.
+///
+/// The planes stand one after another in a single buffer, each from its top row on, as a stream has them.
+#[derive(Debug, Drop)]
+pub struct Frame {
+    pub(crate) geometry: Geometry,
+    pub(crate) line: Vec<u8>,
+    pub(crate) bytes: Vec<u8>,
+    pub ghost fits: { vec_len bytes ≡ data_len geometry.width geometry.height geometry.chroma },
+    pub ghost lined: { ∥ IsFrameLine line.items ∥₁ },
+}
+
+/// The data isn't as long as the geometry asks. What was handed over comes back.
+#[derive(Debug, Drop, Error)]
+#[error("WrongLength")]
+pub struct WrongLength {
+    pub line: Vec<u8>,
+    pub bytes: Vec<u8>,
+}
+
+impl Frame {
+    ghost use Rattle.std.specs.Prelude.{◌≡◌, ℕ, ◌+◌, ◌*◌, ◌-◌, ◌<◌, ◌≤◌, ◌↔◌, length, replicate, IsOk, IfOk, IfErr, OnOk, OnErr};
+    ghost use Rattle.std.specs.Borrow.{sem};
+    ghost use Rattle.y4m_header.specs.Chroma.{plane_count};
+    ghost use Rattle.frame_view.specs.Places.{plane_width, plane_height, row_start, frame_len};
+    ghost use Rattle.frame_view.specs.Rows.{row_of, run_of, rows_of, plane_rows, plane_run};
+    ghost use Rattle.frame_view.specs.Frame.{line_of, bytes_of, IsFrameWith};
+    ghost use Rattle.frame_view.specs.Lending.{LendsBytes, LendsRows};
+
+    /// A frame of this line and data; the line has no line feed.
+    pub fn new(geometry: Geometry, line: Vec<u8>, bytes: Vec<u8>) -> Result<Frame, WrongLength>
+        requires { IsFrameLine line.items }
+        ensures accepted { IsOk result ↔ (vec_len bytes ≡ frame_len geometry) }
+        ensures ok { IfOk result (IsFrameWith geometry line.items bytes.items) }
+        ensures err { IfErr result (λ e. (e.line ≡ line) × (e.bytes ≡ bytes)) }
+    {
+        if bytes.len() != geometry.bytes() {
+            return Err(WrongLength { line, bytes });
+        }
+        Ok(Frame {
+            geometry,
+            line,
+            bytes,
+        })
+    }
+
+    /// A frame whose samples are all 0.
+    pub fn blank(alloc: Global, geometry: Geometry, line: &[u8]) -> Result<Frame, AllocError>
+        requires { IsFrameLine line.now }
+        ensures { IfOk result (IsFrameWith geometry line.now (replicate (frame_len geometry) 0)) }
+    {
+        let line = line.to_vec(alloc)?;
+        let bytes = vec![in alloc; 0; geometry.bytes()]?;
+        Ok(Frame {
+            geometry,
+            line,
+            bytes,
+        })
+    }
+
+    pub fn geometry(&self) -> Geometry
+        ensures { result ≡ self.now.geometry }
+    {
+        self.geometry
+    }
+
+    /// The frame line, without its line feed.
+    pub fn line(&self) -> &[u8]
+        ensures value { result.now ≡ line_of self.now }
+        ensures is_line { ∥ IsFrameLine result.now ∥₁ }
+    {
+        &self.line
+    }
+
+    /// The samples of all planes, in the order Y, Cb, Cr, A.
+    pub fn data(&self) -> &[u8]
+        ensures value { result.now ≡ bytes_of self.now }
+        ensures len { length result.now ≡ frame_len self.now.geometry }
+    {
+        self.bytes.as_slice()
+    }
+
+    /// The samples of all planes, lent for writing.
+    pub fn data_mut(&mut self) -> &mut [u8]
+        ensures* writes_back { sem 𝓛 (LendsBytes self.entry result) }
+        ensures value { result.now ≡ bytes_of self.old }
+        ensures len { length result.now ≡ frame_len self.old.geometry }
+    {
+        self.bytes.as_mut_slice()
+    }
+
+    /// Puts this line in place of the frame's own; the samples stay.
+    pub fn set_line(&mut self, alloc: Global, line: &[u8]) -> Result<(), AllocError>
+        requires { IsFrameLine line.now }
+        ensures geometry { self.new.geometry ≡ self.old.geometry }
+        ensures bytes { bytes_of self.new ≡ bytes_of self.old }
+        ensures ok { OnOk result (line_of self.new ≡ line.now) }
+        ensures err { OnErr result (line_of self.new ≡ line_of self.old) }
+    {
+        if self.line.as_slice() != line {
+            self.line = line.to_vec(alloc)?;
+        }
+        Ok(())
+    }
+
+    /// The line and the data.
+    pub fn into_parts(self) -> (Vec<u8>, Vec<u8>)
+        ensures line { result.0.items ≡ line_of self }
+        ensures bytes { result.1.items ≡ bytes_of self }
+    {
+        let Frame { line, bytes, .. } = self;
+        (line, bytes)
+    }
+
+    /// Plane `p`: 0 is Y, 1 Cb, 2 Cr, 3 A.
+    pub fn plane(&self, p: usize) -> Plane<'_>
+        requires { p < plane_count self.now.geometry.chroma }
+        ensures columns { result.columns ≡ plane_width self.now.geometry p }
+        ensures rows { result.rows ≡ plane_height self.now.geometry p }
+        ensures listed { plane_rows result ≡ rows_of self.now.geometry (bytes_of self.now) p }
+        ensures runs { (from to : ℕ) → from ≤ to → to ≤ result.rows → plane_run result from to ≡ run_of self.now.geometry (bytes_of self.now) p from to }
+    {
+        let size = self.geometry.plane_size(p);
+        let samples = self.rows(p, 0, size.rows);
+        Plane {
+            columns: size.columns,
+            rows: size.rows,
+            samples,
+        }
+    }
+
+    /// Row `y` of plane `p`.
+    #[tactic(auto, using(crate::proofs::Places::next_row, crate::proofs::Places::few_rows))]
+    pub fn row(&self, p: usize, y: usize) -> &[u8]
+        requires plane { p < plane_count self.now.geometry.chroma }
+        requires row { y < plane_height self.now.geometry p }
+        ensures value { result.now ≡ row_of self.now.geometry (bytes_of self.now) p y }
+        ensures len { length result.now ≡ plane_width self.now.geometry p }
+    {
+        self.rows(p, y, y + 1)
+    }
+
+    /// The rows of plane `p` from `from` on to `to`, which is left out, one after another.
+    pub fn rows(&self, p: usize, from: usize, to: usize) -> &[u8]
+        requires plane { p < plane_count self.now.geometry.chroma }
+        requires order { from ≤ to }
+        requires rows { to ≤ plane_height self.now.geometry p }
+        ensures value { result.now ≡ run_of self.now.geometry (bytes_of self.now) p from to }
+        ensures len { length result.now ≡ (to - from) * plane_width self.now.geometry p }
+    {
+        let run = self.geometry.run(p, from, to);
+        &self.bytes[run.start..run.end]
+    }
+
+    /// Row `y` of plane `p`, lent for writing.
+    #[tactic(auto, using(crate::proofs::Places::next_row, crate::proofs::Places::few_rows))]
+    pub fn row_mut(&mut self, p: usize, y: usize) -> &mut [u8]
+        requires plane { p < plane_count self.old.geometry.chroma }
+        requires row { y < plane_height self.old.geometry p }
+        ensures* writes_back { sem 𝓛 (LendsRows self.entry p y result) }
+        ensures value { result.now ≡ row_of self.old.geometry (bytes_of self.old) p y }
+        ensures len { length result.now ≡ plane_width self.old.geometry p }
+    {
+        self.rows_mut(p, y, y + 1)
+    }
+
+    /// The rows of plane `p` from `from` on to `to`, which is left out, lent for writing as one slice.
+    pub fn rows_mut(&mut self, p: usize, from: usize, to: usize) -> &mut [u8]
+        requires plane { p < plane_count self.old.geometry.chroma }
+        requires order { from ≤ to }
+        requires rows { to ≤ plane_height self.old.geometry p }
+        ensures* writes_back { sem 𝓛 (LendsRows self.entry p from result) }
+        ensures value { result.now ≡ run_of self.old.geometry (bytes_of self.old) p from to }
+        ensures len { length result.now ≡ (to - from) * plane_width self.old.geometry p }
+    {
+        let run = self.geometry.run(p, from, to);
+        self.bytes.slice_mut(run.start..run.end)
+    }
+}

@@ -1,0 +1,16 @@
+// Frames, and their planes as lists of rows of one buffer.
+#![tactic(auto)]
+
+pub mod frame;
+pub mod geometry;
+pub mod laws;
+pub mod plane;
+pub mod planes_mut;
+#[cfg(test)]
+mod tests;
+
+pub use frame::{Frame, WrongLength};
+pub use geometry::{Geometry, LentPlane, LentPlanes, PlaneSize};
+pub use laws::rows_part_the_bytes;
+pub use plane::Plane;
+pub use planes_mut::{PlaneMut, split_rows};

@@ -1,0 +1,257 @@
+// Frames of given sizes, with the bytes that the manual page's order of planes and rows gives.
+ghost use Rattle.std.specs.Prelude.{◌≡◌, IfOk, length, codes};
+ghost use Rattle.frame_view.specs.Frame.{IsFrameWith};
+
+use crate::{Frame, Geometry, PlaneMut, PlaneSize, lend_planes, split_rows};
+use std::alloc::Global;
+use std::test::Fail;
+use y4m_header::{Chroma, check_frame_line};
+
+fn geometry_2x6() -> Geometry
+    ensures width { result.width ≡ 2 }
+    ensures height { result.height ≡ 6 }
+    ensures chroma { result.chroma ≡ Chroma.S420 }
+{
+    Geometry {
+        width: 2,
+        height: 6,
+        chroma: Chroma::S420,
+    }
+}
+
+/// Luma 0 to 11, then Cb 32 to 34, then Cr 48 to 50.
+const SAMPLES: [u8; 18] = [0, 1, 2, 3, 4, 5, 6, 7, 8, 9, 10, 11, 32, 33, 34, 48, 49, 50];
+
+fn frame(alloc: Global, geometry: Geometry, line: &[u8], samples: &[u8]) -> Result<Frame, Fail>
+    ensures { IfOk result (IsFrameWith geometry line.now samples.now) }
+{
+    check_frame_line(line)?;
+    Ok(Frame::new(geometry, line.to_vec(alloc)?, samples.to_vec(alloc)?)?)
+}
+
+#[test]
+fn sizes_in_bytes(rt: HostRuntime) {
+    let at_444 = Geometry {
+        width: 3,
+        height: 2,
+        chroma: Chroma::S444,
+    };
+    assert_eq!(rt; at_444.bytes(), 18);
+    let at_420 = Geometry {
+        width: 2,
+        height: 2,
+        chroma: Chroma::S420,
+    };
+    assert_eq!(rt; at_420.bytes(), 6);
+    assert_eq!(rt; at_420.planes(), 3);
+    let largest = Geometry {
+        width: 8192,
+        height: 2048,
+        chroma: Chroma::S444Alpha,
+    };
+    assert_eq!(rt; largest.bytes(), 67_108_864);
+}
+
+#[test]
+fn smallest_planes_of_every_form(rt: HostRuntime) {
+    let cases = [
+        (
+            Geometry {
+                width: 2,
+                height: 2,
+                chroma: Chroma::S420,
+            },
+            6,
+        ),
+        (
+            Geometry {
+                width: 2,
+                height: 1,
+                chroma: Chroma::S422,
+            },
+            4,
+        ),
+        (
+            Geometry {
+                width: 4,
+                height: 1,
+                chroma: Chroma::S411,
+            },
+            6,
+        ),
+        (
+            Geometry {
+                width: 1,
+                height: 1,
+                chroma: Chroma::S444,
+            },
+            3,
+        ),
+        (
+            Geometry {
+                width: 1,
+                height: 1,
+                chroma: Chroma::S444Alpha,
+            },
+            4,
+        ),
+        (
+            Geometry {
+                width: 1,
+                height: 1,
+                chroma: Chroma::Mono,
+            },
+            1,
+        ),
+    ];
+    for (geometry, bytes) in cases {
+        assert_eq!(rt; geometry.bytes(), bytes);
+        if geometry.planes() > 1 {
+            assert_eq!(rt;
+                geometry.plane_size(1),
+                PlaneSize {
+                    columns: 1,
+                    rows: 1
+                }
+            );
+            assert_eq!(rt;
+                geometry.plane_size(2),
+                PlaneSize {
+                    columns: 1,
+                    rows: 1
+                }
+            );
+        }
+    }
+}
+
+#[test]
+fn rows_of_a_plane_are_slices_of_the_data(rt: HostRuntime) -> Result<(), Fail> {
+    let frame = frame(rt.alloc(), geometry_2x6(), b"FRAME Ip", &SAMPLES)?;
+    assert_eq!(rt;
+        frame.geometry().plane_size(0),
+        PlaneSize {
+            columns: 2,
+            rows: 6
+        }
+    );
+    assert_eq!(rt;
+        frame.geometry().plane_size(1),
+        PlaneSize {
+            columns: 1,
+            rows: 3
+        }
+    );
+    assert_eq!(rt;
+        frame.geometry().plane_size(2),
+        PlaneSize {
+            columns: 1,
+            rows: 3
+        }
+    );
+    assert_eq!(rt; frame.plane(0).row(5), [10, 11].as_slice());
+    assert_eq!(rt; frame.plane(1).row(0), [32].as_slice());
+    assert_eq!(rt; frame.plane(2).rows(1, 3), [49, 50].as_slice());
+    assert_eq!(rt; frame.row(2, 2), [50].as_slice());
+    assert_eq!(rt; frame.rows(0, 1, 3), [2, 3, 4, 5].as_slice());
+    assert_eq!(rt; frame.line(), b"FRAME Ip".as_slice());
+    assert_eq!(rt; frame.data(), SAMPLES.as_slice());
+    Ok(())
+}
+
+#[test]
+fn data_of_another_length_comes_back(rt: HostRuntime) -> Result<(), Fail> {
+    let line = b"FRAME".as_slice();
+    check_frame_line(line)?;
+    match Frame::new(
+        geometry_2x6(),
+        line.to_vec(rt.alloc())?,
+        SAMPLES[..17].to_vec(rt.alloc())?,
+    ) {
+        Ok(_) => return Err("accepted".into()),
+        Err(wrong) => {
+            assert_eq!(rt; wrong.line.as_slice(), line);
+            assert_eq!(rt; wrong.bytes.as_slice(), &SAMPLES[..17]);
+            assert_eq!(rt; format!(in rt.alloc(); "{wrong}")?.as_str(), "WrongLength");
+        }
+    }
+    Ok(())
+}
+
+#[test]
+fn lent_rows_and_lines_are_written(rt: HostRuntime) -> Result<(), Fail> {
+    let line = b"FRAME".as_slice();
+    check_frame_line(line)?;
+    let mut frame = Frame::blank(rt.alloc(), geometry_2x6(), line)?;
+    assert_eq!(rt; frame.data(), [0; 18].as_slice());
+    assert_eq!(rt;
+        frame.geometry().plane_size(0),
+        PlaneSize {
+            columns: 2,
+            rows: 6
+        }
+    );
+    assert_eq!(rt;
+        frame.geometry().plane_size(2),
+        PlaneSize {
+            columns: 1,
+            rows: 3
+        }
+    );
+    frame.row_mut(2, 1).fill(7);
+    frame.rows_mut(0, 4, 6).fill(9);
+    frame.data_mut()[12] = 5;
+    assert_eq!(rt;
+        frame.data(),
+        [0, 0, 0, 0, 0, 0, 0, 0, 9, 9, 9, 9, 5, 0, 0, 0, 7, 0].as_slice()
+    );
+    let tagged = b"FRAME XA=b".as_slice();
+    check_frame_line(tagged)?;
+    frame.set_line(rt.alloc(), tagged)?;
+    frame.set_line(rt.alloc(), tagged)?;
+    let (line, bytes) = frame.into_parts();
+    assert_eq!(rt; line.as_slice(), tagged);
+    assert_eq!(rt; bytes.len(), 18);
+    Ok(())
+}
+
+#[test]
+fn planes_lent_at_once_are_written_in_any_order(rt: HostRuntime) -> Result<(), Fail> {
+    let line = b"FRAME".as_slice();
+    check_frame_line(line)?;
+    let mut frame = Frame::blank(rt.alloc(), geometry_2x6(), line)?;
+    lend_planes!(&mut frame => luma, blue, red, alpha);
+    red.samples.fill(3);
+    alpha.samples.fill(4);
+    let columns = luma.columns;
+    assert_eq!(rt; (columns, luma.samples.len()), (2, 12));
+    let (top, bottom) = split_rows(luma.samples, columns, 5);
+    bottom.fill(1);
+    let mut top = PlaneMut::over(columns, top);
+    top.put_row(1, &[5, 6]);
+    blue.samples.fill(2);
+    assert_eq!(rt;
+        frame.data(),
+        [0, 0, 5, 6, 0, 0, 0, 0, 0, 0, 1, 1, 2, 2, 2, 3, 3, 3].as_slice()
+    );
+    Ok(())
+}
+
+#[test]
+fn four_planes_of_one_pixel(rt: HostRuntime) -> Result<(), Fail> {
+    let line = b"FRAME".as_slice();
+    check_frame_line(line)?;
+    let geometry = Geometry {
+        width: 1,
+        height: 1,
+        chroma: Chroma::S444Alpha,
+    };
+    let mut frame = Frame::blank(rt.alloc(), geometry, line)?;
+    lend_planes!(&mut frame => luma, blue, red, alpha);
+    alpha.samples.fill(4);
+    luma.samples.fill(1);
+    red.samples.fill(3);
+    blue.samples.fill(2);
+    assert_eq!(rt; frame.data(), [1, 2, 3, 4].as_slice());
+    Ok(())
+}

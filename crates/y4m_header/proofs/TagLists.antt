@@ -1,0 +1,63 @@
+-- The values of a line's tags, read from the left.
+use Rattle.std.proofs.Common.{◌≡◌, ℕ, ◌<◌, Bool, true, false, List, [], ◌∷◌, length, slice_get, None, Some, Option, All, Any, IsTrue, ◌↔◌, refl, arith, suc, zero}
+use Rattle.y4m_header.specs.Number.{IsSize}
+
+-- the first value, and whether there is another
+pub record Found : Type 0 where
+  pub first : Option (List ℕ)
+  pub repeated : Bool
+
+-- what the values that are left make of what was found before them
+abbrev pub finish : Option (List ℕ) → Bool → List (List ℕ) → Found
+finish first repeated [] = record { first = first; repeated = repeated }
+finish None repeated (value ∷ values) = finish (Some value) repeated values
+finish (Some value) repeated (another ∷ values) = finish (Some value) true values
+
+-- a first value stays
+pub first_stays : (value : List ℕ) (repeated : Bool) (values : List (List ℕ)) → (finish (Some value) repeated values).first ≡ Some value
+first_stays value repeated [] = refl
+first_stays value repeated (another ∷ values) = first_stays value true values
+
+pub first_is : (values : List (List ℕ)) → (finish None false values).first ≡ slice_get values 0
+first_is [] = refl
+first_is (value ∷ values) = first_stays value false values
+
+pub repeated_stays : (value : List ℕ) (values : List (List ℕ)) → (finish (Some value) true values).repeated ≡ true
+repeated_stays value [] = refl
+repeated_stays value (another ∷ values) = repeated_stays value values
+
+pub repeated_is : (values : List (List ℕ)) → IsTrue ((finish None false values).repeated) ↔ (1 < length values)
+repeated_is [] = (λ e. absurd (cc), λ h. absurd (omega arith))
+repeated_is (value ∷ []) = (λ e. absurd (cc), λ h. absurd (omega arith))
+repeated_is (value ∷ another ∷ values) = (λ e. omega arith, λ h. repeated_stays value values)
+
+-- what holds of the sizes that are left holds of them all
+pub record KeepsSizes (whole left : List (List ℕ)) : Type 0 where
+  pub good : All IsSize left → All IsSize whole
+  pub bad : Any (λ value. ¬ IsSize value) left → Any (λ value. ¬ IsSize value) whole
+
+pub All-cons : {X : Type 0} (P : X → Type 0) (x : X) (xs : List X) → P x → All P xs → All P (x ∷ xs)
+All-cons P x xs here there zero d h = here
+All-cons P x xs here there (suc k) d h = there k d (omega arith)
+
+pub All-nil : {X : Type 0} (P : X → Type 0) → All P []
+All-nil P k d h = absurd (omega arith)
+
+pub Any-head : {X : Type 0} (P : X → Type 0) (x : X) (xs : List X) → P x → Any P (x ∷ xs)
+Any-head P x xs h = (0, x, omega arith, refl, h)
+
+pub Any-tail : {X : Type 0} (P : X → Type 0) (x : X) (xs : List X) → Any P xs → Any P (x ∷ xs)
+Any-tail P x xs h = (suc h.0, h.1, omega (arith, h.2), h.3, h.4)
+
+-- one more size was good
+pub keeps_next : (whole : List (List ℕ)) (value : List ℕ) (left : List (List ℕ)) → KeepsSizes whole (value ∷ left) → IsSize value → KeepsSizes whole left
+keeps_next whole value left keeps size = record {
+  good = λ all. keeps.good (All-cons IsSize value left size all);
+  bad = λ any. keeps.bad (Any-tail (λ v. ¬ IsSize v) value left any);
+}
+
+pub keeps_bad : (whole : List (List ℕ)) (value : List ℕ) (left : List (List ℕ)) → KeepsSizes whole (value ∷ left) → ¬ IsSize value → Any (λ v. ¬ IsSize v) whole
+keeps_bad whole value left keeps none = keeps.bad (Any-head (λ v. ¬ IsSize v) value left none)
+
+pub keeps_all : (whole : List (List ℕ)) → KeepsSizes whole [] → All IsSize whole
+keeps_all whole keeps = keeps.good (All-nil IsSize)

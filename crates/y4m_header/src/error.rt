@@ -1,0 +1,34 @@
+// What is wrong with a line.
+use thiserror::Error;
+
+/// Why a line is no header line, or no frame line. Each is printed as its own name.
+#[derive(Clone, Copy, Debug, PartialEq, Eq, Error)]
+pub enum HeaderError {
+    /// The line isn't `YUV4MPEG2` followed by its end or a space, or is no line of a stream.
+    #[error("NotY4m")]
+    NotY4m,
+    /// A value of W or H isn't 1 to 9 digits that stand for at least 1.
+    #[error("BadNumber")]
+    BadNumber,
+    /// W, H or C stands twice.
+    #[error("RepeatedTag")]
+    RepeatedTag,
+    /// There is no W, or no H.
+    #[error("MissingSize")]
+    MissingSize,
+    /// The value of C, or the want of it, names no chroma form that is read.
+    #[error("UnknownChroma")]
+    UnknownChroma,
+    /// The chroma form's divisors don't divide the size.
+    #[error("NotDivisible")]
+    NotDivisible,
+    /// The width, the height or the frame's data is over its limit.
+    #[error("TooLarge")]
+    TooLarge,
+    /// The line couldn't be kept.
+    #[error("NoMemory")]
+    NoMemory,
+    /// The line isn't `FRAME` followed by its end or a space, or is no line of a stream.
+    #[error("NotFrame")]
+    NotFrame,
+}

@@ -1,0 +1,97 @@
+// The header line.
+ghost use Rattle.std.specs.Prelude.{◌≡◌, ◌≢◌, ◌≤◌, ℕ, IfOk, IfErr, IsErrOf};
+
+use crate::chroma::Chroma;
+use crate::error::HeaderError;
+use crate::picture::read_picture;
+use std::alloc::Global;
+use std::marker::Model;
+
+/// A header line that was accepted, with the size and the chroma form that it states.
+///
+/// The line is kept byte for byte, without its line feed: the tags that nothing here reads (F, I, A, X and any other)
+/// stay as they came.
+#[derive(Debug, Drop)]
+pub struct Header {
+    line: Vec<u8>,
+    width: u32,
+    height: u32,
+    chroma: Chroma,
+}
+
+impl Model for Header {
+    ghost use Rattle.y4m_header.specs.Header.{HeaderValue};
+    ghost use Rattle.y4m_header.specs.HeaderLine.{IsHeaderLine};
+
+    ghost Value = { HeaderValue };
+
+    ghost view = { λ a. record { line = a.line.items; width = a.width; height = a.height; chroma = a.chroma } };
+
+    ghost invariant = { λ a. ∥ IsHeaderLine a.line.items a.width a.height a.chroma ∥₁ };
+}
+
+impl Header {
+    ghost use Rattle.y4m_header.specs.HeaderLine.{IsHeaderLine, IsDivided, IsWithinLimits};
+    ghost use Rattle.y4m_header.specs.Refusal.{IsRefusedAs};
+
+    /// Reads a header line, given without its line feed.
+    pub fn parse(alloc: Global, line: &[u8]) -> Result<Header, HeaderError>
+        // What is kept is the line, and what it states.
+        ensures line { IfOk result (λ header. header.line ≡ line.now) }
+        ensures stated { IfOk result (λ header. IsHeaderLine line.now header.width header.height header.chroma) }
+
+        // A header line is refused for want of memory alone.
+        ensures accepted { (w h : ℕ) (chroma : Chroma) → IsHeaderLine line.now w h chroma
+            → IfErr result (λ error. error ≡ HeaderError.NoMemory) }
+
+        // Each refusal comes only where it is the first that holds, and there always.
+        ensures refused { IfErr result (λ error. IsRefusedAs error line.now) }
+        ensures each { (error : HeaderError) → error ≢ HeaderError.NoMemory → IsRefusedAs error line.now
+            → IsErrOf result error }
+    {
+        let picture = read_picture(line)?;
+        let Ok(line) = line.to_vec(alloc) else {
+            return Err(HeaderError::NoMemory);
+        };
+        Ok(Header {
+            line,
+            width: picture.width,
+            height: picture.height,
+            chroma: picture.chroma,
+        })
+    }
+
+    /// In pixels.
+    pub fn width(&self) -> u32
+        ensures value { result ≡ self.now.width }
+        ensures some { 1 ≤ result }
+        ensures limit { result ≤ 16384 }
+    {
+        self.width
+    }
+
+    /// In pixels.
+    pub fn height(&self) -> u32
+        ensures value { result ≡ self.now.height }
+        ensures some { 1 ≤ result }
+        ensures limit { result ≤ 16384 }
+    {
+        self.height
+    }
+
+    pub fn chroma(&self) -> Chroma
+        ensures value { result ≡ self.now.chroma }
+        ensures divided { IsDivided self.now.width self.now.height result }
+        ensures limits { IsWithinLimits self.now.width self.now.height result }
+    {
+        self.chroma
+    }
+
+    /// The whole line, without its line feed.
+    pub fn line(&self) -> &[u8]
+        ensures value { result.now ≡ self.now.line }
+        ensures is_header { IsHeaderLine self.now.line self.now.width self.now.height self.now.chroma }
+    {
+        &self.line
+    }
+}

@@ -1,0 +1,21 @@
+// The header line and the frame lines of a YUV4MPEG2 stream.
+#![tactic(auto)]
+
+pub mod chroma;
+pub mod error;
+pub mod frame_line;
+pub mod header;
+pub mod laws;
+mod limits;
+pub mod line;
+mod number;
+mod picture;
+mod tags;
+
+pub use chroma::Chroma;
+pub use error::HeaderError;
+pub use frame_line::check_frame_line;
+pub use header::Header;
+
+#[cfg(test)]
+mod tests;

@@ -1,0 +1,78 @@
+// The size and the chroma form that a header line states.
+ghost use Rattle.std.specs.Prelude.{◌≡◌, ◌↔◌, IsTrue, IfOk, IfErr};
+ghost use Rattle.y4m_header.specs.HeaderLine.{IsY4mLine, HasGoodSizes, HasNoRepeat, HasSizes, StatesSize, IsHeaderLine};
+ghost use Rattle.y4m_header.specs.Refusal.{IsRefusedAs, StatesPicture};
+
+use crate::chroma::Chroma;
+use crate::error::HeaderError;
+use crate::limits::{is_divided, is_within_limits};
+use crate::line::{is_line, word};
+use crate::number::number;
+use crate::tags::{all_sizes, tags_with};
+
+#[derive(Clone, Copy, Debug)]
+pub struct Picture {
+    pub width: u32,
+    pub height: u32,
+    pub chroma: Chroma,
+}
+
+fn is_y4m_line(line: &[u8]) -> bool
+    ensures { IsTrue result ↔ IsY4mLine line.now }
+{
+    is_line(line) && word(line) == b"YUV4MPEG2".as_slice()
+}
+
+/// The width and the height.
+fn read_sizes(line: &[u8]) -> Result<(u32, u32), HeaderError>
+    ensures stated { IfOk result (λ size. IsY4mLine line.now × HasGoodSizes line.now × HasNoRepeat line.now
+        × HasSizes line.now × StatesSize line.now size.0 size.1) }
+    ensures refused { IfErr result (λ error. IsRefusedAs error line.now) }
+{
+    if !is_y4m_line(line) {
+        return Err(HeaderError::NotY4m);
+    }
+    if !all_sizes(b'W', line) || !all_sizes(b'H', line) {
+        return Err(HeaderError::BadNumber);
+    }
+    let widths = tags_with(b'W', line);
+    let heights = tags_with(b'H', line);
+    if widths.repeated || heights.repeated || tags_with(b'C', line).repeated {
+        return Err(HeaderError::RepeatedTag);
+    }
+    match (widths.first, heights.first) {
+        (Some(width), Some(height)) => Ok((number(width), number(height))),
+        _ => Err(HeaderError::MissingSize),
+    }
+}
+
+/// What the tags state, whether or not it goes together.
+fn read_tags(line: &[u8]) -> Result<Picture, HeaderError>
+    ensures stated { IfOk result (λ picture. StatesPicture line.now picture.width picture.height picture.chroma) }
+    ensures refused { IfErr result (λ error. IsRefusedAs error line.now) }
+{
+    let (width, height) = read_sizes(line)?;
+    let Some(chroma) = Chroma::named(tags_with(b'C', line).first) else {
+        return Err(HeaderError::UnknownChroma);
+    };
+    Ok(Picture {
+        width,
+        height,
+        chroma,
+    })
+}
+
+/// What a header line states.
+pub fn read_picture(line: &[u8]) -> Result<Picture, HeaderError>
+    ensures stated { IfOk result (λ picture. IsHeaderLine line.now picture.width picture.height picture.chroma) }
+    ensures refused { IfErr result (λ error. IsRefusedAs error line.now) }
+{
+    let picture = read_tags(line)?;
+    if !is_divided(picture.width, picture.height, picture.chroma) {
+        return Err(HeaderError::NotDivisible);
+    }
+    if !is_within_limits(picture.width, picture.height, picture.chroma) {
+        return Err(HeaderError::TooLarge);
+    }
+    Ok(picture)
+}

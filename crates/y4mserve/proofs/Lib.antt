@@ -1,0 +1,4 @@
+pub mod Known
+pub mod Puts
+pub mod Passing
+pub mod Serving

@@ -1,0 +1,9 @@
+pub mod Rest
+pub mod Faults
+pub mod Writes
+pub mod Streams
+pub mod Reads
+pub mod Served
+pub mod Passes
+pub mod Closing
+pub mod Answers

@@ -1,0 +1,188 @@
+use super::main_on;
+use std::alloc::{AllocError, Global};
+use std::io::{self, ErrorKind, Read};
+use std::process::Abort;
+use std::test::Fail;
+
+fn words_of(alloc: Global, line: &str) -> Result<Vec<String>, AllocError> {
+    let mut words = Vec::new(alloc);
+    for word in line.split(' ') {
+        words.push(String::from_str(alloc, word)?)?;
+    }
+    Ok(words)
+}
+
+/// Runs the program with these words, and compares what it writes.
+fn runs(
+    rt: &impl Abort,
+    alloc: Global,
+    line: &str,
+    input: &[u8],
+    output: &[u8],
+    errors: &str,
+    status: u8,
+) -> Result<(), Fail> {
+    let words = words_of(alloc, line)?;
+    let mut written = Vec::new(alloc);
+    let mut faults = Vec::new(alloc);
+    let answer = main_on(alloc, &words, input, &mut written, &mut faults);
+    assert_eq!(rt; answer, status, "{line}");
+    assert_eq!(rt; written.as_slice(), output, "{line}");
+    assert_eq!(rt; faults.as_slice(), errors.as_bytes(), "{line}");
+    Ok(())
+}
+
+/// Runs `filter invert` on an input whose header is refused.
+fn refuses_header(rt: &impl Abort, alloc: Global, input: &[u8], errors: &str) -> Result<(), Fail> {
+    runs(rt, alloc, "filter invert", input, b"", errors, 1)
+}
+
+#[test]
+fn header_alone_gives_the_header_alone(rt: HostRuntime) -> Result<(), Fail> {
+    let header = b"YUV4MPEG2 W2 H1 Cmono\n";
+    runs(&rt, rt.alloc(), "filter invert", header, header, "", 0)
+}
+
+#[test]
+fn a_fault_of_the_stream_is_one_line(rt: HostRuntime) -> Result<(), Fail> {
+    let header = b"YUV4MPEG2 W1 H1 Cmono\n";
+    let other = b"YUV4MPEG2 W1 H1 Cmono\nFRAMES\n\x00";
+    let cut = b"YUV4MPEG2 W1 H1 Cmono\nFRAME";
+    runs(
+        &rt,
+        rt.alloc(),
+        "filter invert",
+        other,
+        header,
+        "y4mserve: read NotFrame\n",
+        1,
+    )?;
+    runs(
+        &rt,
+        rt.alloc(),
+        "filter invert",
+        cut,
+        header,
+        "y4mserve: read Truncated\n",
+        1,
+    )?;
+    runs(
+        &rt,
+        rt.alloc(),
+        "filter invert",
+        b"",
+        b"",
+        "y4mserve: read Truncated\n",
+        1,
+    )
+}
+
+#[test]
+fn a_fault_of_the_header_is_named(rt: HostRuntime) -> Result<(), Fail> {
+    refuses_header(
+        &rt,
+        rt.alloc(),
+        b"YUV4MPEG2\n",
+        "y4mserve: read Header MissingSize\n",
+    )?;
+    refuses_header(
+        &rt,
+        rt.alloc(),
+        b"YUV4MPEG2W2 H2\n",
+        "y4mserve: read Header NotY4m\n",
+    )?;
+    refuses_header(
+        &rt,
+        rt.alloc(),
+        b"YUV4MPEG2 W2 W2 H2\n",
+        "y4mserve: read Header RepeatedTag\n",
+    )?;
+    refuses_header(
+        &rt,
+        rt.alloc(),
+        b"YUV4MPEG2 W0 H2\n",
+        "y4mserve: read Header BadNumber\n",
+    )?;
+    refuses_header(
+        &rt,
+        rt.alloc(),
+        b"YUV4MPEG2 W2 H2 C420p10\n",
+        "y4mserve: read Header UnknownChroma\n",
+    )?;
+    refuses_header(
+        &rt,
+        rt.alloc(),
+        b"YUV4MPEG2 W16385 H1 Cmono\n",
+        "y4mserve: read Header TooLarge\n",
+    )
+}
+
+#[test]
+fn wrong_words_are_refused(rt: HostRuntime) -> Result<(), Fail> {
+    runs(
+        &rt,
+        rt.alloc(),
+        "filter blur:9",
+        b"",
+        b"",
+        "y4mserve: BadOp\n",
+        2,
+    )?;
+    runs(&rt, rt.alloc(), "filter", b"", b"", "y4mserve: usage\n", 2)?;
+    runs(
+        &rt,
+        rt.alloc(),
+        "filter invert invert",
+        b"",
+        b"",
+        "y4mserve: usage\n",
+        2,
+    )?;
+    runs(
+        &rt,
+        rt.alloc(),
+        "invert filter",
+        b"",
+        b"",
+        "y4mserve: usage\n",
+        2,
+    )
+}
+
+/// Fails at each read.
+#[derive(Drop)]
+struct Broken;
+
+impl Read for Broken {
+    fn read(&mut self, _buf: &mut [u8]) -> io::Result<usize> {
+        Err(io::Error::from(ErrorKind::Other))
+    }
+}
+
+#[test]
+fn a_failed_read_or_write_is_said(rt: HostRuntime) -> Result<(), Fail> {
+    let words = words_of(rt.alloc(), "filter invert")?;
+    let mut written = Vec::new(rt.alloc());
+    let mut faults = Vec::new(rt.alloc());
+    assert_eq!(rt;
+        main_on(rt.alloc(), &words, Broken, &mut written, &mut faults),
+        1
+    );
+    assert_eq!(rt; faults.as_slice(), b"y4mserve: read Device\n".as_slice());
+    faults.clear();
+    let mut room = [0; 5];
+    let text = b"YUV4MPEG2 W2 H1 Cmono\n".as_slice();
+    assert_eq!(rt;
+        main_on(
+            rt.alloc(),
+            &words,
+            text,
+            &mut room.as_mut_slice(),
+            &mut faults
+        ),
+        1
+    );
+    assert_eq!(rt; faults.as_slice(), b"y4mserve: write 5\n".as_slice());
+    assert_eq!(rt; room, *b"YUV4M");
+    Ok(())
+}
