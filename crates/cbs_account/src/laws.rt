@@ -1,0 +1,37 @@
+//! What the rules of a constant bandwidth server promise of every past, whatever program keeps them.
+ghost use Rattle.cbs_account.specs.Laws.{Bandwidth, ClosedForm, DeadlineBound, DeadlineLimit};
+
+/// The rule by which budget and deadline go on while a server stays busy: a budget that is used up is recharged at once
+/// to its maximum, and the deadline is put off by one period each time.
+///
+/// So where the last arrival that recharged came at `r`, and `n` units were done since, the budget is `Q - n mod Q` and
+/// the deadline `r + T * (1 + n div Q)`. Idle arrivals since then that didn't recharge may stand anywhere among the
+/// units, and anything may stand before `r`.
+pub fn closed_form()
+    ensures { ClosedForm }
+{}
+
+/// The isolation of a server: from any idle arrival on, what it has asked for never exceeds its bandwidth `Q / T` times
+/// the time up to its deadline.
+///
+/// For `n` units since an idle arrival at `r`, with `c` and `d` the budget and the deadline now,
+/// `(n + c) * T <= (d - r) * Q`: not even if the budget that is left is used too. Further idle arrivals since `r` may
+/// have recharged or not.
+pub fn bandwidth()
+    ensures { Bandwidth }
+{}
+
+/// How far a deadline can be put off: `n` units after an arrival at `r` that recharged it is at most `r + T * (1 + n)`.
+///
+/// Each unit costs at most one recharge, and so one period.
+pub fn deadline_bound()
+    ensures { DeadlineBound }
+{}
+
+/// How late a deadline can be at all: where no idle arrival came after the moment `m`, and `n` units were done since the
+/// server was new, it is at most `m + T * (1 + n)`.
+///
+/// A caller whose clock and whose work are limited learns from this that its charges stay within the numbers.
+pub fn deadline_limit()
+    ensures { DeadlineLimit }
+{}
