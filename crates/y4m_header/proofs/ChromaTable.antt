@@ -1,27 +1,21 @@
 -- A value of C names one form.
-use Rattle.std.proofs.Common.{◌≡◌, ℕ, ◌<◌, ◌⊎◌, inl, inr, List, [], ◌∷◌, length, Option, Some, None, Contains, get_or, refl, ap, subst, arith, suc, zero, Bool, true, false, cond, eqb, ◌&&◌}
+use Rattle.std.proofs.Common.{nat_eq, sym, ◌∙◌, ◌≡◌, ◌↔◌, ℕ, ◌<◌, inl, inr, List, [], ◌∷◌, length, Option, Some, None, Contains, get_or, refl, ap, subst, arith, suc, zero, Bool, true, cond}
 use Rattle.std.proofs.Props.{props}
 use mathlib.Core.Sum.{⊎_set}
-use Rattle.std.proofs.lemmas.Bool.{eqb-true}
+use Rattle.std.specs.Option.{option_eq}
+use Rattle.std.specs.Cmp.Lexicographic.{same_text}
+use lib.Pointwise.{pointwise}
+use Rattle.y4m_header.proofs.Words.{either_test}
 use Rattle.y4m_header.specs.declared.chroma.Chroma.{Chroma}
 use Rattle.y4m_header.specs.Chroma.{ChromaName, NamesChroma, chroma_table}
 
-abbrev same_bytes : List ℕ → List ℕ → Bool
-same_bytes [] [] = true
-same_bytes [] (y ∷ ys) = false
-same_bytes (x ∷ xs) [] = false
-same_bytes (x ∷ xs) (y ∷ ys) = eqb x y && same_bytes xs ys
-
 abbrev same_value : Option (List ℕ) → Option (List ℕ) → Bool
-same_value None None = true
-same_value None (Some w) = false
-same_value (Some v) None = false
-same_value (Some v) (Some w) = same_bytes v w
+same_value v w = option_eq (pointwise nat_eq) v w
 
 -- the form of the first name with this value
 abbrev pub form_in : List ChromaName → Option (List ℕ) → Option Chroma
 form_in [] v = None
-form_in (name ∷ names) v = cond (same_value name.value v) (Some name.chroma) (form_in names v)
+form_in (name ∷ names) v = cond (same_value v name.value) (Some name.chroma) (form_in names v)
 
 -- each name gives its own form
 abbrev IsEach : List ChromaName → Type 0
@@ -48,39 +42,21 @@ names_one_form v c c' h h' =
     let b = named_form v c' h' in
     cc
 
-and_both : (a b : Bool) → (a && b) ≡ true → (a ≡ true) × (b ≡ true)
-and_both true b e = (refl, e)
-and_both false b e = absurd (cc)
-
-same_bytes_are : (xs ys : List ℕ) → same_bytes xs ys ≡ true → xs ≡ ys
-same_bytes_are [] [] e = refl
-same_bytes_are [] (y ∷ ys) e = absurd (cc)
-same_bytes_are (x ∷ xs) [] e = absurd (cc)
-same_bytes_are (x ∷ xs) (y ∷ ys) e =
-    let both = and_both (eqb x y) (same_bytes xs ys) e in
-    let first : x ≡ y = eqb-true x y both.0 in
-    let rest : xs ≡ ys = same_bytes_are xs ys both.1 in
-    cc
-
 same_value_is : (v w : Option (List ℕ)) → same_value v w ≡ true → v ≡ w
 same_value_is None None e = refl
 same_value_is None (Some w) e = absurd (cc)
 same_value_is (Some v) None e = absurd (cc)
-same_value_is (Some v) (Some w) e = ap Some (same_bytes_are v w e)
-
-either_test : (b : Bool) → (b ≡ true) ⊎ (b ≡ false)
-either_test true = inl refl
-either_test false = inr refl
+same_value_is (Some v) (Some w) e = ap Some (same_text v w (sym e))
 
 name_at : (v w : Option (List ℕ)) (c d : Chroma) → v ≡ w → c ≡ d → (let a : ChromaName = record { value = v; chroma = c } in let b : ChromaName = record { value = w; chroma = d } in a ≡ b)
 name_at v w c d p q = λ i. record { value = p i; chroma = q i }
 
 found : (names : List ChromaName) (v : Option (List ℕ)) (c : Chroma) → form_in names v ≡ Some c → Contains names (record { value = v; chroma = c })
 found [] v c e = absurd (cc)
-found (name ∷ names) v c e = elim (either_test (same_value name.value v)) [
+found (name ∷ names) v c e = elim (either_test (same_value v name.value)) [
   | inl same ↦
       let form : name.chroma ≡ c = (let s = rw same at e in cc) in
-      (0, omega arith, name_at name.value v name.chroma c (same_value_is name.value v same) form)
+      (0, omega arith, name_at name.value v name.chroma c (sym (same_value_is v name.value same)) form)
   | inr other ↦
       let more = found names v c (rw other at e) in
       (suc more.0, omega (arith, more.1), more.2)
@@ -101,3 +77,7 @@ gives_from_names = named_form
 
 pub names_from_gives : (v : Option (List ℕ)) (c : Chroma) → GivesForm v c → NamesChroma v c
 names_from_gives v c e = found chroma_table v c e
+
+-- the form that the table gives is the one that the value names
+pub names_form : (v : Option (List ℕ)) (r : Option Chroma) → r ≡ form_in chroma_table v → (c : Chroma) → (r ≡ Some c) ↔ NamesChroma v c
+names_form v r e c = (λ s. names_from_gives v c (sym e ∙ s), λ names. e ∙ gives_from_names v c names)

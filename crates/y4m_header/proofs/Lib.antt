@@ -4,3 +4,6 @@ pub mod ChromaTable
 pub mod Refusals
 pub mod StreamLaws
 pub mod HeaderFacts
+pub mod Joined
+pub mod Decimals
+pub mod ResizedLine

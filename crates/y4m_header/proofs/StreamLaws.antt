@@ -1,15 +1,10 @@
 -- A text is cut into its header and its frames in one way.
-use Rattle.std.proofs.Common.{◌≡◌, ◌≢◌, ℕ, List, [], ◌∷◌, ◌++◌, length, All, refl, sym, ap, ◌∙◌, arith, suc, append_assoc}
+use Rattle.std.proofs.Common.{◌≡◌, ◌≢◌, ℕ, List, [], ◌∷◌, ◌++◌, length, All, refl, sym, ap, ◌∙◌, arith, append_assoc}
 use Rattle.std.proofs.lemmas.List.{append-nil}
 use Rattle.y4m_header.specs.Chroma.{data_len}
 use Rattle.y4m_header.specs.StreamText.{FrameText, IsFrameOf, text_of, frames_text, stream_text, HoldsFrames}
+use Rattle.y4m_header.proofs.TagLists.{All-head, All-tail}
 use Rattle.y4m_header.proofs.Refusals.{one_picture}
-
-pub All-tail : {X : Type 0} (P : X → Type 0) (x : X) (xs : List X) → All P (x ∷ xs) → All P xs
-All-tail P x xs all k d h = all (suc k) d (omega arith)
-
-pub All-head : {X : Type 0} (P : X → Type 0) (x : X) (xs : List X) → All P (x ∷ xs) → P x
-All-head P x xs all = all 0 x (omega arith)
 
 abbrev HasNoFeed : List ℕ → Type 0
 HasNoFeed line = All (λ byte. byte ≢ 10) line

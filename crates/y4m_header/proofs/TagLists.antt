@@ -43,6 +43,12 @@ All-cons P x xs here there (suc k) d h = there k d (omega arith)
 pub All-nil : {X : Type 0} (P : X → Type 0) → All P []
 All-nil P k d h = absurd (omega arith)
 
+pub All-tail : {X : Type 0} (P : X → Type 0) (x : X) (xs : List X) → All P (x ∷ xs) → All P xs
+All-tail P x xs all k d h = all (suc k) d (omega arith)
+
+pub All-head : {X : Type 0} (P : X → Type 0) (x : X) (xs : List X) → All P (x ∷ xs) → P x
+All-head P x xs all = all 0 x (omega arith)
+
 pub Any-head : {X : Type 0} (P : X → Type 0) (x : X) (xs : List X) → P x → Any P (x ∷ xs)
 Any-head P x xs h = (0, x, omega arith, refl, h)
 

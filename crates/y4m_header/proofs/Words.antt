@@ -6,6 +6,10 @@ use Rattle.std.proofs.lemmas.List.Splits.{slice_split-cons_no, slice_split_first
 use Rattle.std.proofs.lemmas.List.{take_all}
 use Rattle.std.proofs.lemmas.Bool.Decides.{nat_tests}
 
+pub either_test : (b : Bool) → (b ≡ true) ⊎ (b ≡ false)
+either_test true = inl refl
+either_test false = inr refl
+
 module _ (p : ℕ → Bool) where
   private_some : (n len m : ℕ) → cond (ltb n len) (Some n) None ≡ Some m → n ≡ m
   private_some n len m e = grind (arith, nat_tests)
@@ -22,11 +26,7 @@ module _ (p : ℕ → Bool) where
   pub all-position : (xs : List ℕ) → position p xs ≡ None → xs ≡ before_first p xs
   all-position xs e = sym (take_all (position_or_len p xs) xs (private_none (position_or_len p xs) (length xs) e))
 
-  either_test : (b : Bool) → (b ≡ true) ⊎ (b ≡ false)
-  either_test true = inl refl
-  either_test false = inr refl
-
-  split_all : (xs : List ℕ) → length xs ≤ position_or_len p xs → slice_split p xs ≡ xs ∷ []
+  pub split_all : (xs : List ℕ) → length xs ≤ position_or_len p xs → slice_split p xs ≡ xs ∷ []
   split_all [] h = refl
   split_all (x ∷ xs) h = elim (either_test (p x)) [
     | inl e ↦ absurd (let none : suc (length xs) ≤ 0 = rw e at h in omega arith)

@@ -1,5 +1,5 @@
 -- The chroma forms: which value of the tag C names which, and the planes of each.
-use Rattle.std.specs.Prelude.{ℕ, ◌+◌, ◌*◌, ◌/◌, List, [], ◌∷◌, Option, Some, Contains, codes}
+use Rattle.std.specs.Prelude.{ℕ, ◌+◌, ◌*◌, ◌/◌, List, [], ◌∷◌, Option, Some, None, Contains, codes}
 use Rattle.y4m_header.specs.declared.chroma.Chroma.{Chroma}
 use Rattle.y4m_header.specs.declared.chroma.Chroma.TheVariants.{S420, S422, S411, S444, S444Alpha, Mono}
 
@@ -13,7 +13,18 @@ named v c = record { value = Some v; chroma = c }
 
 -- the values of C that are read, each with its form
 abbrev pub chroma_table : List ChromaName
-chroma_table = named (codes "mono") Mono ∷ []
+chroma_table =
+    record { value = None; chroma = S420 }
+    ∷ named (codes "420") S420
+    ∷ named (codes "420jpeg") S420
+    ∷ named (codes "420mpeg2") S420
+    ∷ named (codes "420paldv") S420
+    ∷ named (codes "422") S422
+    ∷ named (codes "411") S411
+    ∷ named (codes "444") S444
+    ∷ named (codes "444alpha") S444Alpha
+    ∷ named (codes "mono") Mono
+    ∷ []
 
 -- the value of C, if there is one, names this form
 abbrev pub NamesChroma : Option (List ℕ) → Chroma → Type 0

@@ -5,4 +5,5 @@ pub mod Number
 pub mod HeaderLine
 pub mod FrameLine
 pub mod Refusal
+pub mod Resized
 pub mod StreamText

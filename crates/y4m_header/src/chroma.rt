@@ -1,6 +1,7 @@
 // The chroma forms.
 ghost use Rattle.std.specs.Prelude.{◌≡◌, ◌<◌, ◌≤◌, ◌↔◌, Some};
 ghost use Rattle.std.specs.Option.{option_copied};
+ghost use Rattle.y4m_header.specs.Chroma.{NamesChroma};
 
 /// How the chroma planes of a frame are sampled, as the value of the tag C says.
 ///
@@ -24,15 +25,15 @@ pub struct Divisors {
 }
 
 impl Chroma {
-    ghost use Rattle.y4m_header.specs.Chroma.{horizontal_divisor, vertical_divisor, plane_count, NamesChroma};
+    ghost use Rattle.y4m_header.specs.Chroma.{horizontal_divisor, vertical_divisor, plane_count};
 
     /// The form that the value of the tag C names; without a tag C there is no value.
     pub fn named(value: Option<&[u8]>) -> Option<Chroma>
         ensures { (chroma : Chroma) → (result ≡ Some chroma) ↔ NamesChroma (option_copied value.entry) chroma }
     {
         match value {
-            Some(name) if name == b"mono".as_slice() => Some(Chroma::Mono),
-            _ => None,
+            None => Some(Chroma::S420),
+            Some(name) => form_of(name),
         }
     }
 
@@ -62,5 +63,30 @@ impl Chroma {
             Chroma::S444Alpha => 4,
             Chroma::Mono => 1,
         }
+    }
+}
+
+/// The form that a value of C names. The forms of 4:2:0 differ in where the chroma samples lie, and in nothing else.
+fn form_of(name: &[u8]) -> Option<Chroma>
+    ensures { (chroma : Chroma) → (result ≡ Some chroma) ↔ NamesChroma (Some name.now) chroma }
+{
+    if name == b"420".as_slice()
+        || name == b"420jpeg".as_slice()
+        || name == b"420mpeg2".as_slice()
+        || name == b"420paldv".as_slice()
+    {
+        Some(Chroma::S420)
+    } else if name == b"422".as_slice() {
+        Some(Chroma::S422)
+    } else if name == b"411".as_slice() {
+        Some(Chroma::S411)
+    } else if name == b"444".as_slice() {
+        Some(Chroma::S444)
+    } else if name == b"444alpha".as_slice() {
+        Some(Chroma::S444Alpha)
+    } else if name == b"mono".as_slice() {
+        Some(Chroma::Mono)
+    } else {
+        None
     }
 }

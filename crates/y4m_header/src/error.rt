@@ -4,7 +4,7 @@ use thiserror::Error;
 /// Why a line is no header line, or no frame line. Each is printed as its own name.
 #[derive(Clone, Copy, Debug, PartialEq, Eq, Error)]
 pub enum HeaderError {
-    /// The line isn't `YUV4MPEG2` followed by its end or a space, or is no line of a stream.
+    /// The line isn't `YUV4MPEG2` followed by its end or a space, holds a line feed, or is longer than 1,023 bytes.
     #[error("NotY4m")]
     NotY4m,
     /// A value of W or H isn't 1 to 9 digits that stand for at least 1.
@@ -16,7 +16,7 @@ pub enum HeaderError {
     /// There is no W, or no H.
     #[error("MissingSize")]
     MissingSize,
-    /// The value of C, or the want of it, names no chroma form that is read.
+    /// The value of C names no chroma form that is read.
     #[error("UnknownChroma")]
     UnknownChroma,
     /// The chroma form's divisors don't divide the size.
@@ -28,7 +28,7 @@ pub enum HeaderError {
     /// The line couldn't be kept.
     #[error("NoMemory")]
     NoMemory,
-    /// The line isn't `FRAME` followed by its end or a space, or is no line of a stream.
+    /// The line isn't `FRAME` followed by its end or a space, holds a line feed, or is longer than 1,023 bytes.
     #[error("NotFrame")]
     NotFrame,
 }

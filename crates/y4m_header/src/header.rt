@@ -1,9 +1,10 @@
 // The header line.
-ghost use Rattle.std.specs.Prelude.{◌≡◌, ◌≢◌, ◌≤◌, ℕ, IfOk, IfErr, IsErrOf};
+ghost use Rattle.std.specs.Prelude.{◌≡◌, ◌≢◌, ◌≤◌, ℕ, IfOk, IfErr, IsErrOf, length};
 
 use crate::chroma::Chroma;
 use crate::error::HeaderError;
 use crate::picture::read_picture;
+use crate::resized::resized_line;
 use std::alloc::Global;
 use std::marker::Model;
 
@@ -33,8 +34,10 @@ impl Model for Header {
 impl Header {
     ghost use Rattle.y4m_header.specs.HeaderLine.{IsHeaderLine, IsDivided, IsWithinLimits};
     ghost use Rattle.y4m_header.specs.Refusal.{IsRefusedAs};
+    ghost use Rattle.y4m_header.specs.Resized.{resized_line};
 
-    /// Reads a header line, given without its line feed.
+    /// Reads a header line, given without its line feed, by the grammar of yuv4mpeg(5). Of several faults the one
+    /// is answered that stands first in `HeaderError`.
     pub fn parse(alloc: Global, line: &[u8]) -> Result<Header, HeaderError>
         // What is kept is the line, and what it states.
         ensures line { IfOk result (λ header. header.line ≡ line.now) }
@@ -93,5 +96,31 @@ impl Header {
         ensures is_header { IsHeaderLine self.now.line self.now.width self.now.height self.now.chroma }
     {
         &self.line
+    }
+
+    /// The header of a picture cut out of this one: the values of W and H are replaced in place, and all else of the
+    /// line stays byte for byte.
+    pub fn resized(&self, alloc: Global, width: u32, height: u32) -> Result<Header, HeaderError>
+        requires some_width { 1 ≤ width }
+        requires within_width { width ≤ self.now.width }
+        requires some_height { 1 ≤ height }
+        requires within_height { height ≤ self.now.height }
+        requires divided { IsDivided width height self.now.chroma }
+        ensures line { IfOk result (λ header. header.line ≡ resized_line self.now.line width height) }
+        ensures width { IfOk result (λ header. header.width ≡ width) }
+        ensures height { IfOk result (λ header. header.height ≡ height) }
+        ensures chroma { IfOk result (λ header. header.chroma ≡ self.now.chroma) }
+        ensures never_longer { IfOk result (λ header. length header.line ≤ length self.now.line) }
+        ensures memory { IfErr result (λ error. error ≡ HeaderError.NoMemory) }
+    {
+        let Ok(line) = resized_line(alloc, &self.line, width, height) else {
+            return Err(HeaderError::NoMemory);
+        };
+        Ok(Header {
+            line,
+            width,
+            height,
+            chroma: self.chroma,
+        })
     }
 }

@@ -7,12 +7,13 @@ pub mod frame_line;
 pub mod header;
 pub mod laws;
 mod limits;
-pub mod line;
+mod line;
 mod number;
 mod picture;
+mod resized;
 mod tags;
 
-pub use chroma::Chroma;
+pub use chroma::{Chroma, Divisors};
 pub use error::HeaderError;
 pub use frame_line::check_frame_line;
 pub use header::Header;

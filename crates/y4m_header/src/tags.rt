@@ -8,7 +8,7 @@ use crate::line::space_in;
 use crate::number::is_size;
 
 /// The first piece, and what stands after the space behind it.
-fn next_piece(text: &[u8]) -> (&[u8], Option<&[u8]>)
+pub fn next_piece(text: &[u8]) -> (&[u8], Option<&[u8]>)
     ensures pieces { pieces text.now ≡ result.0.now ∷ pieces_left (option_copied result.1) }
     ensures shorter { IfSome result.1 (λ rest. length rest.now < length text.now) }
 {

@@ -33,6 +33,9 @@ fn each_refusal_is_the_first_that_holds(rt: HostRuntime) {
         ("YUV4MPEG2 W2 C420p10", HeaderError::MissingSize),
         ("YUV4MPEG2 W2 H2 C420p10", HeaderError::UnknownChroma),
         ("YUV4MPEG2 W16385 H1 C", HeaderError::UnknownChroma),
+        ("YUV4MPEG2 W2 H2 C", HeaderError::UnknownChroma),
+        ("YUV4MPEG2 W3 H2 C420", HeaderError::NotDivisible),
+        ("YUV4MPEG2 W16385 H1", HeaderError::NotDivisible),
         ("YUV4MPEG2 W16385 H1 Cmono", HeaderError::TooLarge),
         (
             "YUV4MPEG2 W999999999 H999999999 Cmono",
@@ -51,6 +54,29 @@ fn leading_zeros_and_unread_tags_are_kept(rt: HostRuntime) -> Result<(), Fail> {
     assert_eq!(rt; header.height(), 3);
     assert_eq!(rt; header.chroma(), Chroma::Mono);
     assert!(rt; header.line() == line.as_bytes());
+    Ok(())
+}
+
+#[test]
+fn each_value_of_c_names_its_form(rt: HostRuntime) -> Result<(), Fail> {
+    for (line, want) in [
+        ("YUV4MPEG2 W2 H2", Chroma::S420),
+        ("YUV4MPEG2 W2 H2 C420", Chroma::S420),
+        (
+            "YUV4MPEG2 W2 H2 F25:1 Ip A1:1 C420jpeg XYSCSS=420JPEG",
+            Chroma::S420,
+        ),
+        ("YUV4MPEG2 W2 H2 C420mpeg2", Chroma::S420),
+        ("YUV4MPEG2 W2 H2 C420paldv", Chroma::S420),
+        ("YUV4MPEG2 W2 H1 C422", Chroma::S422),
+        ("YUV4MPEG2 W4 H1 C411", Chroma::S411),
+        ("YUV4MPEG2 W3 H2 C444", Chroma::S444),
+        ("YUV4MPEG2 W1 H1 C444alpha", Chroma::S444Alpha),
+        ("YUV4MPEG2 W1 H1 Cmono", Chroma::Mono),
+    ] {
+        let header = Header::parse(rt.alloc(), line.as_bytes())?;
+        assert_eq!(rt; header.chroma(), want, "{line}");
+    }
     Ok(())
 }
 
@@ -74,6 +100,32 @@ fn the_largest_picture_is_16384_by_4096(rt: HostRuntime) {
         refusal(rt.alloc(), "YUV4MPEG2 W16384 H4097 Cmono"),
         Some(HeaderError::TooLarge)
     );
+}
+
+#[test]
+fn resized_replaces_width_and_height_in_place(rt: HostRuntime) -> Result<(), Fail> {
+    let line = b"YUV4MPEG2 W002 H1 Cmono";
+    let header = Header::parse(rt.alloc(), line.as_slice())?;
+    assert_eq!(rt;
+        (header.width(), header.height(), header.chroma()),
+        (2, 1, Chroma::Mono)
+    );
+    let same = header.resized(rt.alloc(), 2, 1)?;
+    assert!(rt; same.line() == b"YUV4MPEG2 W2 H1 Cmono".as_slice());
+
+    let line = b"YUV4MPEG2 XW=H  H2 F25:1 W4 C422";
+    let header = Header::parse(rt.alloc(), line.as_slice())?;
+    assert_eq!(rt;
+        (header.width(), header.height(), header.chroma()),
+        (4, 2, Chroma::S422)
+    );
+    let half = header.resized(rt.alloc(), 2, 1)?;
+    assert!(rt; half.line() == b"YUV4MPEG2 XW=H  H1 F25:1 W2 C422".as_slice());
+    assert_eq!(rt;
+        (half.width(), half.height(), half.chroma()),
+        (2, 1, Chroma::S422)
+    );
+    Ok(())
 }
 
 #[test]

@@ -1,4 +1,2 @@
-pub mod Known
-pub mod Puts
-pub mod Passing
-pub mod Serving
+pub mod ScriptParts
+pub mod ScriptRuns

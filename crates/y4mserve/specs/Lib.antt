@@ -1,9 +1,4 @@
-pub mod Rest
-pub mod Faults
-pub mod Writes
-pub mod Streams
-pub mod Reads
-pub mod Served
-pub mod Passes
-pub mod Closing
-pub mod Answers
+pub mod ScriptText
+pub mod ScriptCommand
+pub mod ScriptReport
+pub mod ScriptStep

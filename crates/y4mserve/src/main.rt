@@ -1,29 +1,35 @@
-// Filters YUV4MPEG2 streams from standard input to standard output.
+// Filters YUV4MPEG2 streams, and runs scripts on accounts, from standard input to standard output.
 #![tactic(auto)]
 
 mod program;
-mod stream;
+mod replay;
 mod words;
 
 use program::main_on;
-use std::io::Lock;
+use std::alloc::AllocError;
+use std::io::{ErrorKind, Lock, Write};
 use std::process::ExitCode;
 
 /// The words behind the program's name; none where one of them is no text.
-fn own_words(rt: &HostRuntime) -> Vec<String> {
-    match std::env::args(rt) {
-        Ok(words) => words
-            .skip(1)
-            .collect(rt.alloc())
-            .unwrap_or(Vec::new(rt.alloc())),
-        Err(_) => Vec::new(rt.alloc()),
+fn own_words(rt: &HostRuntime) -> Result<Vec<String>, AllocError> {
+    let words = match std::env::args(rt) {
+        Ok(words) => words,
+        Err(error) if error.kind() == ErrorKind::OutOfMemory => return Err(AllocError),
+        Err(_) => return Ok(Vec::new(rt.alloc())),
+    };
+    match words.skip(1).collect(rt.alloc()) {
+        Ok(words) => Ok(words),
+        Err(_) => Err(AllocError),
     }
 }
 
 fn main(rt: HostRuntime) -> ExitCode {
-    let words = own_words(&rt);
     let mut output = rt.stdout().lock();
     let mut errors = rt.stderr().lock();
+    let Ok(words) = own_words(&rt) else {
+        let _ = writeln!(errors, "y4mserve: NoMemory");
+        return ExitCode::from(1);
+    };
     let status = main_on(
         rt.alloc(),
         &words,

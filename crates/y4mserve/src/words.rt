@@ -2,26 +2,23 @@
 
 /// What the words ask for.
 #[derive(Clone, Copy, Debug, PartialEq, Eq)]
-pub enum Command {
-    /// To invert each frame.
-    Invert,
-    /// To filter by an operation that there isn't.
-    BadOp,
+pub enum Command<'a> {
+    /// To filter a stream by the operations of this text.
+    Filter(&'a str),
+    /// To run a script.
+    Replay,
     /// Nothing that this program does.
     Unknown,
 }
 
-impl Command {
+impl Command<'_> {
     /// Reads the words behind the program's name.
-    pub fn from_words(words: &[String]) -> Command {
+    pub fn from_words(words: &[String]) -> Command<'_> {
         match words {
-            [first, operation] if first.as_str() == "filter" => {
-                if operation.as_str() == "invert" {
-                    Command::Invert
-                } else {
-                    Command::BadOp
-                }
-            }
+            [first, operations] if first.as_str() == "filter" => Command::Filter(
+                operations.as_str(),
+            ),
+            [only] if only.as_str() == "replay" => Command::Replay,
             _ => Command::Unknown,
         }
     }

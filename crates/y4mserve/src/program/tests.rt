@@ -186,3 +186,113 @@ fn a_failed_read_or_write_is_said(rt: HostRuntime) -> Result<(), Fail> {
     assert_eq!(rt; room, *b"YUV4M");
     Ok(())
 }
+
+#[test]
+fn a_script_prints_its_lines_and_tells_a_fault_by_its_status(rt: HostRuntime) -> Result<(), Fail> {
+    for (script, lines, status) in [
+        ("account 5 4\n", "line 1: BadBandwidth\n", 1),
+        (
+            "account 2 10\ncharge 1099511627777\n",
+            "budget 2 deadline 0\nline 2: Range\n",
+            1,
+        ),
+        (
+            "account 2 10\nidle 1152921504606846977\n",
+            "budget 2 deadline 0\nline 2: BadLine\n",
+            1,
+        ),
+        (
+            "account 3 10\nidle 0\ncharge 7\n",
+            "budget 3 deadline 0\nbudget 3 deadline 10\nbudget 2 deadline 30\n",
+            0,
+        ),
+        ("", "", 0),
+    ] {
+        runs(
+            &rt,
+            rt.alloc(),
+            "replay",
+            script.as_bytes(),
+            lines.as_bytes(),
+            "",
+            status,
+        )?;
+    }
+    Ok(())
+}
+
+/// Replays a script whose commands all run.
+fn replays(rt: &impl Abort, alloc: Global, script: &str, lines: &str) -> Result<(), Fail> {
+    runs(
+        rt,
+        alloc,
+        "replay",
+        script.as_bytes(),
+        lines.as_bytes(),
+        "",
+        0,
+    )
+}
+
+#[test]
+fn two_units_after_an_idle_arrival_recharge_once(rt: HostRuntime) -> Result<(), Fail> {
+    replays(
+        &rt,
+        rt.alloc(),
+        "account 2 10\nidle 0\ncharge 1\ncharge 1\n",
+        "budget 2 deadline 0\nbudget 2 deadline 10\nbudget 1 deadline 10\nbudget 2 deadline 20\n",
+    )
+}
+
+#[test]
+fn an_idle_arrival_recharges_at_equality_and_not_below(rt: HostRuntime) -> Result<(), Fail> {
+    replays(
+        &rt,
+        rt.alloc(),
+        "account 2 10\nidle 0\ncharge 1\nidle 5\n",
+        "budget 2 deadline 0\nbudget 2 deadline 10\nbudget 1 deadline 10\nbudget 2 deadline 15\n",
+    )?;
+    replays(
+        &rt,
+        rt.alloc(),
+        "account 2 10\nidle 0\ncharge 1\nidle 4\n",
+        "budget 2 deadline 0\nbudget 2 deadline 10\nbudget 1 deadline 10\nbudget 1 deadline 10\n",
+    )
+}
+
+#[test]
+fn an_idle_arrival_after_a_long_silence_recharges(rt: HostRuntime) -> Result<(), Fail> {
+    replays(
+        &rt,
+        rt.alloc(),
+        "account 2 10\nidle 0\ncharge 1\ncharge 1\nidle 30\n",
+        "budget 2 deadline 0\nbudget 2 deadline 10\nbudget 1 deadline 10\nbudget 2 deadline 20\nbudget 2 deadline 40\n",
+    )
+}
+
+#[test]
+fn a_script_that_cannot_be_read_or_told_is_said(rt: HostRuntime) -> Result<(), Fail> {
+    let words = words_of(rt.alloc(), "replay")?;
+    let mut written = Vec::new(rt.alloc());
+    let mut faults = Vec::new(rt.alloc());
+    assert_eq!(rt;
+        main_on(rt.alloc(), &words, Broken, &mut written, &mut faults),
+        1
+    );
+    assert_eq!(rt; faults.as_slice(), b"y4mserve: read\n".as_slice());
+    faults.clear();
+    let mut room = [0; 5];
+    let script = b"account 2 10\n".as_slice();
+    assert_eq!(rt;
+        main_on(
+            rt.alloc(),
+            &words,
+            script,
+            &mut room.as_mut_slice(),
+            &mut faults
+        ),
+        1
+    );
+    assert_eq!(rt; faults.as_slice(), b"y4mserve: write\n".as_slice());
+    Ok(())
+}

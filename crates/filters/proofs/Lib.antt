@@ -1,0 +1,15 @@
+pub mod Words
+pub mod Numbers
+pub mod BlurSums
+pub mod BlurRows
+pub mod ReadRows
+pub mod Cropped
+pub mod Blurred
+pub mod Applied
+pub mod Doable
+pub mod ChainSizes
+pub mod ChainDoable
+pub mod ChainOutputs
+pub mod ChainImages
+pub mod ChainGeometry
+pub mod ChainSteps

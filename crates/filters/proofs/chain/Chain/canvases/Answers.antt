@@ -1,0 +1,14 @@
+use Rattle.std.proofs.Common.{arith, length-append}
+use Rattle.filters.proofs.ChainImages.{canvases_more}
+use Rattle.filters.proofs.chain.Chain.canvases.Goals as goal
+
+pub loop-i-preserved : goal.loop-i-preserved
+loop-i-preserved c =
+    let pushed = c.in_ok-push.ensures.items in
+    let so_far = c.loop-i.invariant in
+    let made = c.in_ok-canvas.ensures.frame in
+    record {
+      count = rw (pushed, length-append) (omega (arith, so_far.count));
+      each = canvases_more c.args.self.now c.args.line.now _ _ _ c.loop-i.i so_far.count pushed so_far.each
+          (record { picture = rw made.geometry c.geometry_after.ensures; line = made.line });
+    }

@@ -1,0 +1,12 @@
+use Rattle.std.proofs.Common.{◌≡◌, ◌+◌, ◌++◌, length}
+use Rattle.std.specs.Option.{option_copied, option_map_or, option_map}
+use Rattle.filters.specs.OpsText.{ops_of}
+use Rattle.filters.specs.Scan.{ops_left}
+use Rattle.filters.proofs.ops_text.collect_ops.Given as goal
+
+abbrev pub invariant-loop-rest : goal.invariant-loop-rest
+invariant-loop-rest l =
+    ops_of l.fn.text ≡ option_map (λ ops. l.ops.items ++ ops) (ops_left (option_copied l.rest))
+
+abbrev pub decreases-loop-rest : goal.decreases-loop-rest
+decreases-loop-rest l = option_map_or (λ rest. length rest.now + 1) l.rest 0

@@ -1,0 +1,18 @@
+-- What a chain keeps, and what it stands for.
+use Rattle.std.specs.Prelude.{◌≡◌, ◌≤◌, length}
+use Rattle.filters.specs.declared.chain.Chain.TheInside.{Inside}
+use Rattle.filters.specs.Chain.{ChainValue, IsChainLength}
+use Rattle.filters.specs.Steps.{IsChain, steps_of}
+use Rattle.filters.specs.ChainOutputs.{AreOutputs}
+
+abbrev pub value_of : Inside → ChainValue
+value_of a = record { ops = a.ops.items; geometry = a.geometry; band_height = a.band_height }
+
+-- the outputs and the number of steps are those of the chain
+pub record IsSound (a : Inside) : Type 0 where
+  pub is_chain : ∥ IsChain (value_of a) ∥₁
+  pub count : IsChainLength (length a.ops.items)
+  pub outputs : AreOutputs a.ops.items a.geometry a.outputs.items
+  pub steps : a.steps ≡ steps_of (value_of a)
+  pub some_steps : 1 ≤ a.steps
+  pub few_steps : a.steps ≤ 32768

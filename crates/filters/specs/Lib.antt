@@ -1,0 +1,10 @@
+pub mod OpsText
+pub mod Scan
+pub mod Blur
+pub mod Pixel
+pub mod Image
+pub mod Chain
+pub mod Steps
+pub mod ChainOutputs
+pub mod ChainInside
+pub mod ChainImage

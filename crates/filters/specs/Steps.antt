@@ -1,0 +1,34 @@
+-- The steps of a frame: one for each band of each operation's output.
+use Rattle.std.specs.Prelude.{◌≡◌, ℕ, ◌+◌, ◌<◌, ◌≤◌, List, [], ◌∷◌, All, length, take, sum, slice_index}
+use Rattle.std.specs.Int.{div_ceil}
+use Rattle.filters.specs.declared.op.Op.{Op}
+use Rattle.filters.specs.Image.{image_height}
+use Rattle.filters.specs.Chain.{ChainValue, HasGoodRadius, IsChainLength, AreDoable}
+
+-- how many bands of b rows the output of each operation has, for frames of h rows
+abbrev pub band_counts : List Op → ℕ → ℕ → List ℕ
+band_counts [] h b = []
+band_counts (op ∷ ops) h b = div_ceil (image_height op h) b ∷ band_counts ops (image_height op h) b
+
+-- the steps of a frame of h rows
+abbrev pub step_count : List Op → ℕ → ℕ → ℕ
+step_count ops h b = sum (band_counts ops h b)
+
+-- step k is this band of this operation: the bands of an operation follow those of the operations before it
+pub record IsStep (counts : List ℕ) (k op band : ℕ) : Type 0 where
+  pub of_chain : op < length counts
+  pub of_op : band < slice_index counts op
+  pub number : sum (take op counts) + band ≡ k
+
+abbrev pub counts_of : ChainValue → List ℕ
+counts_of chain = band_counts chain.ops chain.geometry.height chain.band_height.rows
+
+abbrev pub steps_of : ChainValue → ℕ
+steps_of chain = step_count chain.ops chain.geometry.height chain.band_height.rows
+
+-- the operations make a chain for frames of this geometry, in bands of this height
+pub record IsChain (chain : ChainValue) : Type 0 where
+  pub radii : All HasGoodRadius chain.ops
+  pub count : IsChainLength (length chain.ops)
+  pub doable : AreDoable chain.ops chain.geometry
+  pub few_steps : steps_of chain ≤ 32768

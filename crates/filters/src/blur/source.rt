@@ -1,0 +1,51 @@
+//! The plane that a blur reads.
+
+ghost use Rattle.std.specs.Prelude.{◌≡◌, ◌+◌, ◌*◌, ◌≤◌, ◌<◌, ℕ, length, slice_index};
+ghost use Rattle.filters.specs.Blur.{clamped, pixel_of};
+
+/// A plane of at most 16,384 columns and rows, its rows one after another.
+#[derive(Clone, Copy)]
+pub struct SourcePlane<'a> {
+    pub width: usize,
+    pub height: usize,
+    pub samples: &'a [u8],
+    ghost sized: { length samples.now ≡ height * width },
+    ghost wide: { width ≤ 16384 },
+    ghost high: { height ≤ 16384 },
+    ghost some_width: { 0 < width },
+    ghost some_height: { 0 < height },
+    ghost bytes: { (k : ℕ) → slice_index samples.now k ≤ 255 },
+}
+
+impl SourcePlane<'_> {
+    /// The samples of row `y`.
+    pub fn row(&self, y: usize) -> &[u8]
+        requires { y < self.now.height }
+        ensures sized { length result.now ≡ self.now.width }
+        ensures samples { (x : ℕ) → x < self.now.width →
+            slice_index result.now x ≡ pixel_of self.now.samples.now self.now.width y x }
+    {
+        let from = y * self.width;
+        &self.samples[from..from + self.width]
+    }
+
+    /// The sample of row `y` and column `x`.
+    pub fn sample(&self, y: usize, x: usize) -> u8
+        requires down { y < self.now.height }
+        requires across { x < self.now.width }
+        ensures { result ≡ pixel_of self.now.samples.now self.now.width y x }
+    {
+        self.samples[y * self.width + x]
+    }
+}
+
+/// The place `at + k - radius`, or where a line of `count` places has none there, the nearest that it has.
+pub fn clamped_place(count: usize, radius: usize, at: usize, k: usize) -> usize
+    requires short { count ≤ 16384 }
+    requires inside { at < count }
+    requires few { k ≤ 17 }
+    ensures place { result ≡ clamped count radius at k }
+    ensures within { result < count }
+{
+    (at + k).saturating_sub(radius).min(count - 1)
+}

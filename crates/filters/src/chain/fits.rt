@@ -1,0 +1,79 @@
+// Which operations a picture can take, and what they make of its geometry.
+ghost use Rattle.std.specs.Prelude.{◌≡◌, ◌≤◌, ◌<◌, ◌+◌, ◌%◌, ◌↔◌, IsTrue};
+ghost use Rattle.filters.specs.Image.{IsRectangleOf, IsDoable, IsImageGeometry};
+ghost use Rattle.filters.specs.Chain.{HasGoodRadius, is_crop};
+
+use crate::op::{Crop, Op};
+use frame_view::Geometry;
+
+/// Whether the radius of a blur is 1 to 8.
+pub fn has_good_radius(op: &Op) -> bool
+    ensures { IsTrue result ↔ HasGoodRadius op.now }
+{
+    match op {
+        Op::Blur(blur) => blur.radius >= 1 && blur.radius <= 8,
+        Op::Table(_) | Op::HFlip | Op::VFlip | Op::Crop(_) => true,
+    }
+}
+
+/// Whether the pixels from `from` on, this many, are some pixels of a line and cut no chroma sample.
+fn is_part(from: u32, count: u32, line: u32, divisor: u32) -> bool
+    requires { 0 < divisor }
+    ensures { IsTrue result ↔ ((1 ≤ count) × (from + count ≤ line) × (from % divisor ≡ 0) × (count % divisor ≡ 0)) }
+{
+    count >= 1
+        && from as u64 + count as u64 <= line as u64
+        && from % divisor == 0
+        && count % divisor == 0
+}
+
+fn is_rectangle_of(crop: Crop, geometry: Geometry) -> bool
+    ensures { IsTrue result ↔ IsRectangleOf crop geometry }
+{
+    let divisors = geometry.chroma.divisors();
+    is_part(crop.x, crop.width, geometry.width, divisors.horizontal)
+        && is_part(crop.y, crop.height, geometry.height, divisors.vertical)
+}
+
+/// Whether the operation can be done on frames of this geometry.
+pub fn is_doable(op: Op, geometry: Geometry) -> bool
+    ensures { IsTrue result ↔ IsDoable op geometry }
+{
+    match op {
+        Op::Crop(crop) => is_rectangle_of(crop, geometry),
+        Op::Table(_) | Op::HFlip | Op::VFlip | Op::Blur(_) => has_good_radius(&op),
+    }
+}
+
+fn cropped(crop: Crop, geometry: Geometry) -> Geometry
+    requires { IsRectangleOf crop geometry }
+    ensures width { result.width ≡ crop.width }
+    ensures height { result.height ≡ crop.height }
+    ensures chroma { result.chroma ≡ geometry.chroma }
+{
+    Geometry {
+        width: crop.width,
+        height: crop.height,
+        chroma: geometry.chroma,
+    }
+}
+
+/// The geometry of what an operation makes of a picture.
+pub fn output_of(op: Op, geometry: Geometry) -> Geometry
+    requires { IsDoable op geometry }
+    ensures { IsImageGeometry op geometry result }
+{
+    match op {
+        Op::Crop(crop) => cropped(crop, geometry),
+        Op::Table(_) | Op::HFlip | Op::VFlip | Op::Blur(_) => geometry,
+    }
+}
+
+pub fn is_crop(op: &Op) -> bool
+    ensures { result ≡ is_crop op.now }
+{
+    match op {
+        Op::Crop(_) => true,
+        Op::Table(_) | Op::HFlip | Op::VFlip | Op::Blur(_) => false,
+    }
+}

@@ -1,0 +1,110 @@
+// The images of frames by a chain.
+ghost use Rattle.std.specs.Prelude.{◌≡◌, ◌+◌, ℕ, List, ◌-◌, ◌<◌, ◌≤◌, length, IfOk, IfErr, slice_index_or};
+ghost use Rattle.y4m_header.specs.FrameLine.{IsFrameLine};
+ghost use Rattle.frame_view.specs.Frame.{line_of};
+ghost use Rattle.row_bands.specs.declared.canvas.Canvas.{Canvas};
+ghost use Rattle.row_bands.specs.Canvas.{frame_of};
+ghost use Rattle.filters.specs.Chain.{picture_of, picture_at, last_picture};
+ghost use Rattle.filters.specs.ChainImage.{value_of, IsChainImage, IsCanvasAt, AreCanvases};
+ghost use Rattle.filters.specs.declared.op.Op.{Op};
+ghost use Rattle.filters.specs.ChainImage.{IsOpImage};
+
+use crate::apply::apply_op;
+use crate::chain::Chain;
+use crate::error::FilterError;
+use frame_view::Frame;
+use row_bands::Canvas;
+use std::alloc::Global;
+
+/// The image of a frame by operation `i` alone.
+fn image_by(chain: &Chain, alloc: Global, i: usize, source: &Frame) -> Result<Frame, FilterError>
+    requires op { i < length chain.now.ops }
+    requires few { i < 8 }
+    requires reaches { picture_of source.now.geometry ≡ picture_at chain.now i }
+    ensures image { IfOk result (λ image. (d : Op) → IsOpImage (slice_index_or chain.now.ops i d) (value_of source.now) (value_of image)) }
+    ensures picture { IfOk result (λ image. picture_of image.geometry ≡ picture_at chain.now (i + 1)) }
+    ensures memory { IfErr result (λ e. e ≡ FilterError.NoMemory) }
+{
+    let mut canvas = Canvas::new(
+        alloc,
+        chain.geometry_after(i + 1),
+        chain.band_height(),
+        source.line(),
+    )?;
+    apply_op(chain.op(i), source, &mut canvas);
+    Ok(canvas.into_frame())
+}
+
+/// Makes canvas `i` the image of a frame by operation `i` alone.
+fn paint_at(chain: &Chain, i: usize, source: &Frame, canvas: &mut Canvas)
+    requires op { i < length chain.now.ops }
+    requires reaches { picture_of source.now.geometry ≡ picture_at chain.now i }
+    requires canvas { IsCanvasAt chain.now (line_of source.now) i canvas.old }
+    ensures canvas { IsCanvasAt chain.now (line_of source.now) i canvas.new }
+    ensures image { (d : Op) → IsOpImage (slice_index_or chain.now.ops i d) (value_of source.now) (value_of (frame_of canvas.new)) }
+{
+    apply_op(chain.op(i), source, canvas);
+}
+
+/// Makes canvas `i` the image by operation `i` of what the canvas before it holds.
+fn paint_next(chain: &Chain, i: usize, canvases: &mut [Canvas])
+    requires some { 1 ≤ i }
+    requires op { i < length chain.now.ops }
+    requires canvas { i < length canvases.old }
+    requires reaches { (d : Canvas) → picture_of (frame_of (slice_index_or canvases.old (i - 1) d)).geometry ≡ picture_at chain.now i }
+    requires canvases { (d : Canvas) → AreCanvases chain.now (line_of (frame_of (slice_index_or canvases.old (i - 1) d))) canvases.old }
+    ensures canvases { (d : Canvas) → AreCanvases chain.now (line_of (frame_of (slice_index_or canvases.old (i - 1) d))) canvases.new }
+    ensures image { (o : Op) (d : Canvas) → IsOpImage (slice_index_or chain.now.ops i o)
+        (value_of (frame_of (slice_index_or canvases.old (i - 1) d))) (value_of (frame_of (slice_index_or canvases.new i d))) }
+{
+    let (done, rest) = canvases.split_at_mut(i);
+    paint_at(chain, i, done[i - 1].frame(), &mut rest[0]);
+}
+
+impl Chain {
+    /// A canvas for each operation's output, for frames with this line.
+    pub fn canvases(&self, alloc: Global, line: &[u8]) -> Result<Vec<Canvas>, FilterError>
+        requires { IsFrameLine line.now }
+        ensures ok { IfOk result (λ canvases. AreCanvases self.now line.now canvases.items) }
+        ensures memory { IfErr result (λ e. e ≡ FilterError.NoMemory) }
+    {
+        let count = self.ops().len();
+        let mut canvases = Vec::with_capacity(alloc, count)?;
+        for i in 0..count {
+            let canvas = Canvas::new(alloc, self.geometry_after(i + 1), self.band_height(), line)?;
+            canvases.push(canvas)?;
+        }
+        Ok(canvases)
+    }
+
+    /// The image of a frame: each operation is done on the image that the one before it made.
+    pub fn apply(&self, alloc: Global, source: &Frame) -> Result<Frame, FilterError>
+        requires { source.now.geometry ≡ self.now.geometry }
+        ensures image { IfOk result (λ image. IsChainImage self.now.ops (value_of source.now) (value_of image)) }
+        ensures picture { IfOk result (λ image. picture_of image.geometry ≡ last_picture self.now.ops (picture_of self.now.geometry)) }
+        ensures memory { IfErr result (λ e. e ≡ FilterError.NoMemory) }
+    {
+        let count = self.ops().len();
+        let mut image = image_by(self, alloc, 0, source)?;
+        for i in 1..count {
+            image = image_by(self, alloc, i, &image)?;
+        }
+        Ok(image)
+    }
+
+    /// Writes the canvases so that the last one holds the image of the frame; the others serve the operations before it.
+    /// It takes no memory, and the canvases may be written again for the next frame with this line.
+    pub fn apply_into(&self, source: &Frame, canvases: &mut [Canvas])
+        requires geometry { source.now.geometry ≡ self.now.geometry }
+        requires canvases { AreCanvases self.now (line_of source.now) canvases.old }
+        ensures canvases { AreCanvases self.now (line_of source.now) canvases.new }
+        ensures image { (d : Canvas) → IsChainImage self.now.ops (value_of source.now)
+            (value_of (frame_of (slice_index_or canvases.new (length self.now.ops - 1) d))) }
+    {
+        let count = self.ops().len();
+        paint_at(self, 0, source, &mut canvases[0]);
+        for i in 1..count {
+            paint_next(self, i, canvases);
+        }
+    }
+}

@@ -1,0 +1,64 @@
+// The steps of a frame, and the geometries between the operations.
+ghost use Rattle.std.specs.Prelude.{◌≡◌, ◌≤◌, ◌<◌, ◌↔◌, ◌+◌, length, sum, IsSome, IfSome, IfOk};
+ghost use Rattle.filters.specs.Chain.{AreDoable};
+ghost use Rattle.filters.specs.Steps.{step_count, IsStep};
+ghost use Rattle.filters.specs.ChainOutputs.{AreOutputs, output_counts};
+
+use crate::chain::fits::{is_doable, output_of};
+use crate::op::Op;
+use frame_view::Geometry;
+use row_bands::{BandHeight, BandPlan};
+use std::alloc::{AllocError, Global};
+
+/// The steps of a frame, if each operation can be done on the picture that reaches it.
+pub fn count_steps(ops: &[Op], geometry: Geometry, band_height: BandHeight) -> Option<u32>
+    requires { length ops.now ≤ 8 }
+    ensures doable { IsSome result ↔ AreDoable ops.now geometry }
+    ensures steps { IfSome result (λ steps. steps ≡ step_count ops.now geometry.height band_height.rows) }
+    ensures some { IfSome result (λ steps. length ops.now ≤ steps) }
+{
+    let mut picture = geometry;
+    let mut steps = 0;
+    for op in ops {
+        if !is_doable(*op, picture) {
+            return None;
+        }
+        picture = output_of(*op, picture);
+        steps += BandPlan::new(picture, band_height).count() as u32;
+    }
+    Some(steps)
+}
+
+/// The geometry after each operation, in order.
+pub fn outputs_of(
+    alloc: Global,
+    ops: &[Op],
+    geometry: Geometry,
+) -> Result<Vec<Geometry>, AllocError>
+    requires { AreDoable ops.now geometry }
+    ensures { IfOk result (λ outputs. AreOutputs ops.now geometry outputs.items) }
+{
+    let mut outputs = Vec::with_capacity(alloc, ops.len())?;
+    let mut picture = geometry;
+    for op in ops {
+        picture = output_of(*op, picture);
+        outputs.push(picture)?;
+    }
+    Ok(outputs)
+}
+
+/// The operation and the band of step `k`, where these are the geometries after each operation.
+pub fn op_of_step(outputs: &[Geometry], band_height: BandHeight, k: u32) -> (usize, usize)
+    requires { k < sum (output_counts outputs.now band_height.rows) }
+    ensures { IsStep (output_counts outputs.now band_height.rows) k result.0 result.1 }
+{
+    let mut band = k as usize;
+    for (op, output) in outputs.iter().enumerate() {
+        let bands = BandPlan::new(*output, band_height).count();
+        if band < bands {
+            return (op, band);
+        }
+        band -= bands;
+    }
+    unreachable!()
+}

@@ -1,0 +1,4 @@
+pub mod Parts
+pub mod Bands
+pub mod SameBand
+pub mod Written

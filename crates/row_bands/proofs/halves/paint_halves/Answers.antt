@@ -1,0 +1,18 @@
+use Rattle.std.proofs.Common.{◌∙◌, ◌≤◌}
+use Rattle.row_bands.proofs.Bands.{inside}
+use Rattle.row_bands.specs.Canvas.{band_geometry}
+use Rattle.row_bands.proofs.Written.{one_more_plane}
+use Rattle.row_bands.proofs.halves.paint_halves.Goals as goal
+
+pub loop-p-preserved : goal.loop-p-preserved
+loop-p-preserved g c =
+    let band = c.loop-p.band in
+    let old = c.args.band.now in
+    let low : old.to ≤ (band_geometry band).height = rw c.loop-p.invariant.to at band.inside in
+    record {
+      same = c.paint_plane_halves.ensures.same_reference ∙ c.loop-p.invariant.same;
+      from = c.paint_plane_halves.ensures.from ∙ c.loop-p.invariant.from;
+      to = c.paint_plane_halves.ensures.to ∙ c.loop-p.invariant.to;
+      height = c.paint_plane_halves.ensures.height ∙ c.loop-p.invariant.height;
+      rows = one_more_plane _ _ _ _ _ _ _ (λ q. inside (band_geometry band) q old.to low) c.loop-p.invariant.rows (rw (← c.loop-p.invariant.from, ← c.loop-p.invariant.to) c.paint_plane_halves.ensures.rows);
+    }

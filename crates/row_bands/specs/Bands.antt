@@ -1,0 +1,30 @@
+-- How a frame is cut into bands of b luma rows, the last one perhaps of fewer.
+use Rattle.std.specs.Prelude.{◌≡◌, ℕ, ◌+◌, ◌*◌, ◌/◌, ◌<◌, ◌≤◌, min}
+use Rattle.std.specs.Int.{div_ceil}
+use Rattle.y4m_header.specs.Chroma.{vertical_divisor, plane_count}
+use Rattle.frame_view.specs.declared.geometry.Geometry.{Geometry}
+use Rattle.frame_view.specs.Places.{by_plane, plane_height}
+
+abbrev pub band_count : Geometry → ℕ → ℕ
+band_count g b = div_ceil g.height b
+
+-- how many rows of plane p go with the luma rows above row n
+abbrev pub rows_above : Geometry → ℕ → ℕ → ℕ
+rows_above g p n = by_plane p n (n / vertical_divisor g.chroma)
+
+-- the luma row that band k begins with
+abbrev pub luma_from : ℕ → ℕ → ℕ
+luma_from b k = k * b
+
+-- the luma row that follows band k
+abbrev pub luma_to : Geometry → ℕ → ℕ → ℕ
+luma_to g b k = min g.height ((k + 1) * b)
+
+-- row y of plane p is in band k
+abbrev pub IsInBand : Geometry → ℕ → ℕ → ℕ → ℕ → Type 0
+IsInBand g b k p y = (rows_above g p (luma_from b k) ≤ y) × (y < rows_above g p (luma_to g b k))
+
+-- each row of each plane is in exactly one band
+abbrev pub EachRowInOneBand : Geometry → ℕ → Type 0
+EachRowInOneBand g b = (p y : ℕ) → p < plane_count g.chroma → y < plane_height g p
+    → (k : ℕ) × (k < band_count g b) × IsInBand g b k p y × ((j : ℕ) → IsInBand g b j p y → j ≡ k)

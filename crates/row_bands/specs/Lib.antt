@@ -1,0 +1,5 @@
+pub mod Height
+pub mod Bands
+pub mod Canvas
+pub mod Lending
+pub mod Written

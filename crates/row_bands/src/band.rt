@@ -1,0 +1,88 @@
+// One band of a canvas, lent for writing.
+ghost use Rattle.std.specs.Prelude.{◌≤◌};
+
+use crate::band_plan::rows_above;
+use crate::canvas::Canvas;
+use frame_view::Geometry;
+
+/// One band of a canvas, lent for writing: the luma rows from `from` on to `to`, which is left out, and the rows of
+/// the other planes that go with them.
+///
+/// What is written stands in the canvas; every row outside the band stays.
+#[derive(Drop)]
+pub struct Band<'a> {
+    pub(crate) from: usize,
+    pub(crate) to: usize,
+    pub(crate) canvas: &'a mut Canvas,
+    pub ghost ordered: { from ≤ to },
+    pub ghost inside: { to ≤ canvas.now.frame.geometry.height },
+}
+
+impl Band<'_> {
+    ghost use Rattle.std.specs.Prelude.{◌≡◌, ℕ, ◌+◌, ◌*◌, ◌-◌, ◌<◌, ◌≤◌, length};
+    ghost use Rattle.std.specs.Borrow.{sem};
+    ghost use Rattle.y4m_header.specs.Chroma.{plane_count};
+    ghost use Rattle.frame_view.specs.Places.{plane_width, plane_height};
+    ghost use Rattle.frame_view.specs.Rows.{row_of, run_of};
+    ghost use Rattle.frame_view.specs.Frame.{bytes_of};
+    ghost use Rattle.row_bands.specs.Bands.{rows_above};
+    ghost use Rattle.row_bands.specs.Canvas.{band_frame, band_geometry};
+    ghost use Rattle.row_bands.specs.Lending.{LendsBandRows, LendsPlane};
+
+    /// The geometry of the frame that the band is part of.
+    pub fn geometry(&self) -> Geometry
+        ensures { result ≡ band_geometry self.now }
+    {
+        self.canvas.frame.geometry()
+    }
+
+    /// The luma rows of the band: the first one, and the one that follows the last.
+    pub fn luma_rows(&self) -> (usize, usize)
+        ensures from { result.0 ≡ self.now.from }
+        ensures to { result.1 ≡ self.now.to }
+        ensures ordered { result.0 ≤ result.1 }
+        ensures inside { result.1 ≤ (band_geometry self.now).height }
+    {
+        (self.from, self.to)
+    }
+
+    /// The rows of plane `p` in the band: the first one, and the one that follows the last, counted in the plane.
+    #[tactic(auto, using(crate::proofs::Bands::inside))]
+    pub fn rows(&self, p: usize) -> (usize, usize)
+        requires { p < plane_count (band_geometry self.now).chroma }
+        ensures from { result.0 ≡ rows_above (band_geometry self.now) p self.now.from }
+        ensures to { result.1 ≡ rows_above (band_geometry self.now) p self.now.to }
+        ensures ordered { result.0 ≤ result.1 }
+        ensures inside { result.1 ≤ plane_height (band_geometry self.now) p }
+    {
+        let geometry = self.geometry();
+        (
+            rows_above(geometry, p, self.from),
+            rows_above(geometry, p, self.to),
+        )
+    }
+
+    /// All rows of plane `p` in the band, one after another.
+    pub fn rows_mut(&mut self, p: usize) -> &mut [u8]
+        requires { p < plane_count (band_geometry self.old).chroma }
+        ensures* writes_back { sem 𝓛 (LendsPlane self.entry p result) }
+        ensures value { result.now ≡ run_of (band_geometry self.old) (bytes_of (band_frame self.old)) p (rows_above (band_geometry self.old) p self.old.from) (rows_above (band_geometry self.old) p self.old.to) }
+        ensures len { length result.now ≡ (rows_above (band_geometry self.old) p self.old.to - rows_above (band_geometry self.old) p self.old.from) * plane_width (band_geometry self.old) p }
+    {
+        let (from, to) = self.rows(p);
+        self.canvas.rows_mut(p, from, to)
+    }
+
+    /// Row `y` of plane `p`; `y` is counted in the plane, not in the band.
+    #[tactic(auto, using(crate::proofs::Bands::inside))]
+    pub fn row_mut(&mut self, p: usize, y: usize) -> &mut [u8]
+        requires plane { p < plane_count (band_geometry self.old).chroma }
+        requires from { rows_above (band_geometry self.old) p self.old.from ≤ y }
+        requires to { y < rows_above (band_geometry self.old) p self.old.to }
+        ensures* writes_back { sem 𝓛 (LendsBandRows self.entry p y result) }
+        ensures value { result.now ≡ row_of (band_geometry self.old) (bytes_of (band_frame self.old)) p y }
+        ensures len { length result.now ≡ plane_width (band_geometry self.old) p }
+    {
+        self.canvas.row_mut(p, y)
+    }
+}

@@ -1,0 +1,124 @@
+// A frame that is written band by band.
+use crate::band::Band;
+use crate::band_height::BandHeight;
+use crate::band_plan::BandPlan;
+use frame_view::{Frame, Geometry};
+use std::alloc::{AllocError, Global};
+
+/// A frame that is written band by band.
+#[derive(Debug, Drop)]
+pub struct Canvas {
+    pub(crate) frame: Frame,
+    pub(crate) height: BandHeight,
+}
+
+impl Canvas {
+    ghost use Rattle.std.specs.Prelude.{◌≡◌, ℕ, ◌+◌, ◌*◌, ◌-◌, ◌<◌, ◌≤◌, length, replicate, IfOk, OnOk, OnErr};
+    ghost use Rattle.std.specs.Borrow.{sem};
+    ghost use Rattle.y4m_header.specs.Chroma.{plane_count};
+    ghost use Rattle.y4m_header.specs.FrameLine.{IsFrameLine};
+    ghost use Rattle.frame_view.specs.Places.{plane_width, plane_height, frame_len};
+    ghost use Rattle.frame_view.specs.Rows.{row_of, run_of};
+    ghost use Rattle.frame_view.specs.Frame.{line_of, bytes_of, IsFrameWith};
+    ghost use Rattle.row_bands.specs.Bands.{band_count, luma_from, luma_to};
+    ghost use Rattle.row_bands.specs.Canvas.{frame_of, height_of};
+    ghost use Rattle.row_bands.specs.Lending.{LendsCanvasRows};
+
+    /// A canvas whose samples are all 0.
+    pub fn new(
+        alloc: Global,
+        geometry: Geometry,
+        height: BandHeight,
+        line: &[u8],
+    ) -> Result<Canvas, AllocError>
+        requires { IsFrameLine line.now }
+        ensures frame { IfOk result (λ canvas. IsFrameWith geometry line.now (replicate (frame_len geometry) 0) (frame_of canvas)) }
+        ensures height { IfOk result (λ canvas. height_of canvas ≡ height.rows) }
+    {
+        Ok(Canvas {
+            frame: Frame::blank(alloc, geometry, line)?,
+            height,
+        })
+    }
+
+    /// A canvas over a frame that is there already; its samples stay until they are written.
+    pub fn over(frame: Frame, height: BandHeight) -> Canvas
+        ensures frame { frame_of result ≡ frame }
+        ensures height { height_of result ≡ height.rows }
+    {
+        Canvas { frame, height }
+    }
+
+    /// The bands that the canvas is written in.
+    pub fn plan(&self) -> BandPlan
+        ensures geometry { result.geometry ≡ (frame_of self.now).geometry }
+        ensures height { result.height.rows ≡ height_of self.now }
+    {
+        BandPlan::new(self.frame.geometry(), self.height)
+    }
+
+    /// The frame as it is by now.
+    pub fn frame(&self) -> &Frame
+        ensures { result.now ≡ frame_of self.now }
+    {
+        &self.frame
+    }
+
+    /// Puts this frame line in place of the frame's own; the samples stay.
+    pub fn set_line(&mut self, alloc: Global, line: &[u8]) -> Result<(), AllocError>
+        requires { IsFrameLine line.now }
+        ensures geometry { (frame_of self.new).geometry ≡ (frame_of self.old).geometry }
+        ensures height { height_of self.new ≡ height_of self.old }
+        ensures bytes { bytes_of (frame_of self.new) ≡ bytes_of (frame_of self.old) }
+        ensures ok { OnOk result (line_of (frame_of self.new) ≡ line.now) }
+        ensures err { OnErr result (line_of (frame_of self.new) ≡ line_of (frame_of self.old)) }
+    {
+        self.frame.set_line(alloc, line)
+    }
+
+    pub fn into_frame(self) -> Frame
+        ensures { result ≡ frame_of self }
+    {
+        let Canvas { frame, height: _ } = self;
+        frame
+    }
+
+    /// Band `k`, lent for writing: its rows of all planes.
+    pub fn band_mut(&mut self, k: usize) -> Band<'_>
+        requires { k < band_count (frame_of self.old).geometry (height_of self.old) }
+        ensures same_reference { result.canvas.ghost_name ≡ self.entry.ghost_name }
+        ensures value { result.canvas.now ≡ self.old }
+        ensures from { result.from ≡ luma_from (height_of self.old) k }
+        ensures to { result.to ≡ luma_to (frame_of self.old).geometry (height_of self.old) k }
+    {
+        let (from, to) = self.plan().rows(k, 0);
+        Band {
+            from,
+            to,
+            canvas: self,
+        }
+    }
+
+    /// The rows of plane `p` from `from` on to `to`, which is left out, lent for writing as one slice.
+    pub(crate) fn rows_mut(&mut self, p: usize, from: usize, to: usize) -> &mut [u8]
+        requires plane { p < plane_count self.old.frame.geometry.chroma }
+        requires order { from ≤ to }
+        requires rows { to ≤ plane_height self.old.frame.geometry p }
+        ensures* writes_back { sem 𝓛 (LendsCanvasRows self.entry p from result) }
+        ensures value { result.now ≡ run_of self.old.frame.geometry (bytes_of self.old.frame) p from to }
+        ensures len { length result.now ≡ (to - from) * plane_width self.old.frame.geometry p }
+    {
+        self.frame.rows_mut(p, from, to)
+    }
+
+    /// Row `y` of plane `p`, lent for writing.
+    pub(crate) fn row_mut(&mut self, p: usize, y: usize) -> &mut [u8]
+        requires plane { p < plane_count self.old.frame.geometry.chroma }
+        requires row { y < plane_height self.old.frame.geometry p }
+        ensures* writes_back { sem 𝓛 (LendsCanvasRows self.entry p y result) }
+        ensures value { result.now ≡ row_of self.old.frame.geometry (bytes_of self.old.frame) p y }
+        ensures len { length result.now ≡ plane_width self.old.frame.geometry p }
+    {
+        self.frame.row_mut(p, y)
+    }
+}

@@ -1,0 +1,18 @@
+// Frames cut into bands of rows, and bands lent for writing.
+#![tactic(auto)]
+
+pub mod band;
+pub mod band_height;
+pub mod band_plan;
+pub mod canvas;
+pub mod halves;
+pub mod painter;
+#[cfg(test)]
+mod tests;
+
+pub use band::Band;
+pub use band_height::BandHeight;
+pub use band_plan::{BandPlan, bands_part_the_rows};
+pub use canvas::Canvas;
+pub use halves::paint_halves;
+pub use painter::{Painter, paint_band};

@@ -1,0 +1,51 @@
+// Writing a band from a picture.
+ghost use Rattle.std.specs.Prelude.{◌≡◌, ℕ, ◌<◌, ◌≤◌, ◌-◌, ◌*◌, length};
+ghost use Rattle.y4m_header.specs.Chroma.{plane_count};
+ghost use Rattle.frame_view.specs.declared.geometry.Geometry.{Geometry};
+ghost use Rattle.frame_view.specs.Places.{plane_width, plane_height};
+ghost use Rattle.frame_view.specs.Written.{IsRows, HasRows};
+ghost use Rattle.row_bands.specs.Bands.{rows_above};
+ghost use Rattle.row_bands.specs.Canvas.{band_frame, band_geometry, height_of};
+ghost use Rattle.row_bands.specs.Written.{IsPainted};
+
+use crate::band::Band;
+
+/// What can write any rows of its picture.
+pub trait Painter {
+    /// The sample at a plane, a row and a column.
+    ghost picture: { Self → ℕ → ℕ → ℕ → ℕ };
+
+    ghost geometry: { Self → Geometry };
+
+    /// Writes the rows of plane `p` from `from` on to `to`, which is left out, one after another; they are all of `rows`.
+    fn paint(&self, p: usize, from: usize, to: usize, rows: &mut [u8])
+        requires plane { p < plane_count (geometry self.now).chroma }
+        requires order { from ≤ to }
+        requires inside { to ≤ plane_height (geometry self.now) p }
+        requires len { length rows.old ≡ (to - from) * plane_width (geometry self.now) p }
+        ensures { IsRows (picture self.now) (geometry self.now) p from to rows.new };
+}
+
+/// Writes the painter's rows into a band, plane by plane.
+pub fn paint_band<P: Painter>(painter: &P, band: &mut Band<'_>)
+    requires { P.geometry painter.now ≡ band_geometry band.old }
+    ensures same_reference { band.new.canvas.ghost_name ≡ band.old.canvas.ghost_name }
+    ensures painted { IsPainted (P.picture painter.now) band.old band.new }
+{
+    for p in 0..band.geometry().planes() {
+        paint_plane(painter, band, p);
+    }
+}
+
+fn paint_plane<P: Painter>(painter: &P, band: &mut Band<'_>, p: usize)
+    requires same { P.geometry painter.now ≡ band_geometry band.old }
+    requires plane { p < plane_count (band_geometry band.old).chroma }
+    ensures same_reference { band.new.canvas.ghost_name ≡ band.old.canvas.ghost_name }
+    ensures from { band.new.from ≡ band.old.from }
+    ensures to { band.new.to ≡ band.old.to }
+    ensures height { height_of band.new.canvas.now ≡ height_of band.old.canvas.now }
+    ensures rows { HasRows (P.picture painter.now) p (rows_above (band_geometry band.old) p band.old.from) (rows_above (band_geometry band.old) p band.old.to) (band_frame band.old) (band_frame band.new) }
+{
+    let (from, to) = band.rows(p);
+    painter.paint(p, from, to, band.rows_mut(p));
+}

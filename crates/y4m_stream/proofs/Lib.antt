@@ -1,0 +1,6 @@
+pub mod Known
+pub mod Puts
+pub mod MoreFrames
+pub mod Serving
+pub mod Filtered
+pub mod Determined

@@ -1,0 +1,23 @@
+use Rattle.std.proofs.Common.{◌≡◌, List, length, false}
+use Rattle.y4m_header.specs.StreamText.{FrameText}
+use Rattle.y4m_stream.specs.declared.reader.Phase.TheVariants.{Open}
+use Rattle.y4m_stream.specs.Passes.{PassesFrames}
+use Rattle.y4m_stream.specs.Reads.{IsOfHeader}
+use Rattle.y4m_stream.specs.Writes.{IsWriterFor}
+use Rattle.y4m_stream.specs.Images.{AreOfSizes}
+use Rattle.y4m_stream.proofs.passing.pass_frames.Given as goal
+
+abbrev pub invariant-loop-count : goal.invariant-loop-count
+invariant-loop-count g l = record {
+  open_reader : l.reader.phase ≡ Open;
+  open_writer : l.writer.failed ≡ false;
+  put : l.writer.frames ≡ l.count;
+  same_header : l.reader.header ≡ l.fn.reader.header;
+  header : IsOfHeader l.reader.header l.frame.geometry;
+  of_chain : l.frame.geometry ≡ l.images.chain.geometry;
+  sizes : AreOfSizes l.images.chain l.images.canvases.items;
+  size : IsWriterFor l.images.chain l.writer;
+  same : l.images.chain ≡ l.fn.images.chain;
+  passed : (frames images : List FrameText) × (length frames ≡ l.count)
+      × PassesFrames l.fn.images.chain l.fn.reader l.reader l.fn.writer l.writer frames images;
+}

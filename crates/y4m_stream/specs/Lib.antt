@@ -1,0 +1,13 @@
+pub mod Rest
+pub mod Faults
+pub mod Chains
+pub mod Images
+pub mod Served
+pub mod Streams
+pub mod Writes
+pub mod Reads
+pub mod Passes
+pub mod Filtering
+pub mod Closing
+pub mod Answers
+pub mod Laws

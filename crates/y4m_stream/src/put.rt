@@ -1,0 +1,53 @@
+// Writing all bytes, or telling how many went out.
+ghost use Rattle.std.specs.Prelude.{◌≡◌, ◌+◌, ◌-◌, ◌^◌, ◌<◌, ◌≤◌, [], ◌∷◌, ◌++◌, length, take};
+ghost use Rattle.y4m_stream.specs.Writes.{PutsText};
+
+use std::io::Write;
+
+/// Writes all of the bytes, or answers how many went out.
+pub fn put_all<W: Write>(writer: &mut W, bytes: &[u8]) -> Result<(), usize>
+    ensures { PutsText (W.contents writer.old) (W.contents writer.new) bytes.now result }
+{
+    let mut written = 0;
+    while written < bytes.len() {
+        match writer.write(&bytes[written..]) {
+            Ok(0) | Err(_) => return Err(written),
+            Ok(n) => written += n,
+        }
+    }
+    Ok(())
+}
+
+/// A line and its line feed, at the front of a buffer.
+fn with_line_feed(line: &[u8]) -> [u8; 1024]
+    requires { length line.now ≤ 1023 }
+    ensures { take (length line.now + 1) result ≡ line.now ++ 10 ∷ [] }
+{
+    let mut text = [0; 1024];
+    text[..line.len()].copy_from_slice(line);
+    text[line.len()] = b'\n';
+    text
+}
+
+/// Writes a line and its line feed, in one piece, or answers how many bytes went out.
+pub fn put_line<W: Write>(writer: &mut W, line: &[u8]) -> Result<(), usize>
+    requires { length line.now ≤ 1023 }
+    ensures { PutsText (W.contents writer.old) (W.contents writer.new) (line.now ++ 10 ∷ []) result }
+{
+    let text = with_line_feed(line);
+    put_all(writer, &text[..line.len() + 1])
+}
+
+/// Writes a frame's line, a line feed and its data, or answers how many bytes went out.
+#[tactic(auto, using(crate::proofs::Puts::put_rules))]
+pub fn put_frame<W: Write>(writer: &mut W, line: &[u8], bytes: &[u8]) -> Result<(), usize>
+    requires line { length line.now ≤ 1023 }
+    requires bytes { length bytes.now < 2 ^ 62 }
+    ensures { PutsText (W.contents writer.old) (W.contents writer.new) (line.now ++ 10 ∷ bytes.now) result }
+{
+    put_line(writer, line)?;
+    match put_all(writer, bytes) {
+        Ok(()) => Ok(()),
+        Err(n) => Err(line.len() + 1 + n),
+    }
+}

@@ -1,0 +1,38 @@
+//! Reading a script.
+ghost use Rattle.std.specs.Prelude.{◌≡◌, ◌≢◌, ◌≤◌, ◌<◌, IfErr, IfOk, vec_len};
+ghost use Rattle.std.specs.Io.KnownBytes.{Consumes, IsAtEnd};
+
+use super::ReplayFault;
+use std::alloc::Global;
+use std::io::Read;
+
+/// The bytes of one read.
+const CHUNK: usize = 4096;
+
+/// Reads the input's first bytes: `limit` of them, or all where there are fewer. No byte after them is asked for.
+pub fn read_front<R: Read>(
+    alloc: Global,
+    input: &mut R,
+    limit: usize,
+) -> Result<Vec<u8>, ReplayFault>
+    ensures bytes { IfOk result (λ bytes. Consumes (R.remaining input.old) (R.remaining input.new) bytes.items) }
+    ensures bound { IfOk result (λ bytes. vec_len bytes ≤ limit) }
+    ensures whole { IfOk result (λ bytes. vec_len bytes < limit → IsAtEnd (R.remaining input.new)) }
+    ensures no_write { IfErr result (λ fault. fault ≢ ReplayFault.Write) }
+{
+    let mut bytes = Vec::new(alloc);
+    let mut chunk = [0; CHUNK];
+    while bytes.len() < limit {
+        let room = CHUNK.min(limit - bytes.len());
+        match input.read(&mut chunk[..room]) {
+            Ok(0) => return Ok(bytes),
+            Ok(count) => {
+                if bytes.extend_from_slice(&chunk[..count]).is_err() {
+                    return Err(ReplayFault::NoMemory);
+                }
+            }
+            Err(_) => return Err(ReplayFault::Read),
+        }
+    }
+    Ok(bytes)
+}
