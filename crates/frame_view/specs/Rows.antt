@@ -1,9 +1,10 @@
 -- The rows of a frame's planes, seen in its flat bytes.
-use Rattle.std.specs.Prelude.{◌≡◌, ℕ, ◌+◌, ◌*◌, ◌<◌, List, map, slice_index, slice_range}
+use Rattle.std.specs.Prelude.{◌≡◌, ℕ, ◌+◌, ◌*◌, ◌<◌, List, ◌++◌, length, map, slice_index, slice_range}
 use Rattle.std.specs.List.{range_with_len}
 use Rattle.y4m_header.specs.Chroma.{plane_count}
 use Rattle.frame_view.specs.declared.geometry.Geometry.{Geometry}
 use Rattle.frame_view.specs.declared.plane.Plane.{Plane}
+use Rattle.frame_view.specs.LentTogether.{lent_len, of_plane}
 use Rattle.frame_view.specs.Places.{plane_width, plane_height, row_start, frame_len}
 
 abbrev pub sample : Geometry → List ℕ → ℕ → ℕ → ℕ → ℕ
@@ -37,3 +38,8 @@ plane_run plane from to = slice_range plane.samples.now (from * plane.columns) (
 -- what a plane is: its rows, from the top
 abbrev pub plane_rows : Plane → List (List ℕ)
 plane_rows plane = map (λ y. plane_run plane y (y + 1)) (range_with_len 0 plane.rows)
+
+-- four planes that come back at once: what stands in one stands in that plane's own rows
+abbrev pub LentPlanesStandInTheirRows : Geometry → Type 0
+LentPlanesStandInTheirRows g = (luma blue red alpha : List ℕ) → length luma ≡ lent_len g 0 → length blue ≡ lent_len g 1 → length red ≡ lent_len g 2 → length alpha ≡ lent_len g 3
+    → (p y x : ℕ) → IsPlace g p y x → sample g (luma ++ (blue ++ (red ++ alpha))) p y x ≡ slice_index (of_plane p luma blue red alpha) (y * plane_width g p + x)

@@ -128,7 +128,8 @@ impl Frame {
         ensures columns { result.columns ≡ plane_width self.now.geometry p }
         ensures rows { result.rows ≡ plane_height self.now.geometry p }
         ensures listed { plane_rows result ≡ rows_of self.now.geometry (bytes_of self.now) p }
-        ensures runs { (from to : ℕ) → from ≤ to → to ≤ result.rows → plane_run result from to ≡ run_of self.now.geometry (bytes_of self.now) p from to }
+        ensures runs { (from to : ℕ) → from ≤ to → to ≤ result.rows
+            → plane_run result from to ≡ run_of self.now.geometry (bytes_of self.now) p from to }
     {
         let size = self.geometry.plane_size(p);
         let samples = self.rows(p, 0, size.rows);

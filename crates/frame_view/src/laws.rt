@@ -1,5 +1,5 @@
 // What holds of the places of samples.
-ghost use Rattle.frame_view.specs.Rows.{EachByteInOneRow};
+ghost use Rattle.frame_view.specs.Rows.{EachByteInOneRow, LentPlanesStandInTheirRows};
 
 use crate::geometry::Geometry;
 
@@ -7,4 +7,10 @@ use crate::geometry::Geometry;
 #[tactic(auto, using(crate::proofs::Parted::each_byte_in_one_row))]
 pub fn rows_part_the_bytes(geometry: Geometry)
     ensures { EachByteInOneRow geometry }
+{}
+
+/// Planes that are lent at once come back to their own rows, whatever was written.
+#[tactic(auto, using(crate::proofs::LentTogether::lent_planes))]
+pub fn lent_planes_stand_in_their_rows(geometry: Geometry)
+    ensures { LentPlanesStandInTheirRows geometry }
 {}

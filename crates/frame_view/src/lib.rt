@@ -11,6 +11,6 @@ mod tests;
 
 pub use frame::{Frame, WrongLength};
 pub use geometry::{Geometry, LentPlane, LentPlanes, PlaneSize};
-pub use laws::rows_part_the_bytes;
+pub use laws::{lent_planes_stand_in_their_rows, rows_part_the_bytes};
 pub use plane::Plane;
 pub use planes_mut::{PlaneMut, split_rows};

@@ -6,9 +6,9 @@ ghost use Rattle.std.specs.Prelude.{◌≡◌, ◌*◌, length};
 /// It is a list of rows, from the top; each has as many samples as the plane has columns.
 #[derive(Clone, Copy, Debug)]
 pub struct Plane<'a> {
-    pub(crate) columns: usize,
-    pub(crate) rows: usize,
-    pub(crate) samples: &'a [u8],
+    pub columns: usize,
+    pub rows: usize,
+    pub samples: &'a [u8],
     pub ghost whole: { length samples.now ≡ columns * rows },
 }
 

@@ -1,8 +1,12 @@
 // Frames of given sizes, with the bytes that the manual page's order of planes and rows gives.
-ghost use Rattle.std.specs.Prelude.{◌≡◌, IfOk, length, codes};
-ghost use Rattle.frame_view.specs.Frame.{IsFrameWith};
+ghost use Rattle.std.specs.Prelude.{◌≡◌, ◌≤◌, ◌-◌, ◌*◌, ◌++◌, IfOk, length, take, drop, replicate};
+ghost use Rattle.frame_view.specs.Frame.{bytes_of, IsFrameWith};
+ghost use Rattle.frame_view.specs.LentTogether.{lent_len};
 
-use crate::{Frame, Geometry, PlaneMut, PlaneSize, lend_planes, split_rows};
+use crate::{
+    Frame, Geometry, PlaneMut, PlaneSize, lend_planes, lent_planes_stand_in_their_rows,
+    rows_part_the_bytes, split_rows,
+};
 use std::alloc::Global;
 use std::test::Fail;
 use y4m_header::{Chroma, check_frame_line};
@@ -215,6 +219,40 @@ fn lent_rows_and_lines_are_written(rt: HostRuntime) -> Result<(), Fail> {
     Ok(())
 }
 
+/// The planes are lent at once and written in another order.
+fn fill_planes(frame: &mut Frame, luma_value: u8, blue_value: u8, red_value: u8, alpha_value: u8)
+    ensures geometry { frame.new.geometry ≡ frame.old.geometry }
+    ensures bytes { let g = frame.old.geometry in
+        bytes_of frame.new ≡ replicate (lent_len g 0) luma_value ++ (replicate (lent_len g 1) blue_value ++ (replicate (lent_len g 2) red_value ++ replicate (lent_len g 3) alpha_value)) }
+{
+    lend_planes!(&mut *frame => luma, blue, red, alpha);
+    red.samples.fill(red_value);
+    luma.samples.fill(luma_value);
+    alpha.samples.fill(alpha_value);
+    blue.samples.fill(blue_value);
+}
+
+/// One of the planes is written; the others stay.
+fn fill_red(frame: &mut Frame, value: u8)
+    ensures { let g = frame.old.geometry in
+        let from_blue = drop (lent_len g 0) (bytes_of frame.old) in
+        let from_red = drop (lent_len g 1) from_blue in
+        bytes_of frame.new ≡ take (lent_len g 0) (bytes_of frame.old) ++ (take (lent_len g 1) from_blue ++ (replicate (lent_len g 2) value ++ drop (lent_len g 2) from_red)) }
+{
+    lend_planes!(&mut *frame => _luma, _blue, red, _alpha);
+    red.samples.fill(value);
+}
+
+/// The rows of a plane, lent in two parts.
+fn fill_parts(samples: &mut [u8], columns: usize, y: usize, above: u8, below: u8)
+    requires { y * columns ≤ length samples.old }
+    ensures { samples.new ≡ replicate (y * columns) above ++ replicate (length samples.old - y * columns) below }
+{
+    let (top, bottom) = split_rows(samples, columns, y);
+    bottom.fill(below);
+    top.fill(above);
+}
+
 #[test]
 fn planes_lent_at_once_are_written_in_any_order(rt: HostRuntime) -> Result<(), Fail> {
     let line = b"FRAME".as_slice();
@@ -239,19 +277,19 @@ fn planes_lent_at_once_are_written_in_any_order(rt: HostRuntime) -> Result<(), F
 
 #[test]
 fn four_planes_of_one_pixel(rt: HostRuntime) -> Result<(), Fail> {
-    let line = b"FRAME".as_slice();
-    check_frame_line(line)?;
     let geometry = Geometry {
         width: 1,
         height: 1,
         chroma: Chroma::S444Alpha,
     };
-    let mut frame = Frame::blank(rt.alloc(), geometry, line)?;
-    lend_planes!(&mut frame => luma, blue, red, alpha);
-    alpha.samples.fill(4);
-    luma.samples.fill(1);
-    red.samples.fill(3);
-    blue.samples.fill(2);
+    let mut frame = frame(rt.alloc(), geometry, b"FRAME", &[0; 4])?;
+    fill_planes(&mut frame, 1, 2, 3, 4);
     assert_eq!(rt; frame.data(), [1, 2, 3, 4].as_slice());
+    fill_red(&mut frame, 5);
+    assert_eq!(rt; frame.data(), [1, 2, 5, 4].as_slice());
+    fill_parts(frame.data_mut(), 2, 1, 7, 8);
+    assert_eq!(rt; frame.data(), [7, 7, 8, 8].as_slice());
+    rows_part_the_bytes(geometry);
+    lent_planes_stand_in_their_rows(geometry);
     Ok(())
 }
