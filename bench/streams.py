@@ -47,16 +47,31 @@ def ffmpeg(picture_filter, source="pipe:0", target="pipe:1"):
 
 
 def timed(words, source, target):
-    """One run from a file to a file: seconds, and the peak of its memory in KiB."""
+    """One run from a file to a file: seconds."""
     with open(source, "rb") as into, open(target, "wb") as out:
         start = time.perf_counter()
         child = subprocess.Popen(words, stdin=into, stdout=out)
-        _, status, usage = os.wait4(child.pid, 0)
+        status = child.wait()
         seconds = time.perf_counter() - start
-        child.returncode = os.waitstatus_to_exitcode(status)
-    if child.returncode != 0:
-        sys.exit(f"{words[0]} ended with status {child.returncode}")
-    return seconds, usage.ru_maxrss
+    if status != 0:
+        sys.exit(f"{words[0]} ended with status {status}")
+    return seconds
+
+
+def peak(words, source, target):
+    """The peak of a run's memory in KiB, as the kernel has it for the program itself."""
+    most = 0
+    with open(source, "rb") as into, open(target, "wb") as out:
+        child = subprocess.Popen(words, stdin=into, stdout=out)
+        while child.poll() is None:
+            try:
+                with open(f"/proc/{child.pid}/status") as status:
+                    said = [line for line in status if line.startswith("VmHWM")]
+            except OSError:
+                said = []
+            most = max([most] + [int(line.split()[1]) for line in said])
+            time.sleep(0.002)
+    return most
 
 
 def piped(words, source, target):
