@@ -109,7 +109,7 @@ fn close<W: Write>(
 ///
 /// The operations are applied in order, each to the whole picture, in bands of this height. The reader is opened
 /// first, then the chain is made for the header's frames, and then the header line is written. A frame and its
-/// pictures have the same memory for the whole stream. At most 16,777,216 frames are taken.
+/// pictures have the same memory for the whole stream. At most 16,777,216 images are written.
 pub fn filter_stream<R: Read + Drop, W: Write>(
     alloc: Global,
     input: R,
