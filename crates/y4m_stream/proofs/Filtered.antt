@@ -69,12 +69,13 @@ pub refused_as : (e : FilterError) (ops : List Op) (geometry : Geometry) (height
     → ((e ≡ TooManyOps) → All HasGoodRadius ops × ¬ IsChainLength (length ops))
     → ((e ≡ BadCrop) → All HasGoodRadius ops × IsChainLength (length ops) × ¬ AreDoable ops geometry)
     → ((e ≡ TooManySteps) → All HasGoodRadius ops × IsChainLength (length ops) × AreDoable ops geometry × (32768 < steps_of chain))
+    → ((e ≡ NoMemory) → IsChain chain)
     → IsNoChain e chain
-refused_as BadOp ops geometry height bad many crop steps = bad refl
-refused_as TooManyOps ops geometry height bad many crop steps = many refl
-refused_as BadCrop ops geometry height bad many crop steps = crop refl
-refused_as TooManySteps ops geometry height bad many crop steps = steps refl
-refused_as NoMemory ops geometry height bad many crop steps = tt
+refused_as BadOp ops geometry height bad many crop steps memory = bad refl
+refused_as TooManyOps ops geometry height bad many crop steps memory = many refl
+refused_as BadCrop ops geometry height bad many crop steps memory = crop refl
+refused_as TooManySteps ops geometry height bad many crop steps memory = steps refl
+refused_as NoMemory ops geometry height bad many crop steps memory = memory refl
 
 -- without a crop the header stays
 pub header_kept : (chain : ChainValue) (header : HeaderValue) → picture_of chain.geometry ≡ record { width = header.width; height = header.height; chroma = header.chroma }
@@ -114,15 +115,15 @@ out_height-le chain out is last =
 pub out_chroma : (chain : ChainValue) (out : Geometry) → picture_of out ≡ last_picture chain.ops (picture_of chain.geometry) → out.chroma ≡ chain.geometry.chroma
 out_chroma chain out last = ap (λ p. p.chroma) last ∙ last_chroma chain.ops (picture_of chain.geometry)
 
--- want of memory is no fault of the operations
+-- want of memory for what a chain needs
 pub memory_lacks : {T : Type 0} (ops : List Op) (height : BandHeight) (header : HeaderValue) (geometry : Geometry)
-    → geometry.width ≡ header.width → geometry.height ≡ header.height → geometry.chroma ≡ header.chroma
+    → IsChain (record { ops = ops; geometry = geometry; band_height = height }) → geometry.width ≡ header.width → geometry.height ≡ header.height → geometry.chroma ≡ header.chroma
     → (result : Result T FilterError) → IfErr result (λ e. e ≡ NoMemory) → IfErr result (LacksChain ops height header.width header.height header.chroma)
-memory_lacks ops height header geometry w h c (Ok value) memory = tt
-memory_lacks ops height header geometry w h c (Err e) memory = record {
+memory_lacks ops height header geometry is w h c (Ok value) memory = tt
+memory_lacks ops height header geometry is w h c (Err e) memory = record {
   chain = record { ops = ops; geometry = geometry; band_height = height };
   asked = record { ops = refl; band_height = refl; size = rw (w, h, c) refl };
-  refused = rw memory tt;
+  refused = rw memory is;
 }
 
 -- the line that is written

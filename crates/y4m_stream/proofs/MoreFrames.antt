@@ -1,5 +1,5 @@
 -- One frame more.
-use Rattle.std.proofs.Common.{◌≡◌, ℕ, ◌+◌, ◌^◌, List, [], ◌∷◌, ◌++◌, length, Option, Some, None, All, refl, sym, ap, ◌∙◌, append_assoc, append-nil, length-append, arith, IfSome, add_assoc, subst}
+use Rattle.std.proofs.Common.{◌≡◌, ℕ, ◌+◌, ◌<◌, ◌≤◌, ◌^◌, List, [], ◌∷◌, ◌++◌, length, Option, Some, None, All, refl, sym, ap, ◌∙◌, append_assoc, append-nil, length-append, arith, IfSome, add_assoc, subst}
 use Rattle.std.proofs.KnownBytes.{Appends-trans, Consumes-trans, Consumes-nil, Appends-nil}
 use Rattle.std.proofs.Math.Seq.{take-append-add}
 use Rattle.std.proofs.lemmas.List.Elements.{All-nil, All-push}
@@ -12,7 +12,6 @@ use Rattle.frame_view.specs.Frame.{line_of, bytes_of}
 use Rattle.frame_view.specs.declared.frame.Frame.{Frame}
 use Rattle.row_bands.specs.declared.canvas.Canvas.{Canvas}
 use Rattle.y4m_stream.specs.declared.fault.ReadFault.{ReadFault}
-use Rattle.y4m_stream.specs.declared.fault.ReadFault.TheVariants.{NoMemory}
 use Rattle.y4m_stream.specs.declared.fault.WriteFault.TheVariants.{Device}
 use Rattle.y4m_stream.specs.declared.fault.FilterFault.{FilterFault}
 use Rattle.y4m_stream.specs.declared.fault.FilterFault.TheVariants.{Read, Ops, Write, TooManyFrames}
@@ -63,27 +62,42 @@ PassesFrames-push chain reader mid reader' writer between writer' frames images 
 
 -- a fault behind some frames
 stops_at_read : (chain : ChainValue) (fault : ReadFault) (reader mid : ReaderState) (writer between writer' : WriterState) (frames images : List FrameText)
-    → PassesFrames chain reader mid writer between frames images → StandsAtFrame (data_len_of reader.header) fault mid.rest → writer' ≡ between
+    → length frames ≤ 2 ^ 24 → PassesFrames chain reader mid writer between frames images → StandsAtFrame (data_len_of reader.header) fault mid.rest → writer' ≡ between
     → StopsAtRead chain fault reader writer writer'
-stops_at_read chain fault reader mid writer between writer' frames images so_far stands kept = record {
+stops_at_read chain fault reader mid writer between writer' frames images few so_far stands kept = record {
   frames = frames;
   images = images;
   rest = mid.rest;
   each = so_far.each;
   made = so_far.made;
+  limit = few;
   taken = so_far.taken;
   stands = stands;
   wrote = rw kept so_far.wrote;
 }
 
 pub Stops-later : (chain : ChainValue) (fault : FilterFault) (reader mid : ReaderState) (writer between writer' : WriterState) (frames images : List FrameText)
-    → mid.header ≡ reader.header → PassesFrames chain reader mid writer between frames images → FailsToPass chain fault mid between writer'
+    → mid.header ≡ reader.header → length frames < 2 ^ 24 → PassesFrames chain reader mid writer between frames images → FailsToPass chain fault mid between writer'
     → Stops chain fault reader writer writer'
-Stops-later chain (Read fault) reader mid writer between writer' frames images same so_far fails =
-    stops_at_read chain fault reader mid writer between writer' frames images so_far (rw same at fails.0) fails.1
-Stops-later chain (Ops e) reader mid writer between writer' frames images same so_far fails =
-    (fails.0, stops_at_read chain NoMemory reader mid writer between writer' frames images so_far tt fails.1)
-Stops-later chain (Write fault) reader mid writer between writer' frames images same so_far cut =
+Stops-later chain (Read fault) reader mid writer between writer' frames images same few so_far fails =
+    stops_at_read chain fault reader mid writer between writer' frames images (omega (arith, few)) so_far (rw same at fails.0) fails.1
+Stops-later chain (Ops e) reader mid writer between writer' frames images same few so_far fails =
+    let lost = fails.1 in (
+      fails.0,
+      record {
+        frames = frames;
+        images = images;
+        next = lost.frame;
+        rest = lost.rest;
+        each = so_far.each;
+        made = so_far.made;
+        limit = few;
+        is_frame = rw same at lost.is_frame;
+        taken = Consumes-trans reader.rest mid.rest lost.rest (frames_text frames) (text_of lost.frame) so_far.taken lost.taken;
+        wrote = rw lost.kept so_far.wrote;
+      },
+    )
+Stops-later chain (Write fault) reader mid writer between writer' frames images same few so_far cut =
     let is_frame : IsFrameOf (data_len_of reader.header) cut.frame = rw same at cut.is_frame in
     let all : between.bytes + cut.cut.n ≡ writer.bytes + (length (frames_text images) + cut.cut.n) = omega (arith, so_far.bytes) in
     record {
@@ -92,6 +106,7 @@ Stops-later chain (Write fault) reader mid writer between writer' frames images 
       rest = cut.rest;
       each = All-push (IsFrameOf (data_len_of reader.header)) frames cut.frame so_far.each is_frame;
       made = AreImages-push chain frames images cut.frame cut.image so_far.made cut.made;
+      limit = omega (arith, length-append frames (cut.frame ∷ []), few);
       taken = rw (frames_text-push frames cut.frame) (Consumes-trans reader.rest mid.rest cut.rest (frames_text frames) (text_of cut.frame) so_far.taken cut.taken);
       n = length (frames_text images) + cut.cut.n;
       partly = omega (arith, frames_text-longer images cut.image, cut.cut.partly);
@@ -99,7 +114,7 @@ Stops-later chain (Write fault) reader mid writer between writer' frames images 
           (Appends-trans writer.contents between.contents writer'.contents (frames_text images) _ so_far.wrote cut.cut.front);
       counted = cut.cut.counted ∙ ap Device all;
     }
-Stops-later chain TooManyFrames reader mid writer between writer' frames images same so_far fails = absurd fails
+Stops-later chain TooManyFrames reader mid writer between writer' frames images same few so_far fails = absurd fails
 
 -- one frame too many
 pub Stops-limit : (chain : ChainValue) (reader mid reader' : ReaderState) (writer between : WriterState) (frames images : List FrameText) (next : FrameText)

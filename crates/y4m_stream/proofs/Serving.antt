@@ -12,15 +12,14 @@ use Rattle.filters.specs.declared.op.Op.{Op}
 use Rattle.filters.specs.Chain.{ChainValue}
 use Rattle.filters.specs.Steps.{IsChain}
 use Rattle.y4m_stream.specs.declared.fault.ReadFault.{ReadFault}
-use Rattle.y4m_stream.specs.declared.fault.ReadFault.TheVariants.{NoMemory}
 use Rattle.y4m_stream.specs.declared.fault.WriteFault.{WriteFault}
 use Rattle.y4m_stream.specs.declared.fault.WriteFault.TheVariants.{Device}
 use Rattle.y4m_stream.specs.declared.fault.FilterFault.{FilterFault}
 use Rattle.y4m_stream.specs.declared.fault.FilterFault.TheVariants.{Read, Ops, Write, TooManyFrames}
-use Rattle.y4m_stream.specs.Answers.{Serves, IsServed, IsStopped, IsCutOff, LacksFrame}
+use Rattle.y4m_stream.specs.Answers.{Serves, IsServed, IsStopped, IsCutOff, LacksFrame, LacksImage}
 use Rattle.y4m_stream.specs.Chains.{IsAskedFor}
 use Rattle.y4m_stream.specs.Closing.{Closes}
-use Rattle.y4m_stream.specs.Passes.{PassesAll, Stops, StopsAtRead}
+use Rattle.y4m_stream.specs.Passes.{PassesAll, Stops, StopsAtRead, StopsAtImage}
 use Rattle.y4m_stream.specs.Reads.{data_len_of}
 use Rattle.y4m_stream.specs.Served.{AreImages, IsServedText, served_header}
 use Rattle.y4m_stream.specs.Streams.{ReaderState, WriterState}
@@ -46,6 +45,12 @@ module _ (ops : List Op) (height : BandHeight) (input : Option (List ℕ)) (read
     (is_chain : IsChain chain) where
   stream_taken : (rest : Option (List ℕ)) (text : List ℕ) → Consumes reader.rest rest text → Consumes input rest (reader.header.line ++ 10 ∷ text)
   stream_taken rest text p = rw (← behind_line reader.header.line text) (Consumes-trans input reader.rest rest (reader.header.line ++ 10 ∷ []) text header_taken p)
+
+  -- the text of one more frame behind those of some frames
+  frame_taken : (rest : Option (List ℕ)) (frames : List FrameText) (next : FrameText) → Consumes reader.rest rest (frames_text frames ++ text_of next)
+      → Consumes input rest (stream_text reader.header.line frames ++ text_of next)
+  frame_taken rest frames next p = rw (append_assoc reader.header.line (10 ∷ frames_text frames) (text_of next))
+      (stream_taken rest (frames_text frames ++ text_of next) p)
 
   -- a header line and frames of its size are a stream text
   abbrev stream_of : (frames : List FrameText) → All (IsFrameOf (data_len_of reader.header)) frames
@@ -82,6 +87,7 @@ module _ (ops : List Op) (height : BandHeight) (input : Option (List ℕ)) (read
     frames = [];
     rest = reader.rest;
     serves = serves_of [] [] (All-nil (IsFrameOf (data_len_of reader.header))) tt;
+    limit = omega arith;
     taken = header_taken;
     n = cut.n;
     within = omega (arith, cut.partly);
@@ -122,6 +128,7 @@ module _ (ops : List Op) (height : BandHeight) (input : Option (List ℕ)) (read
           frames = all.frames;
           rest = Some [];
           serves = serves_of all.frames all.images all.each all.made;
+          limit = rw all.count all.limit;
           taken = none_left input _ (all_behind input reader.rest reader.header.line (frames_text all.frames) header_taken all.whole);
           n = length (served_of all.images);
           within = omega arith;
@@ -137,15 +144,31 @@ module _ (ops : List Op) (height : BandHeight) (input : Option (List ℕ)) (read
       frames = stop.frames;
       rest = stop.rest;
       serves = serves_of stop.frames stop.images stop.each stop.made;
+      limit = stop.limit;
       taken = stream_taken stop.rest (frames_text stop.frames) stop.taken;
       stands = stop.stands;
+      wrote = stream_wrote (frames_text stop.images) stop.wrote;
+    }
+
+    -- a frame's image is wanting
+    image_lacks : StopsAtImage chain reader writer writer' → LacksImage ops height input before after
+    image_lacks stop = record {
+      text = stream_text reader.header.line stop.frames;
+      served = served_of stop.images;
+      frames = stop.frames;
+      next = stop.next;
+      rest = stop.rest;
+      serves = serves_of stop.frames stop.images stop.each stop.made;
+      limit = stop.limit;
+      is_frame = stop.is_frame;
+      taken = frame_taken stop.rest stop.frames stop.next stop.taken;
       wrote = stream_wrote (frames_text stop.images) stop.wrote;
     }
 
     -- not all frames passed
     frames_stopped : (fault : FilterFault) → Stops chain fault reader writer writer' → IsStopped fault ops height input before after
     frames_stopped (Read fault) stop = inr (frame_lacks fault stop)
-    frames_stopped (Ops e) stop = inr (stop.0, frame_lacks NoMemory stop.1)
+    frames_stopped (Ops e) stop = inr (stop.0, image_lacks stop.1)
     frames_stopped (Write fault) stop =
         let bytes : writer.bytes + stop.n ≡ length (served_header chain reader.header.line) + 1 + stop.n = omega (arith, opened) in
         record {
@@ -154,6 +177,7 @@ module _ (ops : List Op) (height : BandHeight) (input : Option (List ℕ)) (read
           frames = stop.frames;
           rest = stop.rest;
           serves = serves_of stop.frames stop.images stop.each stop.made;
+          limit = stop.limit;
           taken = stream_taken stop.rest (frames_text stop.frames) stop.taken;
           n = length (served_header chain reader.header.line) + 1 + stop.n;
           within = omega (arith, stream_len (frames_text stop.images), stop.partly);
@@ -170,8 +194,7 @@ module _ (ops : List Op) (height : BandHeight) (input : Option (List ℕ)) (read
       serves = serves_of stop.frames stop.images stop.each stop.made;
       count = stop.count;
       is_frame = stop.is_frame;
-      taken = rw (append_assoc reader.header.line (10 ∷ frames_text stop.frames) (text_of stop.next))
-          (stream_taken stop.rest (frames_text stop.frames ++ text_of stop.next) stop.taken);
+      taken = frame_taken stop.rest stop.frames stop.next stop.taken;
       wrote = stream_wrote (frames_text stop.images) stop.wrote;
     }
 

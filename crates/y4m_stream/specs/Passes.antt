@@ -5,7 +5,6 @@ use Rattle.y4m_header.specs.StreamText.{FrameText, IsFrameOf, frames_text, text_
 use Rattle.filters.specs.Chain.{ChainValue}
 use Rattle.filters.specs.declared.error.FilterError.TheVariants.{NoMemory}
 use Rattle.y4m_stream.specs.declared.fault.ReadFault.{ReadFault}
-use Rattle.y4m_stream.specs.declared.fault.ReadFault.TheVariants.{NoMemory as NoFrameMemory}
 use Rattle.y4m_stream.specs.declared.fault.WriteFault.{WriteFault}
 use Rattle.y4m_stream.specs.declared.fault.WriteFault.TheVariants.{Device}
 use Rattle.y4m_stream.specs.declared.fault.FilterFault.{FilterFault}
@@ -53,10 +52,18 @@ pub record CutsImage (chain : ChainValue) (fault : WriteFault) (reader : ReaderS
   pub taken : Consumes reader.rest rest (text_of frame)
   pub cut : CutsShort writer.contents writer'.contents (text_of image) writer.bytes fault
 
+-- a frame was taken, and nothing went out
+pub record LosesImage (reader : ReaderState) (writer writer' : WriterState) : Type 0 where
+  pub frame : FrameText
+  pub rest : Option (List ℕ)
+  pub is_frame : IsFrameOf (data_len_of reader.header) frame
+  pub taken : Consumes reader.rest rest (text_of frame)
+  pub kept : writer' ≡ writer
+
 -- no frame is passed on, for this reason
 abbrev pub FailsToPass : ChainValue → FilterFault → ReaderState → WriterState → WriterState → Type 0
 FailsToPass chain (Read fault) reader writer writer' = StandsAtFrame (data_len_of reader.header) fault reader.rest × (writer' ≡ writer)
-FailsToPass chain (Ops e) reader writer writer' = (e ≡ NoMemory) × (writer' ≡ writer)
+FailsToPass chain (Ops e) reader writer writer' = (e ≡ NoMemory) × LosesImage reader writer writer'
 FailsToPass chain (Write fault) reader writer writer' = CutsImage chain fault reader writer writer'
 FailsToPass chain TooManyFrames reader writer writer' = ⊥
 
@@ -67,6 +74,7 @@ pub record StopsAtRead (chain : ChainValue) (fault : ReadFault) (reader : Reader
   pub rest : Option (List ℕ)
   pub each : All (IsFrameOf (data_len_of reader.header)) frames
   pub made : AreImages chain frames images
+  pub limit : length frames ≤ 2 ^ 24
   pub taken : Consumes reader.rest rest (frames_text frames)
   pub stands : StandsAtFrame (data_len_of reader.header) fault rest
   pub wrote : Appends writer.contents writer'.contents (frames_text images)
@@ -78,11 +86,25 @@ pub record StopsAtWrite (chain : ChainValue) (fault : WriteFault) (reader : Read
   pub rest : Option (List ℕ)
   pub each : All (IsFrameOf (data_len_of reader.header)) frames
   pub made : AreImages chain frames images
+  pub limit : length frames ≤ 2 ^ 24
   pub taken : Consumes reader.rest rest (frames_text frames)
   pub n : ℕ
   pub partly : n < length (frames_text images)
   pub front : Appends writer.contents writer'.contents (take n (frames_text images))
   pub counted : fault ≡ Device (writer.bytes + n)
+
+-- the images of some frames went out, and one more frame stands behind these
+pub record StopsAtImage (chain : ChainValue) (reader : ReaderState) (writer writer' : WriterState) : Type 0 where
+  pub frames : List FrameText
+  pub images : List FrameText
+  pub next : FrameText
+  pub rest : Option (List ℕ)
+  pub each : All (IsFrameOf (data_len_of reader.header)) frames
+  pub made : AreImages chain frames images
+  pub limit : length frames < 2 ^ 24
+  pub is_frame : IsFrameOf (data_len_of reader.header) next
+  pub taken : Consumes reader.rest rest (frames_text frames ++ text_of next)
+  pub wrote : Appends writer.contents writer'.contents (frames_text images)
 
 -- the images of 16,777,216 frames went out, and one more frame stands behind these
 pub record StopsAtLimit (chain : ChainValue) (reader : ReaderState) (writer writer' : WriterState) : Type 0 where
@@ -100,6 +122,6 @@ pub record StopsAtLimit (chain : ChainValue) (reader : ReaderState) (writer writ
 -- why not all frames were passed on
 abbrev pub Stops : ChainValue → FilterFault → ReaderState → WriterState → WriterState → Type 0
 Stops chain (Read fault) reader writer writer' = StopsAtRead chain fault reader writer writer'
-Stops chain (Ops e) reader writer writer' = (e ≡ NoMemory) × StopsAtRead chain NoFrameMemory reader writer writer'
+Stops chain (Ops e) reader writer writer' = (e ≡ NoMemory) × StopsAtImage chain reader writer writer'
 Stops chain (Write fault) reader writer writer' = StopsAtWrite chain fault reader writer writer'
 Stops chain TooManyFrames reader writer writer' = StopsAtLimit chain reader writer writer'

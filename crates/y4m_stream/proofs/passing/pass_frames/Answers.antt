@@ -49,7 +49,7 @@ loop-count-preserved g c =
 pub returns-in-Err-clause-fault : goal.returns-in-Err-clause-fault
 returns-in-Err-clause-fault g c =
     let so_far = c.loop-count.invariant in
-    Stops-later _ _ _ _ _ _ _ _ _ so_far.same_header so_far.passed.3 (rw so_far.same at c.in-Err.ensures.fault)
+    Stops-later _ _ _ _ _ _ _ _ _ so_far.same_header (omega (arith, so_far.passed.2)) so_far.passed.3 (rw so_far.same at c.in-Err.ensures.fault)
 
 pub returns-in-Ok-true-read_frame-clause-fault : goal.returns-in-Ok-true-read_frame-clause-fault
 returns-in-Ok-true-read_frame-clause-fault g c =
