@@ -4,3 +4,5 @@ pub mod MoreFrames
 pub mod Serving
 pub mod Filtered
 pub mod Determined
+pub mod Fronts
+pub mod OneAnswer

@@ -10,4 +10,5 @@ pub mod Passes
 pub mod Filtering
 pub mod Closing
 pub mod Answers
+pub mod Answering
 pub mod Laws
