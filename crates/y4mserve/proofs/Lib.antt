@@ -1,2 +1,3 @@
 pub mod ScriptParts
 pub mod ScriptRuns
+pub mod Fronts

@@ -6,6 +6,7 @@ use Rattle.y4mserve.specs.declared.replay.command.AccountCommand.{AccountCommand
 use Rattle.y4mserve.specs.declared.replay.command.AccountCommand.TheVariants.{Open, ArriveIdle, Charge}
 use Rattle.y4mserve.specs.declared.replay.fault.ScriptFault.TheVariants.{NoMemory}
 use Rattle.y4mserve.specs.declared.replay.fault.ScriptStop.{ScriptStop}
+use Rattle.y4mserve.specs.Writing.{IsFrontOf}
 
 -- where one command leaves the server
 abbrev pub after_command : Option Balance → AccountCommand → Option Balance
@@ -21,9 +22,15 @@ after_line server Nothing = None
 after_line server (Runs command) = after_command server command
 after_line server (Faults fault) = None
 
--- a run has printed a report's answers and stopped as the report does, unless a growth was refused
+-- a run has stopped as the report does, and has printed the report's answers; where a growth was refused, the front of them
+pub record StopsAs (stop : ScriptStop) (before after : List ℕ) (report : Report) : Type 0 where
+  pub front : IsFrontOf after (before ++ text_of_lines report.answers)
+  pub whole : stop.fault ≢ NoMemory → after ≡ before ++ text_of_lines report.answers
+  pub fault : stop.fault ≢ NoMemory → report.stop ≡ Some stop
+
+-- a run has printed a report's answers, or it has stopped
 abbrev pub Reports : {T : Type 0} → Result T ScriptStop → List ℕ → List ℕ → Report → Type 0
 Reports result before after report =
     MatchResult result
     (λ _. (after ≡ before ++ text_of_lines report.answers) × (report.stop ≡ None))
-    (λ stop. stop.fault ≢ NoMemory → (after ≡ before ++ text_of_lines report.answers) × (report.stop ≡ Some stop))
+    (λ stop. StopsAs stop before after report)

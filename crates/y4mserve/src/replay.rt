@@ -12,11 +12,13 @@
 //!
 //! Each prints `budget C deadline D`, as the account then stands. The first fault prints `line N: WORD`, and nothing
 //! after it is run.
-ghost use Rattle.std.specs.Prelude.{◌≡◌, ◌≢◌, ◌↔◌, ◌++◌, IfErr, IfOk, IfSome, IsErrOf, IsNone, IsTrue, OnOk, is_ok};
+ghost use Rattle.std.specs.Prelude.{◌≡◌, ◌≢◌, ◌↔◌, ◌++◌, Err, IfErr, IfOk, IfSome, IsErrOf, IsNone, IsTrue, OnErr, OnOk, is_ok};
 ghost use Rattle.std.specs.Io.KnownBytes.{Appends, Keeps};
 ghost use Rattle.std.specs.Result.{result_err};
 ghost use Rattle.y4mserve.specs.ScriptReport.{report_text, script_report, stop_text};
 ghost use Rattle.y4mserve.specs.ScriptStep.{Reports};
+ghost use Rattle.y4mserve.specs.Stopped.{IsCutOff, LacksMemory};
+ghost use Rattle.y4mserve.specs.Writing.{AppendsFront};
 
 use self::account::run_account_script;
 use self::fault::{ScriptFault, ScriptStop};
@@ -45,11 +47,11 @@ pub enum ReplayFault {
     /// A read of the input failed. Nothing was run or written.
     #[error("read")]
     Read,
-    /// A write of the output failed or took no byte, or its flush failed.
+    /// A write of the output failed or took no byte, or its flush failed. The front of what the script prints went out.
     #[error("write")]
     Write,
     /// A growth was refused. What was run before is written, and then the line `line N: NoMemory`, where N is 0 if the
-    /// script itself couldn't be kept.
+    /// script itself couldn't be kept; where a write fails as well, the front of these.
     #[error("NoMemory")]
     NoMemory,
 }
@@ -68,6 +70,10 @@ pub fn replay<R: Read + Drop, W: Write>(
     ensures whole { IfOk result.1 (λ whole. IfSome (R.remaining input)
         (λ text. IsTrue whole ↔ IsNone (script_report text).stop)) }
     ensures unread { IsErrOf result.1 ReplayFault.Read → Keeps (W.contents output) (W.contents result.0) }
+    ensures cut { IsErrOf result.1 ReplayFault.Write → IfSome (R.remaining input)
+        (λ text. IsCutOff text (W.contents output) (W.contents result.0)) }
+    ensures memory { IsErrOf result.1 ReplayFault.NoMemory → IfSome (R.remaining input)
+        (λ text. LacksMemory text (W.contents output) (W.contents result.0)) }
 {
     let outcome = replay_through(alloc, &mut input, &mut output);
     (output, outcome)
@@ -84,6 +90,10 @@ fn replay_through<R: Read, W: Write>(
     ensures whole { IfOk result (λ whole. IfSome (R.remaining input.old)
         (λ text. IsTrue whole ↔ IsNone (script_report text).stop)) }
     ensures unread { IsErrOf result ReplayFault.Read → Keeps (W.contents output.old) (W.contents output.new) }
+    ensures cut { IsErrOf result ReplayFault.Write → IfSome (R.remaining input.old)
+        (λ text. IsCutOff text (W.contents output.old) (W.contents output.new)) }
+    ensures memory { IsErrOf result ReplayFault.NoMemory → IfSome (R.remaining input.old)
+        (λ text. LacksMemory text (W.contents output.old) (W.contents output.new)) }
 {
     let script = match read_front(alloc, input, SCRIPT_LIMIT + 1) {
         Ok(script) => script,
@@ -122,8 +132,10 @@ fn write_report<W: Write>(
 ) -> Result<bool, ReplayFault>
     ensures written { OnOk result (Appends (W.contents output.old) (W.contents output.new) (printed.now ++ stop_text (result_err outcome))) }
     ensures whole { IfOk result (λ whole. whole ≡ is_ok outcome) }
-    ensures told { OnOk result (IfErr outcome (λ stop. stop.fault ≢ ScriptFault.NoMemory)) }
+    ensures told { result ≢ Err ReplayFault.NoMemory → IfErr outcome (λ stop. stop.fault ≢ ScriptFault.NoMemory) }
+    ensures memory { IsErrOf result ReplayFault.NoMemory → (stop : ScriptStop) × (outcome ≡ Err stop) × (stop.fault ≡ ScriptFault.NoMemory) }
     ensures no_read { IfErr result (λ fault. fault ≢ ReplayFault.Read) }
+    ensures cut { OnErr result (AppendsFront (W.contents output.old) (W.contents output.new) (printed.now ++ stop_text (result_err outcome))) }
 {
     let put = put_report(output, printed, outcome);
     match outcome {
@@ -135,16 +147,30 @@ fn write_report<W: Write>(
     }
 }
 
+/// Writes what was printed and the fault's line, and flushes.
 fn put_report<W: Write>(
     output: &mut W,
     printed: &[u8],
     outcome: Result<(), ScriptStop>,
 ) -> Result<(), PutFailed>
-    ensures { OnOk result (Appends (W.contents output.old) (W.contents output.new) (printed.now ++ stop_text (result_err outcome))) }
+    ensures ok { OnOk result (Appends (W.contents output.old) (W.contents output.new) (printed.now ++ stop_text (result_err outcome))) }
+    ensures err { OnErr result (AppendsFront (W.contents output.old) (W.contents output.new) (printed.now ++ stop_text (result_err outcome))) }
+{
+    put_lines(output, printed, outcome)?;
+    output.flush().map_err(|_| PutFailed)
+}
+
+fn put_lines<W: Write>(
+    output: &mut W,
+    printed: &[u8],
+    outcome: Result<(), ScriptStop>,
+) -> Result<(), PutFailed>
+    ensures ok { OnOk result (Appends (W.contents output.old) (W.contents output.new) (printed.now ++ stop_text (result_err outcome))) }
+    ensures err { OnErr result (AppendsFront (W.contents output.old) (W.contents output.new) (printed.now ++ stop_text (result_err outcome))) }
 {
     put_all(output, printed)?;
-    if let Err(stop) = outcome {
-        put_fault(output, stop)?;
+    match outcome {
+        Ok(()) => Ok(()),
+        Err(stop) => put_fault(output, stop),
     }
-    output.flush().map_err(|_| PutFailed)
 }

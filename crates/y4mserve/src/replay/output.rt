@@ -1,7 +1,8 @@
 //! Writing what a script prints.
-ghost use Rattle.std.specs.Prelude.{◌≡◌, ◌++◌, ◌<◌, [], ◌∷◌, IfErr, OnOk, codes, decimal, length, take};
+ghost use Rattle.std.specs.Prelude.{◌≡◌, ◌++◌, ◌<◌, [], ◌∷◌, OnErr, OnOk, codes, decimal, length, take};
 ghost use Rattle.std.specs.Io.KnownBytes.{Appends};
 ghost use Rattle.y4mserve.specs.ScriptReport.{fault_line};
+ghost use Rattle.y4mserve.specs.Writing.{AppendsFront};
 
 use super::fault::ScriptStop;
 use itoa::Buffer;
@@ -13,7 +14,8 @@ pub struct PutFailed;
 
 /// Writes all of the bytes. Where a write fails or takes no byte, the ones before went out.
 pub fn put_all<W: Write>(writer: &mut W, bytes: &[u8]) -> Result<(), PutFailed>
-    ensures { OnOk result (Appends (W.contents writer.old) (W.contents writer.new) bytes.now) }
+    ensures ok { OnOk result (Appends (W.contents writer.old) (W.contents writer.new) bytes.now) }
+    ensures err { OnErr result (AppendsFront (W.contents writer.old) (W.contents writer.new) bytes.now) }
 {
     let mut written = 0;
     while written < bytes.len() {
@@ -27,7 +29,8 @@ pub fn put_all<W: Write>(writer: &mut W, bytes: &[u8]) -> Result<(), PutFailed>
 
 /// Writes `line N: WORD` and a line feed. It takes no memory, so a refused growth can be told.
 pub fn put_fault<W: Write>(writer: &mut W, stop: ScriptStop) -> Result<(), PutFailed>
-    ensures { OnOk result (Appends (W.contents writer.old) (W.contents writer.new) (fault_line stop ++ 10 ∷ [])) }
+    ensures ok { OnOk result (Appends (W.contents writer.old) (W.contents writer.new) (fault_line stop ++ 10 ∷ [])) }
+    ensures err { OnErr result (AppendsFront (W.contents writer.old) (W.contents writer.new) (fault_line stop ++ 10 ∷ [])) }
 {
     let mut number = Buffer::new();
     put_all(writer, b"line ")?;
