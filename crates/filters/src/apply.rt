@@ -50,7 +50,8 @@ pub fn apply_op(op: Op, source: &Frame, canvas: &mut Canvas)
     requires doable { IsDoable op source.now.geometry }
     requires image { IsImageGeometry op source.now.geometry (frame_of canvas.old).geometry }
     requires line { line_of (frame_of canvas.old) ≡ line_of source.now }
-    ensures { IsImage op source.now (frame_of canvas.new) }
+    ensures image { IsImage op source.now (frame_of canvas.new) }
+    ensures height { height_of canvas.new ≡ height_of canvas.old }
 {
     for k in 0..canvas.plan().count() {
         apply_at(op, source, canvas, k);

@@ -23,8 +23,8 @@ loop-k-preserved c =
           (frame_of old) (frame_of c.apply_at.new.canvas) (omega (arith, old.height.some)) c.apply_at.ensures.height (omega arith) before.rows band;
     }
 
-pub returns : goal.returns
-returns c =
+pub returns-clause-image : goal.returns-clause-image
+returns-clause-image c =
     let before = c.loop-k.invariant in
     let canvas = c.loop-k.canvas in
     let plan : c.count-k-end.result ≡ band_count (frame_of canvas).geometry (height_of canvas) =

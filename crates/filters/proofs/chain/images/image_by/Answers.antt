@@ -10,9 +10,9 @@ apply_op-requires-clause-image c =
 
 pub returns-clause-image : goal.returns-clause-image
 returns-clause-image c d =
-    rw c.into_frame.ensures (op_image_at c.args.chain.now.ops c.args.i c.op.result d _ _ c.op.ensures.value c.apply_op.ensures)
+    rw c.into_frame.ensures (op_image_at c.args.chain.now.ops c.args.i c.op.result d _ _ c.op.ensures.value c.apply_op.ensures.image)
 
 pub returns-clause-picture : goal.returns-clause-picture
 returns-clause-picture c =
     rw c.into_frame.ensures
-    (picture_next c.args.chain.now c.args.i c.op.result c.args.source.now.geometry _ c.requires.op c.op.ensures.value c.requires.reaches c.apply_op.ensures.geometry)
+    (picture_next c.args.chain.now c.args.i c.op.result c.args.source.now.geometry _ c.requires.op c.op.ensures.value c.requires.reaches c.apply_op.ensures.image.geometry)

@@ -7,9 +7,9 @@ apply_op-requires-clause-image c = c.op.ensures.image _ _ c.requires.reaches c.r
 pub returns-clause-canvas : goal.returns-clause-canvas
 returns-clause-canvas c = record {
   picture =
-      picture_next c.args.chain.now c.args.i c.op.result c.args.source.now.geometry _ c.requires.op c.op.ensures.value c.requires.reaches c.apply_op.ensures.geometry;
-  line = c.apply_op.ensures.line;
+      picture_next c.args.chain.now c.args.i c.op.result c.args.source.now.geometry _ c.requires.op c.op.ensures.value c.requires.reaches c.apply_op.ensures.image.geometry;
+  line = c.apply_op.ensures.image.line;
 }
 
 pub returns-clause-image : goal.returns-clause-image
-returns-clause-image c d = op_image_at c.args.chain.now.ops c.args.i c.op.result d _ _ c.op.ensures.value c.apply_op.ensures
+returns-clause-image c d = op_image_at c.args.chain.now.ops c.args.i c.op.result d _ _ c.op.ensures.value c.apply_op.ensures.image
