@@ -1,5 +1,5 @@
 -- What stays known of the bytes that are held and those that are still to come.
-use Rattle.std.proofs.Common.{◌≡◌, ℕ, ◌+◌, ◌-◌, ◌<◌, ◌≤◌, List, [], ◌∷◌, ◌++◌, length, take, drop, None, Some, refl, sym, ap, ◌∙◌, append_assoc, arith, length-append, Option, rules, min, ◌⊎◌, inl, inr, append-nil}
+use Rattle.std.proofs.Common.{◌≡◌, ℕ, ◌+◌, ◌-◌, ◌≤◌, List, [], ◌++◌, length, take, drop, None, Some, refl, sym, ap, ◌∙◌, append_assoc, arith, length-append, Option, min, ◌⊎◌, inl, inr, append-nil}
 use Rattle.std.proofs.Common.{zero, suc}
 use Rattle.std.specs.List.{copy_within}
 use Rattle.std.proofs.KnownBytes.{Consumes-trans}

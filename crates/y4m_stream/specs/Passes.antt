@@ -1,5 +1,5 @@
 -- What passes from a reader to a writer: each frame is taken, and its image is appended.
-use Rattle.std.specs.Prelude.{◌≡◌, ℕ, ◌+◌, ◌<◌, ◌≤◌, ◌^◌, List, [], ◌∷◌, ◌++◌, length, take, All, Option, IfSome, false}
+use Rattle.std.specs.Prelude.{◌≡◌, ℕ, ◌+◌, ◌<◌, ◌≤◌, ◌^◌, List, ◌++◌, length, take, All, Option, IfSome, false}
 use Rattle.std.specs.Io.KnownBytes.{Appends, Consumes}
 use Rattle.y4m_header.specs.StreamText.{FrameText, IsFrameOf, frames_text, text_of}
 use Rattle.filters.specs.Chain.{ChainValue}

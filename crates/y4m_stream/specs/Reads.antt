@@ -1,5 +1,5 @@
 -- What a call of a stream's reader does to it.
-use Rattle.std.specs.Prelude.{◌≡◌, ℕ, Option, List}
+use Rattle.std.specs.Prelude.{◌≡◌, ℕ}
 use Rattle.std.specs.Io.KnownBytes.{Keeps, Consumes, IsAtEnd}
 use Rattle.frame_view.specs.declared.geometry.Geometry.{Geometry}
 use Rattle.y4m_header.specs.Chroma.{data_len}

@@ -1,5 +1,4 @@
-use Rattle.std.proofs.Common.{arith, rules, ◌-◌, length}
-use Rattle.std.proofs.lemmas.Slice.{put_mid-paste}
+use Rattle.std.proofs.Common.{rules, ◌-◌, length}
 use Rattle.y4m_stream.proofs.Known.{Consumes-more}
 use Rattle.y4m_stream.proofs.data.fill_exactly.Goals as goal
 

@@ -1,5 +1,4 @@
-use Rattle.std.proofs.Common.{◌≡◌, ℕ, ◌+◌, ◌-◌, ◌<◌, ◌≤◌, List, [], ◌∷◌, ◌++◌, length, take, drop, arith, rules, ap}
-use Rattle.std.specs.Io.KnownBytes.{Keeps, Consumes, prepend_known}
+use Rattle.std.proofs.Common.{length, arith, rules, ap}
 use Rattle.y4m_stream.specs.Rest.{HasNoLineFeed}
 use Rattle.y4m_stream.proofs.Known.{IsLongLine-front}
 use Rattle.y4m_stream.proofs.line.find_line.Goals as goal

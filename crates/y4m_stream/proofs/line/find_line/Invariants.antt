@@ -1,5 +1,5 @@
-use Rattle.std.proofs.Common.{◌≡◌, ℕ, ◌+◌, ◌-◌, ◌<◌, ◌≤◌, List, [], ◌∷◌, ◌++◌, length}
-use Rattle.std.specs.Io.KnownBytes.{Keeps, Consumes, prepend_known}
+use Rattle.std.proofs.Common.{◌-◌, length}
+use Rattle.std.specs.Io.KnownBytes.{Keeps, prepend_known}
 use Rattle.y4m_stream.proofs.line.find_line.Given as goal
 
 abbrev pub invariant-loop-end : goal.invariant-loop-end

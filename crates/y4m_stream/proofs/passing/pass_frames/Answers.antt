@@ -1,6 +1,6 @@
-use Rattle.std.proofs.Common.{rules, arith, ◌≡◌, ◌+◌, [], ◌∷◌, ◌++◌, length, length-append, true, ap, refl}
+use Rattle.std.proofs.Common.{rules, arith, [], ◌∷◌, ◌++◌, length-append, refl}
 use Rattle.y4m_header.specs.StreamText.{FrameText}
-use Rattle.y4m_stream.specs.Passes.{PassesFrame, PassesFrames}
+use Rattle.y4m_stream.specs.Passes.{PassesFrame}
 use Rattle.y4m_stream.specs.Reads.{TakesFrame}
 use Rattle.y4m_stream.specs.Served.{frame_text_of}
 use Rattle.y4m_stream.proofs.MoreFrames.{PassesFrames-none, PassesFrames-push, Stops-later, Stops-limit}
