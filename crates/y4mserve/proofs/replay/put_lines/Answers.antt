@@ -1,6 +1,5 @@
 use Rattle.std.proofs.Common.{rules}
 use Rattle.std.specs.Io.KnownBytes.{Appends}
-use Rattle.y4mserve.specs.ScriptReport.{stop_text}
 use Rattle.y4mserve.proofs.Fronts.{later_cut, on_err_map}
 use Rattle.y4mserve.proofs.replay.put_lines.Goals as goal
 
