@@ -7,7 +7,7 @@ use Rattle.frame_view.specs.Places.{plane_width, plane_height, frame_len}
 use Rattle.frame_view.specs.Rows.{sample}
 use Rattle.frame_view.specs.Frame.{line_of, bytes_of}
 use Rattle.row_bands.specs.declared.canvas.Canvas.{Canvas}
-use Rattle.row_bands.specs.Canvas.{frame_of}
+use Rattle.row_bands.specs.Canvas.{frame_of, height_of}
 use Rattle.filters.specs.declared.op.Op.{Op}
 use Rattle.filters.specs.Image.{IsImageGeometry, image_pixel}
 use Rattle.filters.specs.Chain.{ChainValue, picture_of, picture_at}
@@ -37,6 +37,7 @@ IsChainImage (op ∷ ops) source image = (between : FrameValue) × IsOpImage op 
 -- a canvas for the output of operation i of a chain, of a frame with this line
 pub record IsCanvasAt (chain : ChainValue) (its_line : List ℕ) (i : ℕ) (canvas : Canvas) : Type 0 where
   pub picture : picture_of (frame_of canvas).geometry ≡ picture_at chain (i + 1)
+  pub height : height_of canvas ≡ chain.band_height.rows
   pub line : line_of (frame_of canvas) ≡ its_line
 
 -- a canvas for each operation's output

@@ -22,7 +22,7 @@ pub enum Table {
     Invert,
     /// In Y, 255 from this sample on and 0 below it; Cb and Cr become 128, which is no colour.
     Threshold(u8),
-    /// In Y, the nearest sample from `low` to `high`; Cb and Cr stay.
+    /// In Y, at least `low`, and then at most `high`; Cb and Cr stay.
     Clamp { low: u8, high: u8 },
 }
 

@@ -1,4 +1,4 @@
-use Rattle.std.proofs.Common.{arith, length-append}
+use Rattle.std.proofs.Common.{arith, ap, ◌∙◌, length-append}
 use Rattle.filters.proofs.ChainImages.{canvases_more}
 use Rattle.filters.proofs.chain.Chain.canvases.Goals as goal
 
@@ -10,5 +10,9 @@ loop-i-preserved c =
     record {
       count = rw (pushed, length-append) (omega (arith, so_far.count));
       each = canvases_more c.args.self.now c.args.line.now _ _ _ c.loop-i.i so_far.count pushed so_far.each
-          (record { picture = rw made.geometry c.geometry_after.ensures; line = made.line });
+          (record {
+            picture = rw made.geometry c.geometry_after.ensures;
+            height = c.in_ok-canvas.ensures.height ∙ ap (λ b. b.rows) c.band_height.ensures;
+            line = made.line;
+          });
     }

@@ -1,3 +1,4 @@
+use Rattle.std.proofs.Common.{◌∙◌}
 use Rattle.filters.proofs.ChainImages.{picture_next, op_image_at}
 use Rattle.filters.proofs.chain.images.paint_at.Goals as goal
 
@@ -8,6 +9,7 @@ pub returns-clause-canvas : goal.returns-clause-canvas
 returns-clause-canvas c = record {
   picture =
       picture_next c.args.chain.now c.args.i c.op.result c.args.source.now.geometry _ c.requires.op c.op.ensures.value c.requires.reaches c.apply_op.ensures.image.geometry;
+  height = c.apply_op.ensures.height ∙ c.requires.canvas.height;
   line = c.apply_op.ensures.image.line;
 }
 
