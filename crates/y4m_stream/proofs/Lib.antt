@@ -6,3 +6,5 @@ pub mod Filtered
 pub mod Determined
 pub mod Fronts
 pub mod OneAnswer
+pub mod OneCall
+pub mod WholeFrames

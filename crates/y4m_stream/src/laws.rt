@@ -1,17 +1,29 @@
 // What follows from the definitions alone.
-ghost use Rattle.y4m_stream.specs.Laws.{ServedIsDetermined, OpeningIsDetermined, AnswerIsDetermined};
+ghost use Rattle.y4m_stream.specs.Laws.{ServedIsDetermined, OpeningIsDetermined, AnswerIsDetermined, FramesAreWhole, NoFrameIsBehindFault};
 
 /// A stream is served by its operations as one text: each image, and the header line, is determined.
 pub fn one_served_text()
     ensures { ServedIsDetermined }
 {}
 
-/// The bytes that are left determine what opening a stream answers, if no read fails and memory is there.
+/// The bytes to be read determine what opening a stream answers, and what is left then, if no read fails and memory is
+/// there.
 pub fn one_opening()
     ensures { OpeningIsDetermined }
 {}
 
-/// The bytes that are left determine what the next read of a frame answers, if no read fails and memory is there.
+/// The bytes that are left determine what the next read of a frame answers, and what is left then, if no read fails and
+/// memory is there.
 pub fn one_answer()
     ensures { AnswerIsDetermined }
+{}
+
+/// The frames of a stream text are all its whole frames.
+pub fn all_frames_are_whole()
+    ensures { FramesAreWhole }
+{}
+
+/// A fault of the bytes behind the frames of a stream text leaves no whole frame unread.
+pub fn no_frame_behind_a_fault()
+    ensures { NoFrameIsBehindFault }
 {}
