@@ -6,14 +6,14 @@ pub fn one_served_text()
     ensures { ServedIsDetermined }
 {}
 
-/// The bytes to be read determine what opening a stream answers, and what is left then, if no read fails and memory is
-/// there.
+/// The bytes to be read determine what opening a stream answers, if no read fails and memory is there: one fault, or one
+/// reader with its header and what it has left.
 pub fn one_opening()
     ensures { OpeningIsDetermined }
 {}
 
-/// The bytes that are left determine what the next read of a frame answers, and what is left then, if no read fails and
-/// memory is there.
+/// The bytes that an open reader has left determine what the next read of a frame answers, if no read fails and memory is
+/// there, and, but for a fault, what that read leaves.
 pub fn one_answer()
     ensures { AnswerIsDetermined }
 {}
