@@ -9,10 +9,10 @@ use Rattle.frame_view.specs.LentTogether.{lent_len, of_plane}
 use Rattle.frame_view.specs.Rows.{IsPlace, sample}
 use Rattle.frame_view.proofs.Places.{first_plane, next_plane, next_row, row_in_plane, counts}
 
-there : (n p a : ℕ) → p < n → (if nat_lt p n then a else 0) ≡ a
+pub there : (n p a : ℕ) → p < n → (if nat_lt p n then a else 0) ≡ a
 there n p a h = grind (arith, nat_tests)
 
-lent_size : (g : Geometry) (p : ℕ) → p < plane_count g.chroma → lent_len g p ≡ plane_width g p * plane_height g p
+pub lent_size : (g : Geometry) (p : ℕ) → p < plane_count g.chroma → lent_len g p ≡ plane_width g p * plane_height g p
 lent_size g p h = there (plane_count g.chroma) p (plane_width g p * plane_height g p) h
 
 left : (xs ys : List ℕ) (k : ℕ) → k < length xs → slice_index (xs ++ ys) k ≡ slice_index xs k

@@ -6,3 +6,4 @@ pub mod Over
 pub mod Written
 pub mod Parted
 pub mod LentTogether
+pub mod PutRow

@@ -1,7 +1,10 @@
 // Frames of given sizes, with the bytes that the manual page's order of planes and rows gives.
-ghost use Rattle.std.specs.Prelude.{◌≡◌, ◌≤◌, ◌-◌, ◌*◌, ◌++◌, IfOk, length, take, drop, replicate};
+ghost use Rattle.std.specs.Prelude.{◌≡◌, ◌<◌, ◌≤◌, ◌+◌, ◌-◌, ◌*◌, ◌++◌, IfOk, length, take, drop, replicate, slice_index};
+ghost use Rattle.y4m_header.specs.Chroma.{plane_count};
 ghost use Rattle.frame_view.specs.Frame.{bytes_of, IsFrameWith};
 ghost use Rattle.frame_view.specs.LentTogether.{lent_len};
+ghost use Rattle.frame_view.specs.Places.{plane_width, plane_height};
+ghost use Rattle.frame_view.specs.Written.{HasRows};
 
 use crate::{
     Frame, Geometry, PlaneMut, PlaneSize, lend_planes, lent_planes_stand_in_their_rows,
@@ -243,6 +246,39 @@ fn fill_red(frame: &mut Frame, value: u8)
     red.samples.fill(value);
 }
 
+/// Row `y` of Cb is written; every other byte stays.
+fn put_blue_row(frame: &mut Frame, y: usize, row: &[u8])
+    requires plane { 1 < plane_count frame.old.geometry.chroma }
+    requires row { y < plane_height frame.old.geometry 1 }
+    requires columns { length row.now ≡ plane_width frame.old.geometry 1 }
+    ensures { HasRows (λ _ _ x. slice_index row.now x) 1 y (y + 1) frame.old frame.new }
+{
+    lend_planes!(&mut *frame => _luma, blue, _red, _alpha);
+    blue.put_row(y, row);
+}
+
+/// Row `y` of Cr is written; every other byte stays.
+fn put_red_row(frame: &mut Frame, y: usize, row: &[u8])
+    requires plane { 2 < plane_count frame.old.geometry.chroma }
+    requires row { y < plane_height frame.old.geometry 2 }
+    requires columns { length row.now ≡ plane_width frame.old.geometry 2 }
+    ensures { HasRows (λ _ _ x. slice_index row.now x) 2 y (y + 1) frame.old frame.new }
+{
+    lend_planes!(&mut *frame => _luma, _blue, red, _alpha);
+    red.put_row(y, row);
+}
+
+/// Row `y` of the alpha plane is written; every other byte stays.
+fn put_alpha_row(frame: &mut Frame, y: usize, row: &[u8])
+    requires plane { 3 < plane_count frame.old.geometry.chroma }
+    requires row { y < plane_height frame.old.geometry 3 }
+    requires columns { length row.now ≡ plane_width frame.old.geometry 3 }
+    ensures { HasRows (λ _ _ x. slice_index row.now x) 3 y (y + 1) frame.old frame.new }
+{
+    lend_planes!(&mut *frame => _luma, _blue, _red, alpha);
+    alpha.put_row(y, row);
+}
+
 /// The rows of a plane, lent in two parts.
 fn fill_parts(samples: &mut [u8], columns: usize, y: usize, above: u8, below: u8)
     requires { y * columns ≤ length samples.old }
@@ -291,5 +327,46 @@ fn four_planes_of_one_pixel(rt: HostRuntime) -> Result<(), Fail> {
     assert_eq!(rt; frame.data(), [7, 7, 8, 8].as_slice());
     rows_part_the_bytes(geometry);
     lent_planes_stand_in_their_rows(geometry);
+    Ok(())
+}
+
+#[test]
+#[tactic(auto, unfolding(crate::specs::Places::plane_width, crate::specs::Places::plane_height))]
+fn rows_are_put_into_planes_of_divided_columns(rt: HostRuntime) -> Result<(), Fail> {
+    let geometry = Geometry {
+        width: 6,
+        height: 4,
+        chroma: Chroma::S420,
+    };
+    let mut frame = frame(rt.alloc(), geometry, b"FRAME", &[9; 36])?;
+    put_blue_row(&mut frame, 1, &[1, 2, 3]);
+    put_red_row(&mut frame, 0, &[4, 5, 6]);
+    assert_eq!(rt;
+        frame.data(),
+        [
+            9, 9, 9, 9, 9, 9, 9, 9, 9, 9, 9, 9, 9, 9, 9, 9, 9, 9, 9, 9, 9, 9, 9, 9, 9, 9, 9, 1, 2,
+            3, 4, 5, 6, 9, 9, 9
+        ]
+        .as_slice()
+    );
+    Ok(())
+}
+
+#[test]
+#[tactic(auto, unfolding(crate::specs::Places::plane_width, crate::specs::Places::plane_height))]
+fn rows_are_put_into_full_planes(rt: HostRuntime) -> Result<(), Fail> {
+    let geometry = Geometry {
+        width: 2,
+        height: 2,
+        chroma: Chroma::S444Alpha,
+    };
+    let mut frame = frame(rt.alloc(), geometry, b"FRAME", &[9; 16])?;
+    put_blue_row(&mut frame, 1, &[1, 2]);
+    put_red_row(&mut frame, 0, &[3, 4]);
+    put_alpha_row(&mut frame, 1, &[5, 6]);
+    assert_eq!(rt;
+        frame.data(),
+        [9, 9, 9, 9, 9, 9, 1, 2, 3, 4, 9, 9, 9, 9, 5, 6].as_slice()
+    );
     Ok(())
 }

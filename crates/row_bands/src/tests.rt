@@ -206,3 +206,93 @@ fn each_part_of_a_band_is_noted_once(rt: HostRuntime) -> Result<(), Fail> {
     assert_eq!(rt; canvas.frame().data(), source.data());
     Ok(())
 }
+
+/// The rows that a painter was asked for: how many calls, and over the calls the sum of the first rows and the sum of
+/// the squares of the numbers of rows.
+#[derive(Drop)]
+struct Asked {
+    calls: AtomicU32,
+    starts: AtomicU32,
+    squares: AtomicU32,
+}
+
+impl Asked {
+    fn none() -> Asked {
+        Asked {
+            calls: AtomicU32::new(0),
+            starts: AtomicU32::new(0),
+            squares: AtomicU32::new(0),
+        }
+    }
+
+    fn add(&self, from: usize, to: usize)
+        requires order { from ≤ to }
+        requires few { to ≤ 16384 }
+    {
+        let rows = (to - from) as u32;
+        self.calls.fetch_add(1, Ordering::SeqCst);
+        self.starts.fetch_add(from as u32, Ordering::SeqCst);
+        self.squares.fetch_add(rows * rows, Ordering::SeqCst);
+    }
+
+    fn sums(&self) -> (u32, u32, u32) {
+        (
+            self.calls.load(Ordering::SeqCst),
+            self.starts.load(Ordering::SeqCst),
+            self.squares.load(Ordering::SeqCst),
+        )
+    }
+}
+
+/// Paints 7 everywhere, and counts what it is asked for.
+#[derive(Drop)]
+struct Counting<'a> {
+    geometry: Geometry,
+    luma: &'a Asked,
+    chroma: &'a Asked,
+}
+
+impl Painter for Counting<'_> {
+    ghost picture = { λ _ _ _ _. 7 };
+
+    ghost geometry = { λ counting. counting.geometry };
+
+    #[tactic(auto, using(frame_view::proofs::Places::few_rows))]
+    fn paint(&self, p: usize, from: usize, to: usize, rows: &mut [u8]) {
+        if p == 0 {
+            self.luma.add(from, to);
+        } else {
+            self.chroma.add(from, to);
+        }
+        rows.fill(7);
+    }
+}
+
+/// Luma rows 0 to 1 and 2 to 7; of each chroma plane row 0 and rows 1 to 3.
+#[test]
+fn the_parts_meet_at_the_row(rt: HostRuntime) -> Result<(), Fail> {
+    let geometry = Geometry {
+        width: 8,
+        height: 8,
+        chroma: Chroma::S420,
+    };
+    let line = b"FRAME".as_slice();
+    check_frame_line(line)?;
+    let height = BandHeight::new(8).ok_or("no height")?;
+    let mut canvas = Canvas::new(rt.alloc(), geometry, height, line)?;
+    let luma = Asked::none();
+    let chroma = Asked::none();
+    let painter = Counting {
+        geometry,
+        luma: &luma,
+        chroma: &chroma,
+    };
+    assert_eq!(rt; canvas.plan().count(), 1);
+    let mut band = canvas.band_mut(0);
+    assert_eq!(rt; band.luma_rows(), (0, 8));
+    paint_halves(&rt, &painter, &mut band, 2, &|_| {});
+    assert_eq!(rt; luma.sums(), (2, 2, 4 + 36));
+    assert_eq!(rt; chroma.sums(), (4, 1 + 1, (1 + 9) + (1 + 9)));
+    assert_eq!(rt; canvas.frame().data(), [7; 96].as_slice());
+    Ok(())
+}

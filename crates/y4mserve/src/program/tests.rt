@@ -149,6 +149,77 @@ fn wrong_words_are_refused(rt: HostRuntime) -> Result<(), Fail> {
     )
 }
 
+/// Two rows of luma 0 to 7, then Cb 16 to 19, then Cr 32 to 35.
+const WIDE: &[u8] =
+    b"YUV4MPEG2 W4 H2 C422\nFRAME\n\x00\x01\x02\x03\x04\x05\x06\x07\x10\x11\x12\x13\x20\x21\x22\x23";
+
+#[test]
+fn a_crop_gives_its_own_header_and_samples(rt: HostRuntime) -> Result<(), Fail> {
+    runs(
+        &rt,
+        rt.alloc(),
+        "filter crop:2,0,2,2",
+        WIDE,
+        b"YUV4MPEG2 W2 H2 C422\nFRAME\n\x02\x03\x06\x07\x11\x13\x21\x23",
+        "",
+        0,
+    )
+}
+
+#[test]
+fn a_crop_that_parts_a_chroma_sample_writes_nothing(rt: HostRuntime) -> Result<(), Fail> {
+    runs(
+        &rt,
+        rt.alloc(),
+        "filter crop:1,0,2,2",
+        WIDE,
+        b"",
+        "y4mserve: ops BadCrop\n",
+        1,
+    )
+}
+
+#[test]
+fn a_threshold_is_that_of_the_words(rt: HostRuntime) -> Result<(), Fail> {
+    runs(
+        &rt,
+        rt.alloc(),
+        "filter thresh:128",
+        b"YUV4MPEG2 W2 H1 Cmono\nFRAME\n\x00\x80",
+        b"YUV4MPEG2 W2 H1 Cmono\nFRAME\n\x00\xFF",
+        "",
+        0,
+    )
+}
+
+#[test]
+fn nine_operations_are_refused(rt: HostRuntime) -> Result<(), Fail> {
+    runs(
+        &rt,
+        rt.alloc(),
+        "filter invert+invert+invert+invert+invert+invert+invert+invert+invert",
+        b"",
+        b"",
+        "y4mserve: TooManyOps\n",
+        2,
+    )
+}
+
+/// In bands of 16 rows this takes 5 times 1,024 steps; in bands of 2 rows it would be 40,960, over the limit.
+#[test]
+fn bands_have_16_rows(rt: HostRuntime) -> Result<(), Fail> {
+    let header = b"YUV4MPEG2 W1 H16384 Cmono\n";
+    runs(
+        &rt,
+        rt.alloc(),
+        "filter hflip+hflip+hflip+hflip+hflip",
+        header,
+        header,
+        "",
+        0,
+    )
+}
+
 /// Fails at each read.
 #[derive(Drop)]
 struct Broken;
