@@ -268,7 +268,7 @@ impl Painter for Counting<'_> {
     }
 }
 
-/// Luma rows 0 to 1 and 2 to 7; of each chroma plane row 0 and rows 1 to 3.
+/// Luma is parted at row 2 of 8, and each chroma plane at row 1 of 4.
 #[test]
 fn the_parts_meet_at_the_row(rt: HostRuntime) -> Result<(), Fail> {
     let geometry = Geometry {
@@ -294,5 +294,50 @@ fn the_parts_meet_at_the_row(rt: HostRuntime) -> Result<(), Fail> {
     assert_eq!(rt; luma.sums(), (2, 2, 4 + 36));
     assert_eq!(rt; chroma.sums(), (4, 1 + 1, (1 + 9) + (1 + 9)));
     assert_eq!(rt; canvas.frame().data(), [7; 96].as_slice());
+    Ok(())
+}
+
+/// Waits until the other part is noted too, or gives up after many looks.
+fn meet(noted: &[AtomicU32; 2], met: &AtomicU32, half: u32) {
+    if half > 1 {
+        return;
+    }
+    noted[half as usize].store(1, Ordering::SeqCst);
+    for _ in 0..400_000_000u32 {
+        if noted[1 - half as usize].load(Ordering::SeqCst) == 1 {
+            met.fetch_add(1, Ordering::SeqCst);
+            return;
+        }
+    }
+}
+
+/// Neither part is written before both are noted, so one thread alone would meet the other at one part only.
+#[test]
+fn two_threads_write_the_parts_of_a_band(rt: HostRuntime) -> Result<(), Fail> {
+    let geometry = Geometry {
+        width: 1,
+        height: 4,
+        chroma: Chroma::Mono,
+    };
+    let source = frame(rt.alloc(), geometry, &[1, 2, 3, 4])?;
+    let painter = Copied { source: &source };
+    let line = b"FRAME".as_slice();
+    check_frame_line(line)?;
+    let height = BandHeight::new(4).ok_or("no height")?;
+    let mut canvas = Canvas::new(rt.alloc(), geometry, height, line)?;
+    let noted = [AtomicU32::new(0), AtomicU32::new(0)];
+    let met = AtomicU32::new(0);
+    assert_eq!(rt; canvas.plan().count(), 1);
+    let mut band = canvas.band_mut(0);
+    assert_eq!(rt; band.luma_rows(), (0, 4));
+    paint_halves(
+        &rt,
+        &painter,
+        &mut band,
+        2,
+        &|half| meet(&noted, &met, half),
+    );
+    assert_eq!(rt; met.load(Ordering::SeqCst), 2);
+    assert_eq!(rt; canvas.frame().data(), source.data());
     Ok(())
 }
