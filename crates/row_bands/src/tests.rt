@@ -268,7 +268,7 @@ impl Painter for Counting<'_> {
     }
 }
 
-/// Luma is parted at row 2 of 8, and each chroma plane at row 1 of 4.
+/// Luma has two rows above the split and six below it, and each chroma plane one and three.
 #[test]
 fn the_parts_meet_at_the_row(rt: HostRuntime) -> Result<(), Fail> {
     let geometry = Geometry {
