@@ -1,14 +1,33 @@
 use super::*;
 use std::alloc::AllocError;
 use std::io;
+use std::ops::Range;
 use std::process::Abort;
 use std::test::Fail;
 
+/// What was written into a room of which so much is left.
+fn written(room: &[u8], left: usize) -> &[u8] {
+    &room[..room.len() - left.min(room.len())]
+}
+
 /// Replays a script that is held in memory, and compares what it prints and answers.
 fn expect_lines(rt: &impl Abort, alloc: Global, script: &[u8], lines: &str, whole: bool) {
-    let (printed, outcome) = replay(alloc, script, Vec::new(alloc));
-    assert_eq!(rt; printed.as_slice(), lines.as_bytes());
+    expect_replay(rt, alloc, script, lines, whole);
+}
+
+/// Replays what a reader gives, and compares what it prints and answers.
+fn expect_replay<R: Read + Drop>(
+    rt: &impl Abort,
+    alloc: Global,
+    script: R,
+    lines: &str,
+    whole: bool,
+) {
+    let mut room = [0; 256];
+    let (rest, outcome) = replay(alloc, script, room.as_mut_slice());
+    let left = rest.len();
     assert_eq!(rt; outcome, Ok(whole));
+    assert_eq!(rt; written(&room, left), lines.as_bytes());
 }
 
 #[test]
@@ -224,15 +243,12 @@ impl Write for Unflushed {
 
 #[test]
 fn short_reads_make_no_difference(rt: HostRuntime) {
-    let script = b"account 2 10\nidle 0\ncharge 1";
     let input = ByteByByte {
-        rest: script,
+        rest: b"account 2 10\nidle 0\ncharge 1",
         given: 0,
     };
-    let (printed, outcome) = replay(rt.alloc(), input, Vec::new(rt.alloc()));
     let lines = "budget 2 deadline 0\nbudget 2 deadline 10\nbudget 1 deadline 10\n";
-    assert_eq!(rt; printed.as_slice(), lines.as_bytes());
-    assert_eq!(rt; outcome, Ok(true));
+    expect_replay(&rt, rt.alloc(), input, lines, true);
 }
 
 #[test]
@@ -240,31 +256,62 @@ fn a_failed_read_prints_nothing(rt: HostRuntime) {
     let input = Torn {
         rest: b"account 2 10\ncharge 1\n",
     };
-    let (printed, outcome) = replay(rt.alloc(), input, Vec::new(rt.alloc()));
-    assert!(rt; printed.is_empty());
+    let mut room = [0; 64];
+    let (rest, outcome) = replay(rt.alloc(), input, room.as_mut_slice());
     assert_eq!(rt; outcome, Err(ReplayFault::Read));
+    assert_eq!(rt; rest.len(), 64);
+}
+
+/// Its report has three lines, of 20, 20 and 16 bytes.
+const THREE_LINES: &[u8] = b"account 2 10\ncharge 1\nstart\n";
+
+/// Replays the script into outputs that take so many bytes, and then fail or take none.
+fn cut_outputs_are_told(rt: &impl Abort, alloc: Global, rooms: Range<usize>, fails: bool) {
+    for room in rooms {
+        let (_, outcome) = replay(alloc, THREE_LINES, Narrow { room, fails });
+        assert_eq!(rt; outcome, Err(ReplayFault::Write));
+    }
 }
 
 #[test]
-fn a_failed_write_or_flush_is_told(rt: HostRuntime) {
-    let script = b"account 2 10\ncharge 1\nstart\n".as_slice();
-    // The three lines are 56 bytes.
-    for room in 0..56 {
-        for fails in [false, true] {
-            let (_, outcome) = replay(rt.alloc(), script, Narrow { room, fails });
-            assert_eq!(rt; outcome, Err(ReplayFault::Write));
-        }
-    }
-    let (_, outcome) = replay(
-        rt.alloc(),
-        script,
-        Narrow {
-            room: 56,
-            fails: true,
-        },
-    );
+fn a_failed_write_of_the_first_line_is_told(rt: HostRuntime) {
+    cut_outputs_are_told(&rt, rt.alloc(), 0..20, true);
+}
+
+#[test]
+fn a_failed_write_of_the_second_line_is_told(rt: HostRuntime) {
+    cut_outputs_are_told(&rt, rt.alloc(), 20..40, true);
+}
+
+#[test]
+fn a_failed_write_of_the_faults_line_is_told(rt: HostRuntime) {
+    cut_outputs_are_told(&rt, rt.alloc(), 40..56, true);
+}
+
+#[test]
+fn a_first_line_that_is_not_taken_is_told(rt: HostRuntime) {
+    cut_outputs_are_told(&rt, rt.alloc(), 0..20, false);
+}
+
+#[test]
+fn a_second_line_that_is_not_taken_is_told(rt: HostRuntime) {
+    cut_outputs_are_told(&rt, rt.alloc(), 20..40, false);
+}
+
+#[test]
+fn a_faults_line_that_is_not_taken_is_told(rt: HostRuntime) {
+    cut_outputs_are_told(&rt, rt.alloc(), 40..56, false);
+}
+
+#[test]
+fn a_failed_flush_is_told(rt: HostRuntime) {
+    let room = Narrow {
+        room: 56,
+        fails: true,
+    };
+    let (_, outcome) = replay(rt.alloc(), THREE_LINES, room);
     assert_eq!(rt; outcome, Ok(false));
-    let (_, outcome) = replay(rt.alloc(), script, Unflushed);
+    let (_, outcome) = replay(rt.alloc(), THREE_LINES, Unflushed);
     assert_eq!(rt; outcome, Err(ReplayFault::Write));
 }
 
@@ -295,9 +342,7 @@ fn a_longer_script_is_too_long_and_is_not_read_on(rt: HostRuntime) -> Result<(),
         rest: &longer,
         given: 0,
     };
-    let (printed, outcome) = replay(rt.alloc(), &mut input, Vec::new(rt.alloc()));
-    assert_eq!(rt; printed.as_slice(), b"line 0: TooLong\n".as_slice());
-    assert_eq!(rt; outcome, Ok(false));
+    expect_replay(&rt, rt.alloc(), &mut input, "line 0: TooLong\n", false);
     assert_eq!(rt; input.given, 1_048_577);
     Ok(())
 }
@@ -309,7 +354,8 @@ fn a_long_script_of_great_charges_is_run_to_its_end(rt: HostRuntime) -> Result<(
         script.extend_from_slice(b"charge 1099511627776\n")?;
     }
     assert_eq!(rt; script.len(), 1_048_575);
-    let (printed, outcome) = replay(rt.alloc(), script.as_slice(), Vec::new(rt.alloc()));
+    let room = Vec::with_capacity(rt.alloc(), 4_000_000)?;
+    let (printed, outcome) = replay(rt.alloc(), script.as_slice(), room);
     assert_eq!(rt; outcome, Ok(true));
     // Each charge of 2^40 units puts the deadline off by 2^40.
     let end = b"\nbudget 1048576 deadline 54899715086483456\n".as_slice();
