@@ -1,3 +1,4 @@
 pub mod ScriptParts
 pub mod ScriptRuns
+pub mod ScriptStops
 pub mod Fronts

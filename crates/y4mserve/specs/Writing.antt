@@ -1,5 +1,5 @@
 -- What a write that failed leaves behind.
-use Rattle.std.specs.Prelude.{◌≡◌, ℕ, ◌≤◌, List, ◌++◌, length, take, Option}
+use Rattle.std.specs.Prelude.{ℕ, ◌≤◌, List, length, take, Option}
 use Rattle.std.specs.Io.KnownBytes.{Appends}
 
 -- bytes went out from the front of the text, or all of it
@@ -7,7 +7,3 @@ pub record AppendsFront (old new : Option (List ℕ)) (text : List ℕ) : Type 0
   pub n : ℕ
   pub within : n ≤ length text
   pub front : Appends old new (take n text)
-
--- the one stands at the front of the other
-abbrev pub IsFrontOf : List ℕ → List ℕ → Type 0
-IsFrontOf front whole = (more : List ℕ) × (front ++ more ≡ whole)

@@ -50,8 +50,9 @@ pub enum ReplayFault {
     /// A write of the output failed or took no byte, or its flush failed. The front of what the script prints went out.
     #[error("write")]
     Write,
-    /// A growth was refused. What was run before is written, and then the line `line N: NoMemory`, where N is 0 if the
-    /// script itself couldn't be kept; where a write fails as well, the front of these.
+    /// A growth was refused. The answers of the lines before line N are written, none of which has a fault, and then the
+    /// line `line N: NoMemory`. N is the line of the command whose answer could not be kept, or 0 if the script itself
+    /// couldn't be; where a write fails as well, the front of these.
     #[error("NoMemory")]
     NoMemory,
 }
@@ -113,7 +114,7 @@ fn replay_through<R: Read, W: Write>(
 
 /// Runs a script's lines up to the first fault, and appends what its commands print.
 fn run_script(script: &[u8], printed: &mut Vec<u8>) -> Result<(), ScriptStop>
-    ensures { Reports result printed.old.items printed.new.items (script_report script.now) }
+    ensures { Reports result printed.old.items printed.new.items script.now }
 {
     if script.len() > SCRIPT_LIMIT {
         return Err(ScriptStop {

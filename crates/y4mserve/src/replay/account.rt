@@ -1,10 +1,10 @@
 //! An account script: its commands are run in order on one account.
-ghost use Rattle.std.specs.Prelude.{◌≡◌, ◌≢◌, ◌≤◌, ◌∷◌, ◌++◌, [], IfErr, IfOk, IsFalse, Some, None, false, length, true};
+ghost use Rattle.std.specs.Prelude.{◌≡◌, ◌≢◌, ◌≤◌, ◌∷◌, ◌++◌, [], IfErr, IfOk, IsFalse, IsSome, Some, None, false, length, true};
 ghost use Rattle.cbs_account.specs.Balance.{opened};
 ghost use Rattle.y4mserve.specs.ScriptCommand.{IsOnClock};
-ghost use Rattle.y4mserve.specs.ScriptReport.{Faults, account_report, balance_line, fault_of, is_bandwidth, outcome_of};
+ghost use Rattle.y4mserve.specs.ScriptReport.{Faults, balance_line, fault_of, is_bandwidth, outcome_of};
 ghost use Rattle.y4mserve.specs.ScriptStep.{Reports, after_command, after_line};
-ghost use Rattle.y4mserve.specs.ScriptText.{is_silent, script_lines};
+ghost use Rattle.y4mserve.specs.ScriptText.{is_silent};
 
 use super::command::{AccountCommand, parse_command};
 use super::fault::{ScriptFault, ScriptStop};
@@ -13,10 +13,11 @@ use super::words::{first_line, is_silent};
 use cbs_account::{Account, BadBandwidth};
 
 /// Runs the lines of an account script in order, up to the first fault, and appends what each command prints. The line
-/// of the fault isn't appended. Where a growth was refused, whole lines were appended.
+/// of the fault isn't appended. Where the growth for an answer was refused, the run stops at the line of its command, and
+/// the answers of the lines before it were appended.
 pub fn run_account_script(script: &[u8], printed: &mut Vec<u8>) -> Result<(), ScriptStop>
     requires { length script.now ≤ 1048576 }
-    ensures { Reports result printed.old.items printed.new.items (account_report 1 [] (script_lines script.now)) }
+    ensures { Reports result printed.old.items printed.new.items script.now }
 {
     let mut account = None;
     let mut rest = script;
@@ -50,6 +51,7 @@ fn run_line(
     ensures printed { IfOk result (λ next. printed.new.items ≡ printed.old.items ++ (balance_line next ++ 10 ∷ [])) }
 
     ensures fault { IfErr result (λ fault. fault ≢ ScriptFault.NoMemory → outcome_of account line.now ≡ Faults fault) }
+    ensures memory { IfErr result (λ fault. fault ≡ ScriptFault.NoMemory → IsSome (after_line account (outcome_of account line.now))) }
     ensures kept { IfErr result (λ _. printed.new.items ≡ printed.old.items) }
 {
     let command = parse_command(line).ok_or(ScriptFault::BadLine)?;
