@@ -47,12 +47,13 @@ pub enum ReplayFault {
     /// A read of the input failed. Nothing was run or written.
     #[error("read")]
     Read,
-    /// A write of the output failed or took no byte, or its flush failed. The front of what the script prints went out.
+    /// A write of the output failed or took no byte, or its flush failed. The front of what the script prints went out, or
+    /// of what is told where a growth was refused.
     #[error("write")]
     Write,
     /// A growth was refused. The answers of the lines before line N are written, none of which has a fault, and then the
     /// line `line N: NoMemory`. N is the line of the command whose answer could not be kept, or 0 if the script itself
-    /// couldn't be; where a write fails as well, the front of these.
+    /// couldn't be.
     #[error("NoMemory")]
     NoMemory,
 }
@@ -74,7 +75,7 @@ pub fn replay<R: Read + Drop, W: Write>(
     ensures cut { IsErrOf result.1 ReplayFault.Write → IfSome (R.remaining input)
         (λ text. IsCutOff text (W.contents output) (W.contents result.0)) }
     ensures memory { IsErrOf result.1 ReplayFault.NoMemory → IfSome (R.remaining input)
-        (λ text. LacksMemory text (W.contents output) (W.contents result.0)) }
+        (λ text. LacksMemory text (Appends (W.contents output) (W.contents result.0))) }
 {
     let outcome = replay_through(alloc, &mut input, &mut output);
     (output, outcome)
@@ -94,7 +95,7 @@ fn replay_through<R: Read, W: Write>(
     ensures cut { IsErrOf result ReplayFault.Write → IfSome (R.remaining input.old)
         (λ text. IsCutOff text (W.contents output.old) (W.contents output.new)) }
     ensures memory { IsErrOf result ReplayFault.NoMemory → IfSome (R.remaining input.old)
-        (λ text. LacksMemory text (W.contents output.old) (W.contents output.new)) }
+        (λ text. LacksMemory text (Appends (W.contents output.old) (W.contents output.new))) }
 {
     let script = match read_front(alloc, input, SCRIPT_LIMIT + 1) {
         Ok(script) => script,
@@ -133,18 +134,19 @@ fn write_report<W: Write>(
 ) -> Result<bool, ReplayFault>
     ensures written { OnOk result (Appends (W.contents output.old) (W.contents output.new) (printed.now ++ stop_text (result_err outcome))) }
     ensures whole { IfOk result (λ whole. whole ≡ is_ok outcome) }
-    ensures told { result ≢ Err ReplayFault.NoMemory → IfErr outcome (λ stop. stop.fault ≢ ScriptFault.NoMemory) }
+    ensures told { OnOk result (IfErr outcome (λ stop. stop.fault ≢ ScriptFault.NoMemory)) }
     ensures memory { IsErrOf result ReplayFault.NoMemory → (stop : ScriptStop) × (outcome ≡ Err stop) × (stop.fault ≡ ScriptFault.NoMemory) }
+    ensures all { IsErrOf result ReplayFault.NoMemory → Appends (W.contents output.old) (W.contents output.new) (printed.now ++ stop_text (result_err outcome)) }
     ensures no_read { IfErr result (λ fault. fault ≢ ReplayFault.Read) }
-    ensures cut { OnErr result (AppendsFront (W.contents output.old) (W.contents output.new) (printed.now ++ stop_text (result_err outcome))) }
+    ensures cut { IsErrOf result ReplayFault.Write → AppendsFront (W.contents output.old) (W.contents output.new) (printed.now ++ stop_text (result_err outcome)) }
 {
-    let put = put_report(output, printed, outcome);
+    if put_report(output, printed, outcome).is_err() {
+        return Err(ReplayFault::Write);
+    }
     match outcome {
+        Ok(()) => Ok(true),
         Err(stop) if stop.fault == ScriptFault::NoMemory => Err(ReplayFault::NoMemory),
-        _ => match put {
-            Ok(()) => Ok(outcome.is_ok()),
-            Err(_) => Err(ReplayFault::Write),
-        },
+        Err(_) => Ok(false),
     }
 }
 
