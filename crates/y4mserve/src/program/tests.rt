@@ -280,7 +280,8 @@ fn a_failed_write_is_said(rt: HostRuntime) -> Result<(), Fail> {
     let script = b"account 2 10\n".as_slice();
     let said = "y4mserve: write\n";
     says(&rt, rt.alloc(), "replay", script, &mut room, said, 1)?;
-    assert_eq!(rt; room, *b"budge");
+    // The front of the answer, or of the line that says that its growth was refused.
+    assert!(rt; room == *b"budge" || room == *b"line ");
     Ok(())
 }
 
