@@ -2,7 +2,7 @@ use Rattle.std.proofs.Common.{ℕ, ◌+◌, ◌-◌, ◌*◌, ◌/◌, ◌%◌, 
 use Rattle.std.proofs.Math.Nat.{div-le_self}
 use Rattle.cbs_account.specs.Balance.{Balance}
 use Rattle.cbs_account.specs.Rules.{OwnEvent, UnitOfWork, Idle, recharged, after_unit, after_idle, after_all, cbs}
-use Rattle.cbs_account.specs.Laws.{unit_count, NoneRecharges, ClosedForm, Bandwidth, DeadlineBound, DeadlineLimit}
+use Rattle.cbs_account.specs.Laws.{unit_count, NoneRecharges, ClosedForm, Bandwidth, DeadlineBound}
 use Rattle.cbs_account.proofs.Steps.{after_unit-cases, after_idle-recharging, after_idle-cases}
 use Rattle.cbs_account.proofs.Runs.{IsSound, cbs-sound, after_all-append, charged, from_whole}
 
@@ -70,28 +70,3 @@ pub deadline_bound_proof : DeadlineBound
 deadline_bound_proof q t r later earlier some recharging none =
     let form = closed_form_proof q t r later earlier some recharging none in
     rw form.1 (rounds_bounded q t r (unit_count later))
-
--- the deadline is at most one period, and one more for each of n units, after the moment m
-abbrev pub IsLimited : ℕ → ℕ → ℕ → Balance → Type 0
-IsLimited t m n b = b.deadline ≤ m + t * (1 + n)
-
-pub limited-unit : (q t m n : ℕ) (b : Balance) → IsSound q t b → IsLimited t m n b → IsLimited t m (n + 1) (after_unit b)
-limited-unit q t m n b sound h =
-    elim (after_unit-cases b sound.positive) [
-      | inl last ↦ subst (IsLimited t m (n + 1)) (sym last.1) (rw sound.period (grind arith))
-      | inr more ↦ subst (IsLimited t m (n + 1)) (sym more.1) (grind arith)
-    ]
-
-pub limited-idle : (q t m n r : ℕ) (b : Balance) → IsSound q t b → r ≤ m → IsLimited t m n b → IsLimited t m n (after_idle r b)
-limited-idle q t m n r b sound within h =
-    elim (after_idle-cases r b) [
-      | inl recharging ↦ subst (IsLimited t m n) (sym recharging.1) (rw sound.period (grind arith))
-      | inr keeping ↦ subst (IsLimited t m n) (sym keeping.1) h
-    ]
-
-pub deadline_limit_proof : DeadlineLimit
-deadline_limit_proof q t m [] some none = omega arith
-deadline_limit_proof q t m (UnitOfWork ∷ past) some none =
-    limited-unit q t m (unit_count past) (cbs q t past) (cbs-sound q t past some) (deadline_limit_proof q t m past some none)
-deadline_limit_proof q t m (Idle r ∷ past) some none =
-    limited-idle q t m (unit_count past) r (cbs q t past) (cbs-sound q t past some) none.0 (deadline_limit_proof q t m past some none.1)

@@ -8,9 +8,13 @@ pub record Balance : Type 0 where
   pub budget : ℕ
   pub deadline : ℕ
 
+abbrev pub balance : ℕ → ℕ → ℕ → ℕ → Balance
+balance maximum period budget deadline =
+    record { maximum = maximum; period = period; budget = budget; deadline = deadline }
+
 -- a new server of maximum budget q and period t has its whole budget
 abbrev pub opened : ℕ → ℕ → Balance
-opened q t = record { maximum = q; period = t; budget = q; deadline = 0 }
+opened q t = balance q t q 0
 
 -- q units in every t: at least one, and at most all of them
 abbrev pub IsBandwidth : ℕ → ℕ → Type 0

@@ -1,6 +1,7 @@
-use Rattle.std.specs.Prelude.{ℕ, ◌+◌, ◌-◌, ◌*◌, ◌/◌, ◌%◌, ◌≡◌, ◌≤◌, IsTrue, IsFalse, List, [], ◌∷◌, ◌++◌}
+use Rattle.std.specs.Prelude.{ℕ, ◌+◌, ◌-◌, ◌*◌, ◌/◌, ◌%◌, ◌^◌, ◌≡◌, ◌≤◌, IsTrue, IsFalse, All, List, [], ◌∷◌, ◌++◌, sum_by}
 use Rattle.cbs_account.specs.Balance.{Balance}
-use Rattle.cbs_account.specs.Rules.{OwnEvent, UnitOfWork, Idle, is_recharging, after_all, cbs}
+use Rattle.cbs_account.specs.Rules.{OwnEvent, UnitOfWork, Idle, CanCharge, is_recharging, after_all, cbs}
+use Rattle.cbs_account.specs.Admission.{Reservation, Fits, load_of}
 
 -- the number of units among the events
 abbrev pub unit_count : List OwnEvent → ℕ
@@ -49,6 +50,23 @@ NoneAfter m (Idle r ∷ past) = (r ≤ m) × NoneAfter m past
 -- where arrivals come up to the moment m, and n units were done in all, the deadline is at most m + T * (1 + n)
 abbrev pub DeadlineLimit : Type 0
 DeadlineLimit =
-    (q t m : ℕ) (past : List OwnEvent) → 1 ≤ q
-    → NoneAfter m past
+    (q t m : ℕ) (past : List OwnEvent) → NoneAfter m past
     → (cbs q t past).deadline ≤ m + t * (1 + unit_count past)
+
+-- k units can be charged where a deadline is as near as n units and arrivals up to the moment m leave it, and then more
+-- of both came: if no arrival came after m, which is at most 2^60, and all the units together are at most 2^39
+abbrev pub ChargeLimit : Type 0
+ChargeLimit =
+    (m n k : ℕ) (later : List OwnEvent) (b : Balance) → m ≤ 2 ^ 60 → b.period ≤ 1048576
+    → b.deadline ≤ m + b.period * (1 + n)
+    → NoneAfter m later
+    → n + unit_count later + k ≤ 2 ^ 39
+    → CanCharge k (after_all b later)
+
+-- servers that fit on their workers ask for no more than these have: in a time m that each period divides, the sum of
+-- Q * (m / T) is at most m for each worker
+abbrev pub TotalBandwidth : Type 0
+TotalBandwidth =
+    (workers m : ℕ) (servers : List Reservation) → Fits (load_of workers servers)
+    → All (λ s. m % s.period ≡ 0) servers
+    → sum_by (λ s. s.maximum * (m / s.period)) servers ≤ workers * m

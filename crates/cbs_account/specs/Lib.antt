@@ -1,3 +1,4 @@
 pub mod Balance
 pub mod Rules
+pub mod Admission
 pub mod Laws

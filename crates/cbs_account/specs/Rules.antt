@@ -1,5 +1,5 @@
 use Rattle.std.specs.Prelude.{ℕ, ◌+◌, ◌-◌, ◌*◌, ◌^◌, ◌≤◌, ◌<◌, Bool, nat_eq, nat_le, if◌then◌else◌, List, [], ◌∷◌, replicate}
-use Rattle.cbs_account.specs.Balance.{Balance, opened}
+use Rattle.cbs_account.specs.Balance.{Balance, balance, opened}
 
 -- what happens to one server: one unit of its work is done, or a job arrives at a moment and finds it idle
 pub data OwnEvent : Type 0 where
@@ -8,14 +8,14 @@ pub data OwnEvent : Type 0 where
 
 -- the whole budget, and a deadline one period after this moment
 abbrev pub recharged : ℕ → Balance → Balance
-recharged moment b = record { maximum = b.maximum; period = b.period; budget = b.maximum; deadline = moment + b.period }
+recharged moment b = balance b.maximum b.period b.maximum (moment + b.period)
 
 -- one unit lowers the budget by one; a budget that ends is recharged at once, counted from the old deadline
 abbrev pub after_unit : Balance → Balance
 after_unit b =
     if nat_eq (b.budget - 1) 0
     then recharged b.deadline b
-    else record { maximum = b.maximum; period = b.period; budget = b.budget - 1; deadline = b.deadline }
+    else balance b.maximum b.period (b.budget - 1) b.deadline
 
 -- the test of an idle arrival at r, c * T >= (d - r) * Q over signed numbers: the budget c that is left is no
 -- less than the bandwidth's part of the time up to the deadline d

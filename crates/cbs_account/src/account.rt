@@ -20,6 +20,13 @@ const DEADLINE_END: u64 = 1 << 62;
 #[error("BadBandwidth")]
 pub struct BadBandwidth;
 
+/// Whether a server may have the maximum budget `q` and the period `t`.
+pub(crate) fn is_bandwidth(q: u64, t: u64) -> bool
+    ensures { IsTrue result ↔ IsBandwidth q t }
+{
+    1 <= q && q <= t && t <= LONGEST_PERIOD
+}
+
 /// A server's account. Contracts see it as a `Balance`: the maximum budget `Q`, the period `T`, the budget `c` that is
 /// left, which is 1 to `Q` between calls, and the deadline `d`.
 ///
@@ -33,13 +40,13 @@ pub struct Account {
 }
 
 impl Model for Account {
-    ghost use Rattle.cbs_account.specs.Balance.{Balance, IsInLimits};
+    ghost use Rattle.cbs_account.specs.Balance.{Balance, IsInLimits, balance};
 
     ghost Value = { Balance };
 
-    ghost view = { λ a. record { maximum = a.maximum; period = a.period; budget = a.budget; deadline = a.deadline } };
+    ghost view = { λ a. balance a.maximum a.period a.budget a.deadline };
 
-    ghost invariant = { λ a. IsInLimits (record { maximum = a.maximum; period = a.period; budget = a.budget; deadline = a.deadline }) };
+    ghost invariant = { λ a. IsInLimits (balance a.maximum a.period a.budget a.deadline) };
 }
 
 impl Account {
@@ -48,7 +55,7 @@ impl Account {
         ensures accepted { IsOk result ↔ IsBandwidth q t }
         ensures account { IfOk result (λ a. a ≡ opened q t) }
     {
-        if q < 1 || q > t || t > LONGEST_PERIOD {
+        if !is_bandwidth(q, t) {
             return Err(BadBandwidth);
         }
         Ok(Account {

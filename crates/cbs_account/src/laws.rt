@@ -1,5 +1,5 @@
 //! What the rules of a constant bandwidth server promise of every past, whatever program keeps them.
-ghost use Rattle.cbs_account.specs.Laws.{Bandwidth, ClosedForm, DeadlineBound, DeadlineLimit};
+ghost use Rattle.cbs_account.specs.Laws.{Bandwidth, ChargeLimit, ClosedForm, DeadlineBound, DeadlineLimit, TotalBandwidth};
 
 /// The rule by which budget and deadline go on while a server stays busy: a budget that is used up is recharged at once
 /// to its maximum, and the deadline is put off by one period each time.
@@ -34,4 +34,20 @@ pub fn deadline_bound()
 /// A caller whose clock and whose work are limited learns from this that its charges stay within the numbers.
 pub fn deadline_limit()
     ensures { DeadlineLimit }
+{}
+
+/// What a server can be charged at any time: `k` units, where no idle arrival came after the moment `m`, which is at most
+/// 2^60, and all its units, these `k` among them, are at most 2^39.
+///
+/// It is said of a balance `b` that such arrivals and `n` units have left, and of what follows it. A new server is such a
+/// balance, with `n` of 0; and where nothing follows, the balance alone decides.
+pub fn charge_limit()
+    ensures { ChargeLimit }
+{}
+
+/// What the shares are for: servers that fit on the workers ask for no more time than these have.
+///
+/// In a time `m` that each period divides, a server may use `Q * (m / T)`. The sum is at most `m` for each worker.
+pub fn total_bandwidth()
+    ensures { TotalBandwidth }
 {}

@@ -1,4 +1,4 @@
-use Rattle.cbs_account.proofs.LawProofs.{deadline_limit_proof}
+use Rattle.cbs_account.proofs.Deadlines.{deadline_limit_proof}
 use Rattle.cbs_account.proofs.laws.deadline_limit.Goals as goal
 
 pub returns : goal.returns
