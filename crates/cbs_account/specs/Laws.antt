@@ -1,4 +1,5 @@
-use Rattle.std.specs.Prelude.{ℕ, ◌+◌, ◌-◌, ◌*◌, ◌/◌, ◌%◌, ◌^◌, ◌≡◌, ◌≤◌, IsTrue, IsFalse, All, List, [], ◌∷◌, ◌++◌, sum_by}
+use Rattle.std.specs.Prelude.{ℕ, ◌+◌, ◌-◌, ◌*◌, ◌/◌, ◌%◌, ◌^◌, ◌≡◌, ◌≤◌, IsTrue, IsFalse}
+use Rattle.std.specs.Prelude.{List, [], ◌∷◌, ◌++◌, All, sum_by}
 use Rattle.cbs_account.specs.Balance.{Balance}
 use Rattle.cbs_account.specs.Rules.{OwnEvent, UnitOfWork, Idle, CanCharge, is_recharging, after_all, cbs}
 use Rattle.cbs_account.specs.Admission.{Reservation, Fits, load_of}
@@ -47,14 +48,15 @@ NoneAfter m [] = Unit {0}
 NoneAfter m (UnitOfWork ∷ past) = NoneAfter m past
 NoneAfter m (Idle r ∷ past) = (r ≤ m) × NoneAfter m past
 
--- where arrivals come up to the moment m, and n units were done in all, the deadline is at most m + T * (1 + n)
+-- where arrivals come up to the moment m, and n units were done in all, the deadline is at most
+-- m + T * (1 + n)
 abbrev pub DeadlineLimit : Type 0
 DeadlineLimit =
     (q t m : ℕ) (past : List OwnEvent) → NoneAfter m past
     → (cbs q t past).deadline ≤ m + t * (1 + unit_count past)
 
--- k units can be charged where a deadline is as near as n units and arrivals up to the moment m leave it, and then more
--- of both came: if no arrival came after m, which is at most 2^60, and all the units together are at most 2^39
+-- k units can be charged where n units and arrivals up to the moment m left a deadline so near, and more of both
+-- followed: if m is at most 2^60, no arrival came after it, and all units together are at most 2^39
 abbrev pub ChargeLimit : Type 0
 ChargeLimit =
     (m n k : ℕ) (later : List OwnEvent) (b : Balance) → m ≤ 2 ^ 60 → b.period ≤ 1048576
@@ -63,8 +65,8 @@ ChargeLimit =
     → n + unit_count later + k ≤ 2 ^ 39
     → CanCharge k (after_all b later)
 
--- servers that fit on their workers ask for no more than these have: in a time m that each period divides, the sum of
--- Q * (m / T) is at most m for each worker
+-- servers that fit on their workers ask for no more time than these have: in a time m that each period divides,
+-- the sum of Q * (m / T) is at most m for each worker
 abbrev pub TotalBandwidth : Type 0
 TotalBandwidth =
     (workers m : ℕ) (servers : List Reservation) → Fits (load_of workers servers)

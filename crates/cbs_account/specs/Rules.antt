@@ -1,4 +1,5 @@
-use Rattle.std.specs.Prelude.{ℕ, ◌+◌, ◌-◌, ◌*◌, ◌^◌, ◌≤◌, ◌<◌, Bool, nat_eq, nat_le, if◌then◌else◌, List, [], ◌∷◌, replicate}
+use Rattle.std.specs.Prelude.{ℕ, ◌+◌, ◌-◌, ◌*◌, ◌^◌, ◌≤◌, ◌<◌, List, [], ◌∷◌, replicate}
+use Rattle.std.specs.Prelude.{Bool, nat_eq, nat_le, if◌then◌else◌}
 use Rattle.cbs_account.specs.Balance.{Balance, balance, opened}
 
 -- what happens to one server: one unit of its work is done, or a job arrives at a moment and finds it idle

@@ -59,7 +59,8 @@ impl Admission {
         ensures ok { OnOk result (self.new ≡ with_share q t self.old) }
 
         ensures bad_bandwidth { (result ≡ Err AdmissionError.BadBandwidth) ↔ ¬ IsBandwidth q t }
-        ensures overload { (result ≡ Err AdmissionError.Overload) ↔ (IsBandwidth q t × ¬ Fits (with_share q t self.old)) }
+        ensures overload { (result ≡ Err AdmissionError.Overload)
+            ↔ (IsBandwidth q t × ¬ Fits (with_share q t self.old)) }
         ensures err { OnErr result (self.new ≡ self.old) }
     {
         if !is_bandwidth(q, t) {

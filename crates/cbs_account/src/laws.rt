@@ -1,5 +1,6 @@
 //! What the rules of a constant bandwidth server promise of every past, whatever program keeps them.
-ghost use Rattle.cbs_account.specs.Laws.{Bandwidth, ChargeLimit, ClosedForm, DeadlineBound, DeadlineLimit, TotalBandwidth};
+ghost use Rattle.cbs_account.specs.Laws.{Bandwidth, ClosedForm, TotalBandwidth};
+ghost use Rattle.cbs_account.specs.Laws.{ChargeLimit, DeadlineBound, DeadlineLimit};
 
 /// The rule by which budget and deadline go on while a server stays busy: a budget that is used up is recharged at once
 /// to its maximum, and the deadline is put off by one period each time.
