@@ -2,4 +2,4 @@ pub mod ScriptParts
 pub mod ScriptRuns
 pub mod ScriptStops
 pub mod Fronts
-pub mod CutOff
+pub mod Replays

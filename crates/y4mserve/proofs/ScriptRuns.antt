@@ -4,22 +4,22 @@ use Rattle.std.specs.Option.{option_map, option_to_list}
 use Rattle.cbs_account.specs.Balance.{Balance, opened}
 use Rattle.cbs_account.specs.Rules.{OwnEvent, UnitOfWork, Idle, after_all, after_unit, after_units, cbs}
 use Rattle.y4mserve.specs.ScriptText.{is_silent}
-use Rattle.y4mserve.specs.ScriptReport.{LineOutcome, Nothing, Runs, Faults, Report, account_report, balance_line, last_bandwidth, outcome_of, own_events, preceded_by, report_on, server_after}
-use Rattle.y4mserve.specs.ScriptStep.{after_command, after_line}
-use Rattle.y4mserve.specs.declared.replay.command.AccountCommand.{AccountCommand}
-use Rattle.y4mserve.specs.declared.replay.command.AccountCommand.TheVariants.{Open, ArriveIdle, Charge}
-use Rattle.y4mserve.specs.declared.replay.fault.ScriptFault.{ScriptFault}
+use Rattle.y4mserve.specs.ScriptReport.{LineOutcome, Silent, Runs, Faults, Report, account_report, balance_line, last_bandwidth, outcome_of, own_events, preceded_by, report_on, server_after, stopped_at, unstopped}
+use Rattle.y4mserve.specs.ScriptRun.{after_command, after_line}
+use Rattle.y4mserve.specs.declared.script.command.AccountCommand.{AccountCommand}
+use Rattle.y4mserve.specs.declared.script.command.AccountCommand.TheVariants.{Open, ArriveIdle, Charge}
+use Rattle.y4mserve.specs.declared.script.fault.ScriptFault.{ScriptFault}
 
 -- the report that goes on by the outcome of line n
 abbrev pub run_on : ℕ → Option Balance → LineOutcome → (Option Balance → Report) → Report
-run_on n server Nothing rest = rest server
+run_on n server Silent rest = rest server
 run_on n server (Runs command) rest =
     preceded_by (map balance_line (option_to_list (after_command server command))) (rest (after_command server command))
-run_on n server (Faults fault) rest = record { answers = []; stop = Some (record { line = n; fault = fault }) }
+run_on n server (Faults fault) rest = stopped_at n fault []
 
 -- the report of the lines from line n on, where the server stands here
 abbrev pub runs_from : ℕ → Option Balance → List (List ℕ) → Report
-runs_from n server [] = record { answers = []; stop = None }
+runs_from n server [] = unstopped []
 runs_from n server (line ∷ lines) = run_on n server (outcome_of server line) (λ next. runs_from (n + 1) next lines)
 
 -- units after other events
@@ -54,7 +54,7 @@ answered server rest = preceded_by (map balance_line (option_to_list server)) re
 goes_on : (n : ℕ) (past : List AccountCommand) (outcome : LineOutcome) (later : List AccountCommand → Report) (next : Option Balance → Report)
     → ((commands : List AccountCommand) → later commands ≡ next (server_after commands))
     → report_on n past outcome later ≡ run_on n (server_after past) outcome next
-goes_on n past Nothing later next same = same past
+goes_on n past Silent later next same = same past
 goes_on n past (Runs command) later next same =
     ap (answered (server_after (command ∷ past))) (same (command ∷ past))
     ∙ ap (λ server. answered server (next server)) (server_after-command command past)
@@ -69,7 +69,7 @@ account_report-runs (line ∷ lines) n past =
 
 run_on-runs : (n : ℕ) (server : Option Balance) (outcome : LineOutcome) (next : Balance) (rest : Option Balance → Report)
     → after_line server outcome ≡ Some next → run_on n server outcome rest ≡ preceded_by (balance_line next ∷ []) (rest (Some next))
-run_on-runs n server Nothing next rest e = cc
+run_on-runs n server Silent next rest e = cc
 run_on-runs n server (Runs command) next rest e = ap (λ later. answered later (rest later)) e
 run_on-runs n server (Faults fault) next rest e = cc
 
@@ -88,5 +88,5 @@ runs_from-silent n server line lines e = rw e refl
 -- a line with a fault
 pub runs_from-faults : (n : ℕ) (server : Option Balance) (line : List ℕ) (lines : List (List ℕ)) (fault : ScriptFault)
     → outcome_of server line ≡ Faults fault
-    → runs_from n server (line ∷ lines) ≡ record { answers = []; stop = Some (record { line = n; fault = fault }) }
+    → runs_from n server (line ∷ lines) ≡ stopped_at n fault []
 runs_from-faults n server line lines fault e = ap (λ outcome. run_on n server outcome (λ next. runs_from (n + 1) next lines)) e

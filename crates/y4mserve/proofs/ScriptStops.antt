@@ -1,13 +1,14 @@
 -- Where the run of a script's lines stands, and where it stops.
-use Rattle.std.proofs.Common.{◌≡◌, ℕ, ◌+◌, ◌≤◌, true, List, [], ◌∷◌, ◌++◌, length, take, Option, None, Some, IsSome, refl, ap, sym, ◌∙◌, arith, length-append}
+use Rattle.std.proofs.Common.{◌⊎◌, inl, inr, ◌≢◌, ◌≡◌, ℕ, ◌+◌, ◌-◌, ◌≤◌, true, List, [], ◌∷◌, ◌++◌, length, take, Option, None, Some, IsSome, refl, ap, sym, ◌∙◌, arith, length-append}
 use Rattle.std.proofs.Math.Seq.{take-append-add, take-append_seam}
 use Rattle.std.proofs.lemmas.List.{append_assoc, append-nil}
 use Rattle.std.proofs.lemmas.Grind.{flat_map-append}
 use Rattle.cbs_account.specs.Balance.{Balance}
 use Rattle.y4mserve.specs.ScriptText.{is_silent, script_lines}
-use Rattle.y4mserve.specs.ScriptReport.{Faults, Report, account_report, balance_line, outcome_of, preceded_by, script_report, text_of_lines}
-use Rattle.y4mserve.specs.ScriptStep.{RunsAt, after_line}
-use Rattle.y4mserve.specs.declared.replay.fault.ScriptFault.{ScriptFault}
+use Rattle.y4mserve.specs.ScriptReport.{Faults, Report, account_report, balance_line, line_text, outcome_of, preceded_by, script_report, stopped_at, text_of_lines, unstopped}
+use Rattle.y4mserve.specs.ScriptRun.{AnswersBefore, after_line}
+use Rattle.y4mserve.specs.declared.script.fault.ScriptFault.{ScriptFault}
+use Rattle.y4mserve.specs.declared.script.fault.ScriptFault.TheVariants.{BadLine, BadBandwidth, Range, TooLong, NoMemory}
 use Rattle.y4mserve.proofs.ScriptRuns.{account_report-runs, runs_from, runs_from-faults, runs_from-runs, runs_from-silent}
 
 -- one line more
@@ -26,14 +27,12 @@ no_lines (first ∷ more) h = absurd (omega arith)
 
 -- one more answer is printed
 pub printed_next : (before : List ℕ) (answers : List (List ℕ)) (answer : List ℕ)
-    → before ++ text_of_lines answers ++ (answer ++ 10 ∷ []) ≡ before ++ text_of_lines (answers ++ answer ∷ [])
+    → before ++ text_of_lines answers ++ line_text answer ≡ before ++ text_of_lines (answers ++ answer ∷ [])
 printed_next before answers answer =
-    let apart : text_of_lines (answers ++ answer ∷ []) ≡ text_of_lines answers ++ text_of_lines (answer ∷ []) =
-    flat_map-append (λ (line : List ℕ). line ++ 10 ∷ []) answers (answer ∷ []) in
-    let alone : text_of_lines (answer ∷ []) ≡ answer ++ 10 ∷ [] = append-nil (answer ++ 10 ∷ []) in
-    let both : text_of_lines (answers ++ answer ∷ []) ≡ text_of_lines answers ++ (answer ++ 10 ∷ []) =
-    apart ∙ ap (λ (text : List ℕ). text_of_lines answers ++ text) alone in
-    append_assoc before (text_of_lines answers) (answer ++ 10 ∷ []) ∙ ap (λ (text : List ℕ). before ++ text) (sym both)
+    let apart = flat_map-append line_text answers (answer ∷ []) in
+    let alone = append-nil (line_text answer) in
+    append_assoc before (text_of_lines answers) (line_text answer)
+    ∙ ap (λ (text : List ℕ). before ++ text) (sym (apart ∙ ap (λ (text : List ℕ). text_of_lines answers ++ text) alone))
 
 -- the lines have run: how the report goes on behind them
 pub record HaveRun (lines : List (List ℕ)) (server : Option Balance) (answers : List (List ℕ)) : Type 0 where
@@ -72,12 +71,12 @@ have_run-runs lines server answers line next have e = record {
 
 -- the report of lines that have run
 pub have_run-report : (lines : List (List ℕ)) (server : Option Balance) (answers : List (List ℕ))
-    → HaveRun lines server answers → account_report 1 [] lines ≡ record { answers = answers; stop = None }
+    → HaveRun lines server answers → account_report 1 [] lines ≡ unstopped answers
 have_run-report lines server answers have =
     account_report-runs lines 1 []
     ∙ ap (runs_from 1 None) (sym (append-nil lines))
     ∙ have.goes_on []
-    ∙ ap (λ (all : List (List ℕ)). record { answers = all; stop = None }) (append-nil answers)
+    ∙ ap unstopped (append-nil answers)
 
 -- a script that fits is reported by its lines
 pub script_report-fits : (script : List ℕ) → length script ≤ 1048576 → script_report script ≡ account_report 1 [] (script_lines script)
@@ -85,7 +84,7 @@ script_report-fits script h = grind arith
 
 -- the report of a script whose lines have run
 pub have_run-whole : (script : List ℕ) (lines : List (List ℕ)) (server : Option Balance) (answers : List (List ℕ)) → length script ≤ 1048576
-    → script_lines script ≡ lines → HaveRun lines server answers → script_report script ≡ record { answers = answers; stop = None }
+    → script_lines script ≡ lines → HaveRun lines server answers → script_report script ≡ unstopped answers
 have_run-whole script lines server answers fits e have =
     script_report-fits script fits ∙ ap (account_report 1 []) e ∙ have_run-report lines server answers have
 
@@ -94,36 +93,34 @@ pub have_run-faults : (script : List ℕ) (lines : List (List ℕ)) (server : Op
     (more : List (List ℕ)) (fault : ScriptFault) (number : ℕ) → length script ≤ 1048576
     → script_lines script ≡ lines ++ line ∷ more → number ≡ length lines + 1
     → HaveRun lines server answers → outcome_of server line ≡ Faults fault
-    → script_report script ≡ record { answers = answers; stop = Some (record { line = number; fault = fault }) }
+    → script_report script ≡ stopped_at number fault answers
 have_run-faults script lines server answers line more fault number fits e count have faulty =
     script_report-fits script fits
     ∙ ap (account_report 1 []) e
     ∙ account_report-runs (lines ++ line ∷ more) 1 []
     ∙ have.goes_on (line ∷ more)
     ∙ ap (λ rest. preceded_by answers rest) (runs_from-faults (length lines + 1) server line more fault faulty)
-    ∙ ap (λ (all : List (List ℕ)). record { answers = all; stop = Some (record { line = length lines + 1; fault = fault }) }) (append-nil answers)
-    ∙ ap (λ n. record { answers = answers; stop = Some (record { line = n; fault = fault }) }) (sym count)
+    ∙ ap (stopped_at (length lines + 1) fault) (append-nil answers)
+    ∙ ap (λ n. stopped_at n fault answers) (sym count)
 
--- a command that runs behind lines that have run
-pub have_run-refused : (script : List ℕ) (lines : List (List ℕ)) (server : Option Balance) (answers : List (List ℕ)) (line : List ℕ)
+-- a command that runs behind lines that have run gives one answer more
+pub have_run-one_more : (script : List ℕ) (lines : List (List ℕ)) (server : Option Balance) (answers : List (List ℕ)) (line : List ℕ)
     (more : List (List ℕ)) (next : Balance) (number : ℕ) → length script ≤ 1048576
     → script_lines script ≡ lines ++ line ∷ more → number ≡ length lines + 1
     → HaveRun lines server answers → after_line server (outcome_of server line) ≡ Some next
-    → RunsAt script number answers
-have_run-refused script lines server answers line more next number fits e count have runs =
+    → AnswersBefore number script answers
+have_run-one_more script lines server answers line more next number fits e count have runs =
     let later = have_run-runs lines server answers line next have runs in
-    let count_all : length (lines ++ line ∷ more) ≡ length lines + length (line ∷ more) = length-append lines (line ∷ more) in
+    let before : number - 1 ≡ length lines = omega arith in
     record {
-      before = length lines;
-      answer = balance_line next;
       fits = fits;
-      line = count;
-      within = rw (e, count) (omega (arith, count_all));
-      ran =
-          ap (λ (all : List (List ℕ)). account_report 1 [] (take (length lines) all)) e
+      before =
+          ap (λ (all : List (List ℕ)). account_report 1 [] (take (number - 1) all)) e
+          ∙ ap (λ n. account_report 1 [] (take n (lines ++ line ∷ more))) before
           ∙ ap (account_report 1 []) (take-append_seam lines (line ∷ more))
           ∙ have_run-report lines server answers have;
-      runs =
+      answer = balance_line next;
+      one_more =
           ap (λ (all : List (List ℕ)). account_report 1 [] (take number all)) e
           ∙ ap (λ n. account_report 1 [] (take n (lines ++ line ∷ more))) count
           ∙ ap (account_report 1 []) (take-append-add lines (line ∷ more) 1)
@@ -134,3 +131,11 @@ have_run-refused script lines server answers line more next number fits e count 
 pub server_there : (server : Option Balance) → IsSome server → (next : Balance) × (server ≡ Some next)
 server_there None e = absurd cc
 server_there (Some next) e = (next, refl)
+
+-- a growth was refused, or the fault is the script's own
+pub memory_or_other : (fault : ScriptFault) → (fault ≡ NoMemory) ⊎ (fault ≢ NoMemory)
+memory_or_other NoMemory = inl refl
+memory_or_other BadLine = inr (λ e. absurd cc)
+memory_or_other BadBandwidth = inr (λ e. absurd cc)
+memory_or_other Range = inr (λ e. absurd cc)
+memory_or_other TooLong = inr (λ e. absurd cc)

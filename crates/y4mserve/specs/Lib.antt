@@ -1,6 +1,6 @@
 pub mod ScriptText
 pub mod ScriptCommand
 pub mod ScriptReport
+pub mod ScriptRun
 pub mod Writing
-pub mod ScriptStep
-pub mod Stopped
+pub mod ScriptReplay

@@ -1,9 +1,10 @@
-use Rattle.std.specs.Prelude.{ℕ, ◌^◌, ◌≤◌, List, [], ◌∷◌, Option, Some, None, if◌then◌else◌, nat_le, option_and_then, codes}
+use Rattle.std.specs.Prelude.{ℕ, ◌^◌, ◌≤◌, nat_le, if◌then◌else◌, List, [], ◌∷◌, codes}
+use Rattle.std.specs.Prelude.{Option, Some, None, option_and_then}
 use Rattle.std.specs.Option.{option_map}
 use Rattle.std.specs.Str.{bytes_eq}
 use Rattle.y4mserve.specs.ScriptText.{words, number_of}
-use Rattle.y4mserve.specs.declared.replay.command.AccountCommand.{AccountCommand}
-use Rattle.y4mserve.specs.declared.replay.command.AccountCommand.TheVariants.{Open, ArriveIdle, Charge}
+use Rattle.y4mserve.specs.declared.script.command.AccountCommand.{AccountCommand}
+use Rattle.y4mserve.specs.declared.script.command.AccountCommand.TheVariants.{Open, ArriveIdle, Charge}
 
 -- `idle`, at a moment of at most 2^60
 abbrev pub idle_at : ℕ → Option AccountCommand
@@ -13,7 +14,8 @@ idle_at moment = if nat_le moment (2 ^ 60) then Some (ArriveIdle moment) else No
 abbrev pub command_of_one : List ℕ → List ℕ → Option AccountCommand
 command_of_one name value =
     if bytes_eq name (codes "idle") then option_and_then idle_at (number_of value)
-    else (if bytes_eq name (codes "charge") then option_map (λ units. Charge units) (number_of value) else None)
+    else if bytes_eq name (codes "charge") then option_map (λ units. Charge units) (number_of value)
+    else None
 
 -- `account Q T`
 abbrev pub command_of_two : List ℕ → List ℕ → List ℕ → Option AccountCommand

@@ -1,18 +1,31 @@
--- What was written where a replay ended in a fault of its own.
-use Rattle.std.specs.Prelude.{◌≡◌, ℕ, List, [], Option, Some, ◌⊎◌}
-use Rattle.y4mserve.specs.ScriptReport.{script_report, report_text}
-use Rattle.y4mserve.specs.ScriptStep.{RunsAt}
+-- What a replay writes, and what it answers.
+use Rattle.std.specs.Prelude.{ℕ, ◌≡◌, Bool, true, false, List, Option, Some, None, is_none, Result, Ok, Err}
+use Rattle.std.specs.Io.KnownBytes.{Appends, Keeps}
+use Rattle.y4mserve.specs.ScriptReport.{Report, report_text, script_report}
+use Rattle.y4mserve.specs.ScriptRun.{MayReport, StopsForMemory}
 use Rattle.y4mserve.specs.Writing.{AppendsFront}
-use Rattle.y4mserve.specs.declared.replay.fault.ScriptFault.TheVariants.{NoMemory}
+use Rattle.y4mserve.specs.declared.script.fault.ReplayFault.{ReplayFault}
+use Rattle.y4mserve.specs.declared.script.fault.ReplayFault.TheVariants.{Read, Write, NoMemory}
+use Rattle.y4mserve.specs.declared.script.fault.ScriptFault.{ScriptFault}
+use Rattle.y4mserve.specs.declared.script.fault.ScriptFault.TheVariants as faults
+use Rattle.y4mserve.specs.declared.script.fault.ScriptStop.{ScriptStop}
 
--- a growth was refused: this holds of the answers of the lines before this one, or of none at line 0, where the script
--- itself couldn't be kept, and then the line that says so
-pub record LacksMemory (script : List ℕ) (Wrote : List ℕ → Type 0) : Type 0 where
-  pub line : ℕ
-  pub answers : List (List ℕ)
-  pub refused : (line ≡ 0) × (answers ≡ []) ⊎ RunsAt script line answers
-  pub wrote : Wrote (report_text (record { answers = answers; stop = Some (record { line = line; fault = NoMemory }) }))
+-- what a replay answers once its report is written: whether that has no stop, or want of memory as its own fault
+abbrev pub answer_at : ScriptFault → Result Bool ReplayFault
+answer_at faults.NoMemory = Err NoMemory
+answer_at _ = Ok false
 
--- a write failed: the front of the script's report went out, or of what is told where a growth was refused
-abbrev pub IsCutOff : List ℕ → Option (List ℕ) → Option (List ℕ) → Type 0
-IsCutOff script old new = AppendsFront old new (report_text (script_report script)) ⊎ LacksMemory script (AppendsFront old new)
+abbrev pub answer_of : Option ScriptStop → Result Bool ReplayFault
+answer_of None = Ok true
+answer_of (Some stop) = answer_at stop.fault
+
+-- what a replay of this script, which answers this, has written: the script's report, and then the answer tells
+-- whether that has no stop; or nothing; or the front of a report; or a report that stops for want of memory
+abbrev pub IsReplay : List ℕ → Option (List ℕ) → Option (List ℕ) → Result Bool ReplayFault → Type 0
+IsReplay script old new (Ok whole) =
+    Appends old new (report_text (script_report script)) × (whole ≡ is_none (script_report script).stop)
+IsReplay script old new (Err Read) = Keeps old new
+IsReplay script old new (Err Write) =
+    (report : Report) × MayReport script report × AppendsFront old new (report_text report)
+IsReplay script old new (Err NoMemory) =
+    (report : Report) × StopsForMemory script report × Appends old new (report_text report)

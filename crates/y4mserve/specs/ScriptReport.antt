@@ -1,15 +1,16 @@
-use Rattle.std.specs.Prelude.{ℕ, ◌+◌, ◌^◌, Bool, map, List, [], ◌∷◌, ◌++◌, length, replicate, Option, Some, None, if◌then◌else◌, ◌&&◌, nat_le, nat_lt, codes, decimal}
+use Rattle.std.specs.Prelude.{ℕ, ◌+◌, ◌^◌, Bool, if◌then◌else◌, ◌&&◌, nat_le, nat_lt, Option, Some, None}
+use Rattle.std.specs.Prelude.{List, [], ◌∷◌, ◌++◌, length, map, replicate, codes, decimal}
 use Rattle.std.specs.Option.{option_map, option_map_or, option_to_list}
 use Rattle.std.specs.List.{flat_map}
 use Rattle.cbs_account.specs.Balance.{Balance}
 use Rattle.cbs_account.specs.Rules.{OwnEvent, UnitOfWork, Idle, after_units, cbs}
 use Rattle.y4mserve.specs.ScriptText.{script_lines, is_silent}
 use Rattle.y4mserve.specs.ScriptCommand.{command_of}
-use Rattle.y4mserve.specs.declared.replay.command.AccountCommand.{AccountCommand}
-use Rattle.y4mserve.specs.declared.replay.command.AccountCommand.TheVariants.{Open, ArriveIdle, Charge}
-use Rattle.y4mserve.specs.declared.replay.fault.ScriptFault.{ScriptFault}
-use Rattle.y4mserve.specs.declared.replay.fault.ScriptFault.TheVariants.{BadLine, BadBandwidth, Range, TooLong, NoMemory}
-use Rattle.y4mserve.specs.declared.replay.fault.ScriptStop.{ScriptStop}
+use Rattle.y4mserve.specs.declared.script.command.AccountCommand.{AccountCommand}
+use Rattle.y4mserve.specs.declared.script.command.AccountCommand.TheVariants.{Open, ArriveIdle, Charge}
+use Rattle.y4mserve.specs.declared.script.fault.ScriptFault.{ScriptFault}
+use Rattle.y4mserve.specs.declared.script.fault.ScriptFault.TheVariants as faults
+use Rattle.y4mserve.specs.declared.script.fault.ScriptStop.{ScriptStop}
 
 -- the own events of the server since the last `account` of a past of commands; both have the latest first
 abbrev pub own_events : List AccountCommand → List OwnEvent
@@ -27,7 +28,7 @@ last_bandwidth (Charge units ∷ past) = last_bandwidth past
 
 -- where the server stands after a past of commands: the rules, over its own events
 abbrev pub server_after : List AccountCommand → Option Balance
-server_after past = option_map (λ bandwidth. cbs bandwidth.0 bandwidth.1 (own_events past)) (last_bandwidth past)
+server_after past = option_map (λ last. cbs last.0 last.1 (own_events past)) (last_bandwidth past)
 
 -- a maximum budget and a period that a server may have
 abbrev pub is_bandwidth : ℕ → ℕ → Bool
@@ -39,76 +40,89 @@ is_in_range units server = nat_le units (2 ^ 40) && nat_lt (after_units units se
 
 -- the fault of a command, if it has one, where the server stands here, or none was opened
 abbrev pub fault_of : Option Balance → AccountCommand → Option ScriptFault
-fault_of _ (Open q t) = if is_bandwidth q t then None else Some BadBandwidth
-fault_of None _ = Some BadLine
+fault_of _ (Open q t) = if is_bandwidth q t then None else Some faults.BadBandwidth
+fault_of None _ = Some faults.BadLine
 fault_of (Some server) (ArriveIdle moment) = None
-fault_of (Some server) (Charge units) = if is_in_range units server then None else Some Range
+fault_of (Some server) (Charge units) = if is_in_range units server then None else Some faults.Range
 
 -- what a line gives after a past of commands
 pub data LineOutcome : Type 0 where
-  Nothing : LineOutcome
+  Silent : LineOutcome
   Runs : (command : AccountCommand) → LineOutcome
   Faults : (fault : ScriptFault) → LineOutcome
 
 abbrev pub outcome_of_command : Option Balance → AccountCommand → LineOutcome
-outcome_of_command server command = option_map_or (λ fault. Faults fault) (fault_of server command) (Runs command)
+outcome_of_command server command =
+    option_map_or (λ fault. Faults fault) (fault_of server command) (Runs command)
 
 abbrev pub outcome_of : Option Balance → List ℕ → LineOutcome
 outcome_of server line =
-    if is_silent line then Nothing
-    else option_map_or (outcome_of_command server) (command_of line) (Faults BadLine)
+    if is_silent line then Silent
+    else option_map_or (outcome_of_command server) (command_of line) (Faults faults.BadLine)
 
--- what a script prints: the answers of the commands that were run, and then the first fault, if there is one
+-- what a script prints: the answers of the commands that were run, and then where it stops, if it does
 pub record Report : Type 0 where
   pub answers : List (List ℕ)
   pub stop : Option ScriptStop
 
+-- a report without a stop
+abbrev pub unstopped : List (List ℕ) → Report
+unstopped answers = record { answers = answers; stop = None }
+
+-- a report that stops at line n
+abbrev pub stopped_at : ℕ → ScriptFault → List (List ℕ) → Report
+stopped_at n fault answers = record { answers = answers; stop = Some (record { line = n; fault = fault }) }
+
+-- these answers stand before a report's own
+abbrev pub preceded_by : List (List ℕ) → Report → Report
+preceded_by answers report = record { answers = answers ++ report.answers; stop = report.stop }
+
 -- `budget C deadline D`
 abbrev pub balance_line : Balance → List ℕ
-balance_line server = codes "budget " ++ decimal server.budget ++ codes " deadline " ++ decimal server.deadline
-
--- these lines stand before a report's own
-abbrev pub preceded_by : List (List ℕ) → Report → Report
-preceded_by lines report = record { answers = lines ++ report.answers; stop = report.stop }
+balance_line server =
+    codes "budget " ++ decimal server.budget ++ codes " deadline " ++ decimal server.deadline
 
 -- the report that goes on by the outcome of line n
 abbrev pub report_on : ℕ → List AccountCommand → LineOutcome → (List AccountCommand → Report) → Report
-report_on n past Nothing rest = rest past
+report_on n past Silent rest = rest past
 report_on n past (Runs command) rest =
     preceded_by (map balance_line (option_to_list (server_after (command ∷ past)))) (rest (command ∷ past))
-report_on n past (Faults fault) rest = record { answers = []; stop = Some (record { line = n; fault = fault }) }
+report_on n past (Faults fault) rest = stopped_at n fault []
 
 -- the report of an account script's lines from line n on, after a past of commands
 abbrev pub account_report : ℕ → List AccountCommand → List (List ℕ) → Report
-account_report n past [] = record { answers = []; stop = None }
+account_report n past [] = unstopped []
 account_report n past (line ∷ lines) =
     report_on n past (outcome_of (server_after past) line) (λ later. account_report (n + 1) later lines)
 
 -- the report of a script of at most 1,048,576 bytes; a longer one has a fault as a whole
 abbrev pub script_report : List ℕ → Report
-script_report text =
-    if nat_le (length text) 1048576 then account_report 1 [] (script_lines text)
-    else record { answers = []; stop = Some (record { line = 0; fault = TooLong }) }
+script_report script =
+    if nat_le (length script) 1048576 then account_report 1 [] (script_lines script)
+    else stopped_at 0 faults.TooLong []
 
 abbrev pub fault_name : ScriptFault → List ℕ
-fault_name BadLine = codes "BadLine"
-fault_name BadBandwidth = codes "BadBandwidth"
-fault_name Range = codes "Range"
-fault_name TooLong = codes "TooLong"
-fault_name NoMemory = codes "NoMemory"
+fault_name faults.BadLine = codes "BadLine"
+fault_name faults.BadBandwidth = codes "BadBandwidth"
+fault_name faults.Range = codes "Range"
+fault_name faults.TooLong = codes "TooLong"
+fault_name faults.NoMemory = codes "NoMemory"
+
+-- a line as it is written
+abbrev pub line_text : List ℕ → List ℕ
+line_text line = line ++ 10 ∷ []
+
+abbrev pub text_of_lines : List (List ℕ) → List ℕ
+text_of_lines lines = flat_map line_text lines
 
 -- `line N: WORD`
-abbrev pub fault_line : ScriptStop → List ℕ
-fault_line stop = codes "line " ++ decimal stop.line ++ codes ": " ++ fault_name stop.fault
+abbrev pub stop_line : ScriptStop → List ℕ
+stop_line stop = codes "line " ++ decimal stop.line ++ codes ": " ++ fault_name stop.fault
 
--- lines as they are written, each ended by a line feed
-abbrev pub text_of_lines : List (List ℕ) → List ℕ
-text_of_lines lines = flat_map (λ line. line ++ 10 ∷ []) lines
-
--- the line of the first fault, if there is one
+-- the line of a stop, if there is one
 abbrev pub stop_text : Option ScriptStop → List ℕ
 stop_text None = []
-stop_text (Some stop) = fault_line stop ++ 10 ∷ []
+stop_text (Some stop) = line_text (stop_line stop)
 
 -- what is written for a script
 abbrev pub report_text : Report → List ℕ

@@ -1,12 +1,14 @@
-use Rattle.std.specs.Prelude.{◌≡◌, ◌≢◌, ◌+◌, ◌≤◌, List, [], ◌∷◌, ◌++◌, length, take, ℕ, Option, Some, None, Result, MatchResult}
+-- The run of a script's commands, one after another.
+use Rattle.std.specs.Prelude.{ℕ, ◌≡◌, ◌-◌, ◌≤◌, ◌⊎◌, List, [], ◌∷◌, ◌++◌, length, take, Option, Some, None}
 use Rattle.cbs_account.specs.Balance.{Balance, opened}
 use Rattle.cbs_account.specs.Rules.{after_idle, after_units}
-use Rattle.y4mserve.specs.ScriptReport.{LineOutcome, Nothing, Runs, Faults, account_report, script_report, text_of_lines}
+use Rattle.y4mserve.specs.ScriptReport.{LineOutcome, Silent, Runs, Faults}
+use Rattle.y4mserve.specs.ScriptReport.{Report, account_report, script_report, text_of_lines, unstopped}
 use Rattle.y4mserve.specs.ScriptText.{script_lines}
-use Rattle.y4mserve.specs.declared.replay.command.AccountCommand.{AccountCommand}
-use Rattle.y4mserve.specs.declared.replay.command.AccountCommand.TheVariants.{Open, ArriveIdle, Charge}
-use Rattle.y4mserve.specs.declared.replay.fault.ScriptFault.TheVariants.{NoMemory}
-use Rattle.y4mserve.specs.declared.replay.fault.ScriptStop.{ScriptStop}
+use Rattle.y4mserve.specs.declared.script.command.AccountCommand.{AccountCommand}
+use Rattle.y4mserve.specs.declared.script.command.AccountCommand.TheVariants.{Open, ArriveIdle, Charge}
+use Rattle.y4mserve.specs.declared.script.fault.ScriptFault.TheVariants.{NoMemory}
+use Rattle.y4mserve.specs.declared.script.fault.ScriptStop.{ScriptStop}
 
 -- where one command leaves the server
 abbrev pub after_command : Option Balance → AccountCommand → Option Balance
@@ -18,35 +20,34 @@ after_command (Some server) (Charge units) = Some (after_units units server)
 
 -- where a line leaves the server, if it runs a command
 abbrev pub after_line : Option Balance → LineOutcome → Option Balance
-after_line server Nothing = None
+after_line server Silent = None
 after_line server (Runs command) = after_command server command
 after_line server (Faults fault) = None
 
--- the lines before this one have no fault and give these answers, and this one runs a command, which gives one more
-pub record RunsAt (script : List ℕ) (number : ℕ) (answers : List (List ℕ)) : Type 0 where
-  pub before : ℕ
-  pub answer : List ℕ
+-- the first n lines of a script run without a fault, and give these answers
+abbrev pub RunFirst : ℕ → List ℕ → List (List ℕ) → Type 0
+RunFirst n script answers = account_report 1 [] (take n (script_lines script)) ≡ unstopped answers
+
+-- these are the answers of the lines before line n, which gives one more
+pub record AnswersBefore (n : ℕ) (script : List ℕ) (answers : List (List ℕ)) : Type 0 where
   pub fits : length script ≤ 1048576
-  pub line : number ≡ before + 1
-  pub within : number ≤ length (script_lines script)
-  pub ran : account_report 1 [] (take before (script_lines script)) ≡ record { answers = answers; stop = None }
-  pub runs : account_report 1 [] (take number (script_lines script)) ≡ record { answers = answers ++ answer ∷ []; stop = None }
+  pub before : RunFirst (n - 1) script answers
+  pub answer : List ℕ
+  pub one_more : RunFirst n script (answers ++ answer ∷ [])
 
--- a run has printed the answers of the lines before this one, and was refused the growth for the next
-pub record RefusedAt (script : List ℕ) (number : ℕ) (before after : List ℕ) : Type 0 where
+-- a report that stops for want of memory: at the line whose answer couldn't be kept, or at line 0 where the
+-- script itself couldn't be
+pub record StopsForMemory (script : List ℕ) (report : Report) : Type 0 where
+  pub line : ℕ
+  pub stop : report.stop ≡ Some (record { line = line; fault = NoMemory })
+  pub answers : (line ≡ 0) × (report.answers ≡ []) ⊎ AnswersBefore line script report.answers
+
+-- what may be reported of a script: its own report, or as much as the memory allows
+abbrev pub MayReport : List ℕ → Report → Type 0
+MayReport script report = (report ≡ script_report script) ⊎ StopsForMemory script report
+
+-- a run has printed the answers of such a report, and has this stop
+pub record Reports (stop : Option ScriptStop) (before after script : List ℕ) : Type 0 where
   pub answers : List (List ℕ)
-  pub runs : RunsAt script number answers
   pub printed : after ≡ before ++ text_of_lines answers
-
--- a run has printed the report's answers and stopped as the report does, or was refused a growth
-pub record StopsAs (stop : ScriptStop) (before after script : List ℕ) : Type 0 where
-  pub whole : stop.fault ≢ NoMemory → after ≡ before ++ text_of_lines (script_report script).answers
-  pub fault : stop.fault ≢ NoMemory → (script_report script).stop ≡ Some stop
-  pub memory : stop.fault ≡ NoMemory → RefusedAt script stop.line before after
-
--- a run has printed the answers of a script's report, or it has stopped
-abbrev pub Reports : {T : Type 0} → Result T ScriptStop → List ℕ → List ℕ → List ℕ → Type 0
-Reports result before after script =
-    MatchResult result
-    (λ _. (after ≡ before ++ text_of_lines (script_report script).answers) × ((script_report script).stop ≡ None))
-    (λ stop. StopsAs stop before after script)
+  pub report : MayReport script (record { answers = answers; stop = stop })

@@ -1,4 +1,5 @@
-use Rattle.std.specs.Prelude.{ℕ, ◌+◌, ◌-◌, ◌*◌, Bool, true, List, [], ◌∷◌, length, fold, Option, Some, None, if◌then◌else◌, ◌==◌, ◌&&◌, nat_le}
+use Rattle.std.specs.Prelude.{ℕ, ◌+◌, ◌-◌, ◌*◌, Bool, true, ◌==◌, ◌&&◌, nat_le, if◌then◌else◌}
+use Rattle.std.specs.Prelude.{List, [], ◌∷◌, length, fold, Option, Some, None}
 use Rattle.std.specs.List.{slice_split, list_all}
 use Rattle.std.specs.Char.{is_ascii_digit}
 
@@ -17,7 +18,8 @@ without_empty_end [] = []
 without_empty_end ([] ∷ []) = []
 without_empty_end (line ∷ more) = line ∷ without_empty_end more
 
--- the lines of a script, each ended by a line feed, which the last one may lack; a carriage return is a byte like any other
+-- the lines of a script, each ended by a line feed, which the last one may lack; a carriage return is a byte like
+-- any other
 abbrev pub script_lines : List ℕ → List (List ℕ)
 script_lines text = without_empty_end (parts 10 text)
 

@@ -2,7 +2,7 @@
 #![tactic(auto)]
 
 mod program;
-mod replay;
+mod script;
 mod words;
 
 use program::main_on;
@@ -17,10 +17,7 @@ fn own_words(rt: &HostRuntime) -> Result<Vec<String>, AllocError> {
         Err(error) if error.kind() == ErrorKind::OutOfMemory => return Err(AllocError),
         Err(_) => return Ok(Vec::new(rt.alloc())),
     };
-    match words.skip(1).collect(rt.alloc()) {
-        Ok(words) => Ok(words),
-        Err(_) => Err(AllocError),
-    }
+    words.skip(1).collect(rt.alloc())
 }
 
 fn main(rt: HostRuntime) -> ExitCode {

@@ -1,5 +1,5 @@
 // The program, over any reader and writers.
-use crate::replay;
+use crate::script::replay;
 use crate::words::Command;
 use filters::{FilterError, parse_ops};
 use row_bands::BandHeight;
@@ -67,7 +67,7 @@ fn run_replay<R: Read + Drop, W: Write, E: Write>(
     output: &mut W,
     errors: &mut E,
 ) -> u8 {
-    let (_, result) = replay::replay(alloc, input, output);
+    let (_, result) = replay(alloc, input, output);
     match result {
         Ok(true) => 0,
         Ok(false) => 1,

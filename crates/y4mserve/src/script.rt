@@ -12,21 +12,18 @@
 //!
 //! Each prints `budget C deadline D`, as the account then stands. The first fault prints `line N: WORD`, and nothing
 //! after it is run.
-ghost use Rattle.std.specs.Prelude.{◌≡◌, ◌≢◌, ◌↔◌, ◌++◌, Err, IfErr, IfOk, IfSome, IsErrOf, IsNone, IsTrue, OnErr, OnOk, is_ok};
-ghost use Rattle.std.specs.Io.KnownBytes.{Appends, Keeps};
+ghost use Rattle.std.specs.Prelude.{◌≡◌, IfErr, IfOk, IfSome, IsErrOf};
+ghost use Rattle.std.specs.Io.KnownBytes.{Keeps};
 ghost use Rattle.std.specs.Result.{result_err};
-ghost use Rattle.y4mserve.specs.ScriptReport.{report_text, script_report, stop_text};
-ghost use Rattle.y4mserve.specs.ScriptStep.{Reports};
-ghost use Rattle.y4mserve.specs.Stopped.{IsCutOff, LacksMemory};
-ghost use Rattle.y4mserve.specs.Writing.{AppendsFront};
+ghost use Rattle.y4mserve.specs.ScriptReplay.{IsReplay, answer_of};
+ghost use Rattle.y4mserve.specs.ScriptRun.{Reports};
 
 use self::account::run_account_script;
 use self::fault::{ScriptFault, ScriptStop};
 use self::input::read_front;
-use self::output::{PutFailed, put_all, put_fault};
+use self::output::write_report;
 use std::alloc::Global;
 use std::io::{Read, Write};
-use thiserror::Error;
 
 mod account;
 mod command;
@@ -38,25 +35,10 @@ mod print;
 mod tests;
 mod words;
 
+pub use self::fault::ReplayFault;
+
 /// The longest script, in bytes.
 pub const SCRIPT_LIMIT: usize = 1_048_576;
-
-/// Why a script's run is not told whole. A fault of the script itself is no such fault.
-#[derive(Clone, Copy, Debug, PartialEq, Eq, Error)]
-pub enum ReplayFault {
-    /// A read of the input failed. Nothing was run or written.
-    #[error("read")]
-    Read,
-    /// A write of the output failed or took no byte, or its flush failed. The front of what the script prints went out, or
-    /// of what is told where a growth was refused.
-    #[error("write")]
-    Write,
-    /// A growth was refused. The answers of the lines before line N are written, none of which has a fault, and then the
-    /// line `line N: NoMemory`. N is the line of the command whose answer could not be kept, or 0 if the script itself
-    /// couldn't be.
-    #[error("NoMemory")]
-    NoMemory,
-}
 
 /// Runs a script and writes the lines that it prints. It answers whether every line was run: `false` where the script
 /// has a fault, whose line is then the last one.
@@ -67,18 +49,12 @@ pub fn replay<R: Read + Drop, W: Write>(
     mut input: R,
     mut output: W,
 ) -> (W, Result<bool, ReplayFault>)
-    ensures written { OnOk result.1 (IfSome (R.remaining input)
-        (λ text. Appends (W.contents output) (W.contents result.0) (report_text (script_report text)))) }
-    ensures whole { IfOk result.1 (λ whole. IfSome (R.remaining input)
-        (λ text. IsTrue whole ↔ IsNone (script_report text).stop)) }
+    ensures replay { IfSome (R.remaining input)
+        (λ script. IsReplay script (W.contents output) (W.contents result.0) result.1) }
     ensures unread { IsErrOf result.1 ReplayFault.Read → Keeps (W.contents output) (W.contents result.0) }
-    ensures cut { IsErrOf result.1 ReplayFault.Write → IfSome (R.remaining input)
-        (λ text. IsCutOff text (W.contents output) (W.contents result.0)) }
-    ensures memory { IsErrOf result.1 ReplayFault.NoMemory → IfSome (R.remaining input)
-        (λ text. LacksMemory text (Appends (W.contents output) (W.contents result.0))) }
 {
-    let outcome = replay_through(alloc, &mut input, &mut output);
-    (output, outcome)
+    let answer = replay_through(alloc, &mut input, &mut output);
+    (output, answer)
 }
 
 /// The same, with its input and output lent.
@@ -87,35 +63,50 @@ fn replay_through<R: Read, W: Write>(
     input: &mut R,
     output: &mut W,
 ) -> Result<bool, ReplayFault>
-    ensures written { OnOk result (IfSome (R.remaining input.old)
-        (λ text. Appends (W.contents output.old) (W.contents output.new) (report_text (script_report text)))) }
-    ensures whole { IfOk result (λ whole. IfSome (R.remaining input.old)
-        (λ text. IsTrue whole ↔ IsNone (script_report text).stop)) }
+    ensures replay { IfSome (R.remaining input.old)
+        (λ script. IsReplay script (W.contents output.old) (W.contents output.new) result) }
     ensures unread { IsErrOf result ReplayFault.Read → Keeps (W.contents output.old) (W.contents output.new) }
-    ensures cut { IsErrOf result ReplayFault.Write → IfSome (R.remaining input.old)
-        (λ text. IsCutOff text (W.contents output.old) (W.contents output.new)) }
-    ensures memory { IsErrOf result ReplayFault.NoMemory → IfSome (R.remaining input.old)
-        (λ text. LacksMemory text (Appends (W.contents output.old) (W.contents output.new))) }
 {
-    let script = match read_front(alloc, input, SCRIPT_LIMIT + 1) {
-        Ok(script) => script,
-        Err(ReplayFault::NoMemory) => {
-            let stop = ScriptStop {
-                line: 0,
-                fault: ScriptFault::NoMemory,
-            };
-            return write_report(output, &[], Err(stop));
-        }
-        Err(fault) => return Err(fault),
-    };
     let mut printed = Vec::new(alloc);
-    let outcome = run_script(&script, &mut printed);
-    write_report(output, &printed, outcome)
+    let stop = run_input(alloc, input, &mut printed)?;
+    write_report(output, &printed, stop)?;
+    answer_of(stop)
+}
+
+/// What a replay answers once its report is written.
+fn answer_of(stop: Option<ScriptStop>) -> Result<bool, ReplayFault>
+    ensures { result ≡ answer_of stop }
+{
+    match stop {
+        None => Ok(true),
+        Some(stop) if stop.fault == ScriptFault::NoMemory => Err(ReplayFault::NoMemory),
+        Some(_) => Ok(false),
+    }
+}
+
+/// Reads a script and runs it. A script that couldn't be kept stops at line 0.
+fn run_input<R: Read>(
+    alloc: Global,
+    input: &mut R,
+    printed: &mut Vec<u8>,
+) -> Result<Option<ScriptStop>, ReplayFault>
+    ensures reports { IfOk result
+        (λ stop. IfSome (R.remaining input.old) (Reports stop printed.old.items printed.new.items)) }
+    ensures fault { IfErr result (λ fault. fault ≡ ReplayFault.Read) }
+{
+    match read_front(alloc, input, SCRIPT_LIMIT + 1) {
+        Ok(script) => Ok(run_script(&script, printed).err()),
+        Err(ReplayFault::NoMemory) => Ok(Some(ScriptStop {
+            line: 0,
+            fault: ScriptFault::NoMemory,
+        })),
+        Err(fault) => Err(fault),
+    }
 }
 
 /// Runs a script's lines up to the first fault, and appends what its commands print.
 fn run_script(script: &[u8], printed: &mut Vec<u8>) -> Result<(), ScriptStop>
-    ensures { Reports result printed.old.items printed.new.items script.now }
+    ensures { Reports (result_err result) printed.old.items printed.new.items script.now }
 {
     if script.len() > SCRIPT_LIMIT {
         return Err(ScriptStop {
@@ -124,56 +115,4 @@ fn run_script(script: &[u8], printed: &mut Vec<u8>) -> Result<(), ScriptStop>
         });
     }
     run_account_script(script, printed)
-}
-
-/// Writes what was printed and the fault's line, and answers whether there was no fault.
-fn write_report<W: Write>(
-    output: &mut W,
-    printed: &[u8],
-    outcome: Result<(), ScriptStop>,
-) -> Result<bool, ReplayFault>
-    ensures written { OnOk result (Appends (W.contents output.old) (W.contents output.new) (printed.now ++ stop_text (result_err outcome))) }
-    ensures whole { IfOk result (λ whole. whole ≡ is_ok outcome) }
-    ensures told { OnOk result (IfErr outcome (λ stop. stop.fault ≢ ScriptFault.NoMemory)) }
-    ensures memory { IsErrOf result ReplayFault.NoMemory → (stop : ScriptStop) × (outcome ≡ Err stop) × (stop.fault ≡ ScriptFault.NoMemory) }
-    ensures all { IsErrOf result ReplayFault.NoMemory → Appends (W.contents output.old) (W.contents output.new) (printed.now ++ stop_text (result_err outcome)) }
-    ensures no_read { IfErr result (λ fault. fault ≢ ReplayFault.Read) }
-    ensures cut { IsErrOf result ReplayFault.Write → AppendsFront (W.contents output.old) (W.contents output.new) (printed.now ++ stop_text (result_err outcome)) }
-{
-    if put_report(output, printed, outcome).is_err() {
-        return Err(ReplayFault::Write);
-    }
-    match outcome {
-        Ok(()) => Ok(true),
-        Err(stop) if stop.fault == ScriptFault::NoMemory => Err(ReplayFault::NoMemory),
-        Err(_) => Ok(false),
-    }
-}
-
-/// Writes what was printed and the fault's line, and flushes.
-fn put_report<W: Write>(
-    output: &mut W,
-    printed: &[u8],
-    outcome: Result<(), ScriptStop>,
-) -> Result<(), PutFailed>
-    ensures ok { OnOk result (Appends (W.contents output.old) (W.contents output.new) (printed.now ++ stop_text (result_err outcome))) }
-    ensures err { OnErr result (AppendsFront (W.contents output.old) (W.contents output.new) (printed.now ++ stop_text (result_err outcome))) }
-{
-    put_lines(output, printed, outcome)?;
-    output.flush().map_err(|_| PutFailed)
-}
-
-fn put_lines<W: Write>(
-    output: &mut W,
-    printed: &[u8],
-    outcome: Result<(), ScriptStop>,
-) -> Result<(), PutFailed>
-    ensures ok { OnOk result (Appends (W.contents output.old) (W.contents output.new) (printed.now ++ stop_text (result_err outcome))) }
-    ensures err { OnErr result (AppendsFront (W.contents output.old) (W.contents output.new) (printed.now ++ stop_text (result_err outcome))) }
-{
-    put_all(output, printed)?;
-    match outcome {
-        Ok(()) => Ok(()),
-        Err(stop) => put_fault(output, stop),
-    }
 }

@@ -1,23 +1,23 @@
 //! An account script: its commands are run in order on one account.
-ghost use Rattle.std.specs.Prelude.{◌≡◌, ◌≢◌, ◌≤◌, ◌∷◌, ◌++◌, [], IfErr, IfOk, IsFalse, IsSome, Some, None, false, length, true};
-ghost use Rattle.cbs_account.specs.Balance.{opened};
+ghost use Rattle.std.specs.Prelude.{◌≡◌, ◌≢◌, ◌≤◌, ◌++◌, IfErr, IfOk, IsErrOf, IsSome, OnErr, false, length};
+ghost use Rattle.std.specs.Result.{result_err};
 ghost use Rattle.y4mserve.specs.ScriptCommand.{IsOnClock};
-ghost use Rattle.y4mserve.specs.ScriptReport.{Faults, balance_line, fault_of, is_bandwidth, outcome_of};
-ghost use Rattle.y4mserve.specs.ScriptStep.{Reports, after_command, after_line};
+ghost use Rattle.y4mserve.specs.ScriptReport.{Faults, balance_line, fault_of, line_text, outcome_of};
+ghost use Rattle.y4mserve.specs.ScriptRun.{Reports, after_command, after_line};
 ghost use Rattle.y4mserve.specs.ScriptText.{is_silent};
 
 use super::command::{AccountCommand, parse_command};
 use super::fault::{ScriptFault, ScriptStop};
 use super::print::push_balance;
 use super::words::{first_line, is_silent};
-use cbs_account::{Account, BadBandwidth};
+use cbs_account::Account;
 
 /// Runs the lines of an account script in order, up to the first fault, and appends what each command prints. The line
-/// of the fault isn't appended. Where the growth for an answer was refused, the run stops at the line of its command, and
+/// of the stop isn't appended. Where the growth for an answer was refused, the run stops at the line of its command, and
 /// the answers of the lines before it were appended.
 pub fn run_account_script(script: &[u8], printed: &mut Vec<u8>) -> Result<(), ScriptStop>
     requires { length script.now ≤ 1048576 }
-    ensures { Reports result printed.old.items printed.new.items script.now }
+    ensures { Reports (result_err result) printed.old.items printed.new.items script.now }
 {
     let mut account = None;
     let mut rest = script;
@@ -48,18 +48,19 @@ fn run_line(
     requires { is_silent line.now ≡ false }
 
     ensures ran { IfOk result (λ next. after_line account (outcome_of account line.now) ≡ Some next) }
-    ensures printed { IfOk result (λ next. printed.new.items ≡ printed.old.items ++ (balance_line next ++ 10 ∷ [])) }
+    ensures printed { IfOk result
+        (λ next. printed.new.items ≡ printed.old.items ++ line_text (balance_line next)) }
 
-    ensures fault { IfErr result (λ fault. fault ≢ ScriptFault.NoMemory → outcome_of account line.now ≡ Faults fault) }
-    ensures memory { IfErr result (λ fault. fault ≡ ScriptFault.NoMemory → IsSome (after_line account (outcome_of account line.now))) }
-    ensures kept { IfErr result (λ _. printed.new.items ≡ printed.old.items) }
+    ensures fault { IfErr result
+        (λ fault. fault ≢ ScriptFault.NoMemory → outcome_of account line.now ≡ Faults fault) }
+    ensures memory { IsErrOf result ScriptFault.NoMemory
+        → IsSome (after_line account (outcome_of account line.now)) }
+    ensures kept { OnErr result (printed.new.items ≡ printed.old.items) }
 {
     let command = parse_command(line).ok_or(ScriptFault::BadLine)?;
     let next = run_command(account, command)?;
-    match push_balance(printed, &next) {
-        Ok(()) => Ok(next),
-        Err(_) => Err(ScriptFault::NoMemory),
-    }
+    push_balance(printed, &next)?;
+    Ok(next)
 }
 
 /// The account after one command.
@@ -70,7 +71,7 @@ fn run_command(account: Option<Account>, command: AccountCommand) -> Result<Acco
     ensures fault { IfErr result (λ fault. fault_of account command ≡ Some fault) }
 {
     match (command, account) {
-        (AccountCommand::Open { q, t }, _) => open(q, t),
+        (AccountCommand::Open { q, t }, _) => Ok(Account::new(q, t)?),
         (_, None) => Err(ScriptFault::BadLine),
         (AccountCommand::ArriveIdle { moment }, Some(mut account)) => {
             account.arrive_idle(moment);
@@ -83,16 +84,5 @@ fn run_command(account: Option<Account>, command: AccountCommand) -> Result<Acco
             account.charge(units);
             Ok(account)
         }
-    }
-}
-
-/// A new account.
-fn open(q: u64, t: u64) -> Result<Account, ScriptFault>
-    ensures ok { IfOk result (λ account. (account ≡ opened q t) × (is_bandwidth q t ≡ true)) }
-    ensures err { IfErr result (λ fault. (fault ≡ ScriptFault.BadBandwidth) × (is_bandwidth q t ≡ false)) }
-{
-    match Account::new(q, t) {
-        Ok(account) => Ok(account),
-        Err(BadBandwidth) => Err(ScriptFault::BadBandwidth),
     }
 }

@@ -1,6 +1,7 @@
 //! The commands of an account script.
 ghost use Rattle.std.specs.Prelude.{◌≡◌, IfSome};
-ghost use Rattle.y4mserve.specs.ScriptCommand.{IsOnClock, command_of, command_of_one, command_of_two, idle_at};
+ghost use Rattle.y4mserve.specs.ScriptCommand.{IsOnClock, command_of, command_of_one, command_of_two};
+ghost use Rattle.y4mserve.specs.ScriptCommand.{idle_at};
 
 use super::words::{cut, parse_number};
 

@@ -1,8 +1,39 @@
-//! Why a script stops, and where.
+//! What is wrong with a script or with its replay, and where a script stops.
 ghost use Rattle.std.specs.Prelude.{◌≡◌};
 ghost use Rattle.y4mserve.specs.ScriptReport.{fault_name};
+ghost use Rattle.y4mserve.specs.declared.script.fault.ReplayFault.TheVariants as replay_faults;
+ghost use Rattle.y4mserve.specs.declared.script.fault.ScriptFault.TheVariants as script_faults;
 
-/// Why a script stops.
+use cbs_account::BadBandwidth;
+use std::alloc::AllocError;
+use thiserror::Error;
+
+/// Why a script's run is not told whole. A fault of the script itself is no such fault.
+#[derive(Clone, Copy, Debug, PartialEq, Eq, Error)]
+pub enum ReplayFault {
+    /// A read of the input failed. Nothing was run or written.
+    #[error("read")]
+    Read,
+    /// A write of the output failed or took no byte, or its flush failed. The front of what the script prints went out,
+    /// or of what is told where a growth was refused.
+    #[error("write")]
+    Write,
+    /// A growth was refused. The answers of the lines before line N are written, none of which has a fault, and then the
+    /// line `line N: NoMemory`. N is the line of the command whose answer could not be kept, or 0 if the script itself
+    /// couldn't be.
+    #[error("NoMemory")]
+    NoMemory,
+}
+
+impl From<AllocError> for ReplayFault {
+    ghost from_gives = { λ _ fault. fault ≡ replay_faults.NoMemory };
+
+    fn from(_error: AllocError) -> ReplayFault {
+        ReplayFault::NoMemory
+    }
+}
+
+/// What is wrong with a line of a script, or with the script as a whole.
 #[derive(Clone, Copy, Debug, PartialEq, Eq)]
 pub enum ScriptFault {
     /// The line has no form that a script knows there.
@@ -32,7 +63,23 @@ impl ScriptFault {
     }
 }
 
-/// The line at which a script stopped, and its fault. Lines are numbered from 1; 0 stands for the script as a whole.
+impl From<AllocError> for ScriptFault {
+    ghost from_gives = { λ _ fault. fault ≡ script_faults.NoMemory };
+
+    fn from(_error: AllocError) -> ScriptFault {
+        ScriptFault::NoMemory
+    }
+}
+
+impl From<BadBandwidth> for ScriptFault {
+    ghost from_gives = { λ _ fault. fault ≡ script_faults.BadBandwidth };
+
+    fn from(_error: BadBandwidth) -> ScriptFault {
+        ScriptFault::BadBandwidth
+    }
+}
+
+/// The line at which a script stops, and its fault. Lines are numbered from 1; 0 stands for the script as a whole.
 #[derive(Clone, Copy, Debug, PartialEq, Eq)]
 pub struct ScriptStop {
     pub line: u64,

@@ -15,7 +15,8 @@ pub fn read_front<R: Read>(
     input: &mut R,
     limit: usize,
 ) -> Result<Vec<u8>, ReplayFault>
-    ensures bytes { IfOk result (λ bytes. Consumes (R.remaining input.old) (R.remaining input.new) bytes.items) }
+    ensures bytes { IfOk result
+        (λ bytes. Consumes (R.remaining input.old) (R.remaining input.new) bytes.items) }
     ensures bound { IfOk result (λ bytes. vec_len bytes ≤ limit) }
     ensures whole { IfOk result (λ bytes. vec_len bytes < limit → IsAtEnd (R.remaining input.new)) }
     ensures no_write { IfErr result (λ fault. fault ≢ ReplayFault.Write) }
@@ -24,15 +25,13 @@ pub fn read_front<R: Read>(
     let mut chunk = [0; CHUNK];
     while bytes.len() < limit {
         let room = CHUNK.min(limit - bytes.len());
-        match input.read(&mut chunk[..room]) {
-            Ok(0) => return Ok(bytes),
-            Ok(count) => {
-                if bytes.extend_from_slice(&chunk[..count]).is_err() {
-                    return Err(ReplayFault::NoMemory);
-                }
-            }
-            Err(_) => return Err(ReplayFault::Read),
+        let count = input
+            .read(&mut chunk[..room])
+            .map_err(|_| ReplayFault::Read)?;
+        if count == 0 {
+            return Ok(bytes);
         }
+        bytes.extend_from_slice(&chunk[..count])?;
     }
     Ok(bytes)
 }

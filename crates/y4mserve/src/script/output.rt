@@ -1,41 +1,73 @@
 //! Writing what a script prints.
-ghost use Rattle.std.specs.Prelude.{◌≡◌, ◌++◌, ◌<◌, [], ◌∷◌, OnErr, OnOk, codes, decimal, length, take};
+ghost use Rattle.std.specs.Prelude.{◌≡◌, ◌++◌, [], ◌∷◌, IfErr, codes, decimal};
 ghost use Rattle.std.specs.Io.KnownBytes.{Appends};
-ghost use Rattle.y4mserve.specs.ScriptReport.{fault_line};
-ghost use Rattle.y4mserve.specs.Writing.{AppendsFront};
+ghost use Rattle.std.specs.List.{flat_map};
+ghost use Rattle.y4mserve.specs.ScriptReport.{line_text, stop_line, stop_text};
+ghost use Rattle.y4mserve.specs.Writing.{AppendsFront, Writes};
 
+use super::ReplayFault;
 use super::fault::ScriptStop;
 use itoa::Buffer;
 use std::io::Write;
 
-/// A write took no byte, or a write or a flush failed.
-#[derive(Clone, Copy, Debug, PartialEq, Eq)]
-pub struct PutFailed;
-
-/// Writes all of the bytes. Where a write fails or takes no byte, the ones before went out.
-pub fn put_all<W: Write>(writer: &mut W, bytes: &[u8]) -> Result<(), PutFailed>
-    ensures ok { OnOk result (Appends (W.contents writer.old) (W.contents writer.new) bytes.now) }
-    ensures err { OnErr result (AppendsFront (W.contents writer.old) (W.contents writer.new) bytes.now) }
+/// Writes a report: what was printed, and then the line of the stop, if there is one. Flushes.
+pub fn write_report<W: Write>(
+    writer: &mut W,
+    printed: &[u8],
+    stop: Option<ScriptStop>,
+) -> Result<(), ReplayFault>
+    ensures text { Writes (W.contents writer.old) (W.contents writer.new)
+        (printed.now ++ stop_text stop) result }
+    ensures fault { IfErr result (λ fault. fault ≡ ReplayFault.Write) }
 {
-    let mut written = 0;
-    while written < bytes.len() {
-        match writer.write(&bytes[written..]) {
-            Ok(0) | Err(_) => return Err(PutFailed),
-            Ok(count) => written += count,
-        }
+    put_all(writer, printed)?;
+    put_stop(writer, stop)?;
+    writer.flush().map_err(|_| ReplayFault::Write)
+}
+
+/// Writes `line N: WORD` and a line feed, or nothing where there is no stop. It takes no memory, so a refused growth can
+/// be told.
+fn put_stop<W: Write>(writer: &mut W, stop: Option<ScriptStop>) -> Result<(), ReplayFault>
+    ensures text { Writes (W.contents writer.old) (W.contents writer.new) (stop_text stop) result }
+    ensures fault { IfErr result (λ fault. fault ≡ ReplayFault.Write) }
+{
+    let Some(stop) = stop else {
+        return Ok(());
+    };
+    let mut number = Buffer::new();
+    let pieces = [
+        b"line ".as_slice(),
+        number.format(stop.line).as_bytes(),
+        b": ".as_slice(),
+        stop.fault.name().as_bytes(),
+        b"\n".as_slice(),
+    ];
+    put_pieces(writer, &pieces)
+}
+
+/// Writes pieces of a text, one after another.
+fn put_pieces<W: Write>(writer: &mut W, pieces: &[&[u8]]) -> Result<(), ReplayFault>
+    ensures text { Writes (W.contents writer.old) (W.contents writer.new)
+        (flat_map (λ piece. piece.now) pieces.now) result }
+    ensures fault { IfErr result (λ fault. fault ≡ ReplayFault.Write) }
+{
+    for piece in pieces {
+        put_all(writer, piece)?;
     }
     Ok(())
 }
 
-/// Writes `line N: WORD` and a line feed. It takes no memory, so a refused growth can be told.
-pub fn put_fault<W: Write>(writer: &mut W, stop: ScriptStop) -> Result<(), PutFailed>
-    ensures ok { OnOk result (Appends (W.contents writer.old) (W.contents writer.new) (fault_line stop ++ 10 ∷ [])) }
-    ensures err { OnErr result (AppendsFront (W.contents writer.old) (W.contents writer.new) (fault_line stop ++ 10 ∷ [])) }
+/// Writes all of the bytes. Where a write fails or takes no byte, the ones before went out.
+fn put_all<W: Write>(writer: &mut W, bytes: &[u8]) -> Result<(), ReplayFault>
+    ensures text { Writes (W.contents writer.old) (W.contents writer.new) bytes.now result }
+    ensures fault { IfErr result (λ fault. fault ≡ ReplayFault.Write) }
 {
-    let mut number = Buffer::new();
-    put_all(writer, b"line ")?;
-    put_all(writer, number.format(stop.line).as_bytes())?;
-    put_all(writer, b": ")?;
-    put_all(writer, stop.fault.name().as_bytes())?;
-    put_all(writer, b"\n")
+    let mut written = 0;
+    while written < bytes.len() {
+        match writer.write(&bytes[written..]) {
+            Ok(0) | Err(_) => return Err(ReplayFault::Write),
+            Ok(count) => written += count,
+        }
+    }
+    Ok(())
 }

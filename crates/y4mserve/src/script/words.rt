@@ -1,9 +1,11 @@
 //! The lines, words and numbers of a script.
-ghost use Rattle.std.specs.Prelude.{◌≡◌, ◌<◌, ◌≤◌, ◌==◌, ◌∷◌, ◌↔◌, All, IfNone, IfSome, IsTrue, length, position};
+ghost use Rattle.std.specs.Prelude.{◌≡◌, ◌<◌, ◌≤◌, ◌==◌, ◌∷◌, ◌↔◌, IfNone, IfSome, IsTrue};
+ghost use Rattle.std.specs.Prelude.{All, length, position};
 ghost use Rattle.std.specs.Char.{IsAsciiDigit, is_ascii_digit};
 ghost use Rattle.std.specs.List.{list_all};
 ghost use Rattle.std.specs.Option.{option_copied};
-ghost use Rattle.y4mserve.specs.ScriptText.{is_number, is_silent, number, number_of, parts, parts_left, script_lines};
+ghost use Rattle.y4mserve.specs.ScriptText.{is_number, number, number_of};
+ghost use Rattle.y4mserve.specs.ScriptText.{is_silent, parts, parts_left, script_lines};
 
 /// The longest number, in digits: each fits 64 bits.
 const MOST_DIGITS: usize = 19;

@@ -1,11 +1,9 @@
-use Rattle.std.proofs.Common.{◌≡◌, ◌≢◌, ◌+◌, [], ◌∷◌, ◌++◌, length, true, rules, arith, refl, sym, ap, ◌∙◌}
+use Rattle.std.proofs.Common.{◌≡◌, ◌+◌, [], ◌∷◌, ◌++◌, length, true, rules, arith, inl, inr, Some, Err, refl, sym, ap, ◌∙◌}
 use Rattle.std.proofs.lemmas.List.{append-nil}
-use Rattle.y4mserve.specs.ScriptReport.{balance_line, outcome_of, text_of_lines}
-use Rattle.y4mserve.specs.ScriptStep.{after_line}
+use Rattle.y4mserve.specs.ScriptReport.{balance_line, text_of_lines}
 use Rattle.y4mserve.specs.ScriptText.{is_silent, script_lines}
-use Rattle.y4mserve.specs.declared.replay.fault.ScriptFault.TheVariants.{NoMemory}
-use Rattle.y4mserve.proofs.ScriptStops.{have_run-faults, have_run-none, have_run-refused, have_run-runs, have_run-silent, have_run-whole, no_lines, one_more, printed_next, server_there, split_next}
-use Rattle.y4mserve.proofs.replay.account.run_account_script.Goals as goal
+use Rattle.y4mserve.proofs.ScriptStops.{have_run-faults, have_run-none, have_run-one_more, have_run-runs, have_run-silent, have_run-whole, no_lines, one_more, printed_next, server_there, split_next, memory_or_other}
+use Rattle.y4mserve.proofs.script.account.run_account_script.Goals as goal
 
 pub loop-rest-init : goal.loop-rest-init
 loop-rest-init c = record {
@@ -27,21 +25,21 @@ returns-in-Err c =
     run.split ∙ ap (λ rest. run.lines ++ rest) c.first_line.ensures.lines in
     let at : c.loop-rest.number + 1 ≡ length run.lines + 1 = ap (λ n. n + 1) run.at in
     let kept : c.run_line.new.printed.items ≡ c.args.printed.now.items ++ text_of_lines run.answers = c.in-Err.ensures.kept ∙ run.printed in
-    let faults = λ (other : c.in-Err.fault ≢ NoMemory).
-    have_run-faults c.args.script.now run.lines c.loop-rest.account run.answers line more c.in-Err.fault (c.loop-rest.number + 1)
-    c.requires split at run.ran (c.in-Err.ensures.fault other) in
     record {
-      whole = λ other. rw (faults other) kept;
-      fault = λ other. rw (faults other) refl;
-      memory = λ memory.
-          let next = server_there (after_line c.loop-rest.account (outcome_of c.loop-rest.account line)) (c.in-Err.ensures.memory memory) in
-          record {
-            answers = run.answers;
-            runs =
-                have_run-refused c.args.script.now run.lines c.loop-rest.account run.answers line more next.0 (c.loop-rest.number + 1)
-                c.requires split at run.ran next.1;
-            printed = kept;
-          };
+      answers = run.answers;
+      printed = kept;
+      report =
+          elim (memory_or_other c.in-Err.fault) [
+            | inl memory ↦
+                let next = server_there _ (c.in-Err.ensures.memory (ap Err memory)) in
+                inr (record {
+                  line = c.loop-rest.number + 1;
+                  stop = ap (λ fault. Some (record { line = c.loop-rest.number + 1; fault = fault })) memory;
+                  answers = inr (have_run-one_more c.args.script.now run.lines c.loop-rest.account run.answers line more next.0 (c.loop-rest.number + 1) c.requires split at run.ran next.1);
+                })
+            | inr other ↦
+                inl (sym (have_run-faults c.args.script.now run.lines c.loop-rest.account run.answers line more c.in-Err.fault (c.loop-rest.number + 1) c.requires split at run.ran (c.in-Err.ensures.fault other)))
+          ];
     }
 
 pub loop-rest-preserved-in-Ok : goal.loop-rest-preserved-in-Ok
@@ -83,4 +81,4 @@ returns c =
     let none = no_lines c.loop-rest.rest.now (search rules) in
     let all : script_lines c.args.script.now ≡ run.lines = run.split ∙ ap (λ rest. run.lines ++ rest) none ∙ append-nil run.lines in
     let whole = have_run-whole c.args.script.now run.lines c.loop-rest.account run.answers c.requires all run.ran in
-    (rw whole run.printed, rw whole refl)
+    record { answers = run.answers; printed = run.printed; report = inl (sym whole) }

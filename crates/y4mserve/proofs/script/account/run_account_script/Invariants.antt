@@ -2,7 +2,7 @@ use Rattle.std.proofs.Common.{◌≡◌, ℕ, ◌+◌, ◌≤◌, List, ◌++◌
 use Rattle.y4mserve.specs.ScriptReport.{text_of_lines}
 use Rattle.y4mserve.specs.ScriptText.{script_lines}
 use Rattle.y4mserve.proofs.ScriptStops.{HaveRun}
-use Rattle.y4mserve.proofs.replay.account.run_account_script.Given as goal
+use Rattle.y4mserve.proofs.script.account.run_account_script.Given as goal
 
 -- the lines before those that are left have run, and their answers were printed
 abbrev pub invariant-loop-rest : goal.invariant-loop-rest

@@ -1,6 +1,6 @@
 use Rattle.std.proofs.Common.{sym}
 use Rattle.y4mserve.proofs.ScriptParts.{command_of-more}
-use Rattle.y4mserve.proofs.replay.command.parse_command.Goals as goal
+use Rattle.y4mserve.proofs.script.command.parse_command.Goals as goal
 
 pub returns-in-Some-rest-clause-command : goal.returns-in-Some-rest-clause-command
 returns-in-Some-rest-clause-command c =

@@ -2,7 +2,7 @@ use Rattle.std.proofs.Common.{arith, take, drop}
 use Rattle.std.proofs.Math.Seq.{take-add}
 use Rattle.std.proofs.KnownBytes.{Appends-trans}
 use Rattle.std.proofs.lemmas.List.{take_rest}
-use Rattle.y4mserve.proofs.replay.output.put_all.Goals as goal
+use Rattle.y4mserve.proofs.script.output.put_all.Goals as goal
 
 pub loop-written-preserved : goal.loop-written-preserved
 loop-written-preserved g c =

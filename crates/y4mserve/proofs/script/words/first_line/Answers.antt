@@ -1,5 +1,5 @@
 use Rattle.y4mserve.proofs.ScriptParts.{script_lines-more}
-use Rattle.y4mserve.proofs.replay.words.first_line.Goals as goal
+use Rattle.y4mserve.proofs.script.words.first_line.Goals as goal
 
 pub returns-in-Some-clause-lines : goal.returns-in-Some-clause-lines
 returns-in-Some-clause-lines c =

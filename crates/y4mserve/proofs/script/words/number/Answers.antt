@@ -1,6 +1,6 @@
 use Rattle.std.proofs.Common.{arith}
 use Rattle.y4mserve.proofs.ScriptParts.{tens}
-use Rattle.y4mserve.proofs.replay.words.number.Goals as goal
+use Rattle.y4mserve.proofs.script.words.number.Goals as goal
 
 pub overflow_mul-n : goal.overflow_mul-n
 overflow_mul-n c = let far = tens c.loop-digit.digit-index (omega arith) in omega arith

@@ -1,6 +1,6 @@
 use Rattle.std.proofs.Common.{◌≡◌, ◌<◌, ◌^◌, take}
 use Rattle.y4mserve.specs.ScriptText.{number}
-use Rattle.y4mserve.proofs.replay.words.number.Given as goal
+use Rattle.y4mserve.proofs.script.words.number.Given as goal
 
 abbrev pub invariant-loop-digit : goal.invariant-loop-digit
 invariant-loop-digit l = record {
