@@ -7,3 +7,5 @@ pub mod HeaderFacts
 pub mod Joined
 pub mod Decimals
 pub mod ResizedLine
+pub mod Cuts
+pub mod Numbers

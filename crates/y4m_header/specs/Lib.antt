@@ -7,3 +7,4 @@ pub mod FrameLine
 pub mod Refusal
 pub mod Resized
 pub mod StreamText
+pub mod Text

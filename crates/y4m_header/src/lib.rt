@@ -12,6 +12,7 @@ mod number;
 mod picture;
 mod resized;
 mod tags;
+pub mod text;
 
 pub use chroma::{Chroma, Divisors};
 pub use error::HeaderError;
