@@ -9,7 +9,7 @@ use Rattle.std.proofs.Math.Seq.{take-append-add}
 use Rattle.std.proofs.lemmas.Slice.{between_is}
 use Rattle.std.specs.Io.KnownBytes.{Keeps, Consumes, prepend_known}
 use Rattle.std.specs.Prelude.{IfSome}
-use Rattle.y4m_stream.specs.Rest.{HasNoLineFeed, IsLongLine}
+use Rattle.y4m_stream.specs.Front.{HasNoLineFeed, IsLongLine}
 
 -- bytes that are read behind those that are held
 pub prepend_known-read : (a b : Option (List ℕ)) (held more now : List ℕ) → Consumes a b more → now ≡ held ++ more → Keeps (prepend_known held a) (prepend_known now b)
@@ -72,3 +72,22 @@ Consumes-both (Some xs) (Some ys) held left out more n few same rest missing rea
     (ap (λ l. l ++ (more ++ ys)) (sym (take-append-drop n held) ∙ ap (λ l. take n held ++ l) (sym rest))
     ∙ append_assoc (take n held) left (more ++ ys) ∙ ap (λ l. take n held ++ l) (none_between left more ys one)
     ∙ sym (append_assoc (take n held) more (left ++ ys)))
+
+-- what is held was given, where the rest is as it was
+pub Consumes-held : (a b : Option (List ℕ)) (held : List ℕ) → Keeps a (prepend_known held b) → Consumes a b held
+Consumes-held None b held k = tt
+Consumes-held (Some xs) None held k = absurd k
+Consumes-held (Some xs) (Some ys) held k = sym k
+
+-- what is given behind the bytes that are held
+pub Consumes-behind : (a b : Option (List ℕ)) (held bytes : List ℕ) → Consumes a b bytes → Consumes (prepend_known held a) b (held ++ bytes)
+Consumes-behind None b held bytes p = tt
+Consumes-behind (Some xs) None held bytes p = absurd p
+Consumes-behind (Some xs) (Some ys) held bytes p = ap (λ l. held ++ l) p ∙ sym (append_assoc held bytes ys)
+
+-- the rest was kept, and then bytes were taken off it
+pub Consumes-later : (a b c : Option (List ℕ)) (bytes : List ℕ) → Keeps a b → Consumes b c bytes → Consumes a c bytes
+Consumes-later None b c bytes k p = tt
+Consumes-later (Some xs) None c bytes k p = absurd k
+Consumes-later (Some xs) (Some ys) None bytes k p = absurd p
+Consumes-later (Some xs) (Some ys) (Some zs) bytes k p = sym k ∙ p

@@ -1,4 +1,5 @@
 pub mod Known
+pub mod Reading
 pub mod Puts
 pub mod MoreFrames
 pub mod Serving
@@ -8,3 +9,4 @@ pub mod Fronts
 pub mod OneAnswer
 pub mod OneCall
 pub mod WholeFrames
+pub mod Told

@@ -1,23 +1,22 @@
 // A stream, filtered from end to end.
-ghost use Rattle.std.specs.Prelude.{◌≡◌, ℕ, IfOk, IfErr, unwrap_or};
+ghost use Rattle.std.specs.Prelude.{◌≡◌, ◌≢◌, ℕ, List, Option, IfOk, IfErr, OnOk, Some, true, unwrap_or};
 ghost use Rattle.std.specs.Io.KnownBytes.{Keeps};
 ghost use Rattle.filters.specs.Chain.{picture_of};
 ghost use Rattle.filters.specs.Steps.{IsChain};
-ghost use Rattle.y4m_stream.specs.Answers.{IsServed, IsStopped};
-ghost use Rattle.y4m_stream.specs.Chains.{LacksChain};
-ghost use Rattle.y4m_stream.specs.Closing.{Closes};
-ghost use Rattle.y4m_stream.specs.Filtering.{IsHeaderOfImages};
+ghost use Rattle.y4m_stream.specs.Filtered.{CountsWrites, IsFiltered, LacksChain, filter_reads_told};
+ghost use Rattle.y4m_stream.specs.Inside.{Closes, CountsClosing, IsHeaderOfImages};
+ghost use Rattle.y4m_stream.specs.Reader.{IsOpened};
 
-use crate::fault::FilterFault;
+use crate::device::{Sink, Source};
+use crate::fault::{FilterFault, ReadFault};
 use crate::images::Images;
 use crate::passing::pass_frames;
-use crate::reader::StreamReader;
+use crate::reader::{Phase, StreamReader};
 use crate::writer::StreamWriter;
 use filters::{Chain, FilterError, Op};
 use frame_view::{Frame, Geometry};
 use row_bands::BandHeight;
 use std::alloc::Global;
-use std::io::{Read, Write};
 use y4m_header::Header;
 
 /// What a stream is filtered with: the chain with its pictures, a frame, and the header of the images where their size
@@ -36,8 +35,10 @@ fn resized_header(
     header: &Header,
 ) -> Result<Option<Header>, FilterError>
     requires chain { IsChain chain.now }
-    requires size { picture_of chain.now.geometry ≡ record { width = header.now.width; height = header.now.height; chroma = header.now.chroma } }
-    ensures shown { IfOk result (λ resized. IsHeaderOfImages chain.now header.now (unwrap_or resized header.now)) }
+    requires size { picture_of chain.now.geometry
+        ≡ record { width = header.now.width; height = header.now.height; chroma = header.now.chroma } }
+    ensures shown { IfOk result (λ resized.
+        IsHeaderOfImages chain.now header.now (unwrap_or resized header.now)) }
     ensures memory { IfErr result (λ e. e ≡ FilterError.NoMemory) }
 {
     if !chain.has_crop() {
@@ -51,7 +52,7 @@ fn resized_header(
 }
 
 impl Filter {
-    ghost use Rattle.y4m_stream.specs.Filtering.{IsFilterFor};
+    ghost use Rattle.y4m_stream.specs.Inside.{IsFilterFor};
 
     /// Takes the memory of a frame and of all pictures.
     fn new(
@@ -61,13 +62,11 @@ impl Filter {
         height: BandHeight,
     ) -> Result<Filter, FilterError>
         ensures ok { IfOk result (IsFilterFor ops.items height header.now) }
-        ensures refused { IfErr result (LacksChain ops.items height header.now.width header.now.height header.now.chroma) }
+        ensures refused { IfErr result
+            (LacksChain ops.items height header.now.width header.now.height header.now.chroma) }
     {
         let geometry = Geometry::of(header);
-        let chain = match Chain::new(alloc, ops, geometry, height) {
-            Ok(chain) => chain,
-            Err(error) => return Err(error),
-        };
+        let chain = Chain::new(alloc, ops, geometry, height)?;
         let resized = resized_header(alloc, &chain, header)?;
         let frame = Frame::blank(alloc, geometry, b"FRAME")?;
         let images = Images::new(alloc, chain)?;
@@ -90,12 +89,14 @@ fn shown_header<'a>(resized: &'a Option<Header>, header: &'a Header) -> &'a Head
 }
 
 /// Flushes the writer, and answers the first fault, if there is one.
-fn close<W: Write>(
+fn close<W: Sink>(
     writer: StreamWriter<W>,
     passed: Result<u64, FilterFault>,
 ) -> (W, Result<u64, FilterFault>)
     ensures kept { Keeps writer.contents (W.contents result.0) }
     ensures answer { Closes passed writer result.1 }
+    ensures counted { CountsClosing passed writer result.1 (W.failures result.0) }
+    ensures flushed { OnOk result.1 (W.is_flushed result.0 ≡ true) }
 {
     let (output, finished) = writer.finish();
     match (passed, finished) {
@@ -104,43 +105,118 @@ fn close<W: Write>(
     }
 }
 
+/// Filters the frames of a stream whose header line was read.
+fn filter_frames<R: Source + Drop, W: Sink>(
+    alloc: Global,
+    reader: &mut StreamReader<R>,
+    output: W,
+    ops: Vec<Op>,
+    height: BandHeight,
+) -> (W, Result<u64, FilterFault>)
+    requires { reader.old.phase ≡ Phase.Open }
+    ensures answer { (input : Option (List ℕ)) → IsOpened input reader.old.failures reader.old
+        → IsFiltered result.1 ops.items height (record {
+          input = input;
+          left = reader.new.left;
+          before = W.contents output;
+          after = W.contents result.0;
+        }) }
+    ensures reads { reader.new.failures ≡ filter_reads_told result.1 reader.old.failures }
+    ensures writes { CountsWrites result.1 (W.failures output) (W.failures result.0) }
+    ensures flushed { OnOk result.1 (W.is_flushed result.0 ≡ true) }
+{
+    let mut filter = match Filter::new(alloc, ops, reader.header(), height) {
+        Ok(filter) => filter,
+        Err(error) => return (output, Err(FilterFault::Ops(error))),
+    };
+    let header = shown_header(&filter.resized, reader.header());
+    let mut writer = match StreamWriter::open(output, header) {
+        Ok(writer) => writer,
+        Err((output, fault)) => return (output, Err(FilterFault::Write(fault))),
+    };
+    let passed = pass_frames(
+        alloc,
+        reader,
+        &mut writer,
+        &mut filter.frame,
+        &mut filter.images,
+    );
+    close(writer, passed)
+}
+
 /// Reads a stream to its end and writes it with the image of each of its frames in the frame's place, on the caller's
-/// thread; answers the number of frames, and gives the writer back.
+/// thread; answers the number of frames, and gives the sink back.
 ///
 /// The operations are applied in order, each to the whole picture, in bands of this height. The reader is opened
 /// first, then the chain is made for the header's frames, and then the header line is written. A frame and its
-/// pictures have the same memory for the whole stream. At most 16,777,216 images are written.
-pub fn filter_stream<R: Read + Drop, W: Write>(
+/// pictures have the same memory for the whole stream; memory is taken anew only for a frame line that is another than
+/// the one before. At most 16,777,216 images are written. No call on the source or the sink that failed is tried again.
+/// The sink is flushed at the end, and after a fault behind the header line too, where it has not failed.
+pub fn filter_stream<R: Source + Drop, W: Sink>(
     alloc: Global,
     input: R,
     output: W,
     ops: Vec<Op>,
     height: BandHeight,
 ) -> (W, Result<u64, FilterFault>)
-    ensures served { IfOk result.1 (λ n. IsServed n ops.items height (R.remaining input) (W.contents output) (W.contents result.0)) }
-    ensures stopped { IfErr result.1 (λ fault. IsStopped fault ops.items height (R.remaining input) (W.contents output) (W.contents result.0)) }
+    // The last is the source as it was given up.
+    ensures answer { (last : R) × (R.failures last ≡ filter_reads_told result.1 (R.failures input))
+        × IsFiltered result.1 ops.items height (record {
+          input = R.remaining input;
+          left = R.remaining last;
+          before = W.contents output;
+          after = W.contents result.0;
+        }) }
+    ensures writes { CountsWrites result.1 (W.failures output) (W.failures result.0) }
+    ensures flushed { OnOk result.1 (W.is_flushed result.0 ≡ true) }
 {
-    let mut reader = match StreamReader::open(alloc, input) {
+    let (_, output, answer) = filter_between(alloc, input, output, ops, height);
+    (output, answer)
+}
+
+/// The same, and gives the source back too, without the bytes that were read ahead.
+pub fn filter_between<R: Source + Drop, W: Sink>(
+    alloc: Global,
+    input: R,
+    output: W,
+    ops: Vec<Op>,
+    height: BandHeight,
+) -> (R, W, Result<u64, FilterFault>)
+    ensures answer { IsFiltered result.2 ops.items height (record {
+      input = R.remaining input;
+      left = R.remaining result.0;
+      before = W.contents output;
+      after = W.contents result.1;
+    }) }
+    ensures reads { R.failures result.0 ≡ filter_reads_told result.2 (R.failures input) }
+    ensures writes { CountsWrites result.2 (W.failures output) (W.failures result.1) }
+    ensures flushed { OnOk result.2 (W.is_flushed result.1 ≡ true) }
+{
+    let mut reader = match StreamReader::open_or_return(alloc, input) {
         Ok(reader) => reader,
-        Err(fault) => return (output, Err(FilterFault::Read(fault))),
+        Err((input, fault)) => return (input, output, Err(FilterFault::Read(fault))),
     };
-    let mut filter = match Filter::new(alloc, ops, reader.header(), height) {
-        Ok(filter) => filter,
-        Err(error) => return (output, Err(FilterFault::Ops(error))),
-    };
-    let mut writer = match StreamWriter::open(
-        output,
-        shown_header(&filter.resized, reader.header()),
-    ) {
-        Ok(writer) => writer,
-        Err((output, fault)) => return (output, Err(FilterFault::Write(fault))),
-    };
-    let passed = pass_frames(
-        alloc,
-        &mut reader,
-        &mut writer,
-        &mut filter.frame,
-        &mut filter.images,
-    );
-    close(writer, passed)
+    let (output, answer) = filter_frames(alloc, &mut reader, output, ops, height);
+    (reader.into_source(), output, answer)
+}
+
+/// The same, of bytes in memory: no read of them fails.
+pub fn filter_bytes<W: Sink>(
+    alloc: Global,
+    input: &[u8],
+    output: W,
+    ops: Vec<Op>,
+    height: BandHeight,
+) -> (W, Result<u64, FilterFault>)
+    ensures no_device { IfErr result.1 (λ fault. fault ≢ FilterFault.Read ReadFault.Device) }
+    ensures answer { (left : Option (List ℕ)) × IsFiltered result.1 ops.items height (record {
+      input = Some input.now;
+      left = left;
+      before = W.contents output;
+      after = W.contents result.0;
+    }) }
+    ensures writes { CountsWrites result.1 (W.failures output) (W.failures result.0) }
+    ensures flushed { OnOk result.1 (W.is_flushed result.0 ≡ true) }
+{
+    filter_stream(alloc, input, output, ops, height)
 }

@@ -2,6 +2,7 @@
 #![tactic(auto)]
 
 mod data;
+pub mod device;
 pub mod fault;
 mod filter;
 mod frame_line;
@@ -14,8 +15,11 @@ mod put;
 pub mod reader;
 pub mod writer;
 
+pub use device::{OverRead, OverWrite, Sink, Source};
 pub use fault::{FilterFault, ReadFault, WriteFault};
-pub use filter::filter_stream;
+pub use filter::{filter_between, filter_bytes, filter_stream};
+pub use passing::MOST_FRAMES;
+pub use put::put_all;
 pub use reader::StreamReader;
 pub use writer::StreamWriter;
 

@@ -1,12 +1,13 @@
 // A line at the front of what is left.
 ghost use Rattle.std.specs.Prelude.{◌≡◌, ◌+◌, ◌-◌, ◌<◌, ◌≤◌, ◌∷◌, ◌++◌, length, take, drop, IfOk, IfErr, IfSome, IfNone};
-ghost use Rattle.std.specs.Io.KnownBytes.{Keeps, prepend_known};
-ghost use Rattle.y4m_stream.specs.Faults.{LacksLine};
-ghost use Rattle.y4m_stream.specs.Rest.{BeginsWithLine, HasNoLineFeed};
+ghost use Rattle.std.specs.Io.KnownBytes.{Keeps};
+ghost use Rattle.y4m_stream.specs.Front.{HasNoLineFeed};
+ghost use Rattle.y4m_stream.specs.Inside.{BeginsWithLine, LacksLine, rest_of};
+ghost use Rattle.y4m_stream.specs.Reader.{failures_told};
 
+use crate::device::Source;
 use crate::fault::ReadFault;
 use crate::lookahead::{LINE_LIMIT, Lookahead};
-use std::io::Read;
 
 /// Where the first line feed stands.
 fn line_feed_in(bytes: &[u8]) -> Option<usize>
@@ -18,24 +19,23 @@ fn line_feed_in(bytes: &[u8]) -> Option<usize>
     bytes.iter().position(|b| *b == b'\n')
 }
 
-/// Reads until the lookahead begins with a whole line, and answers the line's length without its line feed.
+/// Reads until a whole line is held at the front, and answers the line's length without its line feed.
 ///
 /// Nothing is taken off the front: the line is the caller's to look at and to consume.
-pub fn find_line<R: Read>(reader: &mut R, pending: &mut Lookahead) -> Result<usize, ReadFault>
-    ensures line { IfOk result (λ n. BeginsWithLine pending.new n) }
-    ensures rest { Keeps (prepend_known pending.old (R.remaining reader.old))
-        (prepend_known pending.new (R.remaining reader.new)) }
-    ensures fault { IfErr result (λ fault.
-        LacksLine fault (prepend_known pending.old (R.remaining reader.old))) }
+pub fn find_line<R: Source>(input: &mut Lookahead<R>) -> Result<usize, ReadFault>
+    ensures line { IfOk result (BeginsWithLine input.new.held) }
+    ensures rest { Keeps (rest_of input.old) (rest_of input.new) }
+    ensures fault { IfErr result (λ fault. LacksLine fault (rest_of input.old) input.new.left) }
+    ensures told { input.new.failures ≡ failures_told result input.old.failures }
 {
     loop {
-        if let Some(end) = line_feed_in(pending.as_slice()) {
+        if let Some(end) = line_feed_in(input.held()) {
             return Ok(end);
         }
-        if pending.as_slice().len() == LINE_LIMIT {
+        if input.held().len() == LINE_LIMIT {
             return Err(ReadFault::LineTooLong);
         }
-        match pending.fill(reader) {
+        match input.fill() {
             Ok(0) => return Err(ReadFault::Truncated),
             Ok(_) => {}
             Err(_) => return Err(ReadFault::Device),

@@ -1,80 +1,111 @@
-// The bytes that were read and not yet taken.
-ghost use Rattle.std.specs.Prelude.{◌≡◌, ℕ, ◌+◌, ◌<◌, ◌≤◌, List, [], ◌++◌, length, take, drop, min, IfOk, OnErr};
-ghost use Rattle.std.specs.Io.KnownBytes.{Keeps, IsAtEnd, prepend_known};
+// A source, and the bytes that were read from it and not yet taken.
+ghost use Rattle.std.specs.Prelude.{◌≡◌, ◌+◌, ◌-◌, ◌<◌, ◌≤◌, [], ◌++◌, length, take, drop, min, IfOk, IfErr, OnOk, OnErr};
+ghost use Rattle.std.specs.Io.KnownBytes.{Consumes, IsAtEnd, Keeps};
+ghost use Rattle.y4m_stream.specs.Failures.{failures_after};
+ghost use Rattle.y4m_stream.specs.Inside.{LacksBytes, rest_of};
+ghost use Rattle.y4m_stream.specs.Reader.{failures_told};
 
+use crate::data::fill_exactly;
+use crate::device::Source;
+use crate::fault::ReadFault;
 use std::io;
-use std::io::Read;
 use std::marker::Model;
 
 /// The longest line, with its line feed.
 pub const LINE_LIMIT: usize = 1024;
 
-/// At most 1,024 bytes that were read beyond what was asked for, in order: a line, however it came, is whole in them.
-#[derive(Drop)]
-pub struct Lookahead {
-    bytes: [u8; 1024],
+/// A source, with at most 1,024 bytes that were read from it beyond what was asked for, in order: a line, however it
+/// came, is whole in them.
+#[derive(Debug, Drop)]
+pub struct Lookahead<R: Source> {
+    source: R,
+    bytes: [u8; LINE_LIMIT],
     len: usize,
 }
 
-impl Model for Lookahead {
-    ghost Value = { List ℕ };
+impl<R: Source> Model for Lookahead<R> {
+    ghost use Rattle.std.specs.Prelude.{◌≤◌, take};
+    ghost use Rattle.y4m_stream.specs.declared.lookahead.TheConstants.{LINE_LIMIT};
+    ghost use Rattle.y4m_stream.specs.Inside.{LookaheadState};
 
-    ghost view = { λ a. take a.len a.bytes };
+    ghost Value = { LookaheadState };
 
-    ghost invariant = { λ a. a.len ≤ 1024 };
+    ghost view = { λ a. record { held = take a.len a.bytes; left = R.remaining a.source; failures = R.failures a.source } };
+
+    ghost invariant = { λ a. a.len ≤ LINE_LIMIT };
 }
 
-impl Lookahead {
+impl<R: Source> Lookahead<R> {
     /// Holds nothing yet; takes no memory of the heap.
-    pub fn new() -> Self
-        ensures { result ≡ [] }
+    pub fn over(source: R) -> Lookahead<R>
+        ensures { result ≡ record { held = []; left = R.remaining source; failures = R.failures source } }
     {
         Lookahead {
-            bytes: [0; 1024],
+            source,
+            bytes: [0; LINE_LIMIT],
             len: 0,
         }
     }
 
     /// The bytes that are held.
-    pub fn as_slice(&self) -> &[u8]
-        ensures value { result.now ≡ self.now }
-        ensures bound { length self.now ≤ 1024 }
+    pub fn held(&self) -> &[u8]
+        ensures value { result.now ≡ self.now.held }
+        ensures few { length self.now.held ≤ LINE_LIMIT }
     {
         &self.bytes[..self.len]
     }
 
     /// Reads once, behind the bytes that are held.
-    pub fn fill<R: Read>(&mut self, reader: &mut R) -> io::Result<usize>
-        requires { length self.old < 1024 }
-        ensures rest { Keeps (prepend_known self.old (R.remaining reader.old))
-            (prepend_known self.new (R.remaining reader.new)) }
-        ensures count { IfOk result (λ n. length self.new ≡ length self.old + n) }
-        ensures end { IfOk result (λ n. n ≡ 0 → IsAtEnd (R.remaining reader.new)) }
-        ensures err { OnErr result (self.new ≡ self.old) }
+    pub fn fill(&mut self) -> io::Result<usize>
+        requires { length self.old.held < LINE_LIMIT }
+        ensures rest { Keeps (rest_of self.old) (rest_of self.new) }
+        ensures count { IfOk result (λ n. length self.new.held ≡ length self.old.held + n) }
+        ensures end { IfOk result (λ n. n ≡ 0 → IsAtEnd self.new.left) }
+        ensures err { OnErr result (self.new.held ≡ self.old.held) }
+        ensures told { self.new.failures ≡ failures_after result self.old.failures }
     {
-        let n = reader.read(&mut self.bytes[self.len..])?;
+        let n = self.source.read(&mut self.bytes[self.len..])?;
         self.len += n;
         Ok(n)
     }
 
     /// Takes bytes off the front.
     pub fn consume(&mut self, n: usize)
-        requires { n ≤ length self.old }
-        ensures { self.new ≡ drop n self.old }
+        requires { n ≤ length self.old.held }
+        ensures { self.new ≡ record self.old { held = drop n self.old.held } }
     {
         self.bytes.copy_within(n..self.len, 0);
         self.len -= n;
     }
 
     /// Moves as many bytes as both have from the front into `out`.
-    pub fn take_into(&mut self, out: &mut [u8]) -> usize
-        ensures count { result ≡ min (length self.old) (length out.old) }
-        ensures moved { take result out.new ≡ take result self.old }
-        ensures left { self.new ≡ drop result self.old }
+    fn take_into(&mut self, out: &mut [u8]) -> usize
+        ensures count { result ≡ min (length self.old.held) (length out.old) }
+        ensures moved { take result out.new ≡ take result self.old.held }
+        ensures left { self.new ≡ record self.old { held = drop result self.old.held } }
     {
-        let n = self.as_slice().len().min(out.len());
-        out[..n].copy_from_slice(&self.as_slice()[..n]);
+        let n = self.held().len().min(out.len());
+        out[..n].copy_from_slice(&self.held()[..n]);
         self.consume(n);
         n
+    }
+
+    /// Takes as many bytes as `out` has off the front: those that are held, and then the source's.
+    pub fn take_exactly(&mut self, out: &mut [u8]) -> Result<(), ReadFault>
+        ensures ok { OnOk result (Consumes (rest_of self.old) (rest_of self.new) out.new) }
+        ensures fault { IfErr result (λ fault. LacksBytes (length out.old) fault (rest_of self.old) self.new.left) }
+        ensures few { length self.new.held ≤ LINE_LIMIT }
+        ensures told { self.new.failures ≡ failures_told result self.old.failures }
+    {
+        let taken = self.take_into(out);
+        fill_exactly(&mut self.source, &mut out[taken..])
+    }
+
+    /// Gives the source up, and loses what is held.
+    pub fn into_source(self) -> R
+        ensures remaining { R.remaining result ≡ self.left }
+        ensures failures { R.failures result ≡ self.failures }
+    {
+        self.source
     }
 }

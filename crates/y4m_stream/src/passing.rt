@@ -1,26 +1,24 @@
 // The frames of a stream, each read, filtered and written before the next.
 ghost use Rattle.std.specs.Prelude.{◌≡◌, ◌+◌, ◌<◌, ◌^◌, Ok, true, false, IfOk, IfErr};
-ghost use Rattle.y4m_stream.specs.Passes.{PassesFrame, PassesAll, FailsToPass, Stops};
-ghost use Rattle.y4m_stream.specs.Reads.{MeetsEnd, IsOfHeader};
-ghost use Rattle.y4m_stream.specs.Served.{frame_text_of};
-ghost use Rattle.y4m_stream.specs.Writes.{IsWriterFor};
-ghost use Rattle.y4m_stream.specs.Images.{AreOfSizes};
 ghost use Rattle.y4m_header.specs.StreamText.{FrameText};
+ghost use Rattle.y4m_stream.specs.Filtered.{filter_reads_told};
+ghost use Rattle.y4m_stream.specs.Inside.{AreOfSizes, FailsToPass, HasFailedAt, IsWriterFor, PassesAll, PassesFrame, Stops, filter_writes_told};
+ghost use Rattle.y4m_stream.specs.Reader.{IsOfHeader, MeetsEnd, frame_text_of};
+ghost use Rattle.y4m_stream.specs.Writer.{most_frames};
 
+use crate::device::{Sink, Source};
 use crate::fault::FilterFault;
 use crate::images::Images;
 use crate::reader::{Phase, StreamReader};
 use crate::writer::StreamWriter;
-use filters::FilterError;
 use frame_view::Frame;
 use std::alloc::Global;
-use std::io::{Read, Write};
 
-/// How many frames a stream may have.
-const MOST_FRAMES: u64 = 16_777_216;
+/// A stream has at most this many frames.
+pub const MOST_FRAMES: u64 = 16_777_216;
 
 /// Reads the next frame and writes its image, or answers `false` at the end.
-fn pass_frame<R: Read + Drop, W: Write>(
+fn pass_frame<R: Source + Drop, W: Sink>(
     alloc: Global,
     reader: &mut StreamReader<R>,
     writer: &mut StreamWriter<W>,
@@ -31,34 +29,32 @@ fn pass_frame<R: Read + Drop, W: Write>(
     requires chain { frame.old.geometry ≡ images.old.chain.geometry }
     requires sizes { AreOfSizes images.old.chain images.old.canvases.items }
     requires size { IsWriterFor images.old.chain writer.old }
-    requires few { writer.old.frames < 2 ^ 24 }
+    requires few { writer.old.frames < most_frames }
     requires writing { writer.old.failed ≡ false }
     requires open { reader.old.phase ≡ Phase.Open }
     ensures frame { frame.new.geometry ≡ frame.old.geometry }
+    ensures header { reader.new.header ≡ reader.old.header }
     ensures chain { images.new.chain ≡ images.old.chain }
     ensures sizes { AreOfSizes images.new.chain images.new.canvases.items }
-    ensures passed { result ≡ Ok true
-        → (image : FrameText) × PassesFrame images.old.chain reader.old reader.new writer.old writer.new
-        (frame_text_of frame.new) image }
+    ensures passed { result ≡ Ok true → (image : FrameText)
+        × PassesFrame images.old.chain reader.old reader.new writer.old writer.new (frame_text_of frame.new) image }
     ensures end { result ≡ Ok false → MeetsEnd reader.old reader.new × (writer.new ≡ writer.old) }
-    ensures fault { IfErr result (λ fault. FailsToPass images.old.chain fault reader.old writer.old writer.new) }
+    ensures fault { IfErr result (λ fault.
+        FailsToPass images.old.chain fault reader.old reader.new writer.old writer.new) }
+    ensures failed { IfErr result (λ fault. HasFailedAt fault writer.new) }
+    ensures reads { reader.new.failures ≡ filter_reads_told result reader.old.failures }
+    ensures writes { writer.new.failures ≡ filter_writes_told result writer.old.failures }
 {
-    match reader.read_frame(alloc, frame) {
-        Ok(true) => {}
-        Ok(false) => return Ok(false),
-        Err(fault) => return Err(FilterFault::Read(fault)),
+    if !reader.read_frame(alloc, frame)? {
+        return Ok(false);
     }
-    if images.make(alloc, frame).is_err() {
-        return Err(FilterFault::Ops(FilterError::NoMemory));
-    }
-    match writer.put(images.image()) {
-        Ok(()) => Ok(true),
-        Err(fault) => Err(FilterFault::Write(fault)),
-    }
+    images.make(alloc, frame)?;
+    writer.put(images.image())?;
+    Ok(true)
 }
 
 /// Reads frames to the end and writes their images. A frame and its pictures have the same memory for all of them.
-pub fn pass_frames<R: Read + Drop, W: Write>(
+pub fn pass_frames<R: Source + Drop, W: Sink>(
     alloc: Global,
     reader: &mut StreamReader<R>,
     writer: &mut StreamWriter<W>,
@@ -72,19 +68,20 @@ pub fn pass_frames<R: Read + Drop, W: Write>(
     requires none { writer.old.frames ≡ 0 }
     requires writing { writer.old.failed ≡ false }
     requires open { reader.old.phase ≡ Phase.Open }
-    ensures passed { IfOk result (λ n. PassesAll n images.old.chain reader.old writer.old writer.new) }
-    ensures fault { IfErr result (λ fault. Stops images.old.chain fault reader.old writer.old writer.new) }
+    ensures passed { IfOk result (λ n. PassesAll n images.old.chain reader.old reader.new writer.old writer.new) }
+    ensures fault { IfErr result (λ fault.
+        Stops images.old.chain fault reader.old reader.new writer.old writer.new) }
+    ensures failed { IfErr result (λ fault. HasFailedAt fault writer.new) }
+    ensures reads { reader.new.failures ≡ filter_reads_told result reader.old.failures }
+    ensures writes { writer.new.failures ≡ filter_writes_told result writer.old.failures }
 {
     for count in 0..MOST_FRAMES {
-        match pass_frame(alloc, reader, writer, frame, images) {
-            Ok(true) => {}
-            Ok(false) => return Ok(count),
-            Err(fault) => return Err(fault),
+        if !pass_frame(alloc, reader, writer, frame, images)? {
+            return Ok(count);
         }
     }
-    match reader.read_frame(alloc, frame) {
-        Ok(true) => Err(FilterFault::TooManyFrames),
-        Ok(false) => Ok(MOST_FRAMES),
-        Err(fault) => Err(FilterFault::Read(fault)),
+    if reader.read_frame(alloc, frame)? {
+        return Err(FilterFault::TooManyFrames);
     }
+    Ok(MOST_FRAMES)
 }

@@ -1,12 +1,17 @@
 // Writing all bytes, or telling how many went out.
 ghost use Rattle.std.specs.Prelude.{◌≡◌, ◌+◌, ◌-◌, ◌^◌, ◌<◌, ◌≤◌, [], ◌∷◌, ◌++◌, length, take};
-ghost use Rattle.y4m_stream.specs.Writes.{PutsText};
+ghost use Rattle.y4m_stream.specs.Failures.{failures_after};
+ghost use Rattle.y4m_stream.specs.Writer.{PutsText};
 
-use std::io::Write;
+use crate::device::Sink;
 
-/// Writes all of the bytes, or answers how many went out.
-pub fn put_all<W: Write>(writer: &mut W, bytes: &[u8]) -> Result<(), usize>
-    ensures { PutsText (W.contents writer.old) (W.contents writer.new) bytes.now result }
+/// Writes all of the bytes, or answers how many went out: fewer than all, from the front.
+///
+/// It stops at the first write that fails or takes no byte, an interrupted one too, and flushes nothing. No memory is
+/// taken.
+pub fn put_all<W: Sink>(writer: &mut W, bytes: &[u8]) -> Result<(), usize>
+    ensures text { PutsText (W.contents writer.old) (W.contents writer.new) bytes.now result }
+    ensures failures { W.failures writer.new ≡ failures_after result (W.failures writer.old) }
 {
     let mut written = 0;
     while written < bytes.len() {
@@ -30,9 +35,10 @@ fn with_line_feed(line: &[u8]) -> [u8; 1024]
 }
 
 /// Writes a line and its line feed, in one piece, or answers how many bytes went out.
-pub fn put_line<W: Write>(writer: &mut W, line: &[u8]) -> Result<(), usize>
+pub fn put_line<W: Sink>(writer: &mut W, line: &[u8]) -> Result<(), usize>
     requires { length line.now ≤ 1023 }
-    ensures { PutsText (W.contents writer.old) (W.contents writer.new) (line.now ++ 10 ∷ []) result }
+    ensures text { PutsText (W.contents writer.old) (W.contents writer.new) (line.now ++ 10 ∷ []) result }
+    ensures failures { W.failures writer.new ≡ failures_after result (W.failures writer.old) }
 {
     let text = with_line_feed(line);
     put_all(writer, &text[..line.len() + 1])
@@ -40,10 +46,11 @@ pub fn put_line<W: Write>(writer: &mut W, line: &[u8]) -> Result<(), usize>
 
 /// Writes a frame's line, a line feed and its data, or answers how many bytes went out.
 #[tactic(auto, using(crate::proofs::Puts::put_rules))]
-pub fn put_frame<W: Write>(writer: &mut W, line: &[u8], bytes: &[u8]) -> Result<(), usize>
+pub fn put_frame<W: Sink>(writer: &mut W, line: &[u8], bytes: &[u8]) -> Result<(), usize>
     requires line { length line.now ≤ 1023 }
     requires bytes { length bytes.now < 2 ^ 62 }
-    ensures { PutsText (W.contents writer.old) (W.contents writer.new) (line.now ++ 10 ∷ bytes.now) result }
+    ensures text { PutsText (W.contents writer.old) (W.contents writer.new) (line.now ++ 10 ∷ bytes.now) result }
+    ensures failures { W.failures writer.new ≡ failures_after result (W.failures writer.old) }
 {
     put_line(writer, line)?;
     match put_all(writer, bytes) {

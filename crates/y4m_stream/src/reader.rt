@@ -1,13 +1,19 @@
 // A reader of frames, which fails for good at its first fault.
-ghost use Rattle.std.specs.Prelude.{◌≡◌, ◌↔◌, [], ◌∷◌, ◌++◌, Ok, Err, None, true, false, IfOk, IfErr, IfSome, IfNone};
+ghost use Rattle.std.specs.Prelude.{◌≡◌, ◌≤◌, ◌∷◌, ◌++◌, [], ℕ, List, Option, length, take, IfOk, IfErr, IfSome, OnOk};
+ghost use Rattle.std.specs.Io.KnownBytes.{Consumes};
+ghost use Rattle.y4m_header.specs.FrameLine.{IsFrameLine};
+ghost use Rattle.y4m_header.specs.HeaderLine.{IsHeaderLine};
+ghost use Rattle.y4m_stream.specs.Front.{StandsAtHeader};
+ghost use Rattle.y4m_stream.specs.Inside.{BeginsFrame, rest_of};
+ghost use Rattle.y4m_stream.specs.Reader.{Answers, FailsToOpen, IsOfHeader, IsOpened, Opens, answer_into, answer_of, failures_told};
 
+use crate::device::Source;
 use crate::fault::ReadFault;
 use crate::frame_line::{find_frame_line, take_data};
 use crate::line::find_line;
-use crate::lookahead::Lookahead;
+use crate::lookahead::{LINE_LIMIT, Lookahead};
 use frame_view::{Frame, Geometry};
 use std::alloc::Global;
-use std::io::Read;
 use std::marker::Model;
 use y4m_header::{Header, HeaderError};
 
@@ -22,54 +28,105 @@ pub enum Phase {
     Failed,
 }
 
+/// Takes the header line and its line feed off the front.
+fn take_header<R: Source>(alloc: Global, input: &mut Lookahead<R>) -> Result<Header, ReadFault>
+    ensures header { IfOk result (λ header. IsHeaderLine header.line header.width header.height header.chroma) }
+    ensures taken { IfOk result (λ header. Consumes (rest_of input.old) (rest_of input.new) (header.line ++ 10 ∷ [])) }
+    ensures fault { IfErr result (λ fault. StandsAtHeader fault (rest_of input.old) input.new.left) }
+    ensures few { OnOk result (length input.new.held ≤ LINE_LIMIT) }
+    ensures told { input.new.failures ≡ failures_told result input.old.failures }
+{
+    let end = find_line(input)?;
+    let header = match Header::parse(alloc, &input.held()[..end]) {
+        Ok(header) => header,
+        Err(HeaderError::NoMemory) => return Err(ReadFault::NoMemory),
+        Err(error) => return Err(ReadFault::Header(error)),
+    };
+    input.consume(end + 1);
+    Ok(header)
+}
+
+/// Looks for the next frame, and answers the length of its line, without the line feed, or none at the end. The reader
+/// has then failed, until the frame is taken.
+fn begin_frame<R: Source>(
+    input: &mut Lookahead<R>,
+    phase: &mut Phase,
+) -> Result<Option<usize>, ReadFault>
+    ensures { BeginsFrame input.old input.new phase.old phase.new result }
+{
+    match *phase {
+        Phase::Failed => return Err(ReadFault::Failed),
+        Phase::Ended => return Ok(None),
+        Phase::Open => {}
+    }
+    *phase = Phase::Failed;
+    let end = find_frame_line(input)?;
+    if end.is_none() {
+        *phase = Phase::Ended;
+    }
+    Ok(end)
+}
+
 /// The frames of a stream, read one after another.
 ///
-/// It reads again only while it lacks bytes for what it is asked, and keeps what came beyond that for the next call.
-#[derive(Drop)]
-pub struct StreamReader<R: Read> {
-    reader: R,
-    pending: Lookahead,
+/// It reads again only while it lacks bytes for what it is asked, and keeps what came beyond that, at most 1,024 bytes,
+/// for the next call. No read that failed is tried again, an interrupted one neither: after its first fault every call
+/// answers `Failed`. The frames that were read before stay whole; `into_source` gives the source back.
+#[derive(Debug, Drop)]
+pub struct StreamReader<R: Source> {
+    input: Lookahead<R>,
     header: Header,
     phase: Phase,
 }
 
-impl<R: Read> Model for StreamReader<R> {
-    ghost use Rattle.std.specs.Io.KnownBytes.{prepend_known};
-    ghost use Rattle.y4m_stream.specs.Streams.{ReaderState};
+impl<R: Source> Model for StreamReader<R> {
+    ghost use Rattle.y4m_stream.specs.Inside.{state_of};
+    ghost use Rattle.y4m_stream.specs.Reader.{ReaderState};
 
     ghost Value = { ReaderState };
 
-    ghost view = { λ a. record { rest = prepend_known a.pending (R.remaining a.reader); header = a.header; phase = a.phase } };
+    ghost view = { λ a. state_of a.header a.phase a.input };
 }
 
-impl<R: Read + Drop> StreamReader<R> {
-    ghost use Rattle.std.specs.Io.KnownBytes.{Consumes};
-    ghost use Rattle.y4m_header.specs.HeaderLine.{IsHeaderLine};
-    ghost use Rattle.y4m_stream.specs.Faults.{StandsAtHeader};
-    ghost use Rattle.y4m_stream.specs.Reads.{TakesFrame, MeetsEnd, FailsAtFrame, IsOfHeader};
-    ghost use Rattle.y4m_stream.specs.Served.{frame_text_of};
-
-    /// Reads the header line and its line feed.
-    pub fn open(alloc: Global, mut reader: R) -> Result<StreamReader<R>, ReadFault>
-        ensures header { IfOk result (λ opened. IsHeaderLine opened.header.line opened.header.width opened.header.height opened.header.chroma) }
-        ensures taken { IfOk result (λ opened. Consumes (R.remaining reader) opened.rest (opened.header.line ++ 10 ∷ [])) }
-        ensures open { IfOk result (λ opened. opened.phase ≡ Phase.Open) }
-        ensures fault { IfErr result (λ fault. StandsAtHeader fault (R.remaining reader)) }
+impl<R: Source + Drop> StreamReader<R> {
+    /// Reads the header line and its line feed. Where that fails the source is given up.
+    ///
+    /// An input that ends before its first line feed is `Truncated`. `NoMemory` is answered where the header line came
+    /// whole and could not be kept.
+    pub fn open(alloc: Global, source: R) -> Result<StreamReader<R>, ReadFault>
+        // The last is the source as it was given up.
+        ensures { (last : R)
+            × Opens (R.remaining source) (R.failures source) (R.remaining last) (R.failures last) result }
     {
-        let mut pending = Lookahead::new();
-        let end = find_line(&mut reader, &mut pending)?;
-        let header = match Header::parse(alloc, &pending.as_slice()[..end]) {
-            Ok(header) => header,
-            Err(HeaderError::NoMemory) => return Err(ReadFault::NoMemory),
-            Err(error) => return Err(ReadFault::Header(error)),
-        };
-        pending.consume(end + 1);
-        Ok(StreamReader {
-            reader,
-            pending,
-            header,
-            phase: Phase::Open,
-        })
+        match StreamReader::open_or_return(alloc, source) {
+            Ok(opened) => Ok(opened),
+            Err((_, fault)) => Err(fault),
+        }
+    }
+
+    /// The same. Where that fails the source comes back, without the bytes that were read.
+    pub fn open_or_return(alloc: Global, source: R) -> Result<StreamReader<R>, (R, ReadFault)>
+        ensures opened { IfOk result (IsOpened (R.remaining source) (R.failures source)) }
+        ensures fault { IfErr result (λ failed. FailsToOpen (R.remaining source) (R.failures source)
+            (R.remaining failed.0) (R.failures failed.0) failed.1) }
+    {
+        let mut input = Lookahead::over(source);
+        match take_header(alloc, &mut input) {
+            Ok(header) => Ok(StreamReader {
+                input,
+                header,
+                phase: Phase::Open,
+            }),
+            Err(fault) => Err((input.into_source(), fault)),
+        }
+    }
+
+    /// Gives the source back, without the bytes that were read ahead.
+    pub fn into_source(self) -> R
+        ensures remaining { R.remaining result ≡ self.left }
+        ensures failures { R.failures result ≡ self.failures }
+    {
+        self.input.into_source()
     }
 
     /// The header that the stream began with.
@@ -80,80 +137,37 @@ impl<R: Read + Drop> StreamReader<R> {
     }
 
     /// Reads the next frame, or answers none at the end.
+    ///
+    /// An input that ends within a frame is `Truncated`. `NoMemory` is answered where the frame's line came whole and
+    /// there was no memory for the frame.
     pub fn next_frame(&mut self, alloc: Global) -> Result<Option<Frame>, ReadFault>
-        ensures header { self.new.header ≡ self.old.header }
-
-        // A frame is taken off the front.
-        ensures taken { IfOk result (λ next. IfSome next (λ frame.
-            TakesFrame self.old self.new (frame_text_of frame))) }
-        ensures geometry { IfOk result (λ next. IfSome next (λ frame.
-            IsOfHeader self.old.header frame.geometry)) }
-
-        // The end comes where nothing is left, and stays.
-        ensures end { IfOk result (λ next. IfNone next (MeetsEnd self.old self.new)) }
-        ensures still_ended { self.old.phase ≡ Phase.Ended → (result ≡ Ok None) × (self.new ≡ self.old) }
-
-        // A fault stands at the front, and after it the reader has failed.
-        ensures fault { IfErr result (FailsAtFrame self.old self.new) }
-        ensures failed { (result ≡ Err ReadFault.Failed) ↔ (self.old.phase ≡ Phase.Failed) }
-        ensures still_failed { self.old.phase ≡ Phase.Failed → self.new ≡ self.old }
+        ensures answer { Answers self.old self.new (answer_of result) }
+        ensures geometry { IfOk result (λ next. IfSome next (λ frame. IsOfHeader self.old.header frame.geometry)) }
     {
-        match self.phase {
-            Phase::Failed => return Err(ReadFault::Failed),
-            Phase::Ended => return Ok(None),
-            Phase::Open => {}
-        }
-        self.phase = Phase::Failed;
-        let Some(end) = find_frame_line(&mut self.reader, &mut self.pending)? else {
-            self.phase = Phase::Ended;
+        let Some(end) = begin_frame(&mut self.input, &mut self.phase)? else {
             return Ok(None);
         };
         let geometry = Geometry::of(&self.header);
-        let Ok(mut frame) = Frame::blank(alloc, geometry, &self.pending.as_slice()[..end]) else {
-            return Err(ReadFault::NoMemory);
-        };
-        take_data(&mut self.reader, &mut self.pending, end, &mut frame)?;
+        let mut frame = Frame::blank(alloc, geometry, &self.input.held()[..end])?;
+        take_data(&mut self.input, end, &mut frame)?;
         self.phase = Phase::Open;
         Ok(Some(frame))
     }
 
     /// Reads the next frame into the memory of this one, or answers `false` at the end.
     ///
-    /// After a fault, and at the end, the frame has its geometry still, and no line or samples to rely on.
+    /// Memory is taken only where the frame's line is another than this one's. After a fault, and at the end, the frame
+    /// has its geometry still, and no line or samples to rely on.
     pub fn read_frame(&mut self, alloc: Global, frame: &mut Frame) -> Result<bool, ReadFault>
         requires { IsOfHeader self.old.header frame.old.geometry }
+        ensures answer { Answers self.old self.new (answer_into frame.new result) }
         ensures geometry { frame.new.geometry ≡ frame.old.geometry }
-        ensures header { self.new.header ≡ self.old.header }
-
-        // A frame is taken off the front.
-        ensures taken { result ≡ Ok true → TakesFrame self.old self.new (frame_text_of frame.new) }
-
-        // The end comes where nothing is left, and stays.
-        ensures end { result ≡ Ok false → MeetsEnd self.old self.new }
-        ensures still_ended { self.old.phase ≡ Phase.Ended → (result ≡ Ok false) × (self.new ≡ self.old) }
-
-        // A fault stands at the front, and after it the reader has failed.
-        ensures fault { IfErr result (FailsAtFrame self.old self.new) }
-        ensures failed { (result ≡ Err ReadFault.Failed) ↔ (self.old.phase ≡ Phase.Failed) }
-        ensures still_failed { self.old.phase ≡ Phase.Failed → self.new ≡ self.old }
     {
-        match self.phase {
-            Phase::Failed => return Err(ReadFault::Failed),
-            Phase::Ended => return Ok(false),
-            Phase::Open => {}
-        }
-        self.phase = Phase::Failed;
-        let Some(end) = find_frame_line(&mut self.reader, &mut self.pending)? else {
-            self.phase = Phase::Ended;
+        let Some(end) = begin_frame(&mut self.input, &mut self.phase)? else {
             return Ok(false);
         };
-        if frame
-            .set_line(alloc, &self.pending.as_slice()[..end])
-            .is_err()
-        {
-            return Err(ReadFault::NoMemory);
-        }
-        take_data(&mut self.reader, &mut self.pending, end, frame)?;
+        frame.set_line(alloc, &self.input.held()[..end])?;
+        take_data(&mut self.input, end, frame)?;
         self.phase = Phase::Open;
         Ok(true)
     }

@@ -4,3 +4,4 @@ pub mod ScriptReport
 pub mod ScriptRun
 pub mod Writing
 pub mod ScriptReplay
+pub mod ScriptDevices

@@ -5,7 +5,7 @@ use filters::{FilterError, parse_ops};
 use row_bands::BandHeight;
 use std::alloc::Global;
 use std::io::{Read, Write};
-use y4m_stream::filter_stream;
+use y4m_stream::{OverRead, OverWrite, filter_stream};
 
 /// The luma rows of a band.
 fn band_height() -> BandHeight {
@@ -50,7 +50,13 @@ fn run_filter<R: Read + Drop, W: Write, E: Write>(
             return if error == FilterError::NoMemory { 1 } else { 2 };
         }
     };
-    let (_, result) = filter_stream(alloc, input, output, ops, band_height());
+    let (_, result) = filter_stream(
+        alloc,
+        OverRead::new(input),
+        OverWrite::new(output),
+        ops,
+        band_height(),
+    );
     match result {
         Ok(_) => 0,
         Err(fault) => {
@@ -67,7 +73,7 @@ fn run_replay<R: Read + Drop, W: Write, E: Write>(
     output: &mut W,
     errors: &mut E,
 ) -> u8 {
-    let (_, result) = replay(alloc, input, output);
+    let (_, result) = replay(alloc, OverRead::new(input), OverWrite::new(output));
     match result {
         Ok(true) => 0,
         Ok(false) => 1,

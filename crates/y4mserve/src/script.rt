@@ -12,9 +12,10 @@
 //!
 //! Each prints `budget C deadline D`, as the account then stands. The first fault prints `line N: WORD`, and nothing
 //! after it is run.
-ghost use Rattle.std.specs.Prelude.{◌≡◌, IfErr, IfOk, IfSome, IsErrOf};
+ghost use Rattle.std.specs.Prelude.{◌≡◌, IfErr, IfOk, IfSome, IsErrOf, OnOk, true};
 ghost use Rattle.std.specs.Io.KnownBytes.{Keeps};
 ghost use Rattle.std.specs.Result.{result_err};
+ghost use Rattle.y4mserve.specs.ScriptDevices.{reads_told, writes_told};
 ghost use Rattle.y4mserve.specs.ScriptReplay.{IsReplay, answer_of};
 ghost use Rattle.y4mserve.specs.ScriptRun.{Reports};
 
@@ -23,17 +24,17 @@ use self::fault::{ScriptFault, ScriptStop};
 use self::input::read_front;
 use self::output::write_report;
 use std::alloc::Global;
-use std::io::{Read, Write};
+use y4m_stream::{Sink, Source};
 
 mod account;
 mod command;
 mod fault;
 mod input;
+mod lines;
 mod output;
 mod print;
 #[cfg(test)]
 mod tests;
-mod words;
 
 pub use self::fault::ReplayFault;
 
@@ -44,7 +45,7 @@ pub const SCRIPT_LIMIT: usize = 1_048_576;
 /// has a fault, whose line is then the last one.
 ///
 /// A script that is too long is not read past the byte that makes it so. `input` is dropped.
-pub fn replay<R: Read + Drop, W: Write>(
+pub fn replay<R: Source + Drop, W: Sink>(
     alloc: Global,
     mut input: R,
     mut output: W,
@@ -52,13 +53,18 @@ pub fn replay<R: Read + Drop, W: Write>(
     ensures replay { IfSome (R.remaining input)
         (λ script. IsReplay script (W.contents output) (W.contents result.0) result.1) }
     ensures unread { IsErrOf result.1 ReplayFault.Read → Keeps (W.contents output) (W.contents result.0) }
+
+    // As the source was when it was given up.
+    ensures reads { (last : R) × (R.failures last ≡ reads_told result.1 (R.failures input)) }
+    ensures writes { W.failures result.0 ≡ writes_told result.1 (W.failures output) }
+    ensures flushed { OnOk result.1 (W.is_flushed result.0 ≡ true) }
 {
     let answer = replay_through(alloc, &mut input, &mut output);
     (output, answer)
 }
 
 /// The same, with its input and output lent.
-fn replay_through<R: Read, W: Write>(
+fn replay_through<R: Source, W: Sink>(
     alloc: Global,
     input: &mut R,
     output: &mut W,
@@ -66,6 +72,10 @@ fn replay_through<R: Read, W: Write>(
     ensures replay { IfSome (R.remaining input.old)
         (λ script. IsReplay script (W.contents output.old) (W.contents output.new) result) }
     ensures unread { IsErrOf result ReplayFault.Read → Keeps (W.contents output.old) (W.contents output.new) }
+
+    ensures reads { R.failures input.new ≡ reads_told result (R.failures input.old) }
+    ensures writes { W.failures output.new ≡ writes_told result (W.failures output.old) }
+    ensures flushed { OnOk result (W.is_flushed output.new ≡ true) }
 {
     let mut printed = Vec::new(alloc);
     let stop = run_input(alloc, input, &mut printed)?;
@@ -85,7 +95,7 @@ fn answer_of(stop: Option<ScriptStop>) -> Result<bool, ReplayFault>
 }
 
 /// Reads a script and runs it. A script that couldn't be kept stops at line 0.
-fn run_input<R: Read>(
+fn run_input<R: Source>(
     alloc: Global,
     input: &mut R,
     printed: &mut Vec<u8>,
@@ -93,6 +103,7 @@ fn run_input<R: Read>(
     ensures reports { IfOk result
         (λ stop. IfSome (R.remaining input.old) (Reports stop printed.old.items printed.new.items)) }
     ensures fault { IfErr result (λ fault. fault ≡ ReplayFault.Read) }
+    ensures failures { R.failures input.new ≡ reads_told result (R.failures input.old) }
 {
     match read_front(alloc, input, SCRIPT_LIMIT + 1) {
         Ok(script) => Ok(run_script(&script, printed).err()),

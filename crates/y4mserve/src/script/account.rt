@@ -8,8 +8,8 @@ ghost use Rattle.y4mserve.specs.ScriptText.{is_silent};
 
 use super::command::{AccountCommand, parse_command};
 use super::fault::{ScriptFault, ScriptStop};
+use super::lines::{first_line, is_silent};
 use super::print::push_balance;
-use super::words::{first_line, is_silent};
 use cbs_account::Account;
 
 /// Runs the lines of an account script in order, up to the first fault, and appends what each command prints. The line

@@ -1,9 +1,12 @@
 //! The commands of an account script.
 ghost use Rattle.std.specs.Prelude.{◌≡◌, IfSome};
 ghost use Rattle.y4mserve.specs.ScriptCommand.{IsOnClock, command_of, command_of_one, command_of_two};
-ghost use Rattle.y4mserve.specs.ScriptCommand.{idle_at};
+ghost use Rattle.y4mserve.specs.ScriptCommand.{idle_at, word_number};
 
-use super::words::{cut, parse_number};
+use y4m_header::text::{cut, decimal_number};
+
+/// The most digits of a number: each fits 64 bits.
+const MOST_DIGITS: usize = 19;
 
 /// The latest moment that a clock shows.
 const CLOCK_END: u64 = 1 << 60;
@@ -76,4 +79,11 @@ fn parse_two(name: &[u8], q: &[u8], t: &[u8]) -> Option<AccountCommand>
     } else {
         None
     }
+}
+
+/// The number that a word writes: 1 to 19 digits, leading zeros among them.
+fn parse_number(word: &[u8]) -> Option<u64>
+    ensures { result ≡ word_number word.now }
+{
+    decimal_number(MOST_DIGITS, word)
 }

@@ -1,16 +1,17 @@
 //! Reading a script.
 ghost use Rattle.std.specs.Prelude.{◌≡◌, ◌≢◌, ◌≤◌, ◌<◌, IfErr, IfOk, vec_len};
 ghost use Rattle.std.specs.Io.KnownBytes.{Consumes, IsAtEnd};
+ghost use Rattle.y4mserve.specs.ScriptDevices.{reads_told};
 
 use super::ReplayFault;
 use std::alloc::Global;
-use std::io::Read;
+use y4m_stream::Source;
 
 /// The bytes of one read.
 const CHUNK: usize = 4096;
 
 /// Reads the input's first bytes: `limit` of them, or all where there are fewer. No byte after them is asked for.
-pub fn read_front<R: Read>(
+pub fn read_front<R: Source>(
     alloc: Global,
     input: &mut R,
     limit: usize,
@@ -20,6 +21,7 @@ pub fn read_front<R: Read>(
     ensures bound { IfOk result (λ bytes. vec_len bytes ≤ limit) }
     ensures whole { IfOk result (λ bytes. vec_len bytes < limit → IsAtEnd (R.remaining input.new)) }
     ensures no_write { IfErr result (λ fault. fault ≢ ReplayFault.Write) }
+    ensures failures { R.failures input.new ≡ reads_told result (R.failures input.old) }
 {
     let mut bytes = Vec::new(alloc);
     let mut chunk = [0; CHUNK];

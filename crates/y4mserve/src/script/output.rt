@@ -1,17 +1,17 @@
 //! Writing what a script prints.
-ghost use Rattle.std.specs.Prelude.{◌≡◌, ◌++◌, [], ◌∷◌, IfErr, codes, decimal};
-ghost use Rattle.std.specs.Io.KnownBytes.{Appends};
+ghost use Rattle.std.specs.Prelude.{◌≡◌, ◌++◌, IfErr, OnOk, true};
 ghost use Rattle.std.specs.List.{flat_map};
-ghost use Rattle.y4mserve.specs.ScriptReport.{line_text, stop_line, stop_text};
-ghost use Rattle.y4mserve.specs.Writing.{AppendsFront, Writes};
+ghost use Rattle.y4m_stream.specs.Failures.{failures_after};
+ghost use Rattle.y4mserve.specs.ScriptReport.{stop_text};
+ghost use Rattle.y4mserve.specs.Writing.{Writes};
 
 use super::ReplayFault;
 use super::fault::ScriptStop;
 use itoa::Buffer;
-use std::io::Write;
+use y4m_stream::{Sink, put_all};
 
 /// Writes a report: what was printed, and then the line of the stop, if there is one. Flushes.
-pub fn write_report<W: Write>(
+pub fn write_report<W: Sink>(
     writer: &mut W,
     printed: &[u8],
     stop: Option<ScriptStop>,
@@ -19,17 +19,20 @@ pub fn write_report<W: Write>(
     ensures text { Writes (W.contents writer.old) (W.contents writer.new)
         (printed.now ++ stop_text stop) result }
     ensures fault { IfErr result (λ fault. fault ≡ ReplayFault.Write) }
+    ensures failures { W.failures writer.new ≡ failures_after result (W.failures writer.old) }
+    ensures flushed { OnOk result (W.is_flushed writer.new ≡ true) }
 {
-    put_all(writer, printed)?;
+    put(writer, printed)?;
     put_stop(writer, stop)?;
     writer.flush().map_err(|_| ReplayFault::Write)
 }
 
 /// Writes `line N: WORD` and a line feed, or nothing where there is no stop. It takes no memory, so a refused growth can
 /// be told.
-fn put_stop<W: Write>(writer: &mut W, stop: Option<ScriptStop>) -> Result<(), ReplayFault>
+fn put_stop<W: Sink>(writer: &mut W, stop: Option<ScriptStop>) -> Result<(), ReplayFault>
     ensures text { Writes (W.contents writer.old) (W.contents writer.new) (stop_text stop) result }
     ensures fault { IfErr result (λ fault. fault ≡ ReplayFault.Write) }
+    ensures failures { W.failures writer.new ≡ failures_after result (W.failures writer.old) }
 {
     let Some(stop) = stop else {
         return Ok(());
@@ -46,28 +49,23 @@ fn put_stop<W: Write>(writer: &mut W, stop: Option<ScriptStop>) -> Result<(), Re
 }
 
 /// Writes pieces of a text, one after another.
-fn put_pieces<W: Write>(writer: &mut W, pieces: &[&[u8]]) -> Result<(), ReplayFault>
+fn put_pieces<W: Sink>(writer: &mut W, pieces: &[&[u8]]) -> Result<(), ReplayFault>
     ensures text { Writes (W.contents writer.old) (W.contents writer.new)
         (flat_map (λ piece. piece.now) pieces.now) result }
     ensures fault { IfErr result (λ fault. fault ≡ ReplayFault.Write) }
+    ensures failures { W.failures writer.new ≡ failures_after result (W.failures writer.old) }
 {
     for piece in pieces {
-        put_all(writer, piece)?;
+        put(writer, piece)?;
     }
     Ok(())
 }
 
 /// Writes all of the bytes. Where a write fails or takes no byte, the ones before went out.
-fn put_all<W: Write>(writer: &mut W, bytes: &[u8]) -> Result<(), ReplayFault>
+fn put<W: Sink>(writer: &mut W, bytes: &[u8]) -> Result<(), ReplayFault>
     ensures text { Writes (W.contents writer.old) (W.contents writer.new) bytes.now result }
     ensures fault { IfErr result (λ fault. fault ≡ ReplayFault.Write) }
+    ensures failures { W.failures writer.new ≡ failures_after result (W.failures writer.old) }
 {
-    let mut written = 0;
-    while written < bytes.len() {
-        match writer.write(&bytes[written..]) {
-            Ok(0) | Err(_) => return Err(ReplayFault::Write),
-            Ok(count) => written += count,
-        }
-    }
-    Ok(())
+    put_all(writer, bytes).map_err(|_| ReplayFault::Write)
 }

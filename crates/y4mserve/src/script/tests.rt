@@ -1,9 +1,21 @@
-use super::*;
-use std::alloc::AllocError;
+use super::{ReplayFault, replay};
+use std::alloc::{AllocError, Global};
 use std::io;
+use std::io::{Read, Write};
 use std::ops::Range;
 use std::process::Abort;
 use std::test::Fail;
+use y4m_stream::{OverRead, OverWrite};
+
+/// Replays what a reader gives into a writer.
+fn replay_into<R: Read + Drop, W: Write>(
+    alloc: Global,
+    input: R,
+    output: W,
+) -> (W, Result<bool, ReplayFault>) {
+    let (output, outcome) = replay(alloc, OverRead::new(input), OverWrite::new(output));
+    (output.into_inner(), outcome)
+}
 
 /// What was written into a room of which so much is left.
 fn written(room: &[u8], left: usize) -> &[u8] {
@@ -24,7 +36,7 @@ fn expect_replay<R: Read + Drop>(
     whole: bool,
 ) {
     let mut room = [0; 256];
-    let (rest, outcome) = replay(alloc, script, room.as_mut_slice());
+    let (rest, outcome) = replay_into(alloc, script, room.as_mut_slice());
     let left = rest.len();
     assert_eq!(rt; outcome, Ok(whole));
     assert_eq!(rt; written(&room, left), lines.as_bytes());
@@ -257,7 +269,7 @@ fn a_failed_read_prints_nothing(rt: HostRuntime) {
         rest: b"account 2 10\ncharge 1\n",
     };
     let mut room = [0; 64];
-    let (rest, outcome) = replay(rt.alloc(), input, room.as_mut_slice());
+    let (rest, outcome) = replay_into(rt.alloc(), input, room.as_mut_slice());
     assert_eq!(rt; outcome, Err(ReplayFault::Read));
     assert_eq!(rt; rest.len(), 64);
 }
@@ -268,7 +280,7 @@ const THREE_LINES: &[u8] = b"account 2 10\ncharge 1\nstart\n";
 /// Replays the script into outputs that take so many bytes, and then fail or take none.
 fn cut_outputs_are_told(rt: &impl Abort, alloc: Global, rooms: Range<usize>, fails: bool) {
     for room in rooms {
-        let (_, outcome) = replay(alloc, THREE_LINES, Narrow { room, fails });
+        let (_, outcome) = replay_into(alloc, THREE_LINES, Narrow { room, fails });
         assert_eq!(rt; outcome, Err(ReplayFault::Write));
     }
 }
@@ -309,9 +321,9 @@ fn a_failed_flush_is_told(rt: HostRuntime) {
         room: 56,
         fails: true,
     };
-    let (_, outcome) = replay(rt.alloc(), THREE_LINES, room);
+    let (_, outcome) = replay_into(rt.alloc(), THREE_LINES, room);
     assert_eq!(rt; outcome, Ok(false));
-    let (_, outcome) = replay(rt.alloc(), THREE_LINES, Unflushed);
+    let (_, outcome) = replay_into(rt.alloc(), THREE_LINES, Unflushed);
     assert_eq!(rt; outcome, Err(ReplayFault::Write));
 }
 
@@ -355,7 +367,7 @@ fn a_long_script_of_great_charges_is_run_to_its_end(rt: HostRuntime) -> Result<(
     }
     assert_eq!(rt; script.len(), 1_048_575);
     let room = Vec::with_capacity(rt.alloc(), 4_000_000)?;
-    let (printed, outcome) = replay(rt.alloc(), script.as_slice(), room);
+    let (printed, outcome) = replay_into(rt.alloc(), script.as_slice(), room);
     assert_eq!(rt; outcome, Ok(true));
     // Each charge of 2^40 units puts the deadline off by 2^40.
     let end = b"\nbudget 1048576 deadline 54899715086483456\n".as_slice();
@@ -367,7 +379,7 @@ fn a_long_script_of_great_charges_is_run_to_its_end(rt: HostRuntime) -> Result<(
 fn a_refused_growth_is_told_in_the_last_line(rt: HostRuntime) {
     let mut room = [0; 64];
     let script = b"account 2 10\ncharge 1\n".as_slice();
-    let (rest, outcome) = replay(rt.alloc(), script, room.as_mut_slice());
+    let (rest, outcome) = replay_into(rt.alloc(), script, room.as_mut_slice());
     let left = rest.len();
     let printed = &room[..64 - left.min(64)];
     match outcome {

@@ -1,9 +1,9 @@
-use Rattle.std.proofs.Common.{rules, arith, [], ◌∷◌, ◌++◌, length-append, refl}
+use Rattle.std.proofs.Common.{◌≡◌, rules, arith, [], ◌∷◌, ◌++◌, length-append, refl}
+use Rattle.std.proofs.lemmas.Result.{err_from_is_err_and}
 use Rattle.y4m_header.specs.StreamText.{FrameText}
-use Rattle.y4m_stream.specs.Passes.{PassesFrame}
-use Rattle.y4m_stream.specs.Reads.{TakesFrame}
-use Rattle.y4m_stream.specs.Served.{frame_text_of}
-use Rattle.y4m_stream.proofs.MoreFrames.{PassesFrames-none, PassesFrames-push, Stops-later, Stops-limit}
+use Rattle.y4m_stream.specs.Inside.{PassesFrame}
+use Rattle.y4m_stream.specs.Reader.{TakesFrame, MeetsEnd, frame_text_of}
+use Rattle.y4m_stream.proofs.MoreFrames.{PassesFrames-none, PassesFrames-push, PassesAll-end, Stops-later, Stops-limit, Stops-read}
 use Rattle.y4m_stream.proofs.passing.pass_frames.Goals as goal
 
 pub loop-count-init : goal.loop-count-init
@@ -17,6 +17,8 @@ loop-count-init g c = record {
   sizes = search rules;
   size = search rules;
   same = search rules;
+  reads = search rules;
+  writes = search rules;
   passed = ([], [], refl, PassesFrames-none _ _ _);
 }
 
@@ -38,21 +40,43 @@ loop-count-preserved g c =
       sizes = search rules;
       size = search rules;
       same = search rules;
+      reads = search rules;
+      writes = search rules;
       passed = (
         so_far.passed.0 ++ frame ∷ [],
         so_far.passed.1 ++ image ∷ [],
         omega (arith, length-append so_far.passed.0 (frame ∷ []), so_far.passed.2),
-        PassesFrames-push _ _ _ _ _ _ _ _ _ _ _ so_far.same_header so_far.passed.3 (rw so_far.same at one),
+        PassesFrames-push _ _ _ _ _ _ _ so_far.same_header so_far.passed.3 _ _ _ _ (rw so_far.same at one),
       );
     }
 
-pub returns-in-Err-clause-fault : goal.returns-in-Err-clause-fault
-returns-in-Err-clause-fault g c =
+pub returns-in_err-pass_frame-clause-fault : goal.returns-in_err-pass_frame-clause-fault
+returns-in_err-pass_frame-clause-fault g c =
     let so_far = c.loop-count.invariant in
-    Stops-later _ _ _ _ _ _ _ _ _ so_far.same_header (omega (arith, so_far.passed.2)) so_far.passed.3 (rw so_far.same at c.in-Err.ensures.fault)
+    let passed = err_from_is_err_and c.from_residual.result c.from_residual.ensures.1 in
+    rw (passed.1, passed.2) (Stops-later _ _ _ _ _ _ _ so_far.same_header so_far.passed.3 _ _ _ (omega (arith, so_far.passed.2)) (rw so_far.same at c.in_err-pass_frame.ensures.fault))
 
-pub returns-in-Ok-true-read_frame-clause-fault : goal.returns-in-Ok-true-read_frame-clause-fault
-returns-in-Ok-true-read_frame-clause-fault g c =
+pub returns-then-not-branch-clause-passed : goal.returns-then-not-branch-clause-passed
+returns-then-not-branch-clause-passed g c =
+    let so_far = c.loop-count.invariant in
+    let met : MeetsEnd c.loop-count.reader c.pass_frame.new.reader × (c.pass_frame.new.writer ≡ c.loop-count.writer) = search rules in
+    rw met.1 (PassesAll-end _ _ _ _ _ _ _ so_far.same_header so_far.passed.3 _ _ so_far.passed.2 (omega arith) so_far.open_writer met.0)
+
+pub returns-in_err-read_frame-clause-fault : goal.returns-in_err-read_frame-clause-fault
+returns-in_err-read_frame-clause-fault g c =
+    let so_far = c.loop-count.invariant in
+    let passed = err_from_is_err_and c.from_residual-in_err-read_frame.result c.from_residual-in_err-read_frame.ensures.1 in
+    rw (passed.1, passed.2)
+    (Stops-read _ _ _ _ _ _ _ so_far.same_header so_far.passed.3 _ _ (omega (arith, so_far.passed.2)) (c.in_err-read_frame.ensures.answer.is_open so_far.open_reader))
+
+pub returns-then-branch-clause-fault : goal.returns-then-branch-clause-fault
+returns-then-branch-clause-fault g c =
     let so_far = c.loop-count.invariant in
     let one : TakesFrame c.loop-count.reader c.read_frame.new.self (frame_text_of c.read_frame.new.frame) = search rules in
-    Stops-limit _ _ _ _ _ _ _ _ _ so_far.same_header (omega (arith, so_far.passed.2)) so_far.passed.3 one
+    Stops-limit _ _ _ _ _ _ _ so_far.same_header so_far.passed.3 _ _ (omega (arith, so_far.passed.2)) one
+
+pub returns-clause-passed : goal.returns-clause-passed
+returns-clause-passed g c =
+    let so_far = c.loop-count.invariant in
+    let met : MeetsEnd c.loop-count.reader c.read_frame.new.self = search rules in
+    PassesAll-end _ _ _ _ _ _ _ so_far.same_header so_far.passed.3 _ _ (omega (arith, so_far.passed.2)) (omega arith) so_far.open_writer met

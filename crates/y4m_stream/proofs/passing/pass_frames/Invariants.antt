@@ -1,10 +1,9 @@
 use Rattle.std.proofs.Common.{◌≡◌, List, length, false}
 use Rattle.y4m_header.specs.StreamText.{FrameText}
 use Rattle.y4m_stream.specs.declared.reader.Phase.TheVariants.{Open}
-use Rattle.y4m_stream.specs.Passes.{PassesFrames}
-use Rattle.y4m_stream.specs.Reads.{IsOfHeader}
-use Rattle.y4m_stream.specs.Writes.{IsWriterFor}
-use Rattle.y4m_stream.specs.Images.{AreOfSizes}
+use Rattle.y4m_stream.specs.Inside.{AreOfSizes, IsWriterFor}
+use Rattle.y4m_stream.specs.Reader.{IsOfHeader}
+use Rattle.y4m_stream.proofs.MoreFrames.{PassesFrames}
 use Rattle.y4m_stream.proofs.passing.pass_frames.Given as goal
 
 abbrev pub invariant-loop-count : goal.invariant-loop-count
@@ -18,6 +17,8 @@ invariant-loop-count g l = record {
   sizes : AreOfSizes l.images.chain l.images.canvases.items;
   size : IsWriterFor l.images.chain l.writer;
   same : l.images.chain ≡ l.fn.images.chain;
+  reads : l.reader.failures ≡ l.fn.reader.failures;
+  writes : l.writer.failures ≡ l.fn.writer.failures;
   passed : (frames images : List FrameText) × (length frames ≡ l.count)
       × PassesFrames l.fn.images.chain l.fn.reader l.reader l.fn.writer l.writer frames images;
 }

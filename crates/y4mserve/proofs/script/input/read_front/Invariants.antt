@@ -1,11 +1,12 @@
-use Rattle.std.proofs.Common.{◌-◌, ◌≤◌, vec_len}
+use Rattle.std.proofs.Common.{◌≡◌, ◌-◌, ◌≤◌, vec_len}
 use Rattle.std.specs.Io.KnownBytes.{Consumes}
 use Rattle.y4mserve.proofs.script.input.read_front.Given as goal
 
 abbrev pub invariant-loop-chunk : goal.invariant-loop-chunk
 invariant-loop-chunk g l = record {
   within : vec_len l.bytes ≤ l.limit;
-  read : Consumes (g.R.Read.remaining l.fn.input) (g.R.Read.remaining l.input) l.bytes.items;
+  read : Consumes (g.R.Source.remaining l.fn.input) (g.R.Source.remaining l.input) l.bytes.items;
+  failures : g.R.Source.failures l.input ≡ g.R.Source.failures l.fn.input;
 }
 
 abbrev pub decreases-loop-chunk : goal.decreases-loop-chunk

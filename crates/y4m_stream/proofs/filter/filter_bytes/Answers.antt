@@ -1,0 +1,5 @@
+use Rattle.y4m_stream.proofs.Told.{no_device}
+use Rattle.y4m_stream.proofs.filter.filter_bytes.Goals as goal
+
+pub returns-clause-no_device : goal.returns-clause-no_device
+returns-clause-no_device g c = no_device c.filter_stream.result.1 c.filter_stream.ensures.answer.1

@@ -1,0 +1,18 @@
+-- How the calls on a device are counted that failed.
+use Rattle.std.specs.Prelude.{ℕ, zero, suc, ◌+◌, ◌-◌, ◌^◌, List, [], ◌∷◌, min, Result, Ok, Err}
+
+-- one failure more: a number of 64 bits, which stays at its last value
+abbrev pub one_more : ℕ → ℕ
+one_more n = min (n + 1) (2 ^ 64 - 1)
+
+-- one more where the call answered an error
+abbrev pub failures_after : {T E : Type 0} → Result T E → ℕ → ℕ
+failures_after (Ok x) n = n
+failures_after (Err e) n = one_more n
+
+-- one more where the write answered an error, or took no byte of some
+abbrev pub failures_after_write : {E : Type 0} → Result ℕ E → List ℕ → ℕ → ℕ
+failures_after_write (Ok zero) [] n = n
+failures_after_write (Ok zero) (byte ∷ bytes) n = one_more n
+failures_after_write (Ok (suc taken)) bytes n = n
+failures_after_write (Err e) bytes n = one_more n

@@ -1,0 +1,237 @@
+-- What contracts inside the crate speak of.
+use Rattle.std.specs.Prelude.{◌≡◌, ℕ, ◌+◌, ◌-◌, ◌<◌, ◌≤◌, ◌⊎◌, ⊤, List, ◌∷◌, ◌++◌, length, take, drop, slice_index_or, Option, Some, None, IfSome, unwrap_or, All, true, false, Result, Ok, Err}
+use Rattle.std.specs.Io.KnownBytes.{Appends, Consumes, IsAtEnd, Keeps, prepend_known}
+use Rattle.frame_view.specs.declared.frame.Frame.{Frame}
+use Rattle.row_bands.specs.declared.band_height.BandHeight.{BandHeight}
+use Rattle.row_bands.specs.declared.canvas.Canvas.{Canvas}
+use Rattle.row_bands.specs.Canvas.{frame_of, height_of}
+use Rattle.filters.specs.declared.error.FilterError.TheVariants.{NoMemory as NoFilterMemory}
+use Rattle.filters.specs.declared.op.Op.{Op}
+use Rattle.filters.specs.Chain.{ChainValue, picture_of, picture_at, last_picture}
+use Rattle.filters.specs.ChainImage.{IsChainImage, value_of}
+use Rattle.filters.specs.Steps.{IsChain}
+use Rattle.y4m_header.specs.Header.{HeaderValue}
+use Rattle.y4m_header.specs.FrameLine.{IsFrameLine}
+use Rattle.y4m_header.specs.Line.{IsLine}
+use Rattle.y4m_header.specs.StreamText.{FrameText, IsFrameOf, frames_text, text_of}
+use Rattle.y4m_stream.specs.declared.fault.ReadFault.{ReadFault}
+use Rattle.y4m_stream.specs.declared.fault.ReadFault.TheVariants.{Device, LineTooLong, Header, NotFrame, Truncated, NoMemory, Failed}
+use Rattle.y4m_stream.specs.declared.reader.Phase.{Phase}
+use Rattle.y4m_stream.specs.declared.reader.Phase.TheVariants.{Open, Failed as HasFailed}
+use Rattle.y4m_stream.specs.declared.fault.WriteFault.{WriteFault}
+use Rattle.y4m_stream.specs.declared.fault.WriteFault.TheVariants.{Device as NotWritten}
+use Rattle.y4m_stream.specs.declared.fault.FilterFault.{FilterFault}
+use Rattle.y4m_stream.specs.declared.fault.FilterFault.TheVariants.{Read, Ops, Write, TooManyFrames}
+use Rattle.y4m_stream.specs.declared.filter.Filter.{Filter}
+use Rattle.y4m_stream.specs.Failures.{one_more}
+use Rattle.y4m_stream.specs.Front.{IsCutLine, IsLongLine, HasOtherLine, HasGiven, StandsAtFrame}
+use Rattle.y4m_stream.specs.Reader.{ReaderState, IsOfHeader, TakesFrame, Answers, data_len_of}
+use Rattle.y4m_stream.specs.Writer.{WriterState, CutsShort, PutsFrame, most_frames, write_failures_at}
+use Rattle.y4m_stream.specs.Served.{IsAskedFor, IsImageText, AreImages, served_header}
+use Rattle.y4m_stream.specs.Filtered.{Progress, HasNext, StopsAt}
+
+-- the bytes that were read from a source and not yet taken, what it has left, and how many of its reads failed
+pub record LookaheadState : Type 0 where
+  pub held : List ℕ
+  pub left : Option (List ℕ)
+  pub failures : ℕ
+
+-- all that is to be taken
+abbrev pub rest_of : LookaheadState → Option (List ℕ)
+rest_of ahead = prepend_known ahead.held ahead.left
+
+-- the first n bytes are a line, and a line feed follows them
+pub record BeginsWithLine (bytes : List ℕ) (n : ℕ) : Type 0 where
+  pub within : n < length bytes
+  pub is_line : IsLine (take n bytes)
+  pub feed : bytes ≡ take n bytes ++ 10 ∷ drop (n + 1) bytes
+
+-- no line stands at the front, for this reason
+abbrev pub LacksLine : ReadFault → Option (List ℕ) → Option (List ℕ) → Type 0
+LacksLine Device rest left = HasGiven rest left IsCutLine
+LacksLine LineTooLong rest left = IfSome rest IsLongLine
+LacksLine (Header e) rest left = ⊥
+LacksLine NotFrame rest left = ⊥
+LacksLine Truncated rest left = IfSome rest IsCutLine
+LacksLine NoMemory rest left = ⊥
+LacksLine Failed rest left = ⊥
+
+-- something is left, and no frame line stands at the front, for this reason
+abbrev pub LacksFrameLine : ReadFault → Option (List ℕ) → Option (List ℕ) → Type 0
+LacksFrameLine Device rest left = HasGiven rest left IsCutLine
+LacksFrameLine LineTooLong rest left = IfSome rest IsLongLine
+LacksFrameLine (Header e) rest left = ⊥
+LacksFrameLine NotFrame rest left = IfSome rest HasOtherLine
+LacksFrameLine Truncated rest left = IfSome rest (λ bytes. (0 < length bytes) × IsCutLine bytes)
+LacksFrameLine NoMemory rest left = ⊥
+LacksFrameLine Failed rest left = ⊥
+
+-- fewer than this many bytes are left, or came before a read failed
+abbrev pub LacksBytes : ℕ → ReadFault → Option (List ℕ) → Option (List ℕ) → Type 0
+LacksBytes len Device rest left = HasGiven rest left (λ bytes. length bytes < len)
+LacksBytes len LineTooLong rest left = ⊥
+LacksBytes len (Header e) rest left = ⊥
+LacksBytes len NotFrame rest left = ⊥
+LacksBytes len Truncated rest left = IfSome rest (λ bytes. length bytes < len)
+LacksBytes len NoMemory rest left = ⊥
+LacksBytes len Failed rest left = ⊥
+
+-- what callers see of a reader with this header, in this phase
+abbrev pub state_of : HeaderValue → Phase → LookaheadState → ReaderState
+state_of header phase ahead = record {
+  rest = rest_of ahead;
+  left = ahead.left;
+  header = header;
+  phase = phase;
+  failures = ahead.failures;
+}
+
+-- a reader that was open holds a frame line of n bytes, whole at the front, and has failed until it has taken the frame
+pub record FindsFrame (old new : LookaheadState) (phase phase' : Phase) (n : ℕ) : Type 0 where
+  pub was_open : phase ≡ Open
+  pub until : phase' ≡ HasFailed
+  pub begins : BeginsWithLine new.held n
+  pub is_frame_line : IsFrameLine (take n new.held)
+  pub kept : Keeps (rest_of old) (rest_of new)
+  pub no_failure : new.failures ≡ old.failures
+
+-- a frame line is found, or what is answered in place of a frame
+abbrev pub BeginsFrame : LookaheadState → LookaheadState → Phase → Phase → Result (Option ℕ) ReadFault → Type 0
+BeginsFrame old new phase phase' (Ok (Some n)) = FindsFrame old new phase phase' n
+BeginsFrame old new phase phase' (Ok None) =
+    (header : HeaderValue) → Answers (state_of header phase old) (state_of header phase' new) (Ok None)
+BeginsFrame old new phase phase' (Err fault) =
+    (header : HeaderValue) → Answers (state_of header phase old) (state_of header phase' new) (Err fault)
+
+-- there is a canvas for the output of each operation, in bands of the chain's height
+pub record AreOfSizes (chain : ChainValue) (canvases : List Canvas) : Type 0 where
+  pub count : length canvases ≡ length chain.ops
+  pub each : (i : ℕ) (d : Canvas) → i < length chain.ops
+      → picture_of (frame_of (slice_index_or canvases i d)).geometry ≡ picture_at chain (i + 1)
+  pub heights : (i : ℕ) (d : Canvas) → i < length chain.ops
+      → height_of (slice_index_or canvases i d) ≡ chain.band_height.rows
+
+-- the frame that the last canvas holds
+abbrev pub IsLast : ChainValue → List Canvas → Frame → Type 0
+IsLast chain canvases frame = (d : Canvas) × (frame ≡ frame_of (slice_index_or canvases (length chain.ops - 1) d))
+
+-- the last canvas holds the image of this frame
+abbrev pub HoldImage : ChainValue → List Canvas → Frame → Type 0
+HoldImage chain canvases source = (d : Canvas)
+    → IsChainImage chain.ops (value_of source) (value_of (frame_of (slice_index_or canvases (length chain.ops - 1) d)))
+
+-- the header of the images that the chain makes of the header's frames
+pub record IsHeaderOfImages (chain : ChainValue) (header shown : HeaderValue) : Type 0 where
+  pub line : shown.line ≡ served_header chain header.line
+  pub width : shown.width ≡ (last_picture chain.ops (picture_of chain.geometry)).width
+  pub height : shown.height ≡ (last_picture chain.ops (picture_of chain.geometry)).height
+  pub chroma : shown.chroma ≡ (last_picture chain.ops (picture_of chain.geometry)).chroma
+
+-- the chain is that of these operations for the header's frames; a frame, an image and a header of their sizes are there
+pub record IsFilterFor (ops : List Op) (height : BandHeight) (header : HeaderValue) (filter : Filter) : Type 0 where
+  pub asked : IsAskedFor ops height header.width header.height header.chroma filter.images.chain
+  pub is_chain : IsChain filter.images.chain
+  pub frame : IsOfHeader header filter.frame.geometry
+  pub of_chain : filter.frame.geometry ≡ filter.images.chain.geometry
+  pub sizes : AreOfSizes filter.images.chain filter.images.canvases.items
+  pub shown : IsHeaderOfImages filter.images.chain header (unwrap_or filter.resized header)
+
+-- the writer's frames are of the size of the chain's images
+pub record IsWriterFor (chain : ChainValue) (writer : WriterState) : Type 0 where
+  pub width : writer.width ≡ (last_picture chain.ops (picture_of chain.geometry)).width
+  pub height : writer.height ≡ (last_picture chain.ops (picture_of chain.geometry)).height
+  pub chroma : writer.chroma ≡ (last_picture chain.ops (picture_of chain.geometry)).chroma
+
+-- a frame was taken, and its image went out
+pub record PassesFrame (chain : ChainValue) (reader reader' : ReaderState) (writer writer' : WriterState) (frame image : FrameText) : Type 0 where
+  pub taken : TakesFrame reader reader' frame
+  pub made : IsImageText chain frame image
+  pub put : PutsFrame writer writer' image
+
+-- a frame was taken, and its image didn't go out whole
+pub record CutsImage (chain : ChainValue) (fault : WriteFault) (reader reader' : ReaderState) (writer writer' : WriterState) : Type 0 where
+  pub frame : FrameText
+  pub image : FrameText
+  pub taken : TakesFrame reader reader' frame
+  pub made : IsImageText chain frame image
+  pub cut : CutsShort writer.contents writer'.contents (text_of image) writer.bytes fault
+
+-- no frame is passed on, for this reason
+abbrev pub FailsToPass : ChainValue → FilterFault → ReaderState → ReaderState → WriterState → WriterState → Type 0
+FailsToPass chain (Read fault) reader reader' writer writer' =
+    StandsAtFrame (data_len_of reader.header) fault reader.rest reader'.left × (writer' ≡ writer)
+FailsToPass chain (Ops e) reader reader' writer writer' = (e ≡ NoFilterMemory)
+    × HasNext (data_len_of reader.header) reader.rest reader'.left × (writer' ≡ writer)
+FailsToPass chain (Write fault) reader reader' writer writer' = CutsImage chain fault reader reader' writer writer'
+FailsToPass chain TooManyFrames reader reader' writer writer' = ⊥
+
+-- frames that were taken, and the images that the chain makes of them
+pub record Passage (chain : ChainValue) (reader : ReaderState) : Type 0 where
+  pub frames : List FrameText
+  pub images : List FrameText
+  pub rest : Option (List ℕ)
+  pub each : All (IsFrameOf (data_len_of reader.header)) frames
+  pub made : AreImages chain frames images
+  pub few : length frames ≤ most_frames
+  pub taken : Consumes reader.rest rest (frames_text frames)
+
+abbrev pub progress_on : {chain : ChainValue} {reader : ReaderState} → Passage chain reader → Progress
+progress_on {reader = reader} passage = record {
+  len = data_len_of reader.header;
+  count = length passage.frames;
+  rest = passage.rest;
+  due = frames_text passage.images;
+}
+
+-- all that was left is n frames, and their images went out
+pub record PassesAll (n : ℕ) (chain : ChainValue) (reader reader' : ReaderState) (writer writer' : WriterState) : Type 0 where
+  pub passage : Passage chain reader
+  pub at_end : IsAtEnd passage.rest
+  pub all_read : Keeps passage.rest reader'.left
+  pub count : length passage.frames ≡ n
+  pub wrote : Appends writer.contents writer'.contents (frames_text passage.images)
+  pub bytes : writer'.bytes ≡ writer.bytes + length (frames_text passage.images)
+  pub writing : writer'.failed ≡ false
+
+-- why not all frames were passed on
+abbrev pub Stops : ChainValue → FilterFault → ReaderState → ReaderState → WriterState → WriterState → Type 0
+Stops chain fault reader reader' writer writer' =
+    (passage : Passage chain reader) × StopsAt fault (progress_on passage) writer.bytes (record {
+      input = reader.rest;
+      left = reader'.left;
+      before = writer.contents;
+      after = writer'.contents;
+    })
+
+-- a write failed exactly where this is the fault
+abbrev pub filter_writes_at : FilterFault → ℕ → ℕ
+filter_writes_at (Read fault) n = n
+filter_writes_at (Ops e) n = n
+filter_writes_at (Write fault) n = write_failures_at fault n
+filter_writes_at TooManyFrames n = n
+
+-- a write failed exactly where that was answered
+abbrev pub filter_writes_told : {T : Type 0} → Result T FilterFault → ℕ → ℕ
+filter_writes_told (Ok x) n = n
+filter_writes_told (Err fault) n = filter_writes_at fault n
+
+-- after a fault of the writer it has failed
+abbrev pub HasFailedAt : FilterFault → WriterState → Type 0
+HasFailedAt (Read fault) writer = ⊤
+HasFailedAt (Ops e) writer = ⊤
+HasFailedAt (Write fault) writer = writer.failed ≡ true
+HasFailedAt TooManyFrames writer = ⊤
+
+-- a fault stays, and a number of frames stays where the flush succeeds
+abbrev pub Closes : Result ℕ FilterFault → WriterState → Result ℕ FilterFault → Type 0
+Closes (Ok n) writer (Ok m) = m ≡ n
+Closes (Ok n) writer (Err fault) = writer.failed ≡ false → fault ≡ Write (NotWritten writer.bytes)
+Closes (Err fault) writer result = result ≡ Err fault
+
+-- after an answer that was no fault, the flush failed exactly where a fault is answered; else it may have, where it was
+-- tried
+abbrev pub CountsClosing : Result ℕ FilterFault → WriterState → Result ℕ FilterFault → ℕ → Type 0
+CountsClosing (Ok n) writer (Ok m) after = after ≡ writer.failures
+CountsClosing (Ok n) writer (Err fault) after = writer.failed ≡ false → after ≡ one_more writer.failures
+CountsClosing (Err fault) writer result after = (writer.failed ≡ true → after ≡ writer.failures)
+    × ((after ≡ writer.failures) ⊎ (after ≡ one_more writer.failures))
