@@ -3,13 +3,14 @@ use Rattle.std.proofs.Common.{ℕ, ◌≡◌, ◌+◌, ◌<◌, zero, suc, List,
 use Rattle.std.proofs.Math.Logic.{∥∥₁_elim}
 use Rattle.std.proofs.Props.{props}
 use Rattle.std.proofs.lemmas.List.{drop_more}
+use Rattle.std.proofs.lemmas.List.Elements.{All-get_or}
 use Rattle.frame_view.specs.declared.geometry.Geometry.{Geometry}
 use Rattle.filters.specs.declared.op.Op.{Op}
 use Rattle.filters.specs.declared.op.Op.TheVariants.{Table, HFlip, VFlip, Crop, Blur}
 use Rattle.filters.specs.declared.op.Crop.{Crop as Rectangle}
 use Rattle.filters.specs.Image.{IsRectangleOf, IsDoable, IsImageGeometry}
-use Rattle.filters.specs.Chain.{ChainValue, Picture, picture_of, picture_after, picture_at, last_picture, AreDoable}
-use Rattle.filters.specs.Steps.{IsChain}
+use Rattle.filters.specs.Chain.{ChainValue, Picture, picture_of, picture_after, picture_at, last_picture, HasGoodRadius, AreDoable}
+use Rattle.filters.specs.Refusal.{IsChain}
 
 -- geometries of one picture can do the same
 rectangle_same : (crop : Rectangle) (g h : Geometry) → picture_of g ≡ picture_of h → IsRectangleOf crop g → IsRectangleOf crop h
@@ -86,6 +87,17 @@ one_doable HFlip g = hlevel props
 one_doable VFlip g = hlevel props
 one_doable (Crop crop) g = hlevel props
 one_doable (Blur blur) g = hlevel props
+
+one_radius : (op : Op) → IsProp (HasGoodRadius op)
+one_radius (Table table) = hlevel props
+one_radius HFlip = hlevel props
+one_radius VFlip = hlevel props
+one_radius (Crop crop) = hlevel props
+one_radius (Blur blur) = hlevel props
+
+pub radius_at : (chain : ChainValue) (i : ℕ) (d : Op) → i < length chain.ops → ∥ IsChain chain ∥₁ → HasGoodRadius (get_or chain.ops i d)
+radius_at chain i d l s =
+    ∥∥₁_elim s (one_radius (get_or chain.ops i d)) (λ is. All-get_or HasGoodRadius chain.ops i d l is.radii)
 
 -- an operation of a chain can be done on the picture that reaches it
 pub doable_at : (chain : ChainValue) (i : ℕ) (d : Op) (h : Geometry) → i < length chain.ops → ∥ IsChain chain ∥₁

@@ -1,5 +1,5 @@
 -- The outputs of the operations of a chain.
-use Rattle.std.proofs.Common.{ℕ, ◌≡◌, ◌+◌, ◌<◌, zero, suc, List, [], ◌∷◌, ◌++◌, length, take, drop, map, sum, get_or, append_assoc, arith, refl, sym, ap, ◌∙◌, add-one}
+use Rattle.std.proofs.Common.{ℕ, ◌≡◌, ◌+◌, ◌*◌, ◌<◌, zero, suc, List, [], ◌∷◌, ◌++◌, length, take, drop, map, sum, get_or, append_assoc, arith, refl, sym, ap, ◌∙◌, add-one}
 use Rattle.std.specs.Int.{div_ceil}
 use Rattle.std.proofs.Math.ListN.{get_or-map}
 use Rattle.std.proofs.lemmas.List.{length-map, map-append, drop_more}
@@ -9,6 +9,8 @@ use Rattle.filters.specs.declared.op.Op.{Op}
 use Rattle.filters.specs.Chain.{Picture, picture_of, picture_after, last_picture}
 use Rattle.filters.specs.Image.{IsImageGeometry, image_height}
 use Rattle.filters.specs.Steps.{band_counts, step_count}
+use Rattle.filters.specs.Costs.{costs_by, op_cost}
+use Rattle.filters.proofs.Costs.{sum_of_run}
 use Rattle.filters.specs.ChainOutputs.{pictures_after, AreOutputs, output_counts}
 use Rattle.filters.proofs.ChainDoable.{picture_of-image}
 
@@ -18,6 +20,13 @@ pub steps_next : (ops : List Op) (i : ℕ) (d : Op) (g image : Geometry) (b : �
 steps_next ops i d g image b h is =
     ap (λ left. step_count left g.height b) (drop_more ops i d h)
     ∙ rw is.height (sum_by-cons (λ n. n) (div_ceil (image_height (get_or ops i d) g.height) b) (band_counts (drop (i + 1) ops) (image_height (get_or ops i d) g.height) b))
+
+-- the same of their costs
+pub costs_next : (ops : List Op) (i : ℕ) (d : Op) (g image : Geometry) (b : ℕ) → i < length ops → IsImageGeometry (get_or ops i d) g image
+    → sum (costs_by (drop i ops) g.height b) ≡ div_ceil image.height b * op_cost (get_or ops i d) + sum (costs_by (drop (i + 1) ops) image.height b)
+costs_next ops i d g image b h is =
+    ap (λ left. sum (costs_by left g.height b)) (drop_more ops i d h)
+    ∙ rw is.height (sum_of_run (div_ceil (image_height (get_or ops i d) g.height) b) (op_cost (get_or ops i d)) (costs_by (drop (i + 1) ops) (image_height (get_or ops i d) g.height) b))
 
 pub outputs_next : (ops : List Op) (i : ℕ) (d : Op) (g image : Geometry) (outputs more : List Geometry) → i < length ops → IsImageGeometry (get_or ops i d) g image
     → more ≡ outputs ++ image ∷ []

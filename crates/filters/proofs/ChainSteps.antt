@@ -1,5 +1,5 @@
 -- The steps of a frame, in order.
-use Rattle.std.proofs.Common.{ℕ, ◌≡◌, ◌+◌, ◌<◌, ◌≤◌, zero, suc, List, [], ◌∷◌, length, take, sum, get_or, arith, refl, ap, add-one, inl, inr}
+use Rattle.std.proofs.Common.{ℕ, ◌≡◌, ◌+◌, ◌<◌, ◌≤◌, zero, suc, List, [], ◌∷◌, length, take, sum, get_or, arith, refl, sym, ap, add-one, inl, inr}
 use Rattle.std.specs.Int.{div_ceil}
 use Rattle.std.proofs.lemmas.Bool.{cases_order}
 use Rattle.std.proofs.lemmas.List.Sums.{sum_by_more, sum_by-take-le}
@@ -57,10 +57,14 @@ one_step counts k op band i j s t = elim (cases_order i op) [
   ]
 ]
 
+-- an operation has as many steps as its output has bands
+pub count_of_output : (chain : ChainValue) (i : ℕ) (output : Geometry) → i < length (counts_of chain) → picture_of output ≡ picture_at chain (i + 1)
+    → band_count output chain.band_height.rows ≡ get_or (counts_of chain) i 0
+count_of_output chain i output h e =
+    let within : i < length chain.ops = rw length-band_counts at h in
+    let height : output.height ≡ (picture_at chain (i + 1)).height = ap (λ picture. picture.height) e in
+    rw height (sym (count_at chain.ops (picture_of chain.geometry) chain.band_height.rows i within))
+
 pub band_of : (chain : ChainValue) (k op band : ℕ) (output : Geometry) → IsStep (counts_of chain) k op band → picture_of output ≡ picture_at chain (op + 1)
     → band < band_count output chain.band_height.rows
-band_of chain k op band output s e =
-    let within : op < length chain.ops = rw length-band_counts at s.of_chain in
-    let count = count_at chain.ops (picture_of chain.geometry) chain.band_height.rows op within in
-    let height : output.height ≡ (picture_at chain (op + 1)).height = ap (λ picture. picture.height) e in
-    rw height (rw count at s.of_op)
+band_of chain k op band output s e = rw (count_of_output chain op output s.of_chain e) s.of_op

@@ -9,7 +9,8 @@ pub mod Applied
 pub mod Doable
 pub mod ChainSizes
 pub mod ChainDoable
+pub mod ChainSteps
+pub mod Costs
 pub mod ChainOutputs
 pub mod ChainImages
 pub mod ChainGeometry
-pub mod ChainSteps

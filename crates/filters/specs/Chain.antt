@@ -59,3 +59,6 @@ pub record ChainValue : Type 0 where
 -- the picture after the first operations of a chain, this many: it is what reaches the operation behind them
 abbrev pub picture_at : ChainValue → ℕ → Picture
 picture_at chain count = last_picture (take count chain.ops) (picture_of chain.geometry)
+
+abbrev pub chain_of : List Op → Geometry → BandHeight → ChainValue
+chain_of ops geometry band_height = record { ops = ops; geometry = geometry; band_height = band_height }

@@ -1,8 +1,11 @@
 -- What a chain keeps, and what it stands for.
 use Rattle.std.specs.Prelude.{◌≡◌, ◌≤◌, length}
 use Rattle.filters.specs.declared.chain.Chain.TheInside.{Inside}
+use Rattle.filters.specs.declared.limits.TheConstants.{MOST_COST}
 use Rattle.filters.specs.Chain.{ChainValue, IsChainLength}
-use Rattle.filters.specs.Steps.{IsChain, steps_of}
+use Rattle.filters.specs.Steps.{steps_of}
+use Rattle.filters.specs.Costs.{cost_of}
+use Rattle.filters.specs.Refusal.{IsChain}
 use Rattle.filters.specs.ChainOutputs.{AreOutputs}
 
 abbrev pub value_of : Inside → ChainValue
@@ -14,5 +17,6 @@ pub record IsSound (a : Inside) : Type 0 where
   pub count : IsChainLength (length a.ops.items)
   pub outputs : AreOutputs a.ops.items a.geometry a.outputs.items
   pub steps : a.steps ≡ steps_of (value_of a)
+  pub cost : a.cost ≡ cost_of (value_of a)
   pub some_steps : 1 ≤ a.steps
-  pub few_steps : a.steps ≤ 32768
+  pub cheap : a.cost ≤ MOST_COST

@@ -5,6 +5,8 @@ pub mod Pixel
 pub mod Image
 pub mod Chain
 pub mod Steps
+pub mod Costs
+pub mod Refusal
 pub mod ChainOutputs
 pub mod ChainInside
 pub mod ChainImage

@@ -1,9 +1,9 @@
 -- The steps of a frame: one for each band of each operation's output.
-use Rattle.std.specs.Prelude.{◌≡◌, ℕ, ◌+◌, ◌<◌, ◌≤◌, List, [], ◌∷◌, All, length, take, sum, slice_index}
+use Rattle.std.specs.Prelude.{◌≡◌, ℕ, ◌+◌, ◌<◌, List, [], ◌∷◌, length, take, sum, slice_index}
 use Rattle.std.specs.Int.{div_ceil}
 use Rattle.filters.specs.declared.op.Op.{Op}
 use Rattle.filters.specs.Image.{image_height}
-use Rattle.filters.specs.Chain.{ChainValue, HasGoodRadius, IsChainLength, AreDoable}
+use Rattle.filters.specs.Chain.{ChainValue}
 
 -- how many bands of b rows the output of each operation has, for frames of h rows
 abbrev pub band_counts : List Op → ℕ → ℕ → List ℕ
@@ -25,10 +25,3 @@ counts_of chain = band_counts chain.ops chain.geometry.height chain.band_height.
 
 abbrev pub steps_of : ChainValue → ℕ
 steps_of chain = step_count chain.ops chain.geometry.height chain.band_height.rows
-
--- the operations make a chain for frames of this geometry, in bands of this height
-pub record IsChain (chain : ChainValue) : Type 0 where
-  pub radii : All HasGoodRadius chain.ops
-  pub count : IsChainLength (length chain.ops)
-  pub doable : AreDoable chain.ops chain.geometry
-  pub few_steps : steps_of chain ≤ 32768

@@ -2,21 +2,25 @@
 mod fits;
 mod images;
 mod plan;
+pub mod steps;
 
-ghost use Rattle.std.specs.Prelude.{◌≡◌};
+ghost use Rattle.std.specs.Prelude.{◌≡◌, ◌≢◌, ◌≤◌, IfOk, IfErr, IsErrOf, length};
+ghost use Rattle.frame_view.specs.declared.geometry.Geometry.{Geometry};
+ghost use Rattle.filters.specs.declared.error.FilterError.{FilterError};
+ghost use Rattle.filters.specs.Chain.{HasGoodRadius, IsChainLength, chain_of};
+ghost use Rattle.filters.specs.Steps.{steps_of};
+ghost use Rattle.filters.specs.Costs.{cost_of};
+ghost use Rattle.filters.specs.Refusal.{IsChain, IsChainRefusedAs};
 
 use crate::chain::fits::{has_good_radius, is_crop};
-use crate::chain::plan::{count_steps, op_of_step, outputs_of};
+use crate::chain::plan::{Totals, outputs_of, totals_of};
 use crate::error::FilterError;
+use crate::limits::{MOST_COST, MOST_OPS};
 use crate::op::Op;
-use crate::ops_text::MOST_OPS;
 use frame_view::Geometry;
 use row_bands::BandHeight;
 use std::alloc::Global;
 use std::marker::Model;
-
-/// The most steps of a frame.
-pub const MOST_STEPS: u32 = 32_768;
 
 /// One to eight operations, for frames of one geometry, in bands of one height.
 ///
@@ -29,6 +33,7 @@ pub struct Chain {
     band_height: BandHeight,
     outputs: Vec<Geometry>,
     steps: u32,
+    cost: u32,
 }
 
 impl Model for Chain {
@@ -43,14 +48,37 @@ impl Model for Chain {
     ghost invariant = { IsSound };
 }
 
+/// What a frame takes, where the operations make a chain.
+fn check_chain(
+    ops: &[Op],
+    geometry: Geometry,
+    band_height: BandHeight,
+) -> Result<Totals, FilterError>
+    ensures is_chain { IfOk result (λ _. IsChain (chain_of ops.now geometry band_height)) }
+    ensures steps { IfOk result (λ totals. totals.steps ≡ steps_of (chain_of ops.now geometry band_height)) }
+    ensures cost { IfOk result (λ totals. totals.cost ≡ cost_of (chain_of ops.now geometry band_height)) }
+    ensures some { IfOk result (λ totals. 1 ≤ totals.steps) }
+    ensures refused { IfErr result (λ e. IsChainRefusedAs e (chain_of ops.now geometry band_height)) }
+    ensures told { IfErr result (λ e. e ≢ FilterError.NoMemory) }
+{
+    if !ops.iter().all(has_good_radius) {
+        return Err(FilterError::BadOp);
+    }
+    if ops.is_empty() || ops.len() > MOST_OPS {
+        return Err(FilterError::TooManyOps);
+    }
+    let totals = totals_of(ops, geometry, band_height).ok_or(FilterError::BadCrop)?;
+    if totals.cost > MOST_COST {
+        return Err(FilterError::TooManySteps);
+    }
+    Ok(totals)
+}
+
 impl Chain {
-    ghost use Rattle.std.specs.Prelude.{◌≡◌, ◌<◌, ◌≤◌, ◌↔◌, ◌+◌, All, IfOk, IsErrOf, Some, length, slice_get};
+    ghost use Rattle.std.specs.Prelude.{◌<◌, ◌+◌, Some, slice_get};
     ghost use Rattle.std.specs.List.{list_any};
-    ghost use Rattle.frame_view.specs.declared.geometry.Geometry.{Geometry};
     ghost use Rattle.filters.specs.Image.{IsDoable, IsImageGeometry};
-    ghost use Rattle.filters.specs.Chain.{ChainValue, picture_of, picture_at, last_picture, HasGoodRadius, AreDoable, IsChainLength, is_crop};
-    ghost use Rattle.row_bands.specs.Bands.{band_count};
-    ghost use Rattle.filters.specs.Steps.{IsChain, IsStep, counts_of, steps_of, step_count};
+    ghost use Rattle.filters.specs.Chain.{picture_of, picture_at, last_picture, is_crop};
 
     /// The chain of these operations.
     pub fn new(
@@ -59,36 +87,23 @@ impl Chain {
         geometry: Geometry,
         band_height: BandHeight,
     ) -> Result<Chain, FilterError>
-        ensures ok { IfOk result (λ chain. chain ≡ record { ops = ops.items; geometry = geometry; band_height = band_height }) }
+        ensures ok { IfOk result (λ chain. chain ≡ chain_of ops.items geometry band_height) }
         ensures is_chain { IfOk result IsChain }
-        ensures memory { IsErrOf result FilterError.NoMemory → IsChain (record { ops = ops.items; geometry = geometry; band_height = band_height }) }
 
-        // Each refusal is answered where its fault is there and none before it.
-        ensures bad_op { IsErrOf result FilterError.BadOp ↔ (¬ All HasGoodRadius ops.items) }
-        ensures too_many_ops { IsErrOf result FilterError.TooManyOps ↔ (All HasGoodRadius ops.items × ¬ IsChainLength (length ops.items)) }
-        ensures bad_crop { IsErrOf result FilterError.BadCrop
-            ↔ (All HasGoodRadius ops.items × IsChainLength (length ops.items) × ¬ AreDoable ops.items geometry) }
-        ensures too_many_steps { IsErrOf result FilterError.TooManySteps
-            ↔ (All HasGoodRadius ops.items × IsChainLength (length ops.items) × AreDoable ops.items geometry
-            × (32768 < step_count ops.items geometry.height band_height.rows)) }
+        // Each refusal comes only where it is the first that holds, and there always; but for want of memory.
+        ensures refused { IfErr result (λ e. IsChainRefusedAs e (chain_of ops.items geometry band_height)) }
+        ensures each { (e : FilterError) → e ≢ FilterError.NoMemory
+            → IsChainRefusedAs e (chain_of ops.items geometry band_height) → IsErrOf result e }
     {
-        if !ops.iter().all(has_good_radius) {
-            return Err(FilterError::BadOp);
-        }
-        if ops.is_empty() || ops.len() > MOST_OPS {
-            return Err(FilterError::TooManyOps);
-        }
-        let steps = count_steps(&ops, geometry, band_height).ok_or(FilterError::BadCrop)?;
-        if steps > MOST_STEPS {
-            return Err(FilterError::TooManySteps);
-        }
+        let totals = check_chain(&ops, geometry, band_height)?;
         let outputs = outputs_of(alloc, &ops, geometry)?;
         Ok(Chain {
             ops,
             geometry,
             band_height,
             outputs,
-            steps,
+            steps: totals.steps,
+            cost: totals.cost,
         })
     }
 
@@ -136,31 +151,12 @@ impl Chain {
     pub fn op(&self, i: usize) -> Op
         requires { i < length self.now.ops }
         ensures value { slice_get self.now.ops i ≡ Some result }
+        ensures radius { HasGoodRadius result }
         ensures doable { (g : Geometry) → picture_of g ≡ picture_at self.now i → IsDoable result g }
         ensures image { (g image : Geometry) → picture_of g ≡ picture_at self.now i → picture_of image ≡ picture_at self.now (i + 1)
             → IsImageGeometry result g image }
     {
         self.ops[i]
-    }
-
-    /// The steps of a frame, 1 to 32,768.
-    pub fn steps(&self) -> u32
-        ensures value { result ≡ steps_of self.now }
-        ensures some { 1 ≤ result }
-        ensures few { result ≤ 32768 }
-    {
-        self.steps
-    }
-
-    /// The operation and the band of step `k`, each counted from 0.
-    pub fn op_of_step(&self, k: u32) -> (usize, usize)
-        requires { k < steps_of self.now }
-        ensures step { IsStep (counts_of self.now) k result.0 result.1 }
-        ensures op { result.0 < length self.now.ops }
-        ensures band { (output : Geometry) → picture_of output ≡ picture_at self.now (result.0 + 1)
-            → result.1 < band_count output self.now.band_height.rows }
-    {
-        op_of_step(&self.outputs, self.band_height, k)
     }
 
     /// Whether the chain holds a crop, so that its images may have another size than its frames.

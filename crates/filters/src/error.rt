@@ -17,7 +17,7 @@ pub enum FilterError {
     /// A rectangle is empty, leaves the picture that reaches it, or cuts a sample of a chroma plane.
     #[error("BadCrop")]
     BadCrop,
-    /// A frame takes more than 32,768 steps.
+    /// The steps of a frame cost more than 32,768 units.
     #[error("TooManySteps")]
     TooManySteps,
     /// The memory that the call needs wasn't granted.

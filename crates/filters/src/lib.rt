@@ -7,6 +7,7 @@ pub mod chain;
 mod cut;
 pub mod error;
 mod flip;
+pub mod limits;
 mod number;
 pub mod op;
 pub mod ops_text;
@@ -17,6 +18,8 @@ mod table;
 
 pub use apply::{apply_at, apply_band, apply_op};
 pub use chain::Chain;
+pub use chain::steps::StepRun;
 pub use error::FilterError;
+pub use limits::{MOST_COST, MOST_OPS, MOST_RADIUS};
 pub use op::{Blur, Crop, Op, Table};
-pub use ops_text::{MOST_OPS, parse_ops};
+pub use ops_text::parse_ops;

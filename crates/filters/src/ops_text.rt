@@ -5,12 +5,10 @@ ghost use Rattle.filters.specs.OpsText.{ops_of};
 
 use crate::cut::cut;
 use crate::error::FilterError;
+use crate::limits::MOST_OPS;
 use crate::op::Op;
 use crate::part::op_of_part;
 use std::alloc::Global;
-
-/// The most operations of a chain.
-pub const MOST_OPS: usize = 8;
 
 /// The operations that a text says.
 ///

@@ -7,10 +7,10 @@ use Rattle.y4m_header.specs.HeaderLine.{IsHeaderLine}
 use Rattle.y4m_header.specs.StreamText.{FrameText, IsFrameOf, text_of}
 use Rattle.row_bands.specs.declared.band_height.BandHeight.{BandHeight}
 use Rattle.filters.specs.declared.error.FilterError.{FilterError}
-use Rattle.filters.specs.declared.error.FilterError.TheVariants.{BadOp, TooManyOps, BadCrop, TooManySteps, NoMemory}
+use Rattle.filters.specs.declared.error.FilterError.TheVariants.{NoMemory}
 use Rattle.filters.specs.declared.op.Op.{Op}
-use Rattle.filters.specs.Chain.{ChainValue, HasGoodRadius, IsChainLength, AreDoable}
-use Rattle.filters.specs.Steps.{steps_of, IsChain}
+use Rattle.filters.specs.Chain.{ChainValue}
+use Rattle.filters.specs.Refusal.{IsChainRefusedAs}
 use Rattle.y4m_stream.specs.declared.fault.WriteFault.{WriteFault}
 use Rattle.y4m_stream.specs.declared.fault.WriteFault.TheVariants.{Device}
 use Rattle.y4m_stream.specs.declared.fault.FilterFault.{FilterFault}
@@ -28,21 +28,11 @@ pub record Ends : Type 0 where
   pub before : Option (List ℕ)
   pub after : Option (List ℕ)
 
--- the operations make no chain, for this reason and for none before it; for want of memory alone where they do make one
-abbrev pub IsNoChain : FilterError → ChainValue → Type 0
-IsNoChain BadOp chain = ¬ All HasGoodRadius chain.ops
-IsNoChain TooManyOps chain = All HasGoodRadius chain.ops × ¬ IsChainLength (length chain.ops)
-IsNoChain BadCrop chain =
-    All HasGoodRadius chain.ops × IsChainLength (length chain.ops) × ¬ AreDoable chain.ops chain.geometry
-IsNoChain TooManySteps chain = All HasGoodRadius chain.ops × IsChainLength (length chain.ops)
-    × AreDoable chain.ops chain.geometry × (32768 < steps_of chain)
-IsNoChain NoMemory chain = IsChain chain
-
 -- the operations that are asked for make no chain, for this reason
 pub record LacksChain (ops : List Op) (height : BandHeight) (w h : ℕ) (chroma : Chroma) (e : FilterError) : Type 0 where
   pub chain : ChainValue
   pub asked : IsAskedFor ops height w h chroma chain
-  pub refused : IsNoChain e chain
+  pub refused : IsChainRefusedAs e chain
 
 -- a header line was read, and the operations make no chain for its frames
 pub record IsRefused (e : FilterError) (ops : List Op) (height : BandHeight) (ends : Ends) : Type 0 where

@@ -9,7 +9,7 @@ use Rattle.filters.specs.declared.error.FilterError.TheVariants.{NoMemory as NoF
 use Rattle.filters.specs.declared.op.Op.{Op}
 use Rattle.filters.specs.Chain.{ChainValue, picture_of, picture_at, last_picture}
 use Rattle.filters.specs.ChainImage.{IsChainImage, value_of}
-use Rattle.filters.specs.Steps.{IsChain}
+use Rattle.filters.specs.Refusal.{IsChain}
 use Rattle.y4m_header.specs.Header.{HeaderValue}
 use Rattle.y4m_header.specs.FrameLine.{IsFrameLine}
 use Rattle.y4m_header.specs.Line.{IsLine}

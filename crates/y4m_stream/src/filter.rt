@@ -2,7 +2,7 @@
 ghost use Rattle.std.specs.Prelude.{◌≡◌, ◌≢◌, ℕ, List, Option, IfOk, IfErr, OnOk, Some, true, unwrap_or};
 ghost use Rattle.std.specs.Io.KnownBytes.{Keeps};
 ghost use Rattle.filters.specs.Chain.{picture_of};
-ghost use Rattle.filters.specs.Steps.{IsChain};
+ghost use Rattle.filters.specs.Refusal.{IsChain};
 ghost use Rattle.y4m_stream.specs.Filtered.{CountsWrites, IsFiltered, LacksChain, filter_reads_told};
 ghost use Rattle.y4m_stream.specs.Inside.{Closes, CountsClosing, IsHeaderOfImages};
 ghost use Rattle.y4m_stream.specs.Reader.{IsOpened};

@@ -2,6 +2,7 @@
 ghost use Rattle.std.specs.Prelude.{◌≡◌, ◌≤◌, ◌<◌, ◌↔◌, ◌+◌, length, sum, IsSome, IfSome, IfOk};
 ghost use Rattle.filters.specs.Chain.{AreDoable};
 ghost use Rattle.filters.specs.Steps.{step_count, IsStep};
+ghost use Rattle.filters.specs.Costs.{costs_by};
 ghost use Rattle.filters.specs.ChainOutputs.{AreOutputs, output_counts};
 
 use crate::chain::fits::{is_doable, output_of};
@@ -10,23 +11,34 @@ use frame_view::Geometry;
 use row_bands::{BandHeight, BandPlan};
 use std::alloc::{AllocError, Global};
 
-/// The steps of a frame, if each operation can be done on the picture that reaches it.
-pub fn count_steps(ops: &[Op], geometry: Geometry, band_height: BandHeight) -> Option<u32>
+/// What a frame takes: how many steps, and what they cost together.
+#[derive(Clone, Copy)]
+pub struct Totals {
+    pub steps: u32,
+    pub cost: u32,
+}
+
+/// The totals of a frame, if each operation can be done on the picture that reaches it.
+pub fn totals_of(ops: &[Op], geometry: Geometry, band_height: BandHeight) -> Option<Totals>
     requires { length ops.now ≤ 8 }
     ensures doable { IsSome result ↔ AreDoable ops.now geometry }
-    ensures steps { IfSome result (λ steps. steps ≡ step_count ops.now geometry.height band_height.rows) }
-    ensures some { IfSome result (λ steps. length ops.now ≤ steps) }
+    ensures steps { IfSome result (λ totals. totals.steps ≡ step_count ops.now geometry.height band_height.rows) }
+    ensures cost { IfSome result (λ totals. totals.cost ≡ sum (costs_by ops.now geometry.height band_height.rows)) }
+    ensures some { IfSome result (λ totals. length ops.now ≤ totals.steps) }
 {
     let mut picture = geometry;
     let mut steps = 0;
+    let mut cost = 0;
     for op in ops {
         if !is_doable(*op, picture) {
             return None;
         }
         picture = output_of(*op, picture);
-        steps += BandPlan::new(picture, band_height).count() as u32;
+        let bands = BandPlan::new(picture, band_height).count() as u32;
+        steps += bands;
+        cost += bands * op.cost();
     }
-    Some(steps)
+    Some(Totals { steps, cost })
 }
 
 /// The geometry after each operation, in order.

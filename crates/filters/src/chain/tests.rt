@@ -1,5 +1,6 @@
 // Chains that are made, chains that are refused, and their images.
 use crate::chain::Chain;
+use crate::chain::steps::StepRun;
 use crate::error::FilterError;
 use crate::op::{Blur, Crop, Op, Table};
 use frame_view::{Frame, Geometry};
@@ -42,11 +43,50 @@ fn chain_of(alloc: Global, ops: &[Op], geometry: Geometry) -> Result<Chain, Filt
 }
 
 #[test]
-fn four_times_8192_bands_are_the_most_steps(rt: HostRuntime) -> Result<(), Fail> {
+fn four_times_8192_bands_are_the_most(rt: HostRuntime) -> Result<(), Fail> {
     let chain = chain_of(rt.alloc(), &[Op::HFlip; 4], COLUMN)?;
-    assert_eq!(rt; chain.steps(), 32_768);
+    assert_eq!(rt; (chain.steps(), chain.cost()), (32_768, 32_768));
     let refused = chain_of(rt.alloc(), &[Op::HFlip; 5], COLUMN);
     assert_eq!(rt; refused.err(), Some(FilterError::TooManySteps));
+    Ok(())
+}
+
+#[test]
+fn a_band_of_a_blur_costs_its_radius_more(rt: HostRuntime) -> Result<(), Fail> {
+    let chain = chain_of(rt.alloc(), &[blur(3)], COLUMN)?;
+    assert_eq!(rt; (chain.steps(), chain.cost()), (8192, 32_768));
+    let refused = chain_of(rt.alloc(), &[blur(4)], COLUMN);
+    assert_eq!(rt; refused.err(), Some(FilterError::TooManySteps));
+    Ok(())
+}
+
+#[test]
+fn a_step_costs_what_its_operation_does(rt: HostRuntime) -> Result<(), Fail> {
+    let picture = Geometry {
+        width: 4,
+        height: 10,
+        chroma: Chroma::Mono,
+    };
+    let ops = [blur(2), crop(0, 0, 2, 3), blur(1), Op::HFlip];
+    let chain = chain_of(rt.alloc(), &ops, picture)?;
+    assert_eq!(rt; (chain.steps(), chain.cost()), (11, 23));
+    let wanted = [
+        (5, 3),
+        (4, 3),
+        (3, 3),
+        (2, 3),
+        (1, 3),
+        (2, 1),
+        (1, 1),
+        (2, 2),
+        (1, 2),
+        (2, 1),
+        (1, 1),
+    ];
+    for (k, (count, cost)) in wanted.into_iter().enumerate() {
+        assert_eq!(rt; chain.run_of_step(k as u32), StepRun { count, cost });
+        assert_eq!(rt; chain.cost_of_step(k as u32), cost);
+    }
     Ok(())
 }
 
