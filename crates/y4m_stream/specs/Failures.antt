@@ -1,5 +1,5 @@
 -- How the calls on a device are counted that failed.
-use Rattle.std.specs.Prelude.{ℕ, zero, suc, ◌+◌, ◌-◌, ◌^◌, List, [], ◌∷◌, min, Result, Ok, Err}
+use Rattle.std.specs.Prelude.{ℕ, zero, suc, ◌+◌, ◌-◌, ◌^◌, List, [], ◌∷◌, min, Bool, Result, Ok, Err}
 
 -- one failure more: a number of 64 bits, which stays at its last value
 abbrev pub one_more : ℕ → ℕ
@@ -16,3 +16,14 @@ failures_after_write (Ok zero) [] n = n
 failures_after_write (Ok zero) (byte ∷ bytes) n = one_more n
 failures_after_write (Ok (suc taken)) bytes n = n
 failures_after_write (Err e) bytes n = one_more n
+
+-- a reader, and how many of its reads failed
+pub record CountedReader (R : Type 0) : Type 0 where
+  pub reader : R
+  pub failures : ℕ
+
+-- a writer, how many of its writes and flushes failed, and whether all that it took was flushed
+pub record CountedWriter (W : Type 0) : Type 0 where
+  pub writer : W
+  pub failures : ℕ
+  pub is_flushed : Bool
