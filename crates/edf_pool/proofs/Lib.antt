@@ -1,0 +1,4 @@
+pub mod Orders
+pub mod Winners
+pub mod Leaves
+pub mod Roots
