@@ -6,7 +6,7 @@ use Rattle.std.proofs.Math.Nat.{mul-le-mul_right}
 use Rattle.y4m_header.specs.Chroma.{plane_count}
 use Rattle.frame_view.specs.declared.frame.Frame.{Frame}
 use Rattle.frame_view.specs.Places.{plane_width, plane_height}
-use Rattle.frame_view.specs.Frame.{bytes_of}
+use Rattle.frame_view.specs.Frame.{samples_of}
 use Rattle.frame_view.specs.Rows.{sample}
 use Rattle.row_bands.specs.Bands.{band_count, luma_from, luma_to}
 use Rattle.row_bands.specs.Written.{HasBand, HasRowsAbove}
@@ -32,7 +32,7 @@ next_band picture b b' k old new hb same hk h band =
 pub all_bands : (picture : ℕ → ℕ → ℕ → ℕ) (frame : Frame) (b k : ℕ) → 0 < b → band_count frame.geometry b ≤ k
     → HasRowsAbove picture (min frame.geometry.height (luma_from b k)) frame
     → (p y x : ℕ) → p < plane_count frame.geometry.chroma → y < plane_height frame.geometry p → x < plane_width frame.geometry p
-    → sample frame.geometry (bytes_of frame) p y x ≡ picture p y x
+    → sample frame.geometry (samples_of frame) p y x ≡ picture p y x
 all_bands picture frame b k hb hk h p y x hp hy hx =
     let n = frame.geometry.height in
     let covered = div_ceil_times n b hb in

@@ -3,9 +3,9 @@ use Rattle.std.proofs.Common.{◌≡◌, ◌≤◌, ◌%◌, ap, subst}
 use Rattle.std.proofs.Props.{props}
 use Rattle.y4m_header.specs.Chroma.{horizontal_divisor, vertical_divisor, data_len}
 use Rattle.frame_view.specs.declared.geometry.Geometry.{Geometry}
-use Rattle.filters.specs.Chain.{Picture, picture_of}
+use Rattle.filters.specs.Chain.{Format, format_of}
 
-record IsStated (p : Picture) : Type 0 where
+record IsStated (p : Format) : Type 0 where
   some_columns : 1 ≤ p.width
   some_rows : 1 ≤ p.height
   narrow : p.width ≤ 16384
@@ -14,10 +14,10 @@ record IsStated (p : Picture) : Type 0 where
   rows_divided : p.height % vertical_divisor p.chroma ≡ 0
   small : data_len p.width p.height p.chroma ≤ 67108864
 
-one_stated : (p : Picture) → IsProp (IsStated p)
+one_stated : (p : Format) → IsProp (IsStated p)
 one_stated p = hlevel props
 
-abbrev stated : (g : Geometry) → IsStated (picture_of g)
+abbrev stated : (g : Geometry) → IsStated (format_of g)
 stated g = record {
   some_columns = g.some_columns;
   some_rows = g.some_rows;
@@ -28,7 +28,7 @@ stated g = record {
   small = g.small;
 }
 
-abbrev geometry_of : (p : Picture) → IsStated p → Geometry
+abbrev geometry_of : (p : Format) → IsStated p → Geometry
 geometry_of p s = record {
   width = p.width;
   height = p.height;
@@ -42,7 +42,7 @@ geometry_of p s = record {
   small = s.small;
 }
 
-pub same_geometry : (a b : Geometry) → picture_of a ≡ picture_of b → a ≡ b
+pub same_geometry : (a b : Geometry) → format_of a ≡ format_of b → a ≡ b
 same_geometry a b e =
-    let P : Picture → Type 0 = λ p. (s : IsStated p) → a ≡ geometry_of p s in
-    subst P e (λ s. ap (geometry_of (picture_of a)) (one_stated (picture_of a) (stated a) s)) (stated b)
+    let P : Format → Type 0 = λ p. (s : IsStated p) → a ≡ geometry_of p s in
+    subst P e (λ s. ap (geometry_of (format_of a)) (one_stated (format_of a) (stated a) s)) (stated b)

@@ -4,8 +4,8 @@ use Rattle.std.proofs.Props.{props}
 use Rattle.y4m_header.specs.FrameLine.{IsFrameLine}
 use Rattle.std.proofs.lemmas.Option.{get_or_from_slice_get}
 use Rattle.frame_view.specs.declared.geometry.Geometry.{Geometry}
-use Rattle.filters.specs.Chain.{ChainValue, picture_of, picture_after, picture_at}
-use Rattle.filters.proofs.ChainDoable.{last_picture_more, picture_of-image}
+use Rattle.filters.specs.Chain.{ChainValue, format_of, format_after, format_at}
+use Rattle.filters.proofs.ChainDoable.{last_format_more, format_of-image}
 use Rattle.std.proofs.Common.{slice_get, slice_set, Some, inl, inr, ◌++◌, ◌-◌, ◌≤◌, ◌≢◌, ℕ, ◌≡◌, ◌+◌, ◌<◌, zero, suc, List, [], ◌∷◌, length, take, get_or, arith, refl, sym, ap, ◌∙◌, add-one}
 use Rattle.frame_view.specs.declared.frame.Frame.{Frame}
 use Rattle.filters.specs.declared.op.Op.{Op}
@@ -18,7 +18,7 @@ use Rattle.std.proofs.lemmas.Bool.{cases_order}
 use Rattle.std.proofs.lemmas.List.{get_or_default, get_or-set_same, get_or-set_other, length-set, set-append_right, get_or-append_right}
 
 pub op_image : (op : Op) (source image : Frame) → IsImage op source image → IsOpImage op (value_of source) (value_of image)
-op_image op source image is = record { geometry = is.geometry; line = is.line; whole = omega (arith, image.fits, image.bytes.ok); pixels = is.pixels }
+op_image op source image is = record { geometry = is.geometry; line = is.line; whole = omega (arith, image.fits, image.samples.ok); pixels = is.pixels }
 
 -- one operation more
 pub image_more : (ops : List Op) (source between image : FrameValue) (i : ℕ) (d : Op) → i < length ops
@@ -33,12 +33,12 @@ pub is_frame_line : (line : List ℕ) → ∥ IsFrameLine line ∥₁ → IsFram
 is_frame_line line s = ∥∥₁_elim s (hlevel props) (λ is. is)
 
 -- the picture that an operation of a chain makes of the one that reaches it
-pub picture_next : (chain : ChainValue) (i : ℕ) (op : Op) (g image : Geometry) → i < length chain.ops → slice_get chain.ops i ≡ Some op
-    → picture_of g ≡ picture_at chain i → IsImageGeometry op g image → picture_of image ≡ picture_at chain (i + 1)
-picture_next chain i op g image h e p is =
-    picture_of-image op g image is ∙ ap (picture_after op) p
-    ∙ ap (λ o. picture_after o (picture_at chain i)) (sym (get_or_from_slice_get chain.ops i op op e))
-    ∙ sym (last_picture_more chain.ops (picture_of chain.geometry) i op h)
+pub format_next : (chain : ChainValue) (i : ℕ) (op : Op) (g image : Geometry) → i < length chain.ops → slice_get chain.ops i ≡ Some op
+    → format_of g ≡ format_at chain i → IsImageGeometry op g image → format_of image ≡ format_at chain (i + 1)
+format_next chain i op g image h e p is =
+    format_of-image op g image is ∙ ap (format_after op) p
+    ∙ ap (λ o. format_after o (format_at chain i)) (sym (get_or_from_slice_get chain.ops i op op e))
+    ∙ sym (last_format_more chain.ops (format_of chain.geometry) i op h)
 
 pub op_image_at : (ops : List Op) (i : ℕ) (op d : Op) (source image : Frame) → slice_get ops i ≡ Some op → IsImage op source image
     → IsOpImage (get_or ops i d) (value_of source) (value_of image)

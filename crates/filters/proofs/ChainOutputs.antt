@@ -6,13 +6,13 @@ use Rattle.std.proofs.lemmas.List.{length-map, map-append, drop_more}
 use Rattle.std.proofs.lemmas.List.Sums.{sum_by_more, sum_by-cons}
 use Rattle.frame_view.specs.declared.geometry.Geometry.{Geometry}
 use Rattle.filters.specs.declared.op.Op.{Op}
-use Rattle.filters.specs.Chain.{Picture, picture_of, picture_after, last_picture}
+use Rattle.filters.specs.Chain.{Format, format_of, format_after, last_format}
 use Rattle.filters.specs.Image.{IsImageGeometry, image_height}
 use Rattle.filters.specs.Steps.{band_counts, step_count}
 use Rattle.filters.specs.Costs.{costs_by, op_cost}
 use Rattle.filters.proofs.Costs.{sum_of_run}
-use Rattle.filters.specs.ChainOutputs.{pictures_after, AreOutputs, output_counts}
-use Rattle.filters.proofs.ChainDoable.{picture_of-image}
+use Rattle.filters.specs.ChainOutputs.{formats_after, AreOutputs, output_counts}
+use Rattle.filters.proofs.ChainDoable.{format_of-image}
 
 -- the steps from one operation on are its own and those of the operations behind it
 pub steps_next : (ops : List Op) (i : ℕ) (d : Op) (g image : Geometry) (b : ℕ) → i < length ops → IsImageGeometry (get_or ops i d) g image
@@ -30,43 +30,43 @@ costs_next ops i d g image b h is =
 
 pub outputs_next : (ops : List Op) (i : ℕ) (d : Op) (g image : Geometry) (outputs more : List Geometry) → i < length ops → IsImageGeometry (get_or ops i d) g image
     → more ≡ outputs ++ image ∷ []
-    → map picture_of more ++ pictures_after (drop (i + 1) ops) (picture_of image) ≡ map picture_of outputs ++ pictures_after (drop i ops) (picture_of g)
+    → map format_of more ++ formats_after (drop (i + 1) ops) (format_of image) ≡ map format_of outputs ++ formats_after (drop i ops) (format_of g)
 outputs_next ops i d g image outputs more h is e =
     rw (e, map-append, append_assoc)
-    (ap (λ left. map picture_of outputs ++ left)
-    (ap (λ picture. picture ∷ pictures_after (drop (i + 1) ops) picture) (picture_of-image (get_or ops i d) g image is)
-    ∙ ap (λ left. pictures_after left (picture_of g)) (sym (drop_more ops i d h))))
+    (ap (λ left. map format_of outputs ++ left)
+    (ap (λ picture. picture ∷ formats_after (drop (i + 1) ops) picture) (format_of-image (get_or ops i d) g image is)
+    ∙ ap (λ left. formats_after left (format_of g)) (sym (drop_more ops i d h))))
 
-length-pictures_after : (ops : List Op) (picture : Picture) → length (pictures_after ops picture) ≡ length ops
-length-pictures_after [] picture = refl
-length-pictures_after (op ∷ ops) picture = ap suc (length-pictures_after ops (picture_after op picture))
+length-formats_after : (ops : List Op) (picture : Format) → length (formats_after ops picture) ≡ length ops
+length-formats_after [] picture = refl
+length-formats_after (op ∷ ops) picture = ap suc (length-formats_after ops (format_after op picture))
 
-get_or-pictures_after : (ops : List Op) (picture : Picture) (i : ℕ) (d : Picture) → i < length ops
-    → get_or (pictures_after ops picture) i d ≡ last_picture (take (suc i) ops) picture
-get_or-pictures_after [] picture i d h = absurd (omega arith)
-get_or-pictures_after (op ∷ ops) picture zero d h = refl
-get_or-pictures_after (op ∷ ops) picture (suc i) d h = get_or-pictures_after ops (picture_after op picture) i d (omega arith)
+get_or-formats_after : (ops : List Op) (picture : Format) (i : ℕ) (d : Format) → i < length ops
+    → get_or (formats_after ops picture) i d ≡ last_format (take (suc i) ops) picture
+get_or-formats_after [] picture i d h = absurd (omega arith)
+get_or-formats_after (op ∷ ops) picture zero d h = refl
+get_or-formats_after (op ∷ ops) picture (suc i) d h = get_or-formats_after ops (format_after op picture) i d (omega arith)
 
 pub length-outputs : (outputs : List Geometry) (ops : List Op) (g : Geometry) → AreOutputs ops g outputs → length outputs ≡ length ops
-length-outputs outputs ops g e = sym (length-map outputs picture_of) ∙ ap length e ∙ length-pictures_after ops (picture_of g)
+length-outputs outputs ops g e = sym (length-map outputs format_of) ∙ ap length e ∙ length-formats_after ops (format_of g)
 
 pub output_at : (outputs : List Geometry) (ops : List Op) (g : Geometry) (i : ℕ) (output : Geometry) → AreOutputs ops g outputs
-    → i < length ops → output ≡ get_or outputs i output → picture_of output ≡ last_picture (take (i + 1) ops) (picture_of g)
+    → i < length ops → output ≡ get_or outputs i output → format_of output ≡ last_format (take (i + 1) ops) (format_of g)
 output_at outputs ops g i output e h is =
-    ap picture_of is ∙ sym (get_or-map picture_of outputs i output) ∙ ap (λ pictures. get_or pictures i (picture_of output)) e
-    ∙ rw add-one (get_or-pictures_after ops (picture_of g) i (picture_of output) h)
+    ap format_of is ∙ sym (get_or-map format_of outputs i output) ∙ ap (λ pictures. get_or pictures i (format_of output)) e
+    ∙ rw add-one (get_or-formats_after ops (format_of g) i (format_of output) h)
 
-counts-pictures : (ops : List Op) (picture : Picture) (b : ℕ) → map (λ output. div_ceil output.height b) (pictures_after ops picture) ≡ band_counts ops picture.height b
+counts-pictures : (ops : List Op) (picture : Format) (b : ℕ) → map (λ output. div_ceil output.height b) (formats_after ops picture) ≡ band_counts ops picture.height b
 counts-pictures [] picture b = refl
-counts-pictures (op ∷ ops) picture b = ap (λ counts. div_ceil (picture_after op picture).height b ∷ counts) (counts-pictures ops (picture_after op picture) b)
+counts-pictures (op ∷ ops) picture b = ap (λ counts. div_ceil (format_after op picture).height b ∷ counts) (counts-pictures ops (format_after op picture) b)
 
-counts-map : (outputs : List Geometry) (b : ℕ) → output_counts outputs b ≡ map (λ output. div_ceil output.height b) (map picture_of outputs)
+counts-map : (outputs : List Geometry) (b : ℕ) → output_counts outputs b ≡ map (λ output. div_ceil output.height b) (map format_of outputs)
 counts-map [] b = refl
 counts-map (output ∷ outputs) b = ap (λ counts. div_ceil output.height b ∷ counts) (counts-map outputs b)
 
 pub output_counts-are : (outputs : List Geometry) (ops : List Op) (g : Geometry) (b : ℕ) → AreOutputs ops g outputs → output_counts outputs b ≡ band_counts ops g.height b
 output_counts-are outputs ops g b e =
-    counts-map outputs b ∙ ap (map (λ (output : Picture). div_ceil output.height b)) e ∙ counts-pictures ops (picture_of g) b
+    counts-map outputs b ∙ ap (map (λ (output : Format). div_ceil output.height b)) e ∙ counts-pictures ops (format_of g) b
 
 -- the bands of one output more
 pub sum_more : (outputs : List Geometry) (b i : ℕ) (g : Geometry) → i < length outputs → g ≡ get_or outputs i g

@@ -5,7 +5,7 @@ use Rattle.std.proofs.lemmas.Bool.{cases_order}
 use Rattle.std.proofs.lemmas.List.Sums.{sum_by_more, sum_by-take-le}
 use Rattle.filters.specs.declared.op.Op.{Op}
 use Rattle.filters.specs.Image.{image_height}
-use Rattle.filters.specs.Chain.{ChainValue, Picture, picture_of, picture_at, picture_after, last_picture}
+use Rattle.filters.specs.Chain.{ChainValue, Format, format_of, format_at, format_after, last_format}
 use Rattle.frame_view.specs.declared.geometry.Geometry.{Geometry}
 use Rattle.row_bands.specs.Bands.{band_count}
 use Rattle.filters.specs.Steps.{band_counts, counts_of, IsStep}
@@ -15,12 +15,12 @@ length-band_counts [] h b = refl
 length-band_counts (op ∷ ops) h b = ap suc (length-band_counts ops (image_height op h) b)
 
 -- the bands of an operation are those of its output
-pub count_at : (ops : List Op) (picture : Picture) (b i : ℕ) → i < length ops
-    → get_or (band_counts ops picture.height b) i 0 ≡ div_ceil (last_picture (take (i + 1) ops) picture).height b
+pub count_at : (ops : List Op) (picture : Format) (b i : ℕ) → i < length ops
+    → get_or (band_counts ops picture.height b) i 0 ≡ div_ceil (last_format (take (i + 1) ops) picture).height b
 count_at [] picture b i h = absurd (omega arith)
 count_at (op ∷ ops) picture b zero h = refl
 count_at (op ∷ ops) picture b (suc i) h =
-    let rest = count_at ops (picture_after op picture) b i (omega arith) in
+    let rest = count_at ops (format_after op picture) b i (omega arith) in
     rw add-one (rw add-one at rest)
 
 sum_at : (counts : List ℕ) (i : ℕ) → i < length counts → sum (take (i + 1) counts) ≡ sum (take i counts) + get_or counts i 0
@@ -58,13 +58,13 @@ one_step counts k op band i j s t = elim (cases_order i op) [
 ]
 
 -- an operation has as many steps as its output has bands
-pub count_of_output : (chain : ChainValue) (i : ℕ) (output : Geometry) → i < length (counts_of chain) → picture_of output ≡ picture_at chain (i + 1)
+pub count_of_output : (chain : ChainValue) (i : ℕ) (output : Geometry) → i < length (counts_of chain) → format_of output ≡ format_at chain (i + 1)
     → band_count output chain.band_height.rows ≡ get_or (counts_of chain) i 0
 count_of_output chain i output h e =
     let within : i < length chain.ops = rw length-band_counts at h in
-    let height : output.height ≡ (picture_at chain (i + 1)).height = ap (λ picture. picture.height) e in
-    rw height (sym (count_at chain.ops (picture_of chain.geometry) chain.band_height.rows i within))
+    let height : output.height ≡ (format_at chain (i + 1)).height = ap (λ picture. picture.height) e in
+    rw height (sym (count_at chain.ops (format_of chain.geometry) chain.band_height.rows i within))
 
-pub band_of : (chain : ChainValue) (k op band : ℕ) (output : Geometry) → IsStep (counts_of chain) k op band → picture_of output ≡ picture_at chain (op + 1)
+pub band_of : (chain : ChainValue) (k op band : ℕ) (output : Geometry) → IsStep (counts_of chain) k op band → format_of output ≡ format_at chain (op + 1)
     → band < band_count output chain.band_height.rows
 band_of chain k op band output s e = rw (count_of_output chain op output s.of_chain e) s.of_op

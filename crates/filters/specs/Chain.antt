@@ -8,22 +8,22 @@ use Rattle.filters.specs.declared.op.Op.TheVariants.{Table, HFlip, VFlip, Crop, 
 use Rattle.filters.specs.Image.{IsDoable, IsImageGeometry, image_width, image_height}
 
 -- the size of a picture, and how its chroma planes are sampled
-pub record Picture : Type 0 where
+pub record Format : Type 0 where
   pub width : ℕ
   pub height : ℕ
   pub chroma : Chroma
 
-abbrev pub picture_of : Geometry → Picture
-picture_of g = record { width = g.width; height = g.height; chroma = g.chroma }
+abbrev pub format_of : Geometry → Format
+format_of g = record { width = g.width; height = g.height; chroma = g.chroma }
 
-abbrev pub picture_after : Op → Picture → Picture
-picture_after op picture =
-    record { width = image_width op picture.width; height = image_height op picture.height; chroma = picture.chroma }
+abbrev pub format_after : Op → Format → Format
+format_after op format =
+    record { width = image_width op format.width; height = image_height op format.height; chroma = format.chroma }
 
--- the picture after all these operations
-abbrev pub last_picture : List Op → Picture → Picture
-last_picture [] picture = picture
-last_picture (op ∷ ops) picture = last_picture ops (picture_after op picture)
+-- the format after all these operations
+abbrev pub last_format : List Op → Format → Format
+last_format [] format = format
+last_format (op ∷ ops) format = last_format ops (format_after op format)
 
 -- each operation can be done on the picture that reaches it
 abbrev pub AreDoable : List Op → Geometry → Type 0
@@ -56,9 +56,9 @@ pub record ChainValue : Type 0 where
   pub geometry : Geometry
   pub band_height : BandHeight
 
--- the picture after the first operations of a chain, this many: it is what reaches the operation behind them
-abbrev pub picture_at : ChainValue → ℕ → Picture
-picture_at chain count = last_picture (take count chain.ops) (picture_of chain.geometry)
+-- the format after the first operations of a chain, this many: it is that of what reaches the operation behind them
+abbrev pub format_at : ChainValue → ℕ → Format
+format_at chain count = last_format (take count chain.ops) (format_of chain.geometry)
 
 abbrev pub chain_of : List Op → Geometry → BandHeight → ChainValue
 chain_of ops geometry band_height = record { ops = ops; geometry = geometry; band_height = band_height }

@@ -5,29 +5,29 @@ use Rattle.frame_view.specs.declared.geometry.Geometry.{Geometry}
 use Rattle.frame_view.specs.declared.frame.Frame.{Frame}
 use Rattle.frame_view.specs.Places.{plane_width, plane_height, frame_len}
 use Rattle.frame_view.specs.Rows.{sample}
-use Rattle.frame_view.specs.Frame.{line_of, bytes_of}
+use Rattle.frame_view.specs.Frame.{line_of, samples_of}
 use Rattle.row_bands.specs.declared.canvas.Canvas.{Canvas}
 use Rattle.row_bands.specs.Canvas.{frame_of, height_of}
 use Rattle.filters.specs.declared.op.Op.{Op}
 use Rattle.filters.specs.Image.{IsImageGeometry, image_pixel}
-use Rattle.filters.specs.Chain.{ChainValue, picture_of, picture_at}
+use Rattle.filters.specs.Chain.{ChainValue, format_of, format_at}
 
 -- a frame as a reader sees it
 pub record FrameValue : Type 0 where
   pub geometry : Geometry
   pub line : List ℕ
-  pub bytes : List ℕ
+  pub samples : List ℕ
 
 abbrev pub value_of : Frame → FrameValue
-value_of frame = record { geometry = frame.geometry; line = line_of frame; bytes = bytes_of frame }
+value_of frame = record { geometry = frame.geometry; line = line_of frame; samples = samples_of frame }
 
 -- the image of a frame by one operation: its line, and every pixel as the operation's formula says
 pub record IsOpImage (op : Op) (source image : FrameValue) : Type 0 where
   pub geometry : IsImageGeometry op source.geometry image.geometry
   pub line : image.line ≡ source.line
-  pub whole : length image.bytes ≡ frame_len image.geometry
+  pub whole : length image.samples ≡ frame_len image.geometry
   pub pixels : (p y x : ℕ) → p < plane_count image.geometry.chroma → y < plane_height image.geometry p → x < plane_width image.geometry p
-      → sample image.geometry image.bytes p y x ≡ image_pixel op source.geometry source.bytes p y x
+      → sample image.geometry image.samples p y x ≡ image_pixel op source.geometry source.samples p y x
 
 -- the image by several operations: each is done on the image that the one before it made
 abbrev pub IsChainImage : List Op → FrameValue → FrameValue → Type 0
@@ -36,7 +36,7 @@ IsChainImage (op ∷ ops) source image = (between : FrameValue) × IsOpImage op 
 
 -- a canvas for the output of operation i of a chain, of a frame with this line
 pub record IsCanvasAt (chain : ChainValue) (its_line : List ℕ) (i : ℕ) (canvas : Canvas) : Type 0 where
-  pub picture : picture_of (frame_of canvas).geometry ≡ picture_at chain (i + 1)
+  pub format : format_of (frame_of canvas).geometry ≡ format_at chain (i + 1)
   pub height : height_of canvas ≡ chain.band_height.rows
   pub line : line_of (frame_of canvas) ≡ its_line
 

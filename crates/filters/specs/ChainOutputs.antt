@@ -3,16 +3,16 @@ use Rattle.std.specs.Prelude.{◌≡◌, ℕ, List, [], ◌∷◌, map}
 use Rattle.std.specs.Int.{div_ceil}
 use Rattle.frame_view.specs.declared.geometry.Geometry.{Geometry}
 use Rattle.filters.specs.declared.op.Op.{Op}
-use Rattle.filters.specs.Chain.{Picture, picture_of, picture_after}
+use Rattle.filters.specs.Chain.{Format, format_of, format_after}
 
--- the picture after each operation, in order
-abbrev pub pictures_after : List Op → Picture → List Picture
-pictures_after [] picture = []
-pictures_after (op ∷ ops) picture = picture_after op picture ∷ pictures_after ops (picture_after op picture)
+-- the format after each operation, in order
+abbrev pub formats_after : List Op → Format → List Format
+formats_after [] format = []
+formats_after (op ∷ ops) format = format_after op format ∷ formats_after ops (format_after op format)
 
 -- these are the geometries after each operation
 abbrev pub AreOutputs : List Op → Geometry → List Geometry → Type 0
-AreOutputs ops g outputs = map picture_of outputs ≡ pictures_after ops (picture_of g)
+AreOutputs ops g outputs = map format_of outputs ≡ formats_after ops (format_of g)
 
 -- how many bands of b rows each output has
 abbrev pub output_counts : List Geometry → ℕ → List ℕ

@@ -5,19 +5,19 @@ use Rattle.frame_view.specs.declared.geometry.Geometry.{Geometry}
 use Rattle.frame_view.specs.declared.frame.Frame.{Frame}
 use Rattle.frame_view.specs.Places.{plane_width, plane_height}
 use Rattle.frame_view.specs.Rows.{sample}
-use Rattle.frame_view.specs.Frame.{line_of, bytes_of}
+use Rattle.frame_view.specs.Frame.{line_of, samples_of}
 use Rattle.filters.specs.declared.op.Op.{Op}
 use Rattle.filters.specs.declared.op.Op.TheVariants.{Table, HFlip, VFlip, Crop, Blur}
 use Rattle.filters.specs.declared.op.Crop.{Crop as Rectangle}
 use Rattle.filters.specs.Pixel.{Samples, pixel}
 
--- plane p of a frame of this geometry and these bytes
-abbrev pub samples_of : Geometry → List ℕ → ℕ → Samples
-samples_of g bytes p = record { columns = plane_width g p; rows = plane_height g p; at = sample g bytes p }
+-- plane p of a frame of this geometry and these data
+abbrev pub plane_of : Geometry → List ℕ → ℕ → Samples
+plane_of g samples p = record { columns = plane_width g p; rows = plane_height g p; at = sample g samples p }
 
 -- the sample in row y and column x of plane p of the image of a frame
 abbrev pub image_pixel : Op → Geometry → List ℕ → ℕ → ℕ → ℕ → ℕ
-image_pixel op g bytes p y x = pixel op g.chroma p (samples_of g bytes p) y x
+image_pixel op g samples p y x = pixel op g.chroma p (plane_of g samples p) y x
 
 -- some pixels, within the picture, with whole samples of every plane
 pub record IsRectangleOf (crop : Rectangle) (g : Geometry) : Type 0 where
@@ -63,9 +63,9 @@ pub record IsImage (op : Op) (source image : Frame) : Type 0 where
   pub geometry : IsImageGeometry op source.geometry image.geometry
   pub line : line_of image ≡ line_of source
   pub pixels : (p y x : ℕ) → p < plane_count image.geometry.chroma → y < plane_height image.geometry p → x < plane_width image.geometry p
-      → sample image.geometry (bytes_of image) p y x ≡ image_pixel op source.geometry (bytes_of source) p y x
+      → sample image.geometry (samples_of image) p y x ≡ image_pixel op source.geometry (samples_of source) p y x
 
 -- the rows from one place on to another, which is left out, of plane p of the image, one after another
 abbrev pub HoldsRows : Op → Geometry → List ℕ → ℕ → ℕ → ℕ → ℕ → List ℕ → Type 0
-HoldsRows op g bytes p columns from to rows =
-    (v x : ℕ) → from + v < to → x < columns → slice_index rows (v * columns + x) ≡ image_pixel op g bytes p (from + v) x
+HoldsRows op g samples p columns from to rows =
+    (v x : ℕ) → from + v < to → x < columns → slice_index rows (v * columns + x) ≡ image_pixel op g samples p (from + v) x

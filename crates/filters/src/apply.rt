@@ -1,7 +1,7 @@
 // An operation on a frame, band by band.
 ghost use Rattle.std.specs.Prelude.{◌≡◌, ◌<◌};
 ghost use Rattle.y4m_header.specs.Chroma.{plane_count};
-ghost use Rattle.frame_view.specs.Frame.{line_of, bytes_of};
+ghost use Rattle.frame_view.specs.Frame.{line_of, samples_of};
 ghost use Rattle.row_bands.specs.Bands.{band_count, luma_from, luma_to};
 ghost use Rattle.row_bands.specs.Canvas.{band_geometry, frame_of, height_of};
 ghost use Rattle.row_bands.specs.Written.{HasBand, IsPainted};
@@ -19,7 +19,7 @@ pub fn apply_band(op: Op, source: &Frame, band: &mut Band<'_>)
     requires doable { IsDoable op source.now.geometry }
     requires image { IsImageGeometry op source.now.geometry (band_geometry band.old) }
     ensures same_reference { band.new.canvas.ghost_name ≡ band.old.canvas.ghost_name }
-    ensures painted { IsPainted (image_pixel op source.now.geometry (bytes_of source.now)) band.old band.new }
+    ensures painted { IsPainted (image_pixel op source.now.geometry (samples_of source.now)) band.old band.new }
 {
     let painter = ImagePainter {
         op,
@@ -35,7 +35,7 @@ pub fn apply_at(op: Op, source: &Frame, canvas: &mut Canvas, k: usize)
     requires image { IsImageGeometry op source.now.geometry (frame_of canvas.old).geometry }
     requires band { k < band_count (frame_of canvas.old).geometry (height_of canvas.old) }
     ensures height { height_of canvas.new ≡ height_of canvas.old }
-    ensures rows { HasBand (image_pixel op source.now.geometry (bytes_of source.now)) (luma_from (height_of canvas.old) k)
+    ensures rows { HasBand (image_pixel op source.now.geometry (samples_of source.now)) (luma_from (height_of canvas.old) k)
         (luma_to (frame_of canvas.old).geometry (height_of canvas.old) k) (plane_count (frame_of canvas.old).geometry.chroma)
         (frame_of canvas.old) (frame_of canvas.new) }
 {

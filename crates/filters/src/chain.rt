@@ -78,7 +78,7 @@ impl Chain {
     ghost use Rattle.std.specs.Prelude.{◌<◌, ◌+◌, Some, slice_get};
     ghost use Rattle.std.specs.List.{list_any};
     ghost use Rattle.filters.specs.Image.{IsDoable, IsImageGeometry};
-    ghost use Rattle.filters.specs.Chain.{picture_of, picture_at, last_picture, is_crop};
+    ghost use Rattle.filters.specs.Chain.{format_of, format_at, last_format, is_crop};
 
     /// The chain of these operations.
     pub fn new(
@@ -124,7 +124,7 @@ impl Chain {
 
     /// That of the images.
     pub fn out_geometry(&self) -> Geometry
-        ensures { picture_of result ≡ last_picture self.now.ops (picture_of self.now.geometry) }
+        ensures { format_of result ≡ last_format self.now.ops (format_of self.now.geometry) }
     {
         self.geometry_after(self.ops.len())
     }
@@ -133,7 +133,7 @@ impl Chain {
     /// the operation after them.
     pub fn geometry_after(&self, count: usize) -> Geometry
         requires { count ≤ length self.now.ops }
-        ensures { picture_of result ≡ picture_at self.now count }
+        ensures { format_of result ≡ format_at self.now count }
     {
         if count == 0 {
             return self.geometry;
@@ -152,8 +152,8 @@ impl Chain {
         requires { i < length self.now.ops }
         ensures value { slice_get self.now.ops i ≡ Some result }
         ensures radius { HasGoodRadius result }
-        ensures doable { (g : Geometry) → picture_of g ≡ picture_at self.now i → IsDoable result g }
-        ensures image { (g image : Geometry) → picture_of g ≡ picture_at self.now i → picture_of image ≡ picture_at self.now (i + 1)
+        ensures doable { (g : Geometry) → format_of g ≡ format_at self.now i → IsDoable result g }
+        ensures image { (g image : Geometry) → format_of g ≡ format_at self.now i → format_of image ≡ format_at self.now (i + 1)
             → IsImageGeometry result g image }
     {
         self.ops[i]

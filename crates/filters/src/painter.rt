@@ -1,6 +1,6 @@
 // An operation as a painter of its image.
 ghost use Rattle.std.specs.Prelude.{◌≡◌};
-ghost use Rattle.frame_view.specs.Frame.{bytes_of};
+ghost use Rattle.frame_view.specs.Frame.{samples_of};
 ghost use Rattle.filters.specs.Image.{IsDoable, IsImageGeometry, image_pixel};
 
 use crate::op::Op;
@@ -19,7 +19,7 @@ pub struct ImagePainter<'a> {
 }
 
 impl Painter for ImagePainter<'_> {
-    ghost picture = { λ painter. image_pixel painter.op painter.source.now.geometry (bytes_of painter.source.now) };
+    ghost picture = { λ painter. image_pixel painter.op painter.source.now.geometry (samples_of painter.source.now) };
 
     ghost geometry = { λ painter. painter.target };
 

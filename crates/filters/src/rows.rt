@@ -2,7 +2,7 @@
 ghost use Rattle.std.specs.Prelude.{◌≡◌, ◌+◌, ◌-◌, ◌*◌, ◌<◌, ◌≤◌, ℕ, length, slice_index};
 ghost use Rattle.y4m_header.specs.Chroma.{plane_count, horizontal_divisor, vertical_divisor};
 ghost use Rattle.frame_view.specs.Places.{plane_width, plane_height};
-ghost use Rattle.frame_view.specs.Frame.{bytes_of};
+ghost use Rattle.frame_view.specs.Frame.{samples_of};
 ghost use Rattle.frame_view.specs.Written.{IsRows};
 ghost use Rattle.filters.specs.Pixel.{offset};
 ghost use Rattle.filters.specs.Image.{IsDoable, IsImageGeometry, HoldsRows, image_pixel};
@@ -32,7 +32,7 @@ pub fn fill_rows(
     requires order { from ≤ to }
     requires inside { to ≤ plane_height target p }
     requires sized { length rows.old ≡ (to - from) * plane_width target p }
-    ensures { IsRows (image_pixel op source.now.geometry (bytes_of source.now)) target p from to rows.new }
+    ensures { IsRows (image_pixel op source.now.geometry (samples_of source.now)) target p from to rows.new }
 {
     let columns = target.plane_size(p).columns;
     match op {
@@ -58,7 +58,7 @@ fn table_rows(
     requires inside { to ≤ plane_height source.now.geometry p }
     requires width { columns ≡ plane_width source.now.geometry p }
     requires sized { length rows.old ≡ (to - from) * columns }
-    ensures { HoldsRows (Op.Table table) source.now.geometry (bytes_of source.now) p columns from to rows.new }
+    ensures { HoldsRows (Op.Table table) source.now.geometry (samples_of source.now) p columns from to rows.new }
 {
     table_row(table, p, source.rows(p, from, to), rows);
 }
@@ -69,7 +69,7 @@ fn mirrored_rows(source: &Frame, p: usize, columns: usize, from: usize, to: usiz
     requires inside { to ≤ plane_height source.now.geometry p }
     requires width { columns ≡ plane_width source.now.geometry p }
     requires sized { length rows.old ≡ (to - from) * columns }
-    ensures { HoldsRows Op.HFlip source.now.geometry (bytes_of source.now) p columns from to rows.new }
+    ensures { HoldsRows Op.HFlip source.now.geometry (samples_of source.now) p columns from to rows.new }
 {
     for v in 0..to - from {
         let at = v * columns;
@@ -83,7 +83,7 @@ fn opposite_rows(source: &Frame, p: usize, columns: usize, from: usize, to: usiz
     requires inside { to ≤ plane_height source.now.geometry p }
     requires width { columns ≡ plane_width source.now.geometry p }
     requires sized { length rows.old ≡ (to - from) * columns }
-    ensures { HoldsRows Op.VFlip source.now.geometry (bytes_of source.now) p columns from to rows.new }
+    ensures { HoldsRows Op.VFlip source.now.geometry (samples_of source.now) p columns from to rows.new }
 {
     let last = source.geometry().plane_size(p).rows - 1;
     for v in 0..to - from {
@@ -122,7 +122,7 @@ fn cropped_rows(
     requires inside { offset p crop.y (vertical_divisor source.now.geometry.chroma) + to ≤ plane_height source.now.geometry p }
     requires width { offset p crop.x (horizontal_divisor source.now.geometry.chroma) + columns ≤ plane_width source.now.geometry p }
     requires sized { length rows.old ≡ (to - from) * columns }
-    ensures { HoldsRows (Op.Crop crop) source.now.geometry (bytes_of source.now) p columns from to rows.new }
+    ensures { HoldsRows (Op.Crop crop) source.now.geometry (samples_of source.now) p columns from to rows.new }
 {
     let (across, down) = offsets(crop, source.geometry(), p);
     for v in 0..to - from {
@@ -147,7 +147,7 @@ fn blurred_rows(
     requires inside { to ≤ plane_height source.now.geometry p }
     requires width { columns ≡ plane_width source.now.geometry p }
     requires sized { length rows.old ≡ (to - from) * columns }
-    ensures { HoldsRows (Op.Blur blur) source.now.geometry (bytes_of source.now) p columns from to rows.new }
+    ensures { HoldsRows (Op.Blur blur) source.now.geometry (samples_of source.now) p columns from to rows.new }
 {
     let size = source.geometry().plane_size(p);
     let samples = source.rows(p, 0, size.rows);

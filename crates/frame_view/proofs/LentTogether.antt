@@ -32,41 +32,41 @@ place_below g p y x h = omega (arith, lent_size g p h.plane, row_in_plane g p (y
 
 -- what stands in a lent plane stands in its own rows
 abbrev pub StandsInItsRows : Geometry → List ℕ → List ℕ → List ℕ → List ℕ → ℕ → ℕ → ℕ → Type 0
-StandsInItsRows g luma blue red alpha y x p =
-    sample g (luma ++ (blue ++ (red ++ alpha))) p y x ≡ slice_index (of_plane p luma blue red alpha) (y * plane_width g p + x)
+StandsInItsRows g luma cb cr alpha y x p =
+    sample g (luma ++ (cb ++ (cr ++ alpha))) p y x ≡ slice_index (of_plane p luma cb cr alpha) (y * plane_width g p + x)
 
-pub lent_planes : (g : Geometry) (luma blue red alpha : List ℕ) → length luma ≡ lent_len g 0 → length blue ≡ lent_len g 1 → length red ≡ lent_len g 2 → length alpha ≡ lent_len g 3
-    → (p y x : ℕ) → IsPlace g p y x → StandsInItsRows g luma blue red alpha y x p
-lent_planes g luma blue red alpha l b r a p y x h =
-    let Q : ℕ → Type 0 = StandsInItsRows g luma blue red alpha y x in
+pub lent_planes : (g : Geometry) (luma cb cr alpha : List ℕ) → length luma ≡ lent_len g 0 → length cb ≡ lent_len g 1 → length cr ≡ lent_len g 2 → length alpha ≡ lent_len g 3
+    → (p y x : ℕ) → IsPlace g p y x → StandsInItsRows g luma cb cr alpha y x p
+lent_planes g luma cb cr alpha l b r a p y x h =
+    let Q : ℕ → Type 0 = StandsInItsRows g luma cb cr alpha y x in
     let In : ℕ → Type 0 = λ z. IsPlace g z y x in
     elim (four p (omega (arith, at_most_four g, h.plane))) [
       | inl e ↦ subst Q (sym e) (in_luma (subst In e h))
-      | inr (inl e) ↦ subst Q (sym e) (in_blue (subst In e h))
-      | inr (inr (inl e)) ↦ subst Q (sym e) (in_red (subst In e h))
+      | inr (inl e) ↦ subst Q (sym e) (in_cb (subst In e h))
+      | inr (inr (inl e)) ↦ subst Q (sym e) (in_cr (subst In e h))
       | inr (inr (inr e)) ↦ subst Q (sym e) (in_alpha (subst In e h))
     ]
   where
-    in_luma : IsPlace g 0 y x → StandsInItsRows g luma blue red alpha y x 0
+    in_luma : IsPlace g 0 y x → StandsInItsRows g luma cb cr alpha y x 0
     in_luma i =
-        ap (λ z. slice_index (luma ++ (blue ++ (red ++ alpha))) z) (let e : row_start g 0 y + x ≡ y * plane_width g 0 + x = omega (arith, first_plane g) in e)
-        ∙ left luma (blue ++ (red ++ alpha)) (y * plane_width g 0 + x) (omega (arith, place_below g 0 y x i, l))
+        ap (λ z. slice_index (luma ++ (cb ++ (cr ++ alpha))) z) (let e : row_start g 0 y + x ≡ y * plane_width g 0 + x = omega (arith, first_plane g) in e)
+        ∙ left luma (cb ++ (cr ++ alpha)) (y * plane_width g 0 + x) (omega (arith, place_below g 0 y x i, l))
 
-    in_blue : IsPlace g 1 y x → StandsInItsRows g luma blue red alpha y x 1
-    in_blue i =
-        right luma (blue ++ (red ++ alpha)) (lent_len g 0) (row_start g 1 y + x) (y * plane_width g 1 + x) l (omega (arith, first_plane g, next_plane g 0, lent_size g 0 (let k = i.plane in omega arith)))
-        ∙ left blue (red ++ alpha) (y * plane_width g 1 + x) (omega (arith, place_below g 1 y x i, b))
+    in_cb : IsPlace g 1 y x → StandsInItsRows g luma cb cr alpha y x 1
+    in_cb i =
+        right luma (cb ++ (cr ++ alpha)) (lent_len g 0) (row_start g 1 y + x) (y * plane_width g 1 + x) l (omega (arith, first_plane g, next_plane g 0, lent_size g 0 (let k = i.plane in omega arith)))
+        ∙ left cb (cr ++ alpha) (y * plane_width g 1 + x) (omega (arith, place_below g 1 y x i, b))
 
-    in_red : IsPlace g 2 y x → StandsInItsRows g luma blue red alpha y x 2
-    in_red i =
-        right luma (blue ++ (red ++ alpha)) (lent_len g 0) (row_start g 2 y + x) (lent_len g 1 + (y * plane_width g 2 + x)) l
+    in_cr : IsPlace g 2 y x → StandsInItsRows g luma cb cr alpha y x 2
+    in_cr i =
+        right luma (cb ++ (cr ++ alpha)) (lent_len g 0) (row_start g 2 y + x) (lent_len g 1 + (y * plane_width g 2 + x)) l
         (omega (arith, first_plane g, next_plane g 0, next_plane g 1, lent_size g 0 (let k = i.plane in omega arith), lent_size g 1 (let k = i.plane in omega arith)))
-        ∙ right blue (red ++ alpha) (lent_len g 1) (lent_len g 1 + (y * plane_width g 2 + x)) (y * plane_width g 2 + x) b refl
-        ∙ left red alpha (y * plane_width g 2 + x) (omega (arith, place_below g 2 y x i, r))
+        ∙ right cb (cr ++ alpha) (lent_len g 1) (lent_len g 1 + (y * plane_width g 2 + x)) (y * plane_width g 2 + x) b refl
+        ∙ left cr alpha (y * plane_width g 2 + x) (omega (arith, place_below g 2 y x i, r))
 
-    in_alpha : IsPlace g 3 y x → StandsInItsRows g luma blue red alpha y x 3
+    in_alpha : IsPlace g 3 y x → StandsInItsRows g luma cb cr alpha y x 3
     in_alpha i =
-        right luma (blue ++ (red ++ alpha)) (lent_len g 0) (row_start g 3 y + x) (lent_len g 1 + (lent_len g 2 + (y * plane_width g 3 + x))) l
+        right luma (cb ++ (cr ++ alpha)) (lent_len g 0) (row_start g 3 y + x) (lent_len g 1 + (lent_len g 2 + (y * plane_width g 3 + x))) l
         (omega (arith, first_plane g, next_plane g 0, next_plane g 1, next_plane g 2, lent_size g 0 (let k = i.plane in omega arith), lent_size g 1 (let k = i.plane in omega arith), lent_size g 2 (let k = i.plane in omega arith)))
-        ∙ right blue (red ++ alpha) (lent_len g 1) (lent_len g 1 + (lent_len g 2 + (y * plane_width g 3 + x))) (lent_len g 2 + (y * plane_width g 3 + x)) b refl
-        ∙ right red alpha (lent_len g 2) (lent_len g 2 + (y * plane_width g 3 + x)) (y * plane_width g 3 + x) r refl
+        ∙ right cb (cr ++ alpha) (lent_len g 1) (lent_len g 1 + (lent_len g 2 + (y * plane_width g 3 + x))) (lent_len g 2 + (y * plane_width g 3 + x)) b refl
+        ∙ right cr alpha (lent_len g 2) (lent_len g 2 + (y * plane_width g 3 + x)) (y * plane_width g 3 + x) r refl

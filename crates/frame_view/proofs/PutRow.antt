@@ -6,8 +6,8 @@ use Rattle.std.proofs.lemmas.Grind.{common_steps}
 use Rattle.y4m_header.specs.Chroma.{plane_count}
 use Rattle.frame_view.specs.declared.geometry.Geometry.{Geometry}
 use Rattle.frame_view.specs.declared.frame.Frame.{Frame}
-use Rattle.frame_view.specs.Frame.{bytes_of}
-use Rattle.frame_view.specs.Lending.{with_all_bytes}
+use Rattle.frame_view.specs.Frame.{samples_of}
+use Rattle.frame_view.specs.Lending.{with_all_samples}
 use Rattle.frame_view.specs.LentTogether.{lent_columns, lent_len, put_row}
 use Rattle.frame_view.specs.Places.{plane_width, plane_height, plane_start, row_start}
 use Rattle.frame_view.specs.Written.{IsRows, HasRows}
@@ -53,10 +53,10 @@ alpha_start g h = omega (arith, red_start g (omega arith), next_plane g 2, lent_
 -- the frame has the row, and all else as before
 pub put_back : (p y columns : ℕ) (old : Frame) (before samples after row new : List ℕ) → p < plane_count old.geometry.chroma → y < plane_height old.geometry p
     → length row ≡ plane_width old.geometry p → columns ≡ lent_columns old.geometry p → length before ≡ plane_start old.geometry p → length samples ≡ lent_len old.geometry p
-    → bytes_of old ≡ before ++ (samples ++ after) → new ≡ before ++ (put_row samples columns y row ++ after)
-    → HasRows (λ _ _ x. slice_index row x) p y (y + 1) old (with_all_bytes old new)
+    → samples_of old ≡ before ++ (samples ++ after) → new ≡ before ++ (put_row samples columns y row ++ after)
+    → HasRows (λ _ _ x. slice_index row x) p y (y + 1) old (with_all_samples old new)
 put_back p y columns old before samples after row new hp hy r k b s e w =
     let g = old.geometry in
-    let whole : new ≡ over (bytes_of old) (row_start g p y) row =
+    let whole : new ≡ over (samples_of old) (row_start g p y) row =
     w ∙ rw k (in_plane g p y before samples after row hp hy r b s ∙ ap (λ z. over z (row_start g p y) row) (sym e)) in
     rw whole (lent_rows (λ _ _ x. slice_index row x) p y (y + 1) old row hp (omega arith) (omega arith) (one_row g p y row r))

@@ -26,8 +26,8 @@ first_positive values value n all is e =
     let good : IsSize value = rw at at size in
     omega (arith, good.positive)
 
-picture_of : (line : List ℕ) (w h : ℕ) (chroma : Chroma) → IsHeaderLine line w h chroma → IsPicture w h chroma
-picture_of line w h chroma s = record {
+format_of : (line : List ℕ) (w h : ℕ) (chroma : Chroma) → IsHeaderLine line w h chroma → IsPicture w h chroma
+format_of line w h chroma s = record {
   some_columns = first_positive (widths line) s.size.width.0 w s.good_sizes.widths_good s.size.width.1 s.size.width.2;
   some_rows = first_positive (heights line) s.size.height.0 h s.good_sizes.heights_good s.size.height.1 s.size.height.2;
   narrow = s.limits.width;
@@ -38,4 +38,4 @@ picture_of line w h chroma s = record {
 }
 
 pub is_picture : (line : List ℕ) (w h : ℕ) (chroma : Chroma) → ∥ IsHeaderLine line w h chroma ∥₁ → IsPicture w h chroma
-is_picture line w h chroma s = ∥∥₁_elim s (hlevel props) (picture_of line w h chroma)
+is_picture line w h chroma s = ∥∥₁_elim s (hlevel props) (format_of line w h chroma)

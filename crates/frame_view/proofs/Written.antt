@@ -7,7 +7,7 @@ use Rattle.frame_view.specs.declared.geometry.Geometry.{Geometry}
 use Rattle.frame_view.specs.declared.frame.Frame.{Frame}
 use Rattle.frame_view.specs.Places.{plane_width, plane_height, row_start}
 use Rattle.frame_view.specs.Written.{IsRow, IsRows, HasRows}
-use Rattle.frame_view.specs.Lending.{with_bytes}
+use Rattle.frame_view.specs.Lending.{with_samples}
 use Rattle.frame_view.proofs.Places.{row_in_frame}
 use Rattle.frame_view.proofs.Gaps.{gap, row_gap, row_below}
 use Rattle.frame_view.specs.Rows.{sample, run_of}
@@ -17,15 +17,15 @@ use Rattle.frame_view.proofs.Over.{over, over_is, over-before, over-inside, over
 -- lent rows that come back as a picture's are the picture's rows in the frame
 pub lent_rows : (picture : ℕ → ℕ → ℕ → ℕ) (p from to : ℕ) (old : Frame) (ws : List ℕ)
     → p < plane_count old.geometry.chroma → from ≤ to → to ≤ plane_height old.geometry p
-    → IsRows picture old.geometry p from to ws → HasRows picture p from to old (with_bytes old (row_start old.geometry p from) ws)
+    → IsRows picture old.geometry p from to ws → HasRows picture p from to old (with_samples old (row_start old.geometry p from) ws)
 lent_rows picture p from to old ws hp hf ht h =
     let g = old.geometry in
     let w = plane_width g p in
     let at = row_start g p from in
     let end : row_start g p to ≡ at + length ws = omega (arith, gap from to w hf, h.len) in
-    let room : at + length ws ≤ old.bytes.len = omega (arith, row_in_frame g p to hp ht, old.fits) in
-    let room' : at + length ws ≤ length old.bytes.items = omega (arith, old.bytes.ok.0) in
-    let e = over_is old.bytes at ws room in
+    let room : at + length ws ≤ old.samples.len = omega (arith, row_in_frame g p to hp ht, old.fits) in
+    let room' : at + length ws ≤ length old.samples.items = omega (arith, old.samples.ok.0) in
+    let e = over_is old.samples at ws room in
     record {
       geometry = refl;
       line = refl;
@@ -33,9 +33,9 @@ lent_rows picture p from to old ws hp hf ht h =
           let k = (y - from) * w + x in
           let i : row_start g p y + x ≡ at + k = omega (arith, gap from y w a) in
           let l : k < length ws = omega (arith, row_below (y - from) (to - from) x w (omega arith) d, h.len) in
-          rw (e, i) (over-inside old.bytes.items at ws k room' l ∙ h.samples y x a b d);
-      before = λ i l. rw e (over-before old.bytes.items at ws i room' l);
-      after = λ i l. rw e (over-after old.bytes.items at ws i room' (omega arith));
+          rw (e, i) (over-inside old.samples.items at ws k room' l ∙ h.samples y x a b d);
+      before = λ i l. rw e (over-before old.samples.items at ws i room' l);
+      after = λ i l. rw e (over-after old.samples.items at ws i room' (omega arith));
     }
 
 either_side : (y f : ℕ) → (y < f) ⊎ (f ≤ y)

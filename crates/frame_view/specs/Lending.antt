@@ -6,18 +6,18 @@ use Rattle.frame_view.specs.declared.frame.Frame.{Frame}
 use Rattle.frame_view.specs.contracts.frame.Frame.{the_row as frame_row}
 use Rattle.frame_view.specs.Places.{row_start}
 
--- the frame with these bytes in place of its own
-abbrev pub with_all_bytes : Frame → List ℕ → Frame
-with_all_bytes f ws = record { geometry = f.geometry; line = f.line; bytes = with_items f.bytes ws; fits = f.fits; lined = f.lined }
+-- the frame with these data in place of its own
+abbrev pub with_all_samples : Frame → List ℕ → Frame
+with_all_samples f ws = record { geometry = f.geometry; line = f.line; samples = with_items f.samples ws; fits = f.fits; lined = f.lined }
 
 -- the frame with these bytes written over its own from a place on
-abbrev pub with_bytes : Frame → ℕ → List ℕ → Frame
-with_bytes f i ws = record { geometry = f.geometry; line = f.line; bytes = with_items_from f.bytes i ws; fits = f.fits; lined = f.lined }
+abbrev pub with_samples : Frame → ℕ → List ℕ → Frame
+with_samples f i ws = record { geometry = f.geometry; line = f.line; samples = with_items_from f.samples i ws; fits = f.fits; lined = f.lined }
 
--- all bytes are lent
-abbrev pub LendsBytes : MutBor Frame → MutBor (List ℕ) → Fml
-LendsBytes f r = Lends frame_row (Array u8 0) f r (with_all_bytes f.now)
+-- all data are lent
+abbrev pub LendsSamples : MutBor Frame → MutBor (List ℕ) → Fml
+LendsSamples f r = Lends frame_row (Array u8 0) f r (with_all_samples f.now)
 
 -- the bytes of plane p from row `from` on are lent
 abbrev pub LendsRows : MutBor Frame → ℕ → ℕ → MutBor (List ℕ) → Fml
-LendsRows f p from r = Lends frame_row (Array u8 0) f r (with_bytes f.now (row_start f.now.geometry p from))
+LendsRows f p from r = Lends frame_row (Array u8 0) f r (with_samples f.now (row_start f.now.geometry p from))

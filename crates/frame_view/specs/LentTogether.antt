@@ -17,10 +17,10 @@ lent_len g p = if_there g p (plane_width g p * plane_height g p)
 
 -- which of the four is plane p
 abbrev pub of_plane : ℕ → List ℕ → List ℕ → List ℕ → List ℕ → List ℕ
-of_plane zero luma blue red alpha = luma
-of_plane (suc zero) luma blue red alpha = blue
-of_plane (suc (suc zero)) luma blue red alpha = red
-of_plane (suc (suc (suc p))) luma blue red alpha = alpha
+of_plane zero luma cb cr alpha = luma
+of_plane (suc zero) luma cb cr alpha = cb
+of_plane (suc (suc zero)) luma cb cr alpha = cr
+of_plane (suc (suc (suc p))) luma cb cr alpha = alpha
 
 -- samples with their row y replaced
 abbrev pub put_row : List ℕ → ℕ → ℕ → List ℕ → List ℕ

@@ -1,4 +1,4 @@
--- The rows of a frame's planes, seen in its flat bytes.
+-- The rows of a frame's planes, seen in its data.
 use Rattle.std.specs.Prelude.{◌≡◌, ℕ, ◌+◌, ◌*◌, ◌<◌, List, ◌++◌, length, map, slice_index, slice_range}
 use Rattle.std.specs.List.{range_with_len}
 use Rattle.y4m_header.specs.Chroma.{plane_count}
@@ -8,7 +8,7 @@ use Rattle.frame_view.specs.LentTogether.{lent_len, of_plane}
 use Rattle.frame_view.specs.Places.{plane_width, plane_height, row_start, frame_len}
 
 abbrev pub sample : Geometry → List ℕ → ℕ → ℕ → ℕ → ℕ
-sample g bytes p y x = slice_index bytes (row_start g p y + x)
+sample g samples p y x = slice_index samples (row_start g p y + x)
 
 -- there is a sample at this plane, row and column
 pub record IsPlace (g : Geometry) (p y x : ℕ) : Type 0 where
@@ -23,14 +23,14 @@ EachByteInOneRow g = (i : ℕ) → i < frame_len g
 
 -- the rows from one place on to another, which is left out, one after another
 abbrev pub run_of : Geometry → List ℕ → ℕ → ℕ → ℕ → List ℕ
-run_of g bytes p from to = slice_range bytes (row_start g p from) (row_start g p to)
+run_of g samples p from to = slice_range samples (row_start g p from) (row_start g p to)
 
 abbrev pub row_of : Geometry → List ℕ → ℕ → ℕ → List ℕ
-row_of g bytes p y = run_of g bytes p y (y + 1)
+row_of g samples p y = run_of g samples p y (y + 1)
 
 -- the rows of a plane, from the top
 abbrev pub rows_of : Geometry → List ℕ → ℕ → List (List ℕ)
-rows_of g bytes p = map (row_of g bytes p) (range_with_len 0 (plane_height g p))
+rows_of g samples p = map (row_of g samples p) (range_with_len 0 (plane_height g p))
 
 abbrev pub plane_run : Plane → ℕ → ℕ → List ℕ
 plane_run plane from to = slice_range plane.samples.now (from * plane.columns) (to * plane.columns)
@@ -41,5 +41,5 @@ plane_rows plane = map (λ y. plane_run plane y (y + 1)) (range_with_len 0 plane
 
 -- four planes that come back at once: what stands in one stands in that plane's own rows
 abbrev pub LentPlanesStandInTheirRows : Geometry → Type 0
-LentPlanesStandInTheirRows g = (luma blue red alpha : List ℕ) → length luma ≡ lent_len g 0 → length blue ≡ lent_len g 1 → length red ≡ lent_len g 2 → length alpha ≡ lent_len g 3
-    → (p y x : ℕ) → IsPlace g p y x → sample g (luma ++ (blue ++ (red ++ alpha))) p y x ≡ slice_index (of_plane p luma blue red alpha) (y * plane_width g p + x)
+LentPlanesStandInTheirRows g = (luma cb cr alpha : List ℕ) → length luma ≡ lent_len g 0 → length cb ≡ lent_len g 1 → length cr ≡ lent_len g 2 → length alpha ≡ lent_len g 3
+    → (p y x : ℕ) → IsPlace g p y x → sample g (luma ++ (cb ++ (cr ++ alpha))) p y x ≡ slice_index (of_plane p luma cb cr alpha) (y * plane_width g p + x)

@@ -2,7 +2,7 @@
 use Rattle.std.specs.Prelude.{◌≡◌, ℕ, ◌+◌, ◌-◌, ◌*◌, ◌<◌, ◌≤◌, List, length, slice_index}
 use Rattle.frame_view.specs.declared.geometry.Geometry.{Geometry}
 use Rattle.frame_view.specs.declared.frame.Frame.{Frame}
-use Rattle.frame_view.specs.Frame.{bytes_of}
+use Rattle.frame_view.specs.Frame.{samples_of}
 use Rattle.frame_view.specs.Places.{plane_width, row_start}
 use Rattle.frame_view.specs.Rows.{sample}
 
@@ -20,6 +20,6 @@ pub record IsRows (picture : ℕ → ℕ → ℕ → ℕ) (g : Geometry) (p from
 pub record HasRows (picture : ℕ → ℕ → ℕ → ℕ) (p from to : ℕ) (old new : Frame) : Type 0 where
   pub geometry : new.geometry ≡ old.geometry
   pub line : new.line ≡ old.line
-  pub rows : (y x : ℕ) → from ≤ y → y < to → x < plane_width old.geometry p → sample old.geometry (bytes_of new) p y x ≡ picture p y x
-  pub before : (i : ℕ) → i < row_start old.geometry p from → slice_index (bytes_of new) i ≡ slice_index (bytes_of old) i
-  pub after : (i : ℕ) → row_start old.geometry p to ≤ i → slice_index (bytes_of new) i ≡ slice_index (bytes_of old) i
+  pub rows : (y x : ℕ) → from ≤ y → y < to → x < plane_width old.geometry p → sample old.geometry (samples_of new) p y x ≡ picture p y x
+  pub before : (i : ℕ) → i < row_start old.geometry p from → slice_index (samples_of new) i ≡ slice_index (samples_of old) i
+  pub after : (i : ℕ) → row_start old.geometry p to ≤ i → slice_index (samples_of new) i ≡ slice_index (samples_of old) i

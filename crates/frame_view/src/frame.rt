@@ -15,8 +15,8 @@ use thiserror::Error;
 pub struct Frame {
     pub(crate) geometry: Geometry,
     pub(crate) line: Vec<u8>,
-    pub(crate) bytes: Vec<u8>,
-    pub ghost fits: { vec_len bytes ≡ data_len geometry.width geometry.height geometry.chroma },
+    pub(crate) samples: Vec<u8>,
+    pub ghost fits: { vec_len samples ≡ data_len geometry.width geometry.height geometry.chroma },
     pub ghost lined: { ∥ IsFrameLine line.items ∥₁ },
 }
 
@@ -25,7 +25,7 @@ pub struct Frame {
 #[error("WrongLength")]
 pub struct WrongLength {
     pub line: Vec<u8>,
-    pub bytes: Vec<u8>,
+    pub samples: Vec<u8>,
 }
 
 impl Frame {
@@ -34,23 +34,23 @@ impl Frame {
     ghost use Rattle.y4m_header.specs.Chroma.{plane_count};
     ghost use Rattle.frame_view.specs.Places.{plane_width, plane_height, row_start, frame_len};
     ghost use Rattle.frame_view.specs.Rows.{row_of, run_of, rows_of, plane_rows, plane_run};
-    ghost use Rattle.frame_view.specs.Frame.{line_of, bytes_of, IsFrameWith};
-    ghost use Rattle.frame_view.specs.Lending.{LendsBytes, LendsRows};
+    ghost use Rattle.frame_view.specs.Frame.{line_of, samples_of, IsFrameWith};
+    ghost use Rattle.frame_view.specs.Lending.{LendsSamples, LendsRows};
 
     /// A frame of this line and data; the line has no line feed.
-    pub fn new(geometry: Geometry, line: Vec<u8>, bytes: Vec<u8>) -> Result<Frame, WrongLength>
+    pub fn new(geometry: Geometry, line: Vec<u8>, samples: Vec<u8>) -> Result<Frame, WrongLength>
         requires { IsFrameLine line.items }
-        ensures accepted { IsOk result ↔ (vec_len bytes ≡ frame_len geometry) }
-        ensures ok { IfOk result (IsFrameWith geometry line.items bytes.items) }
-        ensures err { IfErr result (λ e. (e.line ≡ line) × (e.bytes ≡ bytes)) }
+        ensures accepted { IsOk result ↔ (vec_len samples ≡ frame_len geometry) }
+        ensures ok { IfOk result (IsFrameWith geometry line.items samples.items) }
+        ensures err { IfErr result (λ e. (e.line ≡ line) × (e.samples ≡ samples)) }
     {
-        if bytes.len() != geometry.bytes() {
-            return Err(WrongLength { line, bytes });
+        if samples.len() != geometry.bytes() {
+            return Err(WrongLength { line, samples });
         }
         Ok(Frame {
             geometry,
             line,
-            bytes,
+            samples,
         })
     }
 
@@ -60,11 +60,11 @@ impl Frame {
         ensures { IfOk result (IsFrameWith geometry line.now (replicate (frame_len geometry) 0)) }
     {
         let line = line.to_vec(alloc)?;
-        let bytes = vec![in alloc; 0; geometry.bytes()]?;
+        let samples = vec![in alloc; 0; geometry.bytes()]?;
         Ok(Frame {
             geometry,
             line,
-            bytes,
+            samples,
         })
     }
 
@@ -84,26 +84,26 @@ impl Frame {
 
     /// The samples of all planes, in the order Y, Cb, Cr, A.
     pub fn data(&self) -> &[u8]
-        ensures value { result.now ≡ bytes_of self.now }
+        ensures value { result.now ≡ samples_of self.now }
         ensures len { length result.now ≡ frame_len self.now.geometry }
     {
-        self.bytes.as_slice()
+        self.samples.as_slice()
     }
 
     /// The samples of all planes, lent for writing.
     pub fn data_mut(&mut self) -> &mut [u8]
-        ensures* writes_back { sem 𝓛 (LendsBytes self.entry result) }
-        ensures value { result.now ≡ bytes_of self.old }
+        ensures* writes_back { sem 𝓛 (LendsSamples self.entry result) }
+        ensures value { result.now ≡ samples_of self.old }
         ensures len { length result.now ≡ frame_len self.old.geometry }
     {
-        self.bytes.as_mut_slice()
+        self.samples.as_mut_slice()
     }
 
     /// Puts this line in place of the frame's own; the samples stay.
     pub fn set_line(&mut self, alloc: Global, line: &[u8]) -> Result<(), AllocError>
         requires { IsFrameLine line.now }
         ensures geometry { self.new.geometry ≡ self.old.geometry }
-        ensures bytes { bytes_of self.new ≡ bytes_of self.old }
+        ensures samples { samples_of self.new ≡ samples_of self.old }
         ensures ok { OnOk result (line_of self.new ≡ line.now) }
         ensures err { OnErr result (line_of self.new ≡ line_of self.old) }
     {
@@ -116,10 +116,10 @@ impl Frame {
     /// The line and the data.
     pub fn into_parts(self) -> (Vec<u8>, Vec<u8>)
         ensures line { result.0.items ≡ line_of self }
-        ensures bytes { result.1.items ≡ bytes_of self }
+        ensures samples { result.1.items ≡ samples_of self }
     {
-        let Frame { line, bytes, .. } = self;
-        (line, bytes)
+        let Frame { line, samples, .. } = self;
+        (line, samples)
     }
 
     /// Plane `p`: 0 is Y, 1 Cb, 2 Cr, 3 A.
@@ -127,9 +127,9 @@ impl Frame {
         requires { p < plane_count self.now.geometry.chroma }
         ensures columns { result.columns ≡ plane_width self.now.geometry p }
         ensures rows { result.rows ≡ plane_height self.now.geometry p }
-        ensures listed { plane_rows result ≡ rows_of self.now.geometry (bytes_of self.now) p }
+        ensures listed { plane_rows result ≡ rows_of self.now.geometry (samples_of self.now) p }
         ensures runs { (from to : ℕ) → from ≤ to → to ≤ result.rows
-            → plane_run result from to ≡ run_of self.now.geometry (bytes_of self.now) p from to }
+            → plane_run result from to ≡ run_of self.now.geometry (samples_of self.now) p from to }
     {
         let size = self.geometry.plane_size(p);
         let samples = self.rows(p, 0, size.rows);
@@ -145,7 +145,7 @@ impl Frame {
     pub fn row(&self, p: usize, y: usize) -> &[u8]
         requires plane { p < plane_count self.now.geometry.chroma }
         requires row { y < plane_height self.now.geometry p }
-        ensures value { result.now ≡ row_of self.now.geometry (bytes_of self.now) p y }
+        ensures value { result.now ≡ row_of self.now.geometry (samples_of self.now) p y }
         ensures len { length result.now ≡ plane_width self.now.geometry p }
     {
         self.rows(p, y, y + 1)
@@ -156,11 +156,11 @@ impl Frame {
         requires plane { p < plane_count self.now.geometry.chroma }
         requires order { from ≤ to }
         requires rows { to ≤ plane_height self.now.geometry p }
-        ensures value { result.now ≡ run_of self.now.geometry (bytes_of self.now) p from to }
+        ensures value { result.now ≡ run_of self.now.geometry (samples_of self.now) p from to }
         ensures len { length result.now ≡ (to - from) * plane_width self.now.geometry p }
     {
         let run = self.geometry.run(p, from, to);
-        &self.bytes[run.start..run.end]
+        &self.samples[run.start..run.end]
     }
 
     /// Row `y` of plane `p`, lent for writing.
@@ -169,7 +169,7 @@ impl Frame {
         requires plane { p < plane_count self.old.geometry.chroma }
         requires row { y < plane_height self.old.geometry p }
         ensures* writes_back { sem 𝓛 (LendsRows self.entry p y result) }
-        ensures value { result.now ≡ row_of self.old.geometry (bytes_of self.old) p y }
+        ensures value { result.now ≡ row_of self.old.geometry (samples_of self.old) p y }
         ensures len { length result.now ≡ plane_width self.old.geometry p }
     {
         self.rows_mut(p, y, y + 1)
@@ -181,10 +181,10 @@ impl Frame {
         requires order { from ≤ to }
         requires rows { to ≤ plane_height self.old.geometry p }
         ensures* writes_back { sem 𝓛 (LendsRows self.entry p from result) }
-        ensures value { result.now ≡ run_of self.old.geometry (bytes_of self.old) p from to }
+        ensures value { result.now ≡ run_of self.old.geometry (samples_of self.old) p from to }
         ensures len { length result.now ≡ (to - from) * plane_width self.old.geometry p }
     {
         let run = self.geometry.run(p, from, to);
-        self.bytes.slice_mut(run.start..run.end)
+        self.samples.slice_mut(run.start..run.end)
     }
 }

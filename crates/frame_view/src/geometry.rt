@@ -42,8 +42,8 @@ pub struct LentPlane {
 #[derive(Clone, Copy, Debug, PartialEq, Eq)]
 pub struct LentPlanes {
     pub luma: LentPlane,
-    pub blue: LentPlane,
-    pub red: LentPlane,
+    pub cb: LentPlane,
+    pub cr: LentPlane,
     pub alpha: LentPlane,
 }
 
@@ -104,15 +104,15 @@ impl Geometry {
     #[tactic(auto, using(crate::proofs::Places::lent_fill))]
     pub fn lent(self) -> LentPlanes
         ensures luma { IsLent self 0 result.luma }
-        ensures blue { IsLent self 1 result.blue }
-        ensures red { IsLent self 2 result.red }
+        ensures cb { IsLent self 1 result.cb }
+        ensures cr { IsLent self 2 result.cr }
         ensures alpha { IsLent self 3 result.alpha }
-        ensures whole { result.luma.len + (result.blue.len + (result.red.len + result.alpha.len)) ≡ frame_len self }
+        ensures whole { result.luma.len + (result.cb.len + (result.cr.len + result.alpha.len)) ≡ frame_len self }
     {
         LentPlanes {
             luma: self.lent_plane(0),
-            blue: self.lent_plane(1),
-            red: self.lent_plane(2),
+            cb: self.lent_plane(1),
+            cr: self.lent_plane(2),
             alpha: self.lent_plane(3),
         }
     }

@@ -49,19 +49,19 @@ pub fn split_rows(samples: &mut [u8], columns: usize, y: usize) -> (&mut [u8], &
 /// Binds the planes of a frame to four names, each a `PlaneMut`, for as long as they are used. A plane that the frame
 /// hasn't has no samples.
 ///
-/// `lend_planes!(&mut frame => luma, blue, red, alpha);`
+/// `lend_planes!(&mut frame => luma, cb, cr, alpha);`
 #[macro_export]
 macro_rules! lend_planes {
-    ($frame:expr => $luma:ident, $blue:ident, $red:ident, $alpha:ident) => {
+    ($frame:expr => $luma:ident, $cb:ident, $cr:ident, $alpha:ident) => {
         let frame = $frame;
         let lent = frame.geometry().lent();
         let samples = frame.data_mut();
         let (luma, rest) = samples.split_at_mut(lent.luma.len);
-        let (blue, rest) = rest.split_at_mut(lent.blue.len);
-        let (red, alpha) = rest.split_at_mut(lent.red.len);
+        let (cb, rest) = rest.split_at_mut(lent.cb.len);
+        let (cr, alpha) = rest.split_at_mut(lent.cr.len);
         let mut $luma = $crate::PlaneMut::over(lent.luma.columns, luma);
-        let mut $blue = $crate::PlaneMut::over(lent.blue.columns, blue);
-        let mut $red = $crate::PlaneMut::over(lent.red.columns, red);
+        let mut $cb = $crate::PlaneMut::over(lent.cb.columns, cb);
+        let mut $cr = $crate::PlaneMut::over(lent.cr.columns, cr);
         let mut $alpha = $crate::PlaneMut::over(lent.alpha.columns, alpha);
     };
 }

@@ -1,7 +1,7 @@
 // Frames of given sizes, with the bytes that the manual page's order of planes and rows gives.
 ghost use Rattle.std.specs.Prelude.{◌≡◌, ◌<◌, ◌≤◌, ◌+◌, ◌-◌, ◌*◌, ◌++◌, IfOk, length, take, drop, replicate, slice_index};
 ghost use Rattle.y4m_header.specs.Chroma.{plane_count};
-ghost use Rattle.frame_view.specs.Frame.{bytes_of, IsFrameWith};
+ghost use Rattle.frame_view.specs.Frame.{samples_of, IsFrameWith};
 ghost use Rattle.frame_view.specs.LentTogether.{lent_len};
 ghost use Rattle.frame_view.specs.Places.{plane_width, plane_height};
 ghost use Rattle.frame_view.specs.Written.{HasRows};
@@ -178,7 +178,7 @@ fn data_of_another_length_comes_back(rt: HostRuntime) -> Result<(), Fail> {
         Ok(_) => return Err("accepted".into()),
         Err(wrong) => {
             assert_eq!(rt; wrong.line.as_slice(), line);
-            assert_eq!(rt; wrong.bytes.as_slice(), &SAMPLES[..17]);
+            assert_eq!(rt; wrong.samples.as_slice(), &SAMPLES[..17]);
             assert_eq!(rt; format!(in rt.alloc(); "{wrong}")?.as_str(), "WrongLength");
         }
     }
@@ -216,56 +216,56 @@ fn lent_rows_and_lines_are_written(rt: HostRuntime) -> Result<(), Fail> {
     check_frame_line(tagged)?;
     frame.set_line(rt.alloc(), tagged)?;
     frame.set_line(rt.alloc(), tagged)?;
-    let (line, bytes) = frame.into_parts();
+    let (line, samples) = frame.into_parts();
     assert_eq!(rt; line.as_slice(), tagged);
-    assert_eq!(rt; bytes.len(), 18);
+    assert_eq!(rt; samples.len(), 18);
     Ok(())
 }
 
 /// The planes are lent at once and written in another order.
-fn fill_planes(frame: &mut Frame, luma_value: u8, blue_value: u8, red_value: u8, alpha_value: u8)
+fn fill_planes(frame: &mut Frame, luma_value: u8, cb_value: u8, cr_value: u8, alpha_value: u8)
     ensures geometry { frame.new.geometry ≡ frame.old.geometry }
-    ensures bytes { let g = frame.old.geometry in
-        bytes_of frame.new ≡ replicate (lent_len g 0) luma_value ++ (replicate (lent_len g 1) blue_value ++ (replicate (lent_len g 2) red_value ++ replicate (lent_len g 3) alpha_value)) }
+    ensures samples { let g = frame.old.geometry in
+        samples_of frame.new ≡ replicate (lent_len g 0) luma_value ++ (replicate (lent_len g 1) cb_value ++ (replicate (lent_len g 2) cr_value ++ replicate (lent_len g 3) alpha_value)) }
 {
-    lend_planes!(&mut *frame => luma, blue, red, alpha);
-    red.samples.fill(red_value);
+    lend_planes!(&mut *frame => luma, cb, cr, alpha);
+    cr.samples.fill(cr_value);
     luma.samples.fill(luma_value);
     alpha.samples.fill(alpha_value);
-    blue.samples.fill(blue_value);
+    cb.samples.fill(cb_value);
 }
 
 /// One of the planes is written; the others stay.
-fn fill_red(frame: &mut Frame, value: u8)
+fn fill_cr(frame: &mut Frame, value: u8)
     ensures { let g = frame.old.geometry in
-        let from_blue = drop (lent_len g 0) (bytes_of frame.old) in
-        let from_red = drop (lent_len g 1) from_blue in
-        bytes_of frame.new ≡ take (lent_len g 0) (bytes_of frame.old) ++ (take (lent_len g 1) from_blue ++ (replicate (lent_len g 2) value ++ drop (lent_len g 2) from_red)) }
+        let from_cb = drop (lent_len g 0) (samples_of frame.old) in
+        let from_cr = drop (lent_len g 1) from_cb in
+        samples_of frame.new ≡ take (lent_len g 0) (samples_of frame.old) ++ (take (lent_len g 1) from_cb ++ (replicate (lent_len g 2) value ++ drop (lent_len g 2) from_cr)) }
 {
-    lend_planes!(&mut *frame => _luma, _blue, red, _alpha);
-    red.samples.fill(value);
+    lend_planes!(&mut *frame => _luma, _cb, cr, _alpha);
+    cr.samples.fill(value);
 }
 
 /// Row `y` of Cb is written; every other byte stays.
-fn put_blue_row(frame: &mut Frame, y: usize, row: &[u8])
+fn put_cb_row(frame: &mut Frame, y: usize, row: &[u8])
     requires plane { 1 < plane_count frame.old.geometry.chroma }
     requires row { y < plane_height frame.old.geometry 1 }
     requires columns { length row.now ≡ plane_width frame.old.geometry 1 }
     ensures { HasRows (λ _ _ x. slice_index row.now x) 1 y (y + 1) frame.old frame.new }
 {
-    lend_planes!(&mut *frame => _luma, blue, _red, _alpha);
-    blue.put_row(y, row);
+    lend_planes!(&mut *frame => _luma, cb, _cr, _alpha);
+    cb.put_row(y, row);
 }
 
 /// Row `y` of Cr is written; every other byte stays.
-fn put_red_row(frame: &mut Frame, y: usize, row: &[u8])
+fn put_cr_row(frame: &mut Frame, y: usize, row: &[u8])
     requires plane { 2 < plane_count frame.old.geometry.chroma }
     requires row { y < plane_height frame.old.geometry 2 }
     requires columns { length row.now ≡ plane_width frame.old.geometry 2 }
     ensures { HasRows (λ _ _ x. slice_index row.now x) 2 y (y + 1) frame.old frame.new }
 {
-    lend_planes!(&mut *frame => _luma, _blue, red, _alpha);
-    red.put_row(y, row);
+    lend_planes!(&mut *frame => _luma, _cb, cr, _alpha);
+    cr.put_row(y, row);
 }
 
 /// Row `y` of the alpha plane is written; every other byte stays.
@@ -275,7 +275,7 @@ fn put_alpha_row(frame: &mut Frame, y: usize, row: &[u8])
     requires columns { length row.now ≡ plane_width frame.old.geometry 3 }
     ensures { HasRows (λ _ _ x. slice_index row.now x) 3 y (y + 1) frame.old frame.new }
 {
-    lend_planes!(&mut *frame => _luma, _blue, _red, alpha);
+    lend_planes!(&mut *frame => _luma, _cb, _cr, alpha);
     alpha.put_row(y, row);
 }
 
@@ -294,8 +294,8 @@ fn planes_lent_at_once_are_written_in_any_order(rt: HostRuntime) -> Result<(), F
     let line = b"FRAME".as_slice();
     check_frame_line(line)?;
     let mut frame = Frame::blank(rt.alloc(), geometry_2x6(), line)?;
-    lend_planes!(&mut frame => luma, blue, red, alpha);
-    red.samples.fill(3);
+    lend_planes!(&mut frame => luma, cb, cr, alpha);
+    cr.samples.fill(3);
     alpha.samples.fill(4);
     let columns = luma.columns;
     assert_eq!(rt; (columns, luma.samples.len()), (2, 12));
@@ -303,7 +303,7 @@ fn planes_lent_at_once_are_written_in_any_order(rt: HostRuntime) -> Result<(), F
     bottom.fill(1);
     let mut top = PlaneMut::over(columns, top);
     top.put_row(1, &[5, 6]);
-    blue.samples.fill(2);
+    cb.samples.fill(2);
     assert_eq!(rt;
         frame.data(),
         [0, 0, 5, 6, 0, 0, 0, 0, 0, 0, 1, 1, 2, 2, 2, 3, 3, 3].as_slice()
@@ -321,7 +321,7 @@ fn four_planes_of_one_pixel(rt: HostRuntime) -> Result<(), Fail> {
     let mut frame = frame(rt.alloc(), geometry, b"FRAME", &[0; 4])?;
     fill_planes(&mut frame, 1, 2, 3, 4);
     assert_eq!(rt; frame.data(), [1, 2, 3, 4].as_slice());
-    fill_red(&mut frame, 5);
+    fill_cr(&mut frame, 5);
     assert_eq!(rt; frame.data(), [1, 2, 5, 4].as_slice());
     fill_parts(frame.data_mut(), 2, 1, 7, 8);
     assert_eq!(rt; frame.data(), [7, 7, 8, 8].as_slice());
@@ -339,8 +339,8 @@ fn rows_are_put_into_planes_of_divided_columns(rt: HostRuntime) -> Result<(), Fa
         chroma: Chroma::S420,
     };
     let mut frame = frame(rt.alloc(), geometry, b"FRAME", &[9; 36])?;
-    put_blue_row(&mut frame, 1, &[1, 2, 3]);
-    put_red_row(&mut frame, 0, &[4, 5, 6]);
+    put_cb_row(&mut frame, 1, &[1, 2, 3]);
+    put_cr_row(&mut frame, 0, &[4, 5, 6]);
     assert_eq!(rt;
         frame.data(),
         [
@@ -361,8 +361,8 @@ fn rows_are_put_into_full_planes(rt: HostRuntime) -> Result<(), Fail> {
         chroma: Chroma::S444Alpha,
     };
     let mut frame = frame(rt.alloc(), geometry, b"FRAME", &[9; 16])?;
-    put_blue_row(&mut frame, 1, &[1, 2]);
-    put_red_row(&mut frame, 0, &[3, 4]);
+    put_cb_row(&mut frame, 1, &[1, 2]);
+    put_cr_row(&mut frame, 0, &[3, 4]);
     put_alpha_row(&mut frame, 1, &[5, 6]);
     assert_eq!(rt;
         frame.data(),

@@ -3,11 +3,11 @@ use Rattle.std.proofs.Common.{ℕ, ◌≡◌, ◌+◌, ◌<◌, ◌≤◌, List,
 use Rattle.y4m_header.specs.Chroma.{plane_count}
 use Rattle.frame_view.specs.declared.geometry.Geometry.{Geometry}
 use Rattle.frame_view.specs.declared.frame.Frame.{Frame}
-use Rattle.frame_view.specs.Frame.{bytes_of}
+use Rattle.frame_view.specs.Frame.{samples_of}
 use Rattle.frame_view.specs.Places.{plane_width, plane_height, row_start}
 use Rattle.frame_view.specs.Rows.{sample}
 use Rattle.frame_view.specs.Written.{IsRows, HasRows}
-use Rattle.frame_view.specs.Lending.{with_bytes}
+use Rattle.frame_view.specs.Lending.{with_samples}
 use Rattle.frame_view.proofs.Written.{lent_rows}
 use Rattle.frame_view.proofs.Places.{next_row, planes_ordered, row_in_plane, rows_ordered}
 use Rattle.row_bands.specs.Bands.{rows_above}
@@ -25,7 +25,7 @@ other_plane g p q from to y x i e ht hy hx (inr l) = inr (omega (arith, row_in_p
 -- what the rows of plane p leave alone: the other planes, and its own rows outside
 kept : (picture : ℕ → ℕ → ℕ → ℕ) (p from to : ℕ) (mid new : Frame) → HasRows picture p from to mid new → to ≤ plane_height mid.geometry p
     → (q y x : ℕ) → y < plane_height mid.geometry q → x < plane_width mid.geometry q → ((q < p) ⊎ (p < q)) ⊎ ((q ≡ p) × ((y < from) ⊎ (to ≤ y)))
-    → sample mid.geometry (bytes_of new) q y x ≡ sample mid.geometry (bytes_of mid) q y x
+    → sample mid.geometry (samples_of new) q y x ≡ sample mid.geometry (samples_of mid) q y x
 kept picture p from to mid new r ht q y x hy hx (inl c) =
     let g = mid.geometry in
     elim (other_plane g p q from to y x (row_start g q y + x) refl ht hy hx c) [ inl l ↦ r.before (row_start g q y + x) l | inr l ↦ r.after (row_start g q y + x) l ]
@@ -41,9 +41,9 @@ three q p = grind arith
 
 -- a band of the planes below p, and then that of plane p; over is the geometry that places are counted by
 record HasBandOver (picture : ℕ → ℕ → ℕ → ℕ) (from to n : ℕ) (g : Geometry) (old new : Frame) : Type 0 where
-  rows : (p y x : ℕ) → p < n → rows_above g p from ≤ y → y < rows_above g p to → x < plane_width g p → sample g (bytes_of new) p y x ≡ picture p y x
+  rows : (p y x : ℕ) → p < n → rows_above g p from ≤ y → y < rows_above g p to → x < plane_width g p → sample g (samples_of new) p y x ≡ picture p y x
   others : (p y x : ℕ) → p < plane_count g.chroma → y < plane_height g p → x < plane_width g p
-      → (n ≤ p) ⊎ ((y < rows_above g p from) ⊎ (rows_above g p to ≤ y)) → sample g (bytes_of new) p y x ≡ sample g (bytes_of old) p y x
+      → (n ≤ p) ⊎ ((y < rows_above g p from) ⊎ (rows_above g p to ≤ y)) → sample g (samples_of new) p y x ≡ sample g (samples_of old) p y x
 
 one_more : (picture : ℕ → ℕ → ℕ → ℕ) (first end p : ℕ) (old mid new : Frame)
     → ((q : ℕ) → rows_above mid.geometry q end ≤ plane_height mid.geometry q)
@@ -55,7 +55,7 @@ one_more picture first end p old mid new inside h r =
     record {
       rows = λ q y x a b d w. elim (three q p) [
         | inl l ↦ keeps q y x (omega (arith, inside q)) w (inl (inl l)) ∙ h.rows q y x l b d w
-        | inr (inl e) ↦ (let P : ℕ → Type 0 = λ z. rows_above g z first ≤ y → y < rows_above g z end → x < plane_width g z → sample g (bytes_of new) z y x ≡ picture z y x in
+        | inr (inl e) ↦ (let P : ℕ → Type 0 = λ z. rows_above g z first ≤ y → y < rows_above g z end → x < plane_width g z → sample g (samples_of new) z y x ≡ picture z y x in
             subst P (sym e) (λ b d w. r.rows y x b d w) b d w)
         | inr (inr l) ↦ absurd (omega arith)
       ];
@@ -83,7 +83,7 @@ either_side : (y f : ℕ) → (y < f) ⊎ (f ≤ y)
 either_side y f = grind arith
 
 abbrev HasAboveOver : (ℕ → ℕ → ℕ → ℕ) → ℕ → Geometry → Frame → Type 0
-HasAboveOver picture n g frame = (p y x : ℕ) → p < plane_count g.chroma → y < rows_above g p n → x < plane_width g p → sample g (bytes_of frame) p y x ≡ picture p y x
+HasAboveOver picture n g frame = (p y x : ℕ) → p < plane_count g.chroma → y < rows_above g p n → x < plane_width g p → sample g (samples_of frame) p y x ≡ picture p y x
 
 -- a band that follows the rows that are the picture's already
 pub band_joins : (picture : ℕ → ℕ → ℕ → ℕ) (from to : ℕ) (old new : Frame)
@@ -105,7 +105,7 @@ no_plane picture from to frame = record { geometry = refl; line = refl; rows = �
 pub lent_plane : (picture : ℕ → ℕ → ℕ → ℕ) (band : Band) (p : ℕ) (ws : List ℕ) → p < plane_count (band_geometry band).chroma
     → IsRows picture (band_geometry band) p (rows_above (band_geometry band) p band.from) (rows_above (band_geometry band) p band.to) ws
     → HasRows picture p (rows_above (band_geometry band) p band.from) (rows_above (band_geometry band) p band.to) (band_frame band)
-    (with_bytes (band_frame band) (row_start (band_geometry band) p (rows_above (band_geometry band) p band.from)) ws)
+    (with_samples (band_frame band) (row_start (band_geometry band) p (rows_above (band_geometry band) p band.from)) ws)
 lent_plane picture band p ws hp h =
     let g = band_geometry band in
     lent_rows picture p (rows_above g p band.from) (rows_above g p band.to) (band_frame band) ws hp (rows_above-le g p band.from band.to band.ordered) (inside g p band.to band.inside) h

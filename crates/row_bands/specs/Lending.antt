@@ -7,11 +7,11 @@ use Rattle.row_bands.specs.declared.band.Band.{Band}
 use Rattle.row_bands.specs.contracts.canvas.Canvas.{the_row as canvas_row}
 use Rattle.row_bands.specs.contracts.band.Band.{the_row as band_row}
 use Rattle.frame_view.specs.Places.{row_start}
-use Rattle.frame_view.specs.Lending.{with_bytes}
+use Rattle.frame_view.specs.Lending.{with_samples}
 use Rattle.row_bands.specs.Bands.{rows_above}
 
 abbrev pub canvas_with : Canvas → ℕ → List ℕ → Canvas
-canvas_with canvas i ws = record { frame = with_bytes canvas.frame i ws; height = canvas.height }
+canvas_with canvas i ws = record { frame = with_samples canvas.frame i ws; height = canvas.height }
 
 abbrev pub band_with : Band → ℕ → List ℕ → Band
 band_with band i ws = record { from = band.from; to = band.to; canvas = record band.canvas { now = canvas_with band.canvas.now i ws }; ordered = band.ordered; inside = band.inside }

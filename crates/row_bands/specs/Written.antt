@@ -2,7 +2,7 @@
 use Rattle.std.specs.Prelude.{◌≡◌, ℕ, ◌<◌, ◌≤◌, ◌⊎◌}
 use Rattle.y4m_header.specs.Chroma.{plane_count}
 use Rattle.frame_view.specs.declared.frame.Frame.{Frame}
-use Rattle.frame_view.specs.Frame.{bytes_of}
+use Rattle.frame_view.specs.Frame.{samples_of}
 use Rattle.frame_view.specs.Places.{plane_width, plane_height}
 use Rattle.frame_view.specs.Rows.{sample}
 use Rattle.row_bands.specs.declared.band.Band.{Band}
@@ -15,15 +15,15 @@ pub record HasBand (picture : ℕ → ℕ → ℕ → ℕ) (from to n : ℕ) (ol
   pub geometry : new.geometry ≡ old.geometry
   pub line : new.line ≡ old.line
   pub rows : (p y x : ℕ) → p < n → rows_above old.geometry p from ≤ y → y < rows_above old.geometry p to → x < plane_width old.geometry p
-      → sample old.geometry (bytes_of new) p y x ≡ picture p y x
+      → sample old.geometry (samples_of new) p y x ≡ picture p y x
   pub others : (p y x : ℕ) → p < plane_count old.geometry.chroma → y < plane_height old.geometry p → x < plane_width old.geometry p
       → (n ≤ p) ⊎ ((y < rows_above old.geometry p from) ⊎ (rows_above old.geometry p to ≤ y))
-      → sample old.geometry (bytes_of new) p y x ≡ sample old.geometry (bytes_of old) p y x
+      → sample old.geometry (samples_of new) p y x ≡ sample old.geometry (samples_of old) p y x
 
 -- the rows that go with the luma rows above row n are the picture's
 abbrev pub HasRowsAbove : (ℕ → ℕ → ℕ → ℕ) → ℕ → Frame → Type 0
 HasRowsAbove picture n frame = (p y x : ℕ) → p < plane_count frame.geometry.chroma → y < rows_above frame.geometry p n → x < plane_width frame.geometry p
-    → sample frame.geometry (bytes_of frame) p y x ≡ picture p y x
+    → sample frame.geometry (samples_of frame) p y x ≡ picture p y x
 
 -- the new band is the same rows of the same canvas, with the picture's samples; all other rows are as before
 pub record IsPainted (picture : ℕ → ℕ → ℕ → ℕ) (old new : Band) : Type 0 where

@@ -24,7 +24,7 @@ impl Band<'_> {
     ghost use Rattle.y4m_header.specs.Chroma.{plane_count};
     ghost use Rattle.frame_view.specs.Places.{plane_width, plane_height};
     ghost use Rattle.frame_view.specs.Rows.{row_of, run_of};
-    ghost use Rattle.frame_view.specs.Frame.{bytes_of};
+    ghost use Rattle.frame_view.specs.Frame.{samples_of};
     ghost use Rattle.row_bands.specs.Bands.{rows_above};
     ghost use Rattle.row_bands.specs.Canvas.{band_frame, band_geometry};
     ghost use Rattle.row_bands.specs.Lending.{LendsBandRows, LendsPlane};
@@ -66,7 +66,7 @@ impl Band<'_> {
     pub fn rows_mut(&mut self, p: usize) -> &mut [u8]
         requires { p < plane_count (band_geometry self.old).chroma }
         ensures* writes_back { sem 𝓛 (LendsPlane self.entry p result) }
-        ensures value { result.now ≡ run_of (band_geometry self.old) (bytes_of (band_frame self.old)) p (rows_above (band_geometry self.old) p self.old.from) (rows_above (band_geometry self.old) p self.old.to) }
+        ensures value { result.now ≡ run_of (band_geometry self.old) (samples_of (band_frame self.old)) p (rows_above (band_geometry self.old) p self.old.from) (rows_above (band_geometry self.old) p self.old.to) }
         ensures len { length result.now ≡ (rows_above (band_geometry self.old) p self.old.to - rows_above (band_geometry self.old) p self.old.from) * plane_width (band_geometry self.old) p }
     {
         let (from, to) = self.rows(p);
@@ -80,7 +80,7 @@ impl Band<'_> {
         requires from { rows_above (band_geometry self.old) p self.old.from ≤ y }
         requires to { y < rows_above (band_geometry self.old) p self.old.to }
         ensures* writes_back { sem 𝓛 (LendsBandRows self.entry p y result) }
-        ensures value { result.now ≡ row_of (band_geometry self.old) (bytes_of (band_frame self.old)) p y }
+        ensures value { result.now ≡ row_of (band_geometry self.old) (samples_of (band_frame self.old)) p y }
         ensures len { length result.now ≡ plane_width (band_geometry self.old) p }
     {
         self.canvas.row_mut(p, y)

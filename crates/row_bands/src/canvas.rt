@@ -19,7 +19,7 @@ impl Canvas {
     ghost use Rattle.y4m_header.specs.FrameLine.{IsFrameLine};
     ghost use Rattle.frame_view.specs.Places.{plane_width, plane_height, frame_len};
     ghost use Rattle.frame_view.specs.Rows.{row_of, run_of};
-    ghost use Rattle.frame_view.specs.Frame.{line_of, bytes_of, IsFrameWith};
+    ghost use Rattle.frame_view.specs.Frame.{line_of, samples_of, IsFrameWith};
     ghost use Rattle.row_bands.specs.Bands.{band_count, luma_from, luma_to};
     ghost use Rattle.row_bands.specs.Canvas.{frame_of, height_of};
     ghost use Rattle.row_bands.specs.Lending.{LendsCanvasRows};
@@ -69,7 +69,7 @@ impl Canvas {
         requires { IsFrameLine line.now }
         ensures geometry { (frame_of self.new).geometry ≡ (frame_of self.old).geometry }
         ensures height { height_of self.new ≡ height_of self.old }
-        ensures bytes { bytes_of (frame_of self.new) ≡ bytes_of (frame_of self.old) }
+        ensures samples { samples_of (frame_of self.new) ≡ samples_of (frame_of self.old) }
         ensures ok { OnOk result (line_of (frame_of self.new) ≡ line.now) }
         ensures err { OnErr result (line_of (frame_of self.new) ≡ line_of (frame_of self.old)) }
     {
@@ -105,7 +105,7 @@ impl Canvas {
         requires order { from ≤ to }
         requires rows { to ≤ plane_height self.old.frame.geometry p }
         ensures* writes_back { sem 𝓛 (LendsCanvasRows self.entry p from result) }
-        ensures value { result.now ≡ run_of self.old.frame.geometry (bytes_of self.old.frame) p from to }
+        ensures value { result.now ≡ run_of self.old.frame.geometry (samples_of self.old.frame) p from to }
         ensures len { length result.now ≡ (to - from) * plane_width self.old.frame.geometry p }
     {
         self.frame.rows_mut(p, from, to)
@@ -116,7 +116,7 @@ impl Canvas {
         requires plane { p < plane_count self.old.frame.geometry.chroma }
         requires row { y < plane_height self.old.frame.geometry p }
         ensures* writes_back { sem 𝓛 (LendsCanvasRows self.entry p y result) }
-        ensures value { result.now ≡ row_of self.old.frame.geometry (bytes_of self.old.frame) p y }
+        ensures value { result.now ≡ row_of self.old.frame.geometry (samples_of self.old.frame) p y }
         ensures len { length result.now ≡ plane_width self.old.frame.geometry p }
     {
         self.frame.row_mut(p, y)

@@ -1,6 +1,6 @@
 // Bands of small frames.
 ghost use Rattle.std.specs.Prelude.{◌≡◌, ◌≤◌, IfOk, length};
-ghost use Rattle.frame_view.specs.Frame.{bytes_of, IsFrameWith};
+ghost use Rattle.frame_view.specs.Frame.{samples_of, IsFrameWith};
 ghost use Rattle.frame_view.specs.Rows.{sample};
 
 use crate::{BandHeight, BandPlan, Canvas, Painter, bands_part_the_rows, paint_band, paint_halves};
@@ -18,7 +18,7 @@ struct Copied<'a> {
 }
 
 impl Painter for Copied<'_> {
-    ghost picture = { λ copied. sample copied.source.now.geometry (bytes_of copied.source.now) };
+    ghost picture = { λ copied. sample copied.source.now.geometry (samples_of copied.source.now) };
 
     ghost geometry = { λ copied. copied.source.now.geometry };
 

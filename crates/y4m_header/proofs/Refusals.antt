@@ -5,7 +5,7 @@ use Rattle.y4m_header.specs.declared.error.HeaderError.{HeaderError}
 use Rattle.y4m_header.specs.declared.error.HeaderError.TheVariants.{NotY4m, BadNumber, RepeatedTag, MissingSize, UnknownChroma, NotDivisible, TooLarge, NoMemory, NotFrame}
 use Rattle.y4m_header.specs.Number.{IsSize, number}
 use Rattle.y4m_header.specs.HeaderLine.{IsY4mLine, HasGoodSizes, HasNoRepeat, HasSizes, StatesSize, StatesChroma, IsDivided, IsWithinLimits, IsHeaderLine, widths, heights, chromas}
-use Rattle.y4m_header.specs.Refusal.{IsRefusedAs, StatesPicture, HasBadSize, HasRepeat, LacksSize, IsTooLarge}
+use Rattle.y4m_header.specs.Refusal.{IsRefusedAs, StatesFormat, HasBadSize, HasRepeat, LacksSize, IsTooLarge}
 use Rattle.std.proofs.lemmas.Bool.{cases_eq}
 use Rattle.y4m_header.proofs.ChromaTable.{names_one_form}
 
@@ -24,22 +24,22 @@ either k n h = elim (cases_eq k n) [ inl same ↦ inl same | inr other ↦ inr (
 same_number : (m n : ℕ) → ¬ (m < n) → ¬ (n < m) → m ≡ n
 same_number m n a b = omega arith
 
--- two pictures are one
-pub record SamePicture (w h : ℕ) (chroma : Chroma) (w' h' : ℕ) (chroma' : Chroma) : Type 0 where
+-- two formats are one
+pub record SameFormat (w h : ℕ) (chroma : Chroma) (w' h' : ℕ) (chroma' : Chroma) : Type 0 where
   pub width : w ≡ w'
   pub height : h ≡ h'
   pub form : chroma ≡ chroma'
 
-pub states_one_picture : (line : List ℕ) (w h : ℕ) (chroma : Chroma) (w' h' : ℕ) (chroma' : Chroma) → StatesSize line w h → StatesChroma line chroma → StatesSize line w' h' → StatesChroma line chroma' → SamePicture w h chroma w' h' chroma'
-states_one_picture line w h chroma w' h' chroma' size form size' form' = record {
+pub states_one_format : (line : List ℕ) (w h : ℕ) (chroma : Chroma) (w' h' : ℕ) (chroma' : Chroma) → StatesSize line w h → StatesChroma line chroma → StatesSize line w' h' → StatesChroma line chroma' → SameFormat w h chroma w' h' chroma'
+states_one_format line w h chroma w' h' chroma' size form size' form' = record {
   width = states_one (widths line) w w' size.width size'.width;
   height = states_one (heights line) h h' size.height size'.height;
   form = names_one_form (slice_get (chromas line) 0) chroma chroma' form form';
 }
 
--- the line states a picture that is whole
+-- the line states a format that is whole
 abbrev StatesWhole : List ℕ → Type 0
-StatesWhole line = (w h : ℕ) × (chroma : Chroma) × StatesPicture line w h chroma × IsDivided w h chroma
+StatesWhole line = (w h : ℕ) × (chroma : Chroma) × StatesFormat line w h chroma × IsDivided w h chroma
 
 abbrev HasHeader : List ℕ → Type 0
 HasHeader line = (w h : ℕ) × (chroma : Chroma) × IsHeaderLine line w h chroma
@@ -101,11 +101,11 @@ refusal_of_test TooLarge = refl
 refusal_of_test NoMemory = refl
 refusal_of_test NotFrame = refl
 
-picture_passes : (line : List ℕ) (w h : ℕ) (chroma : Chroma) → StatesPicture line w h chroma → Passes 5 line
-picture_passes line w h chroma p = (((((tt, p.is_y4m), p.good_sizes), p.no_repeat), p.has_sizes), (chroma, p.form))
+format_passes : (line : List ℕ) (w h : ℕ) (chroma : Chroma) → StatesFormat line w h chroma → Passes 5 line
+format_passes line w h chroma p = (((((tt, p.is_y4m), p.good_sizes), p.no_repeat), p.has_sizes), (chroma, p.form))
 
-picture_of : (line : List ℕ) (w h : ℕ) (chroma : Chroma) → IsHeaderLine line w h chroma → StatesPicture line w h chroma
-picture_of line w h chroma p = record { is_y4m = p.is_y4m; good_sizes = p.good_sizes; no_repeat = p.no_repeat; has_sizes = p.has_sizes; size = p.size; form = p.form }
+format_of : (line : List ℕ) (w h : ℕ) (chroma : Chroma) → IsHeaderLine line w h chroma → StatesFormat line w h chroma
+format_of line w h chroma p = record { is_y4m = p.is_y4m; good_sizes = p.good_sizes; no_repeat = p.no_repeat; has_sizes = p.has_sizes; size = p.size; form = p.form }
 
 -- a refused line passes the tests before
 passes_before : (line : List ℕ) (e : HeaderError) → IsRefusedAs e line → Passes (test_of e) line
@@ -114,16 +114,16 @@ passes_before line BadNumber r = (tt, r.0)
 passes_before line RepeatedTag r = ((tt, r.0), r.1)
 passes_before line MissingSize r = (((tt, r.0), r.1), r.2)
 passes_before line UnknownChroma r = ((((tt, r.0), r.1), r.2), r.3)
-passes_before line NotDivisible r = picture_passes line r.0 r.1 r.2 r.3
-passes_before line TooLarge r = (picture_passes line r.0 r.1 r.2 r.3, (r.0, r.1, r.2, r.3, r.4))
+passes_before line NotDivisible r = format_passes line r.0 r.1 r.2 r.3
+passes_before line TooLarge r = (format_passes line r.0 r.1 r.2 r.3, (r.0, r.1, r.2, r.3, r.4))
 passes_before line NoMemory r =
-    let p = picture_of line r.0 r.1 r.2 r.3 in
-    ((picture_passes line r.0 r.1 r.2 p, (r.0, r.1, r.2, p, r.3.divided)), r)
+    let p = format_of line r.0 r.1 r.2 r.3 in
+    ((format_passes line r.0 r.1 r.2 p, (r.0, r.1, r.2, p, r.3.divided)), r)
 passes_before line NotFrame r = absurd r
 
-undivided : (line : List ℕ) (w h : ℕ) (chroma : Chroma) → StatesPicture line w h chroma → ¬ IsDivided w h chroma → ¬ StatesWhole line
+undivided : (line : List ℕ) (w h : ℕ) (chroma : Chroma) → StatesFormat line w h chroma → ¬ IsDivided w h chroma → ¬ StatesWhole line
 undivided line w h chroma p none whole =
-    let same = states_one_picture line w h chroma whole.0 whole.1 whole.2 p.size p.form whole.3.size whole.3.form in
+    let same = states_one_format line w h chroma whole.0 whole.1 whole.2 p.size p.form whole.3.size whole.3.form in
     none (rw (same.width, same.height, same.form) whole.4)
 
 too_large : (w h : ℕ) (chroma : Chroma) → IsTooLarge w h chroma → ¬ IsWithinLimits w h chroma
@@ -131,9 +131,9 @@ too_large w h chroma (inl wide) limits = absurd (omega (arith, limits.width))
 too_large w h chroma (inr (inl high)) limits = absurd (omega (arith, limits.height))
 too_large w h chroma (inr (inr much)) limits = absurd (omega (arith, limits.bytes))
 
-no_header : (line : List ℕ) (w h : ℕ) (chroma : Chroma) → StatesPicture line w h chroma → IsTooLarge w h chroma → ¬ HasHeader line
+no_header : (line : List ℕ) (w h : ℕ) (chroma : Chroma) → StatesFormat line w h chroma → IsTooLarge w h chroma → ¬ HasHeader line
 no_header line w h chroma p large header =
-    let same = states_one_picture line w h chroma header.0 header.1 header.2 p.size p.form header.3.size header.3.form in
+    let same = states_one_format line w h chroma header.0 header.1 header.2 p.size p.form header.3.size header.3.form in
     too_large w h chroma large (rw (same.width, same.height, same.form) header.3.limits)
 
 bad_sizes : (line : List ℕ) → HasBadSize line → ¬ HasGoodSizes line
@@ -171,5 +171,5 @@ one_refusal line e e' r r' =
 pub header_refusal : (line : List ℕ) (w h : ℕ) (chroma : Chroma) (e : HeaderError) → IsHeaderLine line w h chroma → IsRefusedAs e line → e ≡ NoMemory
 header_refusal line w h chroma e header r = one_refusal line e NoMemory r (w, h, chroma, header)
 
-pub one_picture : (line : List ℕ) (w h : ℕ) (chroma : Chroma) (w' h' : ℕ) (chroma' : Chroma) → IsHeaderLine line w h chroma → IsHeaderLine line w' h' chroma' → SamePicture w h chroma w' h' chroma'
-one_picture line w h chroma w' h' chroma' a b = states_one_picture line w h chroma w' h' chroma' a.size a.form b.size b.form
+pub one_format : (line : List ℕ) (w h : ℕ) (chroma : Chroma) (w' h' : ℕ) (chroma' : Chroma) → IsHeaderLine line w h chroma → IsHeaderLine line w' h' chroma' → SameFormat w h chroma w' h' chroma'
+one_format line w h chroma w' h' chroma' a b = states_one_format line w h chroma w' h' chroma' a.size a.form b.size b.form

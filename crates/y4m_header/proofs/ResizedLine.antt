@@ -183,7 +183,7 @@ half n m less = omega arith
 quarter : (n m : ℕ) → m ≤ n → m / 4 ≤ n / 4
 quarter n m less = omega arith
 
--- a smaller picture has no more data
+-- a smaller format has no more data
 data_less : (w h w' h' : ℕ) (chroma : Chroma) → w' ≤ w → h' ≤ h → data_len w' h' chroma ≤ data_len w h chroma
 data_less w h w' h' S420 wide high = omega (arith, mul-le-mul wide high, mul-le-mul (half w w' wide) (half h h' high))
 data_less w h w' h' S422 wide high = omega (arith, mul-le-mul wide high)

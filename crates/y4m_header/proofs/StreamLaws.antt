@@ -4,7 +4,7 @@ use Rattle.std.proofs.lemmas.List.{append-nil}
 use Rattle.y4m_header.specs.Chroma.{data_len}
 use Rattle.y4m_header.specs.StreamText.{FrameText, IsFrameOf, text_of, frames_text, stream_text, HoldsFrames}
 use Rattle.y4m_header.proofs.TagLists.{All-head, All-tail}
-use Rattle.y4m_header.proofs.Refusals.{one_picture}
+use Rattle.y4m_header.proofs.Refusals.{one_format}
 
 abbrev HasNoFeed : List ℕ → Type 0
 HasNoFeed line = All (λ byte. byte ≢ 10) line
@@ -31,16 +31,16 @@ one_cut (c ∷ a) (d ∷ b) x y n e =
     let rest = one_cut a b x y (omega arith) tail in
     (cc, rest.1)
 
-frame_at : (line line' bytes bytes' : List ℕ) → line ≡ line' → bytes ≡ bytes' → (let a : FrameText = record { line = line; bytes = bytes } in let b : FrameText = record { line = line'; bytes = bytes' } in a ≡ b)
-frame_at line line' bytes bytes' p q = λ i. record { line = p i; bytes = q i }
+frame_at : (line line' samples samples' : List ℕ) → line ≡ line' → samples ≡ samples' → (let a : FrameText = record { line = line; samples = samples } in let b : FrameText = record { line = line'; samples = samples' } in a ≡ b)
+frame_at line line' samples samples' p q = λ i. record { line = p i; samples = q i }
 
 -- the first frame of a text
 pub one_frame : (len : ℕ) (a b : FrameText) (x y : List ℕ) → IsFrameOf len a → IsFrameOf len b → text_of a ++ x ≡ text_of b ++ y → (a ≡ b) × (x ≡ y)
 one_frame len a b x y p q e =
-    let cut : a.line ++ 10 ∷ (a.bytes ++ x) ≡ b.line ++ 10 ∷ (b.bytes ++ y) = sym (append_assoc a.line (10 ∷ a.bytes) x) ∙ e ∙ append_assoc b.line (10 ∷ b.bytes) y in
-    let lines = one_line a.line b.line (a.bytes ++ x) (b.bytes ++ y) p.is_line.is_line.no_feed q.is_line.is_line.no_feed cut in
-    let parts = one_cut a.bytes b.bytes x y (p.whole ∙ sym q.whole) lines.1 in
-    (frame_at a.line b.line a.bytes b.bytes lines.0 parts.0, parts.1)
+    let cut : a.line ++ 10 ∷ (a.samples ++ x) ≡ b.line ++ 10 ∷ (b.samples ++ y) = sym (append_assoc a.line (10 ∷ a.samples) x) ∙ e ∙ append_assoc b.line (10 ∷ b.samples) y in
+    let lines = one_line a.line b.line (a.samples ++ x) (b.samples ++ y) p.is_line.is_line.no_feed q.is_line.is_line.no_feed cut in
+    let parts = one_cut a.samples b.samples x y (p.whole ∙ sym q.whole) lines.1 in
+    (frame_at a.line b.line a.samples b.samples lines.0 parts.0, parts.1)
 
 pub same_frames : (len : ℕ) (fs gs : List FrameText) (x y : List ℕ) → All (IsFrameOf len) fs → All (IsFrameOf len) gs → length fs ≡ length gs → frames_text fs ++ x ≡ frames_text gs ++ y → (fs ≡ gs) × (x ≡ y)
 same_frames len [] [] x y p q n e = (refl, e)
@@ -63,7 +63,7 @@ one_reading text n a b =
     let e = behind_header text a.0 a.1 a.2 a.3 a.4.is_text a.5 in
     let f = behind_header text b.0 b.1 b.2 b.3 b.4.is_text b.5 in
     let headers = one_line a.2 b.2 (frames_text a.3 ++ a.1) (frames_text b.3 ++ b.1) a.4.is_header.is_y4m.is_line.no_feed b.4.is_header.is_y4m.is_line.no_feed (sym e ∙ f) in
-    let same = one_picture b.2 a.4.w a.4.h a.4.chroma b.4.w b.4.h b.4.chroma (rw headers.0 at a.4.is_header) b.4.is_header in
+    let same = one_format b.2 a.4.w a.4.h a.4.chroma b.4.w b.4.h b.4.chroma (rw headers.0 at a.4.is_header) b.4.is_header in
     let len : data_len a.4.w a.4.h a.4.chroma ≡ data_len b.4.w b.4.h b.4.chroma = rw (same.width, same.height, same.form) refl in
     let frames = same_frames (data_len b.4.w b.4.h b.4.chroma) a.3 b.3 a.1 b.1 (rw len at a.4.each) b.4.each (a.6 ∙ sym b.6) headers.1 in
     let header : a.2 ≡ b.2 = headers.0 in

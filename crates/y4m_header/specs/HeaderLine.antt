@@ -53,7 +53,7 @@ pub record IsWithinLimits (w h : ℕ) (chroma : Chroma) : Type 0 where
   pub height : h ≤ 16384
   pub bytes : data_len w h chroma ≤ 67108864
 
--- a header line, without its line feed, of a picture of this size and form
+-- a header line, without its line feed, of this format
 pub record IsHeaderLine (line : List ℕ) (w h : ℕ) (chroma : Chroma) : Type 0 where
   pub is_y4m : IsY4mLine line
   pub good_sizes : HasGoodSizes line
@@ -65,5 +65,5 @@ pub record IsHeaderLine (line : List ℕ) (w h : ℕ) (chroma : Chroma) : Type 0
   pub limits : IsWithinLimits w h chroma
 
 -- a header line is one of one size and form
-abbrev pub PictureIsDetermined : Type 0
-PictureIsDetermined = (line : List ℕ) (w h : ℕ) (chroma : Chroma) (w' h' : ℕ) (chroma' : Chroma) → IsHeaderLine line w h chroma → IsHeaderLine line w' h' chroma' → (w ≡ w') × (h ≡ h') × (chroma ≡ chroma')
+abbrev pub FormatIsDetermined : Type 0
+FormatIsDetermined = (line : List ℕ) (w h : ℕ) (chroma : Chroma) (w' h' : ℕ) (chroma' : Chroma) → IsHeaderLine line w h chroma → IsHeaderLine line w' h' chroma' → (w ≡ w') × (h ≡ h') × (chroma ≡ chroma')

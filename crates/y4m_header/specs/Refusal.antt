@@ -27,7 +27,7 @@ abbrev pub IsTooLarge : ℕ → ℕ → Chroma → Type 0
 IsTooLarge w h chroma = (16384 < w) ⊎ (16384 < h) ⊎ (67108864 < data_len w h chroma)
 
 -- the line states this size and form, whether or not they go together
-pub record StatesPicture (line : List ℕ) (w h : ℕ) (chroma : Chroma) : Type 0 where
+pub record StatesFormat (line : List ℕ) (w h : ℕ) (chroma : Chroma) : Type 0 where
   pub is_y4m : IsY4mLine line
   pub good_sizes : HasGoodSizes line
   pub no_repeat : HasNoRepeat line
@@ -42,7 +42,7 @@ IsRefusedAs BadNumber line = IsY4mLine line × HasBadSize line
 IsRefusedAs RepeatedTag line = IsY4mLine line × HasGoodSizes line × HasRepeat line
 IsRefusedAs MissingSize line = IsY4mLine line × HasGoodSizes line × HasNoRepeat line × LacksSize line
 IsRefusedAs UnknownChroma line = IsY4mLine line × HasGoodSizes line × HasNoRepeat line × HasSizes line × LacksChroma line
-IsRefusedAs NotDivisible line = (w h : ℕ) × (chroma : Chroma) × StatesPicture line w h chroma × ¬ IsDivided w h chroma
-IsRefusedAs TooLarge line = (w h : ℕ) × (chroma : Chroma) × StatesPicture line w h chroma × IsDivided w h chroma × IsTooLarge w h chroma
+IsRefusedAs NotDivisible line = (w h : ℕ) × (chroma : Chroma) × StatesFormat line w h chroma × ¬ IsDivided w h chroma
+IsRefusedAs TooLarge line = (w h : ℕ) × (chroma : Chroma) × StatesFormat line w h chroma × IsDivided w h chroma × IsTooLarge w h chroma
 IsRefusedAs NoMemory line = (w h : ℕ) × (chroma : Chroma) × IsHeaderLine line w h chroma
 IsRefusedAs NotFrame line = ⊥

@@ -5,19 +5,19 @@ use Rattle.y4m_header.specs.Chroma.{data_len}
 use Rattle.y4m_header.specs.HeaderLine.{IsHeaderLine}
 use Rattle.y4m_header.specs.FrameLine.{IsFrameLine}
 
--- a frame as a stream has it: its line, without the line feed, and the bytes of its planes
+-- a frame as a stream has it: its line, without the line feed, and its data, the bytes of its planes
 pub record FrameText : Type 0 where
   pub line : List ℕ
-  pub bytes : List ℕ
+  pub samples : List ℕ
 
 -- a frame of this many bytes
 pub record IsFrameOf (len : ℕ) (frame : FrameText) : Type 0 where
   pub is_line : IsFrameLine frame.line
-  pub whole : length frame.bytes ≡ len
+  pub whole : length frame.samples ≡ len
 
--- a frame is its line, a line feed and its bytes
+-- a frame is its line, a line feed and its data
 abbrev pub text_of : FrameText → List ℕ
-text_of frame = frame.line ++ 10 ∷ frame.bytes
+text_of frame = frame.line ++ 10 ∷ frame.samples
 
 abbrev pub frames_text : List FrameText → List ℕ
 frames_text [] = []

@@ -3,7 +3,7 @@ ghost use Rattle.std.specs.Prelude.{◌≡◌, ◌≢◌, ◌≤◌, ℕ, IfOk, 
 
 use crate::chroma::Chroma;
 use crate::error::HeaderError;
-use crate::picture::read_picture;
+use crate::format::read_format;
 use crate::resized::resized_line;
 use std::alloc::Global;
 use std::marker::Model;
@@ -52,15 +52,15 @@ impl Header {
         ensures each { (error : HeaderError) → error ≢ HeaderError.NoMemory → IsRefusedAs error line.now
             → IsErrOf result error }
     {
-        let picture = read_picture(line)?;
+        let format = read_format(line)?;
         let Ok(line) = line.to_vec(alloc) else {
             return Err(HeaderError::NoMemory);
         };
         Ok(Header {
             line,
-            width: picture.width,
-            height: picture.height,
-            chroma: picture.chroma,
+            width: format.width,
+            height: format.height,
+            chroma: format.chroma,
         })
     }
 

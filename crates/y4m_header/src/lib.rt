@@ -3,13 +3,13 @@
 
 pub mod chroma;
 pub mod error;
+mod format;
 pub mod frame_line;
 pub mod header;
 pub mod laws;
 mod limits;
 mod line;
 mod number;
-mod picture;
 mod resized;
 mod tags;
 pub mod text;

@@ -6,7 +6,7 @@ use Rattle.y4m_header.specs.declared.error.HeaderError.TheVariants.{NoMemory as 
 use Rattle.y4m_header.specs.HeaderLine.{IsHeaderLine}
 use Rattle.y4m_header.specs.Refusal.{IsRefusedAs}
 use Rattle.y4m_header.specs.StreamText.{FrameText, text_of}
-use Rattle.y4m_header.proofs.Refusals.{one_picture, one_refusal, header_refusal}
+use Rattle.y4m_header.proofs.Refusals.{one_format, one_refusal, header_refusal}
 use Rattle.y4m_header.proofs.StreamLaws.{one_cut}
 use Rattle.y4m_stream.specs.declared.fault.ReadFault.{ReadFault}
 use Rattle.y4m_stream.specs.declared.fault.ReadFault.TheVariants.{Device, LineTooLong, Header, NotFrame, Truncated, NoMemory, Failed}
@@ -66,7 +66,7 @@ one_opened (Cut bytes) failures a b x y = ap opening_but_ahead (x ∙ sym y)
 one_opened Long failures a b x y = ap opening_but_ahead (x ∙ sym y)
 one_opened (Whole line more) failures (Ok f) (Ok g) x y =
     let lines : f.header.line ≡ g.header.line = x.0 ∙ sym y.0 in
-    let same = one_picture line f.header.width f.header.height f.header.chroma g.header.width g.header.height g.header.chroma x.1 y.1 in
+    let same = one_format line f.header.width f.header.height f.header.chroma g.header.width g.header.height g.header.chroma x.1 y.1 in
     let header : f.header ≡ g.header = λ i. record { line = lines i; width = same.width i; height = same.height i; chroma = same.form i } in
     ap Ok (same_but_ahead f g (x.2 ∙ sym y.2) header (x.3 ∙ sym y.3) (x.4 ∙ sym y.4))
 one_opened (Whole line more) failures (Ok f) (Err fault) x y = absurd (y.1 (header_refusal line f.header.width f.header.height f.header.chroma y.0 x.1 y.2))

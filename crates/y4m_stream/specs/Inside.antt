@@ -7,7 +7,7 @@ use Rattle.row_bands.specs.declared.canvas.Canvas.{Canvas}
 use Rattle.row_bands.specs.Canvas.{frame_of, height_of}
 use Rattle.filters.specs.declared.error.FilterError.TheVariants.{NoMemory as NoFilterMemory}
 use Rattle.filters.specs.declared.op.Op.{Op}
-use Rattle.filters.specs.Chain.{ChainValue, picture_of, picture_at, last_picture}
+use Rattle.filters.specs.Chain.{ChainValue, format_of, format_at, last_format}
 use Rattle.filters.specs.ChainImage.{IsChainImage, value_of}
 use Rattle.filters.specs.Refusal.{IsChain}
 use Rattle.y4m_header.specs.Header.{HeaderValue}
@@ -107,7 +107,7 @@ BeginsFrame old new phase phase' (Err fault) =
 pub record AreOfSizes (chain : ChainValue) (canvases : List Canvas) : Type 0 where
   pub count : length canvases ≡ length chain.ops
   pub each : (i : ℕ) (d : Canvas) → i < length chain.ops
-      → picture_of (frame_of (slice_index_or canvases i d)).geometry ≡ picture_at chain (i + 1)
+      → format_of (frame_of (slice_index_or canvases i d)).geometry ≡ format_at chain (i + 1)
   pub heights : (i : ℕ) (d : Canvas) → i < length chain.ops
       → height_of (slice_index_or canvases i d) ≡ chain.band_height.rows
 
@@ -123,9 +123,9 @@ HoldImage chain canvases source = (d : Canvas)
 -- the header of the images that the chain makes of the header's frames
 pub record IsHeaderOfImages (chain : ChainValue) (header shown : HeaderValue) : Type 0 where
   pub line : shown.line ≡ served_header chain header.line
-  pub width : shown.width ≡ (last_picture chain.ops (picture_of chain.geometry)).width
-  pub height : shown.height ≡ (last_picture chain.ops (picture_of chain.geometry)).height
-  pub chroma : shown.chroma ≡ (last_picture chain.ops (picture_of chain.geometry)).chroma
+  pub width : shown.width ≡ (last_format chain.ops (format_of chain.geometry)).width
+  pub height : shown.height ≡ (last_format chain.ops (format_of chain.geometry)).height
+  pub chroma : shown.chroma ≡ (last_format chain.ops (format_of chain.geometry)).chroma
 
 -- the chain is that of these operations for the header's frames; a frame, an image and a header of their sizes are there
 pub record IsFilterFor (ops : List Op) (height : BandHeight) (header : HeaderValue) (filter : Filter) : Type 0 where
@@ -138,9 +138,9 @@ pub record IsFilterFor (ops : List Op) (height : BandHeight) (header : HeaderVal
 
 -- the writer's frames are of the size of the chain's images
 pub record IsWriterFor (chain : ChainValue) (writer : WriterState) : Type 0 where
-  pub width : writer.width ≡ (last_picture chain.ops (picture_of chain.geometry)).width
-  pub height : writer.height ≡ (last_picture chain.ops (picture_of chain.geometry)).height
-  pub chroma : writer.chroma ≡ (last_picture chain.ops (picture_of chain.geometry)).chroma
+  pub width : writer.width ≡ (last_format chain.ops (format_of chain.geometry)).width
+  pub height : writer.height ≡ (last_format chain.ops (format_of chain.geometry)).height
+  pub chroma : writer.chroma ≡ (last_format chain.ops (format_of chain.geometry)).chroma
 
 -- a frame was taken, and its image went out
 pub record PassesFrame (chain : ChainValue) (reader reader' : ReaderState) (writer writer' : WriterState) (frame image : FrameText) : Type 0 where

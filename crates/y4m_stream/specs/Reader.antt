@@ -3,7 +3,7 @@ use Rattle.std.specs.Prelude.{◌≡◌, ℕ, List, [], ◌∷◌, ◌++◌, Boo
 use Rattle.std.specs.Io.KnownBytes.{Consumes, IsAtEnd, Keeps}
 use Rattle.frame_view.specs.declared.geometry.Geometry.{Geometry}
 use Rattle.frame_view.specs.declared.frame.Frame.{Frame}
-use Rattle.frame_view.specs.Frame.{line_of, bytes_of}
+use Rattle.frame_view.specs.Frame.{line_of, samples_of}
 use Rattle.y4m_header.specs.Chroma.{data_len}
 use Rattle.y4m_header.specs.Header.{HeaderValue}
 use Rattle.y4m_header.specs.HeaderLine.{IsHeaderLine}
@@ -69,7 +69,7 @@ pub record IsOfHeader (header : HeaderValue) (geometry : Geometry) : Type 0 wher
 
 -- a frame as a stream has it
 abbrev pub frame_text_of : Frame → FrameText
-frame_text_of frame = record { line = line_of frame; bytes = bytes_of frame }
+frame_text_of frame = record { line = line_of frame; samples = samples_of frame }
 
 -- the text of a frame was taken off the front
 pub record TakesFrame (old new : ReaderState) (frame : FrameText) : Type 0 where

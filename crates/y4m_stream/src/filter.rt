@@ -1,7 +1,7 @@
 // A stream, filtered from end to end.
 ghost use Rattle.std.specs.Prelude.{◌≡◌, ◌≢◌, ℕ, List, Option, IfOk, IfErr, OnOk, Some, true, unwrap_or};
 ghost use Rattle.std.specs.Io.KnownBytes.{Keeps};
-ghost use Rattle.filters.specs.Chain.{picture_of};
+ghost use Rattle.filters.specs.Chain.{format_of};
 ghost use Rattle.filters.specs.Refusal.{IsChain};
 ghost use Rattle.y4m_stream.specs.Filtered.{CountsWrites, IsFiltered, LacksChain, filter_reads_told};
 ghost use Rattle.y4m_stream.specs.Inside.{Closes, CountsClosing, IsHeaderOfImages};
@@ -35,7 +35,7 @@ fn resized_header(
     header: &Header,
 ) -> Result<Option<Header>, FilterError>
     requires chain { IsChain chain.now }
-    requires size { picture_of chain.now.geometry
+    requires size { format_of chain.now.geometry
         ≡ record { width = header.now.width; height = header.now.height; chroma = header.now.chroma } }
     ensures shown { IfOk result (λ resized.
         IsHeaderOfImages chain.now header.now (unwrap_or resized header.now)) }

@@ -4,7 +4,7 @@ ghost use Rattle.y4m_header.specs.FrameLine.{IsFrameLine};
 ghost use Rattle.frame_view.specs.Frame.{line_of};
 ghost use Rattle.row_bands.specs.declared.canvas.Canvas.{Canvas};
 ghost use Rattle.row_bands.specs.Canvas.{frame_of};
-ghost use Rattle.filters.specs.Chain.{picture_of, picture_at, last_picture};
+ghost use Rattle.filters.specs.Chain.{format_of, format_at, last_format};
 ghost use Rattle.filters.specs.ChainImage.{value_of, IsChainImage, IsCanvasAt, AreCanvases};
 ghost use Rattle.filters.specs.declared.op.Op.{Op};
 ghost use Rattle.filters.specs.ChainImage.{IsOpImage};
@@ -20,9 +20,9 @@ use std::alloc::Global;
 fn image_by(chain: &Chain, alloc: Global, i: usize, source: &Frame) -> Result<Frame, FilterError>
     requires op { i < length chain.now.ops }
     requires few { i < 8 }
-    requires reaches { picture_of source.now.geometry ≡ picture_at chain.now i }
+    requires reaches { format_of source.now.geometry ≡ format_at chain.now i }
     ensures image { IfOk result (λ image. (d : Op) → IsOpImage (slice_index_or chain.now.ops i d) (value_of source.now) (value_of image)) }
-    ensures picture { IfOk result (λ image. picture_of image.geometry ≡ picture_at chain.now (i + 1)) }
+    ensures format { IfOk result (λ image. format_of image.geometry ≡ format_at chain.now (i + 1)) }
     ensures memory { IfErr result (λ e. e ≡ FilterError.NoMemory) }
 {
     let mut canvas = Canvas::new(
@@ -38,7 +38,7 @@ fn image_by(chain: &Chain, alloc: Global, i: usize, source: &Frame) -> Result<Fr
 /// Makes canvas `i` the image of a frame by operation `i` alone.
 fn paint_at(chain: &Chain, i: usize, source: &Frame, canvas: &mut Canvas)
     requires op { i < length chain.now.ops }
-    requires reaches { picture_of source.now.geometry ≡ picture_at chain.now i }
+    requires reaches { format_of source.now.geometry ≡ format_at chain.now i }
     requires canvas { IsCanvasAt chain.now (line_of source.now) i canvas.old }
     ensures canvas { IsCanvasAt chain.now (line_of source.now) i canvas.new }
     ensures image { (d : Op) → IsOpImage (slice_index_or chain.now.ops i d) (value_of source.now) (value_of (frame_of canvas.new)) }
@@ -51,7 +51,7 @@ fn paint_next(chain: &Chain, i: usize, canvases: &mut [Canvas])
     requires some { 1 ≤ i }
     requires op { i < length chain.now.ops }
     requires canvas { i < length canvases.old }
-    requires reaches { (d : Canvas) → picture_of (frame_of (slice_index_or canvases.old (i - 1) d)).geometry ≡ picture_at chain.now i }
+    requires reaches { (d : Canvas) → format_of (frame_of (slice_index_or canvases.old (i - 1) d)).geometry ≡ format_at chain.now i }
     requires canvases { (d : Canvas) → AreCanvases chain.now (line_of (frame_of (slice_index_or canvases.old (i - 1) d))) canvases.old }
     ensures canvases { (d : Canvas) → AreCanvases chain.now (line_of (frame_of (slice_index_or canvases.old (i - 1) d))) canvases.new }
     ensures image { (o : Op) (d : Canvas) → IsOpImage (slice_index_or chain.now.ops i o)
@@ -81,7 +81,7 @@ impl Chain {
     pub fn apply(&self, alloc: Global, source: &Frame) -> Result<Frame, FilterError>
         requires { source.now.geometry ≡ self.now.geometry }
         ensures image { IfOk result (λ image. IsChainImage self.now.ops (value_of source.now) (value_of image)) }
-        ensures picture { IfOk result (λ image. picture_of image.geometry ≡ last_picture self.now.ops (picture_of self.now.geometry)) }
+        ensures format { IfOk result (λ image. format_of image.geometry ≡ last_format self.now.ops (format_of self.now.geometry)) }
         ensures memory { IfErr result (λ e. e ≡ FilterError.NoMemory) }
     {
         let count = self.ops().len();

@@ -2,7 +2,7 @@
 ghost use Rattle.std.specs.Prelude.{◌≡◌, ◌<◌, ◌≤◌, ◌+◌, Some, length, slice_get};
 ghost use Rattle.frame_view.specs.declared.geometry.Geometry.{Geometry};
 ghost use Rattle.row_bands.specs.Bands.{band_count};
-ghost use Rattle.filters.specs.Chain.{picture_of, picture_at};
+ghost use Rattle.filters.specs.Chain.{format_of, format_at};
 ghost use Rattle.filters.specs.Steps.{IsStep, counts_of, steps_of};
 ghost use Rattle.filters.specs.Costs.{IsRun, cost_of, step_costs};
 
@@ -44,7 +44,7 @@ impl Chain {
         ensures step { IsStep (counts_of self.now) k result.0 result.1 }
         ensures op { result.0 < length self.now.ops }
         ensures few { result.0 < MOST_OPS }
-        ensures band { (output : Geometry) → picture_of output ≡ picture_at self.now (result.0 + 1)
+        ensures band { (output : Geometry) → format_of output ≡ format_at self.now (result.0 + 1)
             → result.1 < band_count output self.now.band_height.rows }
     {
         op_of_step(&self.outputs, self.band_height, k)

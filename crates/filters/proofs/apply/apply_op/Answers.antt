@@ -1,6 +1,6 @@
 use Rattle.std.proofs.Common.{arith, ap, sym, ◌≡◌, ◌∙◌, subst}
 use Rattle.frame_view.specs.declared.geometry.Geometry.{Geometry}
-use Rattle.frame_view.specs.Frame.{bytes_of}
+use Rattle.frame_view.specs.Frame.{samples_of}
 use Rattle.row_bands.specs.Bands.{band_count}
 use Rattle.row_bands.specs.Canvas.{frame_of, height_of}
 use Rattle.filters.specs.Image.{image_pixel, IsImageGeometry}
@@ -19,7 +19,7 @@ loop-k-preserved c =
       geometry = band.geometry ∙ before.geometry;
       line = ap (λ z. z.items) band.line ∙ before.line;
       height = c.apply_at.ensures.height ∙ before.height;
-      rows = next_band (image_pixel c.args.op c.args.source.now.geometry (bytes_of c.args.source.now)) (height_of old) (height_of c.apply_at.new.canvas) c.loop-k.k
+      rows = next_band (image_pixel c.args.op c.args.source.now.geometry (samples_of c.args.source.now)) (height_of old) (height_of c.apply_at.new.canvas) c.loop-k.k
           (frame_of old) (frame_of c.apply_at.new.canvas) (omega (arith, old.height.some)) c.apply_at.ensures.height (omega arith) before.rows band;
     }
 
@@ -34,6 +34,6 @@ returns-clause-image c =
     record {
       geometry = subst P (sym before.geometry) c.requires.image;
       line = before.line ∙ c.requires.line;
-      pixels = all_bands (image_pixel c.args.op c.args.source.now.geometry (bytes_of c.args.source.now)) (frame_of canvas) (height_of canvas) c.loop-k.k
+      pixels = all_bands (image_pixel c.args.op c.args.source.now.geometry (samples_of c.args.source.now)) (frame_of canvas) (height_of canvas) c.loop-k.k
           (omega (arith, canvas.height.some)) (omega arith) before.rows;
     }

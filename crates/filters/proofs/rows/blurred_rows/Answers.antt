@@ -1,6 +1,6 @@
 use Rattle.std.proofs.Common.{◌≡◌, ◌+◌, ◌*◌, slice_index, arith, ap, ◌∙◌, sym}
 use Rattle.frame_view.specs.Places.{plane_width, plane_height}
-use Rattle.frame_view.specs.Frame.{bytes_of}
+use Rattle.frame_view.specs.Frame.{samples_of}
 use Rattle.filters.proofs.Blurred.{blurred_read}
 use Rattle.filters.proofs.rows.blurred_rows.Goals as goal
 
@@ -12,5 +12,5 @@ returns c v x h l =
     let high : size.rows ≡ plane_height g c.args.p = c.plane_size-size.ensures.rows ∙ ap (λ z. plane_height z c.args.p) c.geometry.ensures in
     ap (λ k. slice_index c.blur_rows.new.target (v * k + x)) (c.requires.width ∙ sym wide)
     ∙ c.blur_rows.ensures v x h (omega arith)
-    ∙ blurred_read g (bytes_of c.args.source.now) c.rows-samples.result.now c.args.p size.columns size.rows c.args.blur.radius (c.args.from + v) x
+    ∙ blurred_read g (samples_of c.args.source.now) c.rows-samples.result.now c.args.p size.columns size.rows c.args.blur.radius (c.args.from + v) x
     wide high c.rows-samples.ensures.value (omega arith) (omega arith)

@@ -1,7 +1,7 @@
 use Rattle.std.proofs.Common.{◌≡◌, ◌+◌, ◌-◌, ◌*◌, ◌≤◌, ℕ, length, slice_index, arith, ap, ◌∙◌}
 use Rattle.std.proofs.lemmas.List.{length-take, length-drop}
 use Rattle.std.proofs.lemmas.Nat.{row_fits}
-use Rattle.frame_view.specs.Frame.{bytes_of}
+use Rattle.frame_view.specs.Frame.{samples_of}
 use Rattle.frame_view.specs.Rows.{sample}
 use Rattle.y4m_header.specs.Chroma.{horizontal_divisor, vertical_divisor}
 use Rattle.filters.specs.Pixel.{offset}
@@ -15,7 +15,7 @@ use Rattle.filters.proofs.rows.cropped_rows.Goals as goal
 pub loop-v-preserved : goal.loop-v-preserved
 loop-v-preserved c =
     let g = c.args.source.now.geometry in
-    let bytes = bytes_of c.args.source.now in
+    let samples = samples_of c.args.source.now in
     let p = c.args.p in
     let w = c.args.columns in
     let y = c.args.from + c.loop-v.v in
@@ -23,7 +23,7 @@ loop-v-preserved c =
     let written = c.copy_from_slice.new.self in
     let fits : c.loop-v.v * w + w ≤ length c.loop-v.rows = omega (arith, row_fits c.loop-v.v w (c.args.to - c.args.from) w (omega arith) (omega arith)) in
     let wide : length written ≡ w = omega (arith, length-take {A = ℕ}, length-drop {A = ℕ}) in
-    row_written (λ v x. image_pixel (Crop c.args.crop) g bytes p (c.args.from + v) x) w c.loop-v.v c.loop-v.rows written _
+    row_written (λ v x. image_pixel (Crop c.args.crop) g samples p (c.args.from + v) x) w c.loop-v.v c.loop-v.rows written _
     wide (omega arith) c.loop-v.invariant
     (λ x h.
     let across = c.offsets-across.ensures.across ∙ ap (λ z. offset p c.args.crop.x (horizontal_divisor z.chroma)) c.geometry.ensures in
@@ -31,9 +31,9 @@ loop-v-preserved c =
     ap (λ s. slice_index s x) c.copy_from_slice.ensures.after
     ∙ part-sample row c.offsets-across.result.0 w x h
     ∙ ap (λ s. slice_index s (c.offsets-across.result.0 + x)) c.row-row.ensures.value
-    ∙ row-sample g bytes p (y + c.offsets-across.result.1) (c.offsets-across.result.0 + x) (omega arith)
-    ∙ ap (λ n. sample g bytes p (y + n) (c.offsets-across.result.0 + x)) down
-    ∙ ap (sample g bytes p (y + offset p c.args.crop.y (vertical_divisor g.chroma))) (let e : c.offsets-across.result.0 + x ≡ x + offset p c.args.crop.x (horizontal_divisor g.chroma) = omega arith in e))
+    ∙ row-sample g samples p (y + c.offsets-across.result.1) (c.offsets-across.result.0 + x) (omega arith)
+    ∙ ap (λ n. sample g samples p (y + n) (c.offsets-across.result.0 + x)) down
+    ∙ ap (sample g samples p (y + offset p c.args.crop.y (vertical_divisor g.chroma))) (let e : c.offsets-across.result.0 + x ≡ x + offset p c.args.crop.x (horizontal_divisor g.chroma) = omega arith in e))
 
 pub overflow_add-from-in-loop-v : goal.overflow_add-from-in-loop-v
 overflow_add-from-in-loop-v c =

@@ -1,9 +1,9 @@
 use Rattle.std.proofs.Common.{◌≡◌, ◌+◌, ◌*◌, ◌<◌, ℕ, slice_index}
-use Rattle.frame_view.specs.Frame.{bytes_of}
+use Rattle.frame_view.specs.Frame.{samples_of}
 use Rattle.filters.specs.declared.op.Op.TheVariants.{VFlip}
 use Rattle.filters.specs.Image.{image_pixel}
 use Rattle.filters.proofs.rows.opposite_rows.Given as goal
 
 abbrev pub invariant-loop-v : goal.invariant-loop-v
 invariant-loop-v l = (v x : ℕ) → v < l.v → x < l.columns
-    → slice_index l.rows (v * l.columns + x) ≡ image_pixel VFlip l.source.geometry (bytes_of l.source) l.p (l.from + v) x
+    → slice_index l.rows (v * l.columns + x) ≡ image_pixel VFlip l.source.geometry (samples_of l.source) l.p (l.from + v) x

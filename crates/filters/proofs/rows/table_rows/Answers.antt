@@ -2,7 +2,7 @@ use Rattle.std.proofs.Common.{◌+◌, ◌-◌, ◌*◌, ◌<◌, ◌≤◌, len
 use Rattle.std.proofs.Math.Nat.{mul-le-mul_right}
 use Rattle.std.proofs.lemmas.List.{get_or-map}
 use Rattle.frame_view.specs.Places.{plane_width}
-use Rattle.frame_view.specs.Frame.{bytes_of}
+use Rattle.frame_view.specs.Frame.{samples_of}
 use Rattle.filters.specs.Pixel.{entry}
 use Rattle.filters.proofs.ReadRows.{run-sample}
 use Rattle.filters.proofs.rows.table_rows.Goals as goal
@@ -18,4 +18,4 @@ returns c v x h l =
     ap (λ s. slice_index s (v * c.args.columns + x)) c.table_row.ensures
     ∙ ap (λ k. slice_index (map (entry c.args.table p) c.rows.result.now) (v * k + x)) width
     ∙ get_or-map (entry c.args.table p) c.rows.result.now (v * w + x) 0 0 within
-    ∙ ap (entry c.args.table p) (ap (λ s. slice_index s (v * w + x)) c.rows.ensures.value ∙ run-sample g (bytes_of c.args.source.now) p c.args.from c.args.to v x h (omega arith))
+    ∙ ap (entry c.args.table p) (ap (λ s. slice_index s (v * w + x)) c.rows.ensures.value ∙ run-sample g (samples_of c.args.source.now) p c.args.from c.args.to v x h (omega arith))

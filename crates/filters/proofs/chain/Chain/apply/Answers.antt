@@ -8,7 +8,7 @@ loop-i-init c =
     let some = rw c.ops-count.ensures.value at c.ops-count.ensures.count in
     record {
       image = image_more c.args.self.now.ops _ _ _ 0 HFlip (omega (arith, some)) refl (c.in_ok-image.ensures.image HFlip);
-      picture = c.in_ok-image.ensures.picture;
+      format = c.in_ok-image.ensures.format;
     }
 
 pub loop-i-preserved : goal.loop-i-preserved
@@ -16,5 +16,5 @@ loop-i-preserved c =
     let within : c.loop-i.i < length c.args.self.now.ops = rw c.ops-count.ensures.value at c.loop-i-test.true in
     record {
       image = image_more c.args.self.now.ops _ _ _ c.loop-i.i HFlip within c.loop-i.invariant.image (c.in_ok-image-2.ensures.image HFlip);
-      picture = c.in_ok-image-2.ensures.picture;
+      format = c.in_ok-image-2.ensures.format;
     }

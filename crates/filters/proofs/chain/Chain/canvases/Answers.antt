@@ -11,7 +11,7 @@ loop-i-preserved c =
       count = rw (pushed, length-append) (omega (arith, so_far.count));
       each = canvases_more c.args.self.now c.args.line.now _ _ _ c.loop-i.i so_far.count pushed so_far.each
           (record {
-            picture = rw made.geometry c.geometry_after.ensures;
+            format = rw made.geometry c.geometry_after.ensures;
             height = c.in_ok-canvas.ensures.height ∙ ap (λ b. b.rows) c.band_height.ensures;
             line = made.line;
           });

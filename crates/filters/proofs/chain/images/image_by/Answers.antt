@@ -1,4 +1,4 @@
-use Rattle.filters.proofs.ChainImages.{is_frame_line, picture_next, op_image_at}
+use Rattle.filters.proofs.ChainImages.{is_frame_line, format_next, op_image_at}
 use Rattle.filters.proofs.chain.images.image_by.Goals as goal
 
 pub new-requires : goal.new-requires
@@ -12,7 +12,7 @@ pub returns-clause-image : goal.returns-clause-image
 returns-clause-image c d =
     rw c.into_frame.ensures (op_image_at c.args.chain.now.ops c.args.i c.op.result d _ _ c.op.ensures.value c.apply_op.ensures.image)
 
-pub returns-clause-picture : goal.returns-clause-picture
-returns-clause-picture c =
+pub returns-clause-format : goal.returns-clause-format
+returns-clause-format c =
     rw c.into_frame.ensures
-    (picture_next c.args.chain.now c.args.i c.op.result c.args.source.now.geometry _ c.requires.op c.op.ensures.value c.requires.reaches c.apply_op.ensures.image.geometry)
+    (format_next c.args.chain.now c.args.i c.op.result c.args.source.now.geometry _ c.requires.op c.op.ensures.value c.requires.reaches c.apply_op.ensures.image.geometry)

@@ -1,14 +1,14 @@
 use Rattle.std.proofs.Common.{◌∙◌}
-use Rattle.filters.proofs.ChainImages.{picture_next, op_image_at}
+use Rattle.filters.proofs.ChainImages.{format_next, op_image_at}
 use Rattle.filters.proofs.chain.images.paint_at.Goals as goal
 
 pub apply_op-requires-clause-image : goal.apply_op-requires-clause-image
-apply_op-requires-clause-image c = c.op.ensures.image _ _ c.requires.reaches c.requires.canvas.picture
+apply_op-requires-clause-image c = c.op.ensures.image _ _ c.requires.reaches c.requires.canvas.format
 
 pub returns-clause-canvas : goal.returns-clause-canvas
 returns-clause-canvas c = record {
-  picture =
-      picture_next c.args.chain.now c.args.i c.op.result c.args.source.now.geometry _ c.requires.op c.op.ensures.value c.requires.reaches c.apply_op.ensures.image.geometry;
+  format =
+      format_next c.args.chain.now c.args.i c.op.result c.args.source.now.geometry _ c.requires.op c.op.ensures.value c.requires.reaches c.apply_op.ensures.image.geometry;
   height = c.apply_op.ensures.height ∙ c.requires.canvas.height;
   line = c.apply_op.ensures.image.line;
 }

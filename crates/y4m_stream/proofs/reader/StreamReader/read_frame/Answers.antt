@@ -1,5 +1,5 @@
 use Rattle.std.proofs.Common.{rules, ◌≡◌, length, take}
-use Rattle.frame_view.specs.Frame.{line_of, bytes_of}
+use Rattle.frame_view.specs.Frame.{line_of, samples_of}
 use Rattle.std.proofs.lemmas.Result.{err_from_is_err_and}
 use Rattle.y4m_header.specs.StreamText.{IsFrameOf}
 use Rattle.y4m_stream.specs.Reader.{data_len_of, frame_text_of}
@@ -19,7 +19,7 @@ returns-clause-answer g c =
     let header = c.self.inside.header in
     let found = rw c.in-Some.is at c.in_ok-end.ensures in
     let line : line_of c.take_data.new.frame ≡ take c.in-Some.end c.begin_frame.new.input.held = search rules in
-    let len : length (bytes_of c.take_data.new.frame) ≡ data_len_of header = search rules in
+    let len : length (samples_of c.take_data.new.frame) ≡ data_len_of header = search rules in
     let is_frame : IsFrameOf (data_len_of header) (frame_text_of c.take_data.new.frame) = record { is_line = rw line found.is_frame_line; whole = len } in
     let taken = c.in_ok-take_data.ensures in
     rw (← c.self.view_is) (Answers-taken header _ _ _ _ _ c.in-Some.end _ found is_frame taken.ok taken.few taken.told)

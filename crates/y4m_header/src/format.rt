@@ -1,7 +1,7 @@
 // The size and the chroma form that a header line states.
 ghost use Rattle.std.specs.Prelude.{◌≡◌, ◌↔◌, IsTrue, IfOk, IfErr};
 ghost use Rattle.y4m_header.specs.HeaderLine.{IsY4mLine, HasGoodSizes, HasNoRepeat, HasSizes, StatesSize, IsHeaderLine};
-ghost use Rattle.y4m_header.specs.Refusal.{IsRefusedAs, StatesPicture};
+ghost use Rattle.y4m_header.specs.Refusal.{IsRefusedAs, StatesFormat};
 
 use crate::chroma::Chroma;
 use crate::error::HeaderError;
@@ -11,7 +11,7 @@ use crate::number::number;
 use crate::tags::{all_sizes, tags_with};
 
 #[derive(Clone, Copy, Debug)]
-pub struct Picture {
+pub struct Format {
     pub width: u32,
     pub height: u32,
     pub chroma: Chroma,
@@ -47,15 +47,15 @@ fn read_sizes(line: &[u8]) -> Result<(u32, u32), HeaderError>
 }
 
 /// What the tags state, whether or not it goes together.
-fn read_tags(line: &[u8]) -> Result<Picture, HeaderError>
-    ensures stated { IfOk result (λ picture. StatesPicture line.now picture.width picture.height picture.chroma) }
+fn read_tags(line: &[u8]) -> Result<Format, HeaderError>
+    ensures stated { IfOk result (λ format. StatesFormat line.now format.width format.height format.chroma) }
     ensures refused { IfErr result (λ error. IsRefusedAs error line.now) }
 {
     let (width, height) = read_sizes(line)?;
     let Some(chroma) = Chroma::named(tags_with(b'C', line).first) else {
         return Err(HeaderError::UnknownChroma);
     };
-    Ok(Picture {
+    Ok(Format {
         width,
         height,
         chroma,
@@ -63,16 +63,16 @@ fn read_tags(line: &[u8]) -> Result<Picture, HeaderError>
 }
 
 /// What a header line states.
-pub fn read_picture(line: &[u8]) -> Result<Picture, HeaderError>
-    ensures stated { IfOk result (λ picture. IsHeaderLine line.now picture.width picture.height picture.chroma) }
+pub fn read_format(line: &[u8]) -> Result<Format, HeaderError>
+    ensures stated { IfOk result (λ format. IsHeaderLine line.now format.width format.height format.chroma) }
     ensures refused { IfErr result (λ error. IsRefusedAs error line.now) }
 {
-    let picture = read_tags(line)?;
-    if !is_divided(picture.width, picture.height, picture.chroma) {
+    let format = read_tags(line)?;
+    if !is_divided(format.width, format.height, format.chroma) {
         return Err(HeaderError::NotDivisible);
     }
-    if !is_within_limits(picture.width, picture.height, picture.chroma) {
+    if !is_within_limits(format.width, format.height, format.chroma) {
         return Err(HeaderError::TooLarge);
     }
-    Ok(picture)
+    Ok(format)
 }

@@ -1,4 +1,4 @@
-use Rattle.y4m_header.proofs.picture.read_tags.Goals as goal
+use Rattle.y4m_header.proofs.format.read_tags.Goals as goal
 
 pub returns-in_default-clause-refused : goal.returns-in_default-clause-refused
 returns-in_default-clause-refused c =
