@@ -7,3 +7,4 @@ pub mod Written
 pub mod Parted
 pub mod LentTogether
 pub mod PutRow
+pub mod Filled

@@ -4,6 +4,7 @@ ghost use Rattle.y4m_header.specs.Chroma.{data_len};
 ghost use Rattle.y4m_header.specs.FrameLine.{IsFrameLine};
 
 use crate::geometry::Geometry;
+use crate::lend_planes;
 use crate::plane::Plane;
 use std::alloc::{AllocError, Global};
 use thiserror::Error;
@@ -29,11 +30,11 @@ pub struct WrongLength {
 }
 
 impl Frame {
-    ghost use Rattle.std.specs.Prelude.{◌≡◌, ℕ, ◌+◌, ◌*◌, ◌-◌, ◌<◌, ◌≤◌, ◌↔◌, length, replicate, IsOk, IfOk, IfErr, OnOk, OnErr};
+    ghost use Rattle.std.specs.Prelude.{◌≡◌, ℕ, ◌+◌, ◌*◌, ◌-◌, ◌<◌, ◌≤◌, ◌↔◌, length, replicate, slice_index, IsOk, IfOk, IfErr, OnOk, OnErr};
     ghost use Rattle.std.specs.Borrow.{sem};
     ghost use Rattle.y4m_header.specs.Chroma.{plane_count};
     ghost use Rattle.frame_view.specs.Places.{plane_width, plane_height, row_start, frame_len};
-    ghost use Rattle.frame_view.specs.Rows.{row_of, run_of, rows_of, plane_rows, plane_run};
+    ghost use Rattle.frame_view.specs.Rows.{IsPlace, sample, row_of, run_of, rows_of, plane_rows, plane_run};
     ghost use Rattle.frame_view.specs.Frame.{line_of, samples_of, IsFrameWith};
     ghost use Rattle.frame_view.specs.Lending.{LendsSamples, LendsRows};
 
@@ -66,6 +67,20 @@ impl Frame {
             line,
             samples,
         })
+    }
+
+    /// Fills each plane with its sample, of Y, Cb, Cr and A in this order; that of an absent plane goes unused.
+    pub fn fill(&mut self, samples: [u8; 4])
+        ensures geometry { self.new.geometry ≡ self.old.geometry }
+        ensures line { line_of self.new ≡ line_of self.old }
+        ensures filled { (p y x : ℕ) → IsPlace self.old.geometry p y x
+            → sample self.old.geometry (samples_of self.new) p y x ≡ slice_index samples p }
+    {
+        lend_planes!(&mut *self => luma, cb, cr, alpha);
+        luma.samples.fill(samples[0]);
+        cb.samples.fill(samples[1]);
+        cr.samples.fill(samples[2]);
+        alpha.samples.fill(samples[3]);
     }
 
     pub fn geometry(&self) -> Geometry

@@ -222,19 +222,6 @@ fn lent_rows_and_lines_are_written(rt: HostRuntime) -> Result<(), Fail> {
     Ok(())
 }
 
-/// The planes are lent at once and written in another order.
-fn fill_planes(frame: &mut Frame, luma_value: u8, cb_value: u8, cr_value: u8, alpha_value: u8)
-    ensures geometry { frame.new.geometry ≡ frame.old.geometry }
-    ensures samples { let g = frame.old.geometry in
-        samples_of frame.new ≡ replicate (lent_len g 0) luma_value ++ (replicate (lent_len g 1) cb_value ++ (replicate (lent_len g 2) cr_value ++ replicate (lent_len g 3) alpha_value)) }
-{
-    lend_planes!(&mut *frame => luma, cb, cr, alpha);
-    cr.samples.fill(cr_value);
-    luma.samples.fill(luma_value);
-    alpha.samples.fill(alpha_value);
-    cb.samples.fill(cb_value);
-}
-
 /// One of the planes is written; the others stay.
 fn fill_cr(frame: &mut Frame, value: u8)
     ensures { let g = frame.old.geometry in
@@ -312,6 +299,21 @@ fn planes_lent_at_once_are_written_in_any_order(rt: HostRuntime) -> Result<(), F
 }
 
 #[test]
+fn absent_planes_are_not_filled(rt: HostRuntime) -> Result<(), Fail> {
+    let mut frame = frame(rt.alloc(), geometry_2x6(), b"FRAME Ip", &SAMPLES)?;
+    frame.fill([16, 128, 129, 255]);
+    assert_eq!(rt; frame.line(), b"FRAME Ip".as_slice());
+    assert_eq!(rt;
+        frame.data(),
+        [
+            16, 16, 16, 16, 16, 16, 16, 16, 16, 16, 16, 16, 128, 128, 128, 129, 129, 129
+        ]
+        .as_slice()
+    );
+    Ok(())
+}
+
+#[test]
 fn four_planes_of_one_pixel(rt: HostRuntime) -> Result<(), Fail> {
     let geometry = Geometry {
         width: 1,
@@ -319,7 +321,7 @@ fn four_planes_of_one_pixel(rt: HostRuntime) -> Result<(), Fail> {
         chroma: Chroma::S444Alpha,
     };
     let mut frame = frame(rt.alloc(), geometry, b"FRAME", &[0; 4])?;
-    fill_planes(&mut frame, 1, 2, 3, 4);
+    frame.fill([1, 2, 3, 4]);
     assert_eq!(rt; frame.data(), [1, 2, 3, 4].as_slice());
     fill_cr(&mut frame, 5);
     assert_eq!(rt; frame.data(), [1, 2, 5, 4].as_slice());
