@@ -2,6 +2,7 @@
 ghost use Rattle.std.specs.Prelude.{◌≡◌, ◌≤◌, ◌%◌};
 ghost use Rattle.y4m_header.specs.Chroma.{horizontal_divisor, vertical_divisor, data_len};
 
+use crate::chroma_plane::is_chroma_plane;
 use std::ops::Range;
 use y4m_header::{Chroma, Header};
 
@@ -136,7 +137,7 @@ impl Geometry {
         ensures value { result ≡ plane_width self p }
         ensures narrow { result ≤ 16384 }
     {
-        if p == 1 || p == 2 {
+        if is_chroma_plane(p) {
             (self.width / self.chroma.divisors().horizontal) as usize
         } else {
             self.width as usize
@@ -148,7 +149,7 @@ impl Geometry {
         ensures value { result ≡ plane_height self p }
         ensures low { result ≤ 16384 }
     {
-        if p == 1 || p == 2 {
+        if is_chroma_plane(p) {
             (self.height / self.chroma.divisors().vertical) as usize
         } else {
             self.height as usize
