@@ -8,3 +8,4 @@ pub mod Parted
 pub mod LentTogether
 pub mod PutRow
 pub mod Filled
+pub mod OtherRows

@@ -75,10 +75,10 @@ row_put picture g p from y n at xs ws h hn ha room f r y' x a b l =
 pub rest_rows : (from mid to w n m : ℕ) → from ≤ mid → mid ≤ to → n + (mid - from) * w ≡ m → m ≡ (to - from) * w → n ≡ (to - mid) * w
 rest_rows from mid to w n m h k e f = omega (arith, gap (mid - from) (to - from) w (omega arith), ap (λ z. z * w) (let e : (to - from) - (mid - from) ≡ to - mid = omega arith in e))
 
-length-part : (xs : List ℕ) (a b : ℕ) → b ≤ length xs → length (slice_range xs a b) ≡ b - a
+pub length-part : (xs : List ℕ) (a b : ℕ) → b ≤ length xs → length (slice_range xs a b) ≡ b - a
 length-part xs a b h = grind (arith, common_steps)
 
-read-part : (xs : List ℕ) (a b k : ℕ) → b ≤ length xs → k < b - a → slice_index (slice_range xs a b) k ≡ slice_index xs (a + k)
+pub read-part : (xs : List ℕ) (a b k : ℕ) → b ≤ length xs → k < b - a → slice_index (slice_range xs a b) k ≡ slice_index xs (a + k)
 read-part xs a b k h l = grind (arith, common_steps)
 
 -- rows of a frame are those of the picture that it shows

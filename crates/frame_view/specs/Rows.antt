@@ -16,10 +16,15 @@ pub record IsPlace (g : Geometry) (p y x : ℕ) : Type 0 where
   pub row : y < plane_height g p
   pub column : x < plane_width g p
 
--- each byte of a frame is the sample of one place, and of one alone
-abbrev pub EachByteInOneRow : Geometry → Type 0
-EachByteInOneRow g = (i : ℕ) → i < frame_len g
-    → (p y x : ℕ) × IsPlace g p y x × (i ≡ row_start g p y + x) × ((q z v : ℕ) → IsPlace g q z v → i ≡ row_start g q z + v → (q ≡ p) × (z ≡ y) × (v ≡ x))
+-- the byte at i is the sample of one place, and of one alone
+abbrev pub IsInOneRow : Geometry → ℕ → Type 0
+IsInOneRow g i = (p y x : ℕ) × IsPlace g p y x × (i ≡ row_start g p y + x)
+    × ((q z v : ℕ) → IsPlace g q z v → i ≡ row_start g q z + v → (q ≡ p) × (z ≡ y) × (v ≡ x))
+
+-- the rows part the bytes of a frame among them: each byte is in one of them, and all that is in them is a byte
+pub record EachByteInOneRow (g : Geometry) : Type 0 where
+  pub bytes : (i : ℕ) → i < frame_len g → IsInOneRow g i
+  pub places : (p y x : ℕ) → IsPlace g p y x → row_start g p y + x < frame_len g
 
 -- the rows from one place on to another, which is left out, one after another
 abbrev pub run_of : Geometry → List ℕ → ℕ → ℕ → ℕ → List ℕ

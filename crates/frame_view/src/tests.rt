@@ -8,7 +8,7 @@ ghost use Rattle.frame_view.specs.Written.{HasRows};
 
 use crate::{
     Frame, Geometry, PlaneMut, PlaneSize, lend_planes, lent_planes_stand_in_their_rows,
-    rows_part_the_bytes, split_rows,
+    lent_rows_leave_the_others, rows_part_the_bytes, split_rows,
 };
 use std::alloc::Global;
 use std::test::Fail;
@@ -329,6 +329,7 @@ fn four_planes_of_one_pixel(rt: HostRuntime) -> Result<(), Fail> {
     assert_eq!(rt; frame.data(), [7, 7, 8, 8].as_slice());
     rows_part_the_bytes(geometry);
     lent_planes_stand_in_their_rows(geometry);
+    lent_rows_leave_the_others(&frame);
     Ok(())
 }
 
