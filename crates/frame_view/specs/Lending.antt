@@ -11,11 +11,23 @@ use Rattle.frame_view.specs.Rows.{run_of, row_of}
 
 -- the frame with these data in place of its own
 abbrev pub with_all_samples : Frame → List ℕ → Frame
-with_all_samples f ws = record { geometry = f.geometry; line = f.line; samples = with_items f.samples ws; fits = f.fits; lined = f.lined }
+with_all_samples f ws = record {
+  geometry = f.geometry;
+  line = f.line;
+  samples = with_items f.samples ws;
+  fits = f.fits;
+  lined = f.lined;
+}
 
 -- the frame with these bytes written over its own from a place on
 abbrev pub with_samples : Frame → ℕ → List ℕ → Frame
-with_samples f i ws = record { geometry = f.geometry; line = f.line; samples = with_items_from f.samples i ws; fits = f.fits; lined = f.lined }
+with_samples f i ws = record {
+  geometry = f.geometry;
+  line = f.line;
+  samples = with_items_from f.samples i ws;
+  fits = f.fits;
+  lined = f.lined;
+}
 
 -- all data are lent
 abbrev pub LendsSamples : MutBor Frame → MutBor (List ℕ) → Fml
@@ -36,7 +48,7 @@ pub record ReplacesRows (p from to : ℕ) (ws : List ℕ) (old new : Frame) : Ty
       → (q ≢ p) ⊎ ((z < from) ⊎ (to ≤ z))
       → row_of old.geometry (samples_of new) q z ≡ row_of old.geometry (samples_of old) q z
 
--- whatever rows come back of those that were lent, they stand in their places, and each other row is as it was
+-- lent rows come back in their places, whatever was written into them, and each other row is as it was
 abbrev pub LentRowsLeaveTheOthers : Frame → Type 0
 LentRowsLeaveTheOthers f = (p from to : ℕ) (ws : List ℕ) → p < plane_count f.geometry.chroma → from ≤ to
     → to ≤ plane_height f.geometry p → length ws ≡ (to - from) * plane_width f.geometry p

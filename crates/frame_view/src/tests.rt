@@ -1,5 +1,6 @@
 // Frames of given sizes, with the bytes that the manual page's order of planes and rows gives.
-ghost use Rattle.std.specs.Prelude.{◌≡◌, ◌<◌, ◌≤◌, ◌+◌, ◌-◌, ◌*◌, ◌++◌, IfOk, length, take, drop, replicate, slice_index};
+ghost use Rattle.std.specs.Prelude.{◌≡◌, ◌<◌, ◌≤◌, ◌+◌, ◌-◌, ◌*◌, ◌++◌};
+ghost use Rattle.std.specs.Prelude.{IfOk, length, take, drop, replicate, slice_index};
 ghost use Rattle.y4m_header.specs.Chroma.{plane_count};
 ghost use Rattle.frame_view.specs.Frame.{samples_of, IsFrameWith};
 ghost use Rattle.frame_view.specs.LentTogether.{lent_len};
@@ -227,7 +228,8 @@ fn fill_cr(frame: &mut Frame, value: u8)
     ensures { let g = frame.old.geometry in
         let from_cb = drop (lent_len g 0) (samples_of frame.old) in
         let from_cr = drop (lent_len g 1) from_cb in
-        samples_of frame.new ≡ take (lent_len g 0) (samples_of frame.old) ++ (take (lent_len g 1) from_cb ++ (replicate (lent_len g 2) value ++ drop (lent_len g 2) from_cr)) }
+        samples_of frame.new ≡ take (lent_len g 0) (samples_of frame.old)
+        ++ (take (lent_len g 1) from_cb ++ (replicate (lent_len g 2) value ++ drop (lent_len g 2) from_cr)) }
 {
     lend_planes!(&mut *frame => _luma, _cb, cr, _alpha);
     cr.samples.fill(value);
@@ -269,7 +271,8 @@ fn put_alpha_row(frame: &mut Frame, y: usize, row: &[u8])
 /// The rows of a plane, lent in two parts.
 fn fill_parts(samples: &mut [u8], columns: usize, y: usize, above: u8, below: u8)
     requires { y * columns ≤ length samples.old }
-    ensures { samples.new ≡ replicate (y * columns) above ++ replicate (length samples.old - y * columns) below }
+    ensures { samples.new
+        ≡ replicate (y * columns) above ++ replicate (length samples.old - y * columns) below }
 {
     let (top, bottom) = split_rows(samples, columns, y);
     bottom.fill(below);
