@@ -5,7 +5,7 @@ use mathlib.Core.Sum.{⊎_set}
 use Rattle.std.specs.Option.{option_eq}
 use Rattle.std.specs.Cmp.Lexicographic.{same_text}
 use lib.Pointwise.{pointwise}
-use Rattle.y4m_header.proofs.Words.{either_test}
+use Rattle.std.proofs.lemmas.Bool.{cases_Bool}
 use Rattle.y4m_header.specs.declared.chroma.Chroma.{Chroma}
 use Rattle.y4m_header.specs.Chroma.{ChromaName, NamesChroma, chroma_table}
 
@@ -53,7 +53,7 @@ name_at v w c d p q = λ i. record { value = p i; chroma = q i }
 
 found : (names : List ChromaName) (v : Option (List ℕ)) (c : Chroma) → form_in names v ≡ Some c → Contains names (record { value = v; chroma = c })
 found [] v c e = absurd (cc)
-found (name ∷ names) v c e = elim (either_test (same_value v name.value)) [
+found (name ∷ names) v c e = elim (cases_Bool (same_value v name.value)) [
   | inl same ↦
       let form : name.chroma ≡ c = (let s = rw same at e in cc) in
       (0, omega arith, name_at name.value v name.chroma c (sym (same_value_is v name.value same)) form)

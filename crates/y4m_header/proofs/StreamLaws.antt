@@ -2,8 +2,9 @@
 use Rattle.std.proofs.Common.{◌≡◌, ◌≢◌, ℕ, List, [], ◌∷◌, ◌++◌, length, All, refl, sym, ap, ◌∙◌, arith, append_assoc}
 use Rattle.std.proofs.lemmas.List.{append-nil}
 use Rattle.y4m_header.specs.Chroma.{data_len}
-use Rattle.y4m_header.specs.StreamText.{FrameText, IsFrameOf, text_of, frames_text, stream_text, HoldsFrames}
-use Rattle.y4m_header.proofs.TagLists.{All-head, All-tail}
+use Rattle.y4m_header.specs.StreamText.{FrameText, IsFrameOf, text_of, frames_text, HoldsFrames}
+use Rattle.y4m_header.specs.StreamText.{FramesAreDetermined}
+use Rattle.std.proofs.lemmas.List.Elements.{All-head, All-tail}
 use Rattle.y4m_header.proofs.Refusals.{one_format}
 
 abbrev HasNoFeed : List ℕ → Type 0
@@ -55,20 +56,26 @@ same_frames len (f ∷ fs) (g ∷ gs) x y p q n e =
     (cc, rest.1)
 
 -- the text, cut behind its header line
-behind_header : (text front rest header : List ℕ) (frames : List FrameText) → front ≡ stream_text header frames → text ≡ front ++ rest → text ≡ header ++ 10 ∷ (frames_text frames ++ rest)
-behind_header text front rest header frames e t = t ∙ ap (λ (f : List ℕ). f ++ rest) e ∙ append_assoc header (10 ∷ frames_text frames) rest
+pub behind_header : (text : List ℕ) (n : ℕ) (a : HoldsFrames text n)
+    → text ≡ a.header ++ 10 ∷ (frames_text a.frames ++ a.rest)
+behind_header text n a =
+    a.whole ∙ ap (λ (f : List ℕ). f ++ a.rest) a.is_text.is_text ∙ append_assoc a.header (10 ∷ frames_text a.frames) a.rest
 
-pub one_reading : (text : List ℕ) (n : ℕ) (a b : HoldsFrames text n) → (a.0 ≡ b.0) × (a.1 ≡ b.1) × (a.2 ≡ b.2) × (a.3 ≡ b.3)
+pub one_reading : FramesAreDetermined
 one_reading text n a b =
-    let e = behind_header text a.0 a.1 a.2 a.3 a.4.is_text a.5 in
-    let f = behind_header text b.0 b.1 b.2 b.3 b.4.is_text b.5 in
-    let headers = one_line a.2 b.2 (frames_text a.3 ++ a.1) (frames_text b.3 ++ b.1) a.4.is_header.is_y4m.is_line.no_feed b.4.is_header.is_y4m.is_line.no_feed (sym e ∙ f) in
-    let same = one_format b.2 a.4.w a.4.h a.4.chroma b.4.w b.4.h b.4.chroma (rw headers.0 at a.4.is_header) b.4.is_header in
-    let len : data_len a.4.w a.4.h a.4.chroma ≡ data_len b.4.w b.4.h b.4.chroma = rw (same.width, same.height, same.form) refl in
-    let frames = same_frames (data_len b.4.w b.4.h b.4.chroma) a.3 b.3 a.1 b.1 (rw len at a.4.each) b.4.each (a.6 ∙ sym b.6) headers.1 in
-    let header : a.2 ≡ b.2 = headers.0 in
-    let all : a.3 ≡ b.3 = frames.0 in
-    let front : a.0 ≡ b.0 = a.4.is_text ∙ rw (header, all) (sym b.4.is_text) in
+    let headers = one_line a.header b.header (frames_text a.frames ++ a.rest) (frames_text b.frames ++ b.rest)
+    a.is_text.is_header.stated.is_y4m.is_line.no_feed b.is_text.is_header.stated.is_y4m.is_line.no_feed
+    (sym (behind_header text n a) ∙ behind_header text n b) in
+    let x = a.is_text in
+    let y = b.is_text in
+    let same = one_format b.header x.w x.h x.chroma y.w y.h y.chroma (rw headers.0 at x.is_header) y.is_header in
+    let len : data_len x.w x.h x.chroma ≡ data_len y.w y.h y.chroma =
+    rw (same.width, same.height, same.form) refl in
+    let frames = same_frames (data_len y.w y.h y.chroma) a.frames b.frames a.rest b.rest (rw len at x.each) y.each
+    (a.count ∙ sym b.count) headers.1 in
+    let header : a.header ≡ b.header = headers.0 in
+    let all : a.frames ≡ b.frames = frames.0 in
+    let front : a.front ≡ b.front = x.is_text ∙ rw (header, all) (sym y.is_text) in
     (front, frames.1, header, all)
 
 -- one more frame at the end

@@ -1,6 +1,7 @@
 -- The values of a line's tags, read from the left.
-use Rattle.std.proofs.Common.{◌≡◌, ℕ, ◌<◌, Bool, true, false, List, [], ◌∷◌, length, slice_get, None, Some, Option, All, Any, IsTrue, ◌↔◌, refl, arith, suc, zero}
-use Rattle.y4m_header.specs.Number.{IsSize}
+use Rattle.std.proofs.Common.{◌≡◌, ℕ, ◌<◌, Bool, true, false, List, [], ◌∷◌, length, slice_get, None, Some, Option, All, Any, IsTrue, ◌↔◌, refl, arith, suc}
+use Rattle.std.proofs.lemmas.List.Elements.{All-nil, All-cons}
+use Rattle.y4m_header.specs.HeaderLine.{IsSize}
 
 -- the first value, and whether there is another
 pub record Found : Type 0 where
@@ -35,19 +36,6 @@ repeated_is (value ∷ another ∷ values) = (λ e. omega arith, λ h. repeated_
 pub record KeepsSizes (whole left : List (List ℕ)) : Type 0 where
   pub good : All IsSize left → All IsSize whole
   pub bad : Any (λ value. ¬ IsSize value) left → Any (λ value. ¬ IsSize value) whole
-
-pub All-cons : {X : Type 0} (P : X → Type 0) (x : X) (xs : List X) → P x → All P xs → All P (x ∷ xs)
-All-cons P x xs here there zero d h = here
-All-cons P x xs here there (suc k) d h = there k d (omega arith)
-
-pub All-nil : {X : Type 0} (P : X → Type 0) → All P []
-All-nil P k d h = absurd (omega arith)
-
-pub All-tail : {X : Type 0} (P : X → Type 0) (x : X) (xs : List X) → All P (x ∷ xs) → All P xs
-All-tail P x xs all k d h = all (suc k) d (omega arith)
-
-pub All-head : {X : Type 0} (P : X → Type 0) (x : X) (xs : List X) → All P (x ∷ xs) → P x
-All-head P x xs all = all 0 x (omega arith)
 
 pub Any-head : {X : Type 0} (P : X → Type 0) (x : X) (xs : List X) → P x → Any P (x ∷ xs)
 Any-head P x xs h = (0, x, omega arith, refl, h)

@@ -1,4 +1,8 @@
 // What is wrong with a line.
+ghost use Rattle.std.specs.Prelude.{◌≡◌};
+ghost use Rattle.y4m_header.specs.declared.error.HeaderError.TheVariants.{NoMemory};
+
+use std::alloc::AllocError;
 use thiserror::Error;
 
 /// Why a line is no header line, or no frame line. Each is printed as its own name.
@@ -31,4 +35,12 @@ pub enum HeaderError {
     /// The line isn't `FRAME` followed by its end or a space, holds a line feed, or is longer than 1,023 bytes.
     #[error("NotFrame")]
     NotFrame,
+}
+
+impl From<AllocError> for HeaderError {
+    ghost from_gives = { λ _ error. error ≡ NoMemory };
+
+    fn from(_error: AllocError) -> HeaderError {
+        HeaderError::NoMemory
+    }
 }

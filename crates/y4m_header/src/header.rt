@@ -4,6 +4,7 @@ ghost use Rattle.std.specs.Prelude.{◌≡◌, ◌≢◌, ◌≤◌, ℕ, IfOk, 
 use crate::chroma::Chroma;
 use crate::error::HeaderError;
 use crate::format::read_format;
+use crate::limits::LONGEST_SIDE;
 use crate::resized::resized_line;
 use std::alloc::Global;
 use std::marker::Model;
@@ -36,8 +37,14 @@ impl Header {
     ghost use Rattle.y4m_header.specs.Refusal.{IsRefusedAs};
     ghost use Rattle.y4m_header.specs.Resized.{resized_line};
 
-    /// Reads a header line, given without its line feed, by the grammar of yuv4mpeg(5). Of several faults the one
-    /// is answered that stands first in `HeaderError`.
+    /// Reads a header line, given without its line feed, by the grammar of yuv4mpeg(5).
+    ///
+    /// Where the manual page leaves a choice: W and H may have leading zeros, in 9 digits at most; W, H or C that
+    /// stands twice is refused, and each other tag may; runs of spaces make no tag; a line without C is 4:2:0, and
+    /// so is `C420`.
+    ///
+    /// Of several faults the one is answered that stands first in `HeaderError`. `NoMemory`, the last, is answered
+    /// where the line couldn't be copied.
     pub fn parse(alloc: Global, line: &[u8]) -> Result<Header, HeaderError>
         // What is kept is the line, and what it states.
         ensures line { IfOk result (λ header. header.line ≡ line.now) }
@@ -53,11 +60,8 @@ impl Header {
             → IsErrOf result error }
     {
         let format = read_format(line)?;
-        let Ok(line) = line.to_vec(alloc) else {
-            return Err(HeaderError::NoMemory);
-        };
         Ok(Header {
-            line,
+            line: line.to_vec(alloc)?,
             width: format.width,
             height: format.height,
             chroma: format.chroma,
@@ -68,7 +72,7 @@ impl Header {
     pub fn width(&self) -> u32
         ensures value { result ≡ self.now.width }
         ensures some { 1 ≤ result }
-        ensures limit { result ≤ 16384 }
+        ensures limit { result ≤ LONGEST_SIDE }
     {
         self.width
     }
@@ -77,7 +81,7 @@ impl Header {
     pub fn height(&self) -> u32
         ensures value { result ≡ self.now.height }
         ensures some { 1 ≤ result }
-        ensures limit { result ≤ 16384 }
+        ensures limit { result ≤ LONGEST_SIDE }
     {
         self.height
     }
@@ -98,8 +102,9 @@ impl Header {
         &self.line
     }
 
-    /// The header of a picture cut out of this one: the values of W and H are replaced in place, and all else of the
-    /// line stays byte for byte.
+    /// The header of a picture cut out of this one: the values of W and H are replaced in place, without leading
+    /// zeros, and all else of the line stays byte for byte. `NoMemory` is answered where there is none for the new
+    /// line.
     pub fn resized(&self, alloc: Global, width: u32, height: u32) -> Result<Header, HeaderError>
         requires some_width { 1 ≤ width }
         requires within_width { width ≤ self.now.width }
@@ -113,11 +118,8 @@ impl Header {
         ensures never_longer { IfOk result (λ header. length header.line ≤ length self.now.line) }
         ensures memory { IfErr result (λ error. error ≡ HeaderError.NoMemory) }
     {
-        let Ok(line) = resized_line(alloc, &self.line, width, height) else {
-            return Err(HeaderError::NoMemory);
-        };
         Ok(Header {
-            line,
+            line: resized_line(alloc, &self.line, width, height)?,
             width,
             height,
             chroma: self.chroma,
