@@ -44,7 +44,8 @@ gives_header_prop line w h chroma = hlevel (gives_size_prop, gives_prop, props)
 pub header_from_invariant : (line : List ℕ) (w h : ℕ) (chroma : Chroma)
     → ∥ IsHeaderLine line w h chroma ∥₁ → IsHeaderLine line w h chroma
 header_from_invariant line w h chroma kept =
-    let gives : GivesHeader line w h chroma = ∥∥₁_elim kept (gives_header_prop line w h chroma) (λ is. record {
+    let is_prop = gives_header_prop line w h chroma in
+    let gives : GivesHeader line w h chroma = ∥∥₁_elim kept is_prop (λ is. record {
       is_y4m = is.stated.is_y4m;
       width = gives_from_states (widths line) w is.stated.width;
       height = gives_from_states (heights line) h is.stated.height;

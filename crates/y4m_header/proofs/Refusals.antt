@@ -1,19 +1,20 @@
 -- A line is refused for one reason.
-use Rattle.std.proofs.Common.{◌≡◌, ℕ, ◌<◌, ◌≤◌, ◌⊎◌, inl, inr, List, [], ◌∷◌, length, All, Any, slice_get}
-use Rattle.std.proofs.Common.{refl, sym, ap, ◌∙◌, subst, arith, suc, zero, Bool, false, IsTrue, ◌↔◌, Some, None}
+use Rattle.std.proofs.Common.{◌≡◌, ℕ, ◌<◌, ◌⊎◌, inl, inr, List, [], ◌∷◌, length, All, Any, slice_get}
+use Rattle.std.proofs.Common.{refl, sym, ap, ◌∙◌, subst, arith, suc, zero, Bool, false, IsTrue}
+use Rattle.std.proofs.Common.{◌↔◌}
 use Rattle.std.specs.Str.Parse.{digits_value}
 use Rattle.std.proofs.lemmas.Bool.{cases_eq}
-use Rattle.std.proofs.lemmas.List.Elements.{All-nil, All-cons, All-head}
 use Rattle.y4m_header.specs.declared.chroma.Chroma.{Chroma}
 use Rattle.y4m_header.specs.declared.error.HeaderError.{HeaderError}
-use Rattle.y4m_header.specs.declared.error.HeaderError.TheVariants.{NotY4m, BadNumber, RepeatedTag, MissingSize}
-use Rattle.y4m_header.specs.declared.error.HeaderError.TheVariants.{UnknownChroma, NotDivisible, TooLarge}
-use Rattle.y4m_header.specs.declared.error.HeaderError.TheVariants.{NoMemory, NotFrame}
+use Rattle.y4m_header.specs.declared.error.HeaderError.TheVariants.{NotY4m, BadNumber, RepeatedTag}
+use Rattle.y4m_header.specs.declared.error.HeaderError.TheVariants.{MissingSize, UnknownChroma, NotDivisible}
+use Rattle.y4m_header.specs.declared.error.HeaderError.TheVariants.{TooLarge, NoMemory, NotFrame}
 use Rattle.y4m_header.specs.Chroma.{NamesChroma}
-use Rattle.y4m_header.specs.HeaderLine.{IsY4mLine, IsSize, StatesSize, StatesFormat, IsDivided, IsWithinLimits}
-use Rattle.y4m_header.specs.HeaderLine.{IsHeaderLine, widths, heights, chromas}
+use Rattle.y4m_header.specs.HeaderLine.{IsY4mLine, IsSize, StatesSize, StatesFormat, IsDivided}
+use Rattle.y4m_header.specs.HeaderLine.{IsWithinLimits, IsHeaderLine, widths, heights, chromas}
 use Rattle.y4m_header.specs.Refusal.{IsRefusedAs, HasGoodSizes, HasBadSize, HasNoRepeat, HasRepeat}
 use Rattle.y4m_header.specs.Refusal.{HasSizes, LacksSize, IsTooLarge}
+use Rattle.y4m_header.proofs.TagLists.{not_repeated, all_good, length_one}
 use Rattle.y4m_header.proofs.ChromaTable.{names_one_form}
 
 -- what no bad value leaves
@@ -62,7 +63,8 @@ PassesAt zero line = IsY4mLine line
 PassesAt (suc zero) line = HasGoodSizes line
 PassesAt (suc (suc zero)) line = HasNoRepeat line
 PassesAt (suc (suc (suc zero))) line = HasSizes line
-PassesAt (suc (suc (suc (suc zero)))) line = (chroma : Chroma) × NamesChroma (slice_get (chromas line) 0) chroma
+PassesAt (suc (suc (suc (suc zero)))) line =
+    (chroma : Chroma) × NamesChroma (slice_get (chromas line) 0) chroma
 PassesAt (suc (suc (suc (suc (suc zero))))) line = StatesWhole line
 PassesAt (suc (suc (suc (suc (suc (suc zero)))))) line = HasHeader line
 PassesAt (suc (suc (suc (suc (suc (suc (suc n))))))) line = ⊥
@@ -113,11 +115,7 @@ refusal_of_test TooLarge = refl
 refusal_of_test NoMemory = refl
 refusal_of_test NotFrame = refl
 
--- a second value was not found
-not_repeated : (repeated : Bool) (given : List (List ℕ)) → (IsTrue repeated ↔ (1 < length given))
-    → repeated ≡ false → length given ≤ 1
-not_repeated repeated given two none = grind arith
-
+-- no second value was found
 pub none_repeated : (line : List ℕ) (w h c : Bool) → (IsTrue w ↔ (1 < length (widths line)))
     → (IsTrue h ↔ (1 < length (heights line))) → (IsTrue c ↔ (1 < length (chromas line)))
     → w ≡ false → h ≡ false → c ≡ false → HasNoRepeat line
@@ -127,27 +125,6 @@ none_repeated line w h c wide high form no_w no_h no_c = record {
   one_chroma = not_repeated c (chromas line) form no_c;
 }
 
-pub length_none : (given : List (List ℕ)) → None ≡ slice_get given 0 → length given ≡ 0
-length_none [] none = refl
-length_none (value ∷ more) none = absurd (cc)
-
--- one value was found
-pub states_first : (given : List (List ℕ)) (value : List ℕ) (size : ℕ) → Some value ≡ slice_get given 0
-    → length given ≤ 1 → All IsSize given → size ≡ digits_value 10 value → StatesSize given size
-states_first [] value size found one good is = absurd (cc)
-states_first (first ∷ []) value size found one good is =
-    let same : first ≡ value = cc in
-    (first, refl, All-head IsSize first [] good, rw same (sym is))
-states_first (first ∷ another ∷ more) value size found one good is = absurd (omega arith)
-
--- one value that is a size is good, once and there
-all_good : (given : List (List ℕ)) (size : ℕ) → StatesSize given size → All IsSize given
-all_good given size states =
-    subst (All IsSize) (sym states.1) (All-cons IsSize states.0 [] states.2 (All-nil IsSize))
-
-length_one : (given : List (List ℕ)) (size : ℕ) → StatesSize given size → length given ≡ 1
-length_one given size states = ap length states.1
-
 pub good_sizes : (line : List ℕ) (w h : ℕ) → StatesSize (widths line) w → StatesSize (heights line) h
     → HasGoodSizes line
 good_sizes line w h width height = record {
@@ -155,7 +132,8 @@ good_sizes line w h width height = record {
   heights_good = all_good (heights line) h height;
 }
 
-pub has_sizes : (line : List ℕ) (w h : ℕ) → StatesSize (widths line) w → StatesSize (heights line) h → HasSizes line
+pub has_sizes : (line : List ℕ) (w h : ℕ) → StatesSize (widths line) w → StatesSize (heights line) h
+    → HasSizes line
 has_sizes line w h width height = record {
   some_width = omega (arith, length_one (widths line) w width);
   some_height = omega (arith, length_one (heights line) h height);

@@ -1,5 +1,5 @@
 -- A header line with a smaller size is a header line.
-use Rattle.std.proofs.Common.{◌≡◌, ◌≢◌, ℕ, ◌/◌, ◌≤◌, ◌⊎◌, inl, inr, false, eqb, List, [], ◌∷◌, ◌++◌, length}
+use Rattle.std.proofs.Common.{◌≡◌, ℕ, ◌/◌, ◌≤◌, ◌⊎◌, inl, inr, false, eqb, List, [], ◌∷◌, ◌++◌, length}
 use Rattle.std.proofs.Common.{map, drop, All, None, decimal, refl, sym, ap, ◌∙◌, subst, arith}
 use Rattle.std.proofs.Common.{length-append}
 use Rattle.std.specs.Char.{IsAsciiDigit}
@@ -21,6 +21,7 @@ use Rattle.y4m_header.specs.HeaderLine.{width_letter, height_letter, chroma_lett
 use Rattle.y4m_header.specs.HeaderLine.{IsSize, StatesSize, StatesChroma, IsDivided, IsHeaderLine}
 use Rattle.y4m_header.specs.Resized.{resized_piece, resized_pieces, resized_line}
 use Rattle.y4m_header.proofs.Cuts.{split_all}
+use Rattle.y4m_header.proofs.StreamLaws.{IsNoFeed}
 use Rattle.y4m_header.proofs.Joined.{spaced, join-cons}
 use Rattle.y4m_header.proofs.Sizes.{decimal_is_size, digits_value_decimal, decimal_shorter, size_digits}
 
@@ -121,7 +122,8 @@ module _ (w h : ℕ) where
           let ws = rw other.no_width at wide in
           let hs = rw other.no_height at high in
           let tail = shorter tags ws hs in
-          spaced_step (resized_piece w h tag) tag (resized tags) tags (rw (other.stays w h) (omega arith)) tail
+          let own : length (resized_piece w h tag) ≤ length tag = rw (other.stays w h) (omega arith) in
+          spaced_step (resized_piece w h tag) tag (resized tags) tags own tail
     ])
   ]
 
@@ -130,9 +132,6 @@ All-parts P [] ys all = (All-nil P, all)
 All-parts P (x ∷ xs) ys all =
     let rest = All-parts P xs ys (All-tail P x (xs ++ ys) all) in
     (All-cons P x xs (All-head P x (xs ++ ys) all) rest.0, rest.1)
-
-abbrev IsNoFeed : ℕ → Type 0
-IsNoFeed byte = byte ≢ 10
 
 no_feed_digits : (ds : List ℕ) → All IsAsciiDigit ds → All IsNoFeed ds
 no_feed_digits ds digits k d h e = let digit = digits k d h in absurd (omega (arith, digit.0, e))
@@ -157,7 +156,8 @@ solid_pieces [] = (All-nil IsNoSpace, tt)
 solid_pieces (c ∷ line) = elim (cases_Bool (eqb c 32)) [
   | inl is ↦ rw (slice_split-cons_yes (λ byte. eqb byte 32) c line is) (All-nil IsNoSpace, solid_pieces line)
   | inr other ↦
-      rw (slice_split-cons_no (λ byte. eqb byte 32) c line other) (solid_onto c (pieces line) other (solid_pieces line))
+      let more = solid_onto c (pieces line) other (solid_pieces line) in
+      rw (slice_split-cons_no (λ byte. eqb byte 32) c line other) more
 ]
 
 -- pieces that are free of spaces are those of their line
@@ -182,15 +182,19 @@ pieces_at_word line = elim (cases_lt (position_or_len (λ byte. eqb byte 32) lin
 ]
 
 module _ (w h : ℕ) (wide : IsSize (decimal w)) (high : IsSize (decimal h)) where
-  solid_resized : (tags : List (List ℕ)) → AllByRecursion IsSolid tags → AllByRecursion IsSolid (resized w h tags)
+  solid_resized : (tags : List (List ℕ)) → AllByRecursion IsSolid tags
+      → AllByRecursion IsSolid (resized w h tags)
   solid_resized [] solid = tt
   solid_resized (tag ∷ tags) solid =
       let rest = solid_resized tags solid.1 in
       elim (kind tag) [
-        | inl is ↦ rw is.1 (All-cons IsNoSpace 87 (decimal w) refl (solid_digits (decimal w) (size_digits wide)), rest)
+        | inl is ↦
+            let digits = solid_digits (decimal w) (size_digits wide) in
+            rw is.1 (All-cons IsNoSpace width_letter (decimal w) refl digits, rest)
         | inr more ↦ (elim more [
           | inl is ↦
-              rw is.1 (All-cons IsNoSpace 72 (decimal h) refl (solid_digits (decimal h) (size_digits high)), rest)
+              let digits = solid_digits (decimal h) (size_digits high) in
+              rw is.1 (All-cons IsNoSpace height_letter (decimal h) refl digits, rest)
           | inr other ↦ rw (other.stays w h) (solid.0, rest)
         ])
       ]
@@ -199,16 +203,17 @@ module _ (w h : ℕ) (wide : IsSize (decimal w)) (high : IsSize (decimal h)) whe
   no_feed_piece tag all = elim (kind tag) [
     | inl is ↦
         let digits = no_feed_digits (decimal w) (size_digits wide) in
-        rw is.1 (All-cons IsNoFeed 87 (decimal w) (λ e. absurd (omega (arith, e))) digits)
+        rw is.1 (All-cons IsNoFeed width_letter (decimal w) (λ e. absurd (omega (arith, e))) digits)
     | inr more ↦ (elim more [
       | inl is ↦
           let digits = no_feed_digits (decimal h) (size_digits high) in
-          rw is.1 (All-cons IsNoFeed 72 (decimal h) (λ e. absurd (omega (arith, e))) digits)
+          rw is.1 (All-cons IsNoFeed height_letter (decimal h) (λ e. absurd (omega (arith, e))) digits)
       | inr other ↦ rw (other.stays w h) all
     ])
   ]
 
-  no_feed_resized : (tags : List (List ℕ)) → All IsNoFeed (spaced tags) → All IsNoFeed (spaced (resized w h tags))
+  no_feed_resized : (tags : List (List ℕ)) → All IsNoFeed (spaced tags)
+      → All IsNoFeed (spaced (resized w h tags))
   no_feed_resized [] all = all
   no_feed_resized (tag ∷ tags) all =
       let parts = All-parts IsNoFeed (32 ∷ tag) (spaced tags) all in

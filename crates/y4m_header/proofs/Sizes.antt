@@ -3,7 +3,8 @@ use Rattle.std.proofs.Common.{◌≡◌, ℕ, ◌^◌, ◌<◌, ◌≤◌, true,
 use Rattle.std.specs.Char.{IsAsciiDigit}
 use Rattle.std.specs.Str.Parse.{digits_value}
 use Rattle.std.proofs.lemmas.Bool.Decides.{nat_tests}
-use Rattle.std.proofs.lemmas.Fmt.{digits_decimal, decimal_is_IsNumeral, digits_value-decimal, length-decimal-le}
+use Rattle.std.proofs.lemmas.Fmt.{digits_decimal, decimal_is_IsNumeral, digits_value-decimal}
+use Rattle.std.proofs.lemmas.Fmt.{length-decimal-le}
 use Rattle.y4m_header.specs.declared.limits.TheConstants.{LONGEST_SIDE}
 use Rattle.y4m_header.specs.declared.size.TheConstants.{MOST_SIZE_DIGITS}
 use Rattle.y4m_header.specs.Text.{is_number}
@@ -11,12 +12,12 @@ use Rattle.y4m_header.specs.HeaderLine.{IsSize}
 use Rattle.y4m_header.proofs.Numbers.{AreDigits, numerals, each_digit, digits_value-lt}
 
 -- what the test for a number says
-pub record IsNumber (most : ℕ) (text : List ℕ) : Type 0 where
+record IsNumber (most : ℕ) (text : List ℕ) : Type 0 where
   pub some : 1 ≤ length text
   pub few : length text ≤ most
   pub digits : AreDigits text
 
-pub number_parts : (most : ℕ) (text : List ℕ) → is_number most text ≡ true → IsNumber most text
+number_parts : (most : ℕ) (text : List ℕ) → is_number most text ≡ true → IsNumber most text
 number_parts most text is = record {
   some = grind (arith, nat_tests);
   few = grind (arith, nat_tests);
@@ -43,7 +44,10 @@ decimal_is_size n some few =
     let short = length-decimal-le MOST_SIZE_DIGITS n (omega arith) (omega arith) (omega arith) in
     let digits = digits_decimal numerals n (omega arith) in
     let numeral = decimal_is_IsNumeral n (omega arith) in
-    record { digits = number_from MOST_SIZE_DIGITS (decimal n) numeral.0.0 short digits; positive = omega (arith, digits_value_decimal n few) }
+    record {
+      digits = number_from MOST_SIZE_DIGITS (decimal n) numeral.0.0 short digits;
+      positive = omega (arith, digits_value_decimal n few);
+    }
 
 pub decimal_shorter : (n m : ℕ) (value : List ℕ) → n ≤ m → m ≤ LONGEST_SIDE → IsSize value
     → digits_value 10 value ≡ m → length (decimal n) ≤ length value

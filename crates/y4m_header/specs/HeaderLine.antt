@@ -72,4 +72,5 @@ pub record IsHeaderLine (line : List ℕ) (w h : ℕ) (chroma : Chroma) : Type 0
 -- a header line is one of one format
 abbrev pub FormatIsDetermined : Type 0
 FormatIsDetermined = (line : List ℕ) (w h : ℕ) (chroma : Chroma) (w' h' : ℕ) (chroma' : Chroma)
-    → IsHeaderLine line w h chroma → IsHeaderLine line w' h' chroma' → (w ≡ w') × (h ≡ h') × (chroma ≡ chroma')
+    → IsHeaderLine line w h chroma → IsHeaderLine line w' h' chroma'
+    → (w ≡ w') × (h ≡ h') × (chroma ≡ chroma')

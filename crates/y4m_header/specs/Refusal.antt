@@ -2,9 +2,9 @@
 use Rattle.std.specs.Prelude.{◌≡◌, ℕ, ◌<◌, ◌≤◌, ◌⊎◌, List, length, All, Any, slice_get}
 use Rattle.y4m_header.specs.declared.chroma.Chroma.{Chroma}
 use Rattle.y4m_header.specs.declared.error.HeaderError.{HeaderError}
-use Rattle.y4m_header.specs.declared.error.HeaderError.TheVariants.{NotY4m, BadNumber, RepeatedTag, MissingSize}
-use Rattle.y4m_header.specs.declared.error.HeaderError.TheVariants.{UnknownChroma, NotDivisible, TooLarge}
-use Rattle.y4m_header.specs.declared.error.HeaderError.TheVariants.{NoMemory, NotFrame}
+use Rattle.y4m_header.specs.declared.error.HeaderError.TheVariants.{NotY4m, BadNumber, RepeatedTag}
+use Rattle.y4m_header.specs.declared.error.HeaderError.TheVariants.{MissingSize, UnknownChroma, NotDivisible}
+use Rattle.y4m_header.specs.declared.error.HeaderError.TheVariants.{TooLarge, NoMemory, NotFrame}
 use Rattle.y4m_header.specs.declared.limits.TheConstants.{LONGEST_SIDE, LARGEST_DATA}
 use Rattle.y4m_header.specs.Chroma.{NamesChroma, data_len}
 use Rattle.y4m_header.specs.HeaderLine.{IsY4mLine, IsSize, StatesFormat, IsDivided, IsHeaderLine}
@@ -57,6 +57,7 @@ IsRefusedAs UnknownChroma line =
 IsRefusedAs NotDivisible line =
     (w h : ℕ) × (chroma : Chroma) × StatesFormat line w h chroma × ¬ IsDivided w h chroma
 IsRefusedAs TooLarge line =
-    (w h : ℕ) × (chroma : Chroma) × StatesFormat line w h chroma × IsDivided w h chroma × IsTooLarge w h chroma
+    (w h : ℕ) × (chroma : Chroma)
+    × StatesFormat line w h chroma × IsDivided w h chroma × IsTooLarge w h chroma
 IsRefusedAs NoMemory line = (w h : ℕ) × (chroma : Chroma) × IsHeaderLine line w h chroma
 IsRefusedAs NotFrame line = ⊥

@@ -1,6 +1,7 @@
 // The size and the chroma form that a header line states.
 ghost use Rattle.std.specs.Prelude.{◌↔◌, IsTrue, IfOk, IfErr};
-ghost use Rattle.y4m_header.specs.HeaderLine.{IsY4mLine, StatesSize, StatesFormat, IsHeaderLine, widths, heights};
+ghost use Rattle.y4m_header.specs.HeaderLine.{IsY4mLine, StatesSize, StatesFormat, IsHeaderLine};
+ghost use Rattle.y4m_header.specs.HeaderLine.{widths, heights};
 ghost use Rattle.y4m_header.specs.Refusal.{IsRefusedAs, HasNoRepeat};
 
 use crate::chroma::Chroma;

@@ -11,8 +11,8 @@ use std::marker::Model;
 
 /// A header line that was accepted, with the size and the chroma form that it states.
 ///
-/// The line is kept byte for byte, without its line feed: the tags that nothing here reads (F, I, A, X and any other)
-/// stay as they came.
+/// The line is kept byte for byte, without its line feed: the tags that nothing here reads (F, I, A, X and
+/// any other) stay as they came.
 #[derive(Debug, Drop)]
 pub struct Header {
     line: Vec<u8>,
@@ -27,7 +27,8 @@ impl Model for Header {
 
     ghost Value = { HeaderValue };
 
-    ghost view = { λ a. record { line = a.line.items; width = a.width; height = a.height; chroma = a.chroma } };
+    ghost view = { λ a.
+        record { line = a.line.items; width = a.width; height = a.height; chroma = a.chroma } };
 
     ghost invariant = { λ a. ∥ IsHeaderLine a.line.items a.width a.height a.chroma ∥₁ };
 }
@@ -39,16 +40,17 @@ impl Header {
 
     /// Reads a header line, given without its line feed, by the grammar of yuv4mpeg(5).
     ///
-    /// Where the manual page leaves a choice: W and H may have leading zeros, in 9 digits at most; W, H or C that
-    /// stands twice is refused, and each other tag may; runs of spaces make no tag; a line without C is 4:2:0, and
-    /// so is `C420`.
+    /// Where the manual page leaves a choice: a size is 1 to 9 digits, leading zeros allowed; W, H or C twice
+    /// is refused, and any other tag may be repeated; a run of spaces makes no tag; without C the form is
+    /// 4:2:0.
     ///
-    /// Of several faults the one is answered that stands first in `HeaderError`. `NoMemory`, the last, is answered
-    /// where the line couldn't be copied.
+    /// Of several faults the one is answered that stands first in `HeaderError`. `NoMemory` is answered for a
+    /// header line alone, where the memory to keep it is refused.
     pub fn parse(alloc: Global, line: &[u8]) -> Result<Header, HeaderError>
         // What is kept is the line, and what it states.
         ensures line { IfOk result (λ header. header.line ≡ line.now) }
-        ensures stated { IfOk result (λ header. IsHeaderLine line.now header.width header.height header.chroma) }
+        ensures stated { IfOk result (λ header.
+            IsHeaderLine line.now header.width header.height header.chroma) }
 
         // A header line is refused for want of memory alone.
         ensures accepted { (w h : ℕ) (chroma : Chroma) → IsHeaderLine line.now w h chroma
@@ -102,9 +104,9 @@ impl Header {
         &self.line
     }
 
-    /// The header of a picture cut out of this one: the values of W and H are replaced in place, without leading
-    /// zeros, and all else of the line stays byte for byte. `NoMemory` is answered where there is none for the new
-    /// line.
+    /// The header of a picture cut out of this one: the values of W and H are replaced in place, without
+    /// leading zeros, and all else of the line stays byte for byte. `NoMemory` is answered where the memory
+    /// for the new line is refused.
     pub fn resized(&self, alloc: Global, width: u32, height: u32) -> Result<Header, HeaderError>
         requires some_width { 1 ≤ width }
         requires within_width { width ≤ self.now.width }

@@ -8,7 +8,8 @@ use Rattle.y4m_header.proofs.tags.all_sizes.Given as goal
 
 abbrev pub invariant-loop-rest : goal.invariant-loop-rest
 invariant-loop-rest l =
-    KeepsSizes (values l.letter l.line) (filter_map (tag_value l.letter) (parts_left space (option_copied l.rest)))
+    let left = filter_map (tag_value l.letter) (parts_left space (option_copied l.rest)) in
+    KeepsSizes (values l.letter l.line) left
 
 abbrev pub decreases-loop-rest : goal.decreases-loop-rest
 decreases-loop-rest l = option_map_or (λ rest. length rest.now + 1) l.rest 0
