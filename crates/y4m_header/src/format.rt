@@ -1,13 +1,14 @@
 // The size and the chroma form that a header line states.
-ghost use Rattle.std.specs.Prelude.{◌≡◌, ◌↔◌, IsTrue, IfOk, IfErr};
-ghost use Rattle.y4m_header.specs.HeaderLine.{IsY4mLine, HasGoodSizes, HasNoRepeat, HasSizes, StatesSize, IsHeaderLine};
-ghost use Rattle.y4m_header.specs.Refusal.{IsRefusedAs, StatesFormat};
+ghost use Rattle.std.specs.Prelude.{◌↔◌, IsTrue, IfOk, IfErr};
+ghost use Rattle.y4m_header.specs.HeaderLine.{IsY4mLine, StatesSize, StatesFormat, IsHeaderLine};
+ghost use Rattle.y4m_header.specs.HeaderLine.{widths, heights};
+ghost use Rattle.y4m_header.specs.Refusal.{IsRefusedAs, HasNoRepeat};
 
 use crate::chroma::Chroma;
 use crate::error::HeaderError;
 use crate::limits::{is_divided, is_within_limits};
 use crate::line::{is_line, word};
-use crate::number::number;
+use crate::size::stated_size;
 use crate::tags::{all_sizes, tags_with};
 
 #[derive(Clone, Copy, Debug)]
@@ -25,8 +26,8 @@ fn is_y4m_line(line: &[u8]) -> bool
 
 /// The width and the height.
 fn read_sizes(line: &[u8]) -> Result<(u32, u32), HeaderError>
-    ensures stated { IfOk result (λ size. IsY4mLine line.now × HasGoodSizes line.now × HasNoRepeat line.now
-        × HasSizes line.now × StatesSize line.now size.0 size.1) }
+    ensures stated { IfOk result (λ size. IsY4mLine line.now × HasNoRepeat line.now
+        × StatesSize (widths line.now) size.0 × StatesSize (heights line.now) size.1) }
     ensures refused { IfErr result (λ error. IsRefusedAs error line.now) }
 {
     if !is_y4m_line(line) {
@@ -41,7 +42,7 @@ fn read_sizes(line: &[u8]) -> Result<(u32, u32), HeaderError>
         return Err(HeaderError::RepeatedTag);
     }
     match (widths.first, heights.first) {
-        (Some(width), Some(height)) => Ok((number(width), number(height))),
+        (Some(width), Some(height)) => Ok((stated_size(width), stated_size(height))),
         _ => Err(HeaderError::MissingSize),
     }
 }
