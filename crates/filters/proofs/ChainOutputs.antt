@@ -6,27 +6,28 @@ use Rattle.std.proofs.lemmas.List.{length-map, map-append, drop_more}
 use Rattle.std.proofs.lemmas.List.Sums.{sum_by_more, sum_by-cons}
 use Rattle.frame_view.specs.declared.geometry.Geometry.{Geometry}
 use Rattle.filters.specs.declared.op.Op.{Op}
-use Rattle.filters.specs.Chain.{Format, format_of, format_after, last_format}
-use Rattle.filters.specs.Image.{IsImageGeometry, image_height}
+use Rattle.filters.specs.Chain.{Format, IsImageGeometry, format_of, format_after, last_format}
+use Rattle.filters.specs.Image.{image_height}
 use Rattle.filters.specs.Steps.{band_counts, step_count}
 use Rattle.filters.specs.Costs.{costs_by, op_cost}
 use Rattle.filters.proofs.Costs.{sum_of_run}
 use Rattle.filters.specs.ChainOutputs.{formats_after, AreOutputs, output_counts}
-use Rattle.filters.proofs.ChainDoable.{format_of-image}
 
 -- the steps from one operation on are its own and those of the operations behind it
 pub steps_next : (ops : List Op) (i : ℕ) (d : Op) (g image : Geometry) (b : ℕ) → i < length ops → IsImageGeometry (get_or ops i d) g image
     → step_count (drop i ops) g.height b ≡ div_ceil image.height b + step_count (drop (i + 1) ops) image.height b
 steps_next ops i d g image b h is =
+    let high : image.height ≡ image_height (get_or ops i d) g.height = ap (λ format. format.height) is.format in
     ap (λ left. step_count left g.height b) (drop_more ops i d h)
-    ∙ rw is.height (sum_by-cons (λ n. n) (div_ceil (image_height (get_or ops i d) g.height) b) (band_counts (drop (i + 1) ops) (image_height (get_or ops i d) g.height) b))
+    ∙ rw high (sum_by-cons (λ n. n) (div_ceil (image_height (get_or ops i d) g.height) b) (band_counts (drop (i + 1) ops) (image_height (get_or ops i d) g.height) b))
 
 -- the same of their costs
 pub costs_next : (ops : List Op) (i : ℕ) (d : Op) (g image : Geometry) (b : ℕ) → i < length ops → IsImageGeometry (get_or ops i d) g image
     → sum (costs_by (drop i ops) g.height b) ≡ div_ceil image.height b * op_cost (get_or ops i d) + sum (costs_by (drop (i + 1) ops) image.height b)
 costs_next ops i d g image b h is =
+    let high : image.height ≡ image_height (get_or ops i d) g.height = ap (λ format. format.height) is.format in
     ap (λ left. sum (costs_by left g.height b)) (drop_more ops i d h)
-    ∙ rw is.height (sum_of_run (div_ceil (image_height (get_or ops i d) g.height) b) (op_cost (get_or ops i d)) (costs_by (drop (i + 1) ops) (image_height (get_or ops i d) g.height) b))
+    ∙ rw high (sum_of_run (div_ceil (image_height (get_or ops i d) g.height) b) (op_cost (get_or ops i d)) (costs_by (drop (i + 1) ops) (image_height (get_or ops i d) g.height) b))
 
 pub outputs_next : (ops : List Op) (i : ℕ) (d : Op) (g image : Geometry) (outputs more : List Geometry) → i < length ops → IsImageGeometry (get_or ops i d) g image
     → more ≡ outputs ++ image ∷ []
@@ -34,7 +35,7 @@ pub outputs_next : (ops : List Op) (i : ℕ) (d : Op) (g image : Geometry) (outp
 outputs_next ops i d g image outputs more h is e =
     rw (e, map-append, append_assoc)
     (ap (λ left. map format_of outputs ++ left)
-    (ap (λ picture. picture ∷ formats_after (drop (i + 1) ops) picture) (format_of-image (get_or ops i d) g image is)
+    (ap (λ picture. picture ∷ formats_after (drop (i + 1) ops) picture) is.format
     ∙ ap (λ left. formats_after left (format_of g)) (sym (drop_more ops i d h))))
 
 length-formats_after : (ops : List Op) (picture : Format) → length (formats_after ops picture) ≡ length ops

@@ -3,7 +3,8 @@ use Rattle.std.specs.Prelude.{◌<◌, ◌≤◌, All, length}
 use Rattle.filters.specs.declared.error.FilterError.{FilterError}
 use Rattle.filters.specs.declared.error.FilterError.TheVariants.{BadOp, TooManyOps, BadCrop, TooManySteps, NoMemory}
 use Rattle.filters.specs.declared.limits.TheConstants.{MOST_COST}
-use Rattle.filters.specs.Chain.{ChainValue, HasGoodRadius, IsChainLength, AreDoable}
+use Rattle.filters.specs.Image.{HasGoodRadius}
+use Rattle.filters.specs.Chain.{ChainValue, IsChainLength, AreDoable}
 use Rattle.filters.specs.Costs.{cost_of}
 
 -- the operations make a chain for frames of this geometry, in bands of this height

@@ -7,7 +7,7 @@ pub mod steps;
 ghost use Rattle.std.specs.Prelude.{◌≡◌, ◌≢◌, ◌≤◌, IfOk, IfErr, IsErrOf, length};
 ghost use Rattle.frame_view.specs.declared.geometry.Geometry.{Geometry};
 ghost use Rattle.filters.specs.declared.error.FilterError.{FilterError};
-ghost use Rattle.filters.specs.Chain.{HasGoodRadius, IsChainLength, chain_of};
+ghost use Rattle.filters.specs.Chain.{IsChainLength, chain_of};
 ghost use Rattle.filters.specs.Steps.{steps_of};
 ghost use Rattle.filters.specs.Costs.{cost_of};
 ghost use Rattle.filters.specs.Refusal.{IsChain, IsChainRefusedAs};
@@ -41,9 +41,9 @@ impl Model for Chain {
 
     ghost Value = { ChainValue };
 
-    ghost use Rattle.filters.specs.ChainInside.{value_of, IsSound};
+    ghost use Rattle.filters.specs.ChainInside.{kept_chain, IsSound};
 
-    ghost view = { value_of };
+    ghost view = { kept_chain };
 
     ghost invariant = { IsSound };
 }
@@ -77,8 +77,8 @@ fn check_chain(
 impl Chain {
     ghost use Rattle.std.specs.Prelude.{◌<◌, ◌+◌, Some, slice_get};
     ghost use Rattle.std.specs.List.{list_any};
-    ghost use Rattle.filters.specs.Image.{IsDoable, IsImageGeometry};
-    ghost use Rattle.filters.specs.Chain.{format_of, format_at, last_format, is_crop};
+    ghost use Rattle.filters.specs.Image.{HasGoodRadius, IsDoable};
+    ghost use Rattle.filters.specs.Chain.{IsImageGeometry, format_of, format_at, last_format, is_crop};
 
     /// The chain of these operations.
     pub fn new(
@@ -153,8 +153,8 @@ impl Chain {
         ensures value { slice_get self.now.ops i ≡ Some result }
         ensures radius { HasGoodRadius result }
         ensures doable { (g : Geometry) → format_of g ≡ format_at self.now i → IsDoable result g }
-        ensures image { (g image : Geometry) → format_of g ≡ format_at self.now i → format_of image ≡ format_at self.now (i + 1)
-            → IsImageGeometry result g image }
+        ensures image { (g image : Geometry) → format_of g ≡ format_at self.now i
+            → format_of image ≡ format_at self.now (i + 1) → IsImageGeometry result g image }
     {
         self.ops[i]
     }

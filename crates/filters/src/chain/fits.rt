@@ -1,7 +1,7 @@
 // Which operations a picture can take, and what they make of its geometry.
 ghost use Rattle.std.specs.Prelude.{◌≡◌, ◌≤◌, ◌<◌, ◌+◌, ◌%◌, ◌↔◌, IsTrue};
-ghost use Rattle.filters.specs.Image.{IsRectangleOf, IsDoable, IsImageGeometry};
-ghost use Rattle.filters.specs.Chain.{HasGoodRadius, is_crop};
+ghost use Rattle.filters.specs.Image.{HasGoodRadius, IsRectangleOf, IsDoable};
+ghost use Rattle.filters.specs.Chain.{IsImageGeometry, is_crop};
 
 use crate::op::{Crop, Op};
 use frame_view::Geometry;
@@ -19,7 +19,8 @@ pub fn has_good_radius(op: &Op) -> bool
 /// Whether the pixels from `from` on, this many, are some pixels of a line and cut no chroma sample.
 fn is_part(from: u32, count: u32, line: u32, divisor: u32) -> bool
     requires { 0 < divisor }
-    ensures { IsTrue result ↔ ((1 ≤ count) × (from + count ≤ line) × (from % divisor ≡ 0) × (count % divisor ≡ 0)) }
+    ensures { IsTrue result
+        ↔ ((1 ≤ count) × (from + count ≤ line) × (from % divisor ≡ 0) × (count % divisor ≡ 0)) }
 {
     count >= 1
         && from as u64 + count as u64 <= line as u64
