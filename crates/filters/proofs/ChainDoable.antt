@@ -13,7 +13,7 @@ use Rattle.filters.specs.Chain.{ChainValue, Format, IsImageGeometry, format_of, 
 use Rattle.filters.proofs.Doable.{IsDoable-prop}
 use Rattle.filters.specs.Refusal.{IsChain}
 
--- geometries of one picture can do the same
+-- geometries of one format can do the same
 rectangle_same : (crop : Rectangle) (g h : Geometry) → format_of g ≡ format_of h → IsRectangleOf crop g → IsRectangleOf crop h
 rectangle_same crop g h e r =
     let width : h.width ≡ g.width = ap (λ p. p.width) (sym e) in
@@ -57,13 +57,13 @@ pub doable_before : (ops : List Op) (i : ℕ) (d : Op) (g image : Geometry) → 
     → AreDoable (drop (i + 1) ops) image → AreDoable (drop i ops) g
 doable_before ops i d g image h can is rest = rw (drop_more ops i d h) (can, (image, is, rest))
 
--- the picture after one operation more
-pub last_format_more : (ops : List Op) (picture : Format) (i : ℕ) (d : Op) → i < length ops
-    → last_format (take (i + 1) ops) picture ≡ format_after (get_or ops i d) (last_format (take i ops) picture)
-last_format_more [] picture i d h = absurd (omega arith)
-last_format_more (first ∷ ops) picture zero d h = refl
-last_format_more (first ∷ ops) picture (suc i) d h =
-    rw add-one (rw add-one at (last_format_more ops (format_after first picture) i d (omega arith)))
+-- the format after one operation more
+pub last_format_more : (ops : List Op) (format : Format) (i : ℕ) (d : Op) → i < length ops
+    → last_format (take (i + 1) ops) format ≡ format_after (get_or ops i d) (last_format (take i ops) format)
+last_format_more [] format i d h = absurd (omega arith)
+last_format_more (first ∷ ops) format zero d h = refl
+last_format_more (first ∷ ops) format (suc i) d h =
+    rw add-one (rw add-one at (last_format_more ops (format_after first format) i d (omega arith)))
 
 doable_from : (ops : List Op) (g h : Geometry) (i : ℕ) (d : Op) → i < length ops → format_of h ≡ last_format (take i ops) (format_of g)
     → AreDoable ops g → IsDoable (get_or ops i d) h

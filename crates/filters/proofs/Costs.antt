@@ -25,13 +25,6 @@ some_cost VFlip = omega arith
 some_cost (Crop crop) = omega arith
 some_cost (Blur blur) = omega arith
 
-pub few_cost : (op : Op) → HasGoodRadius op → op_cost op ≤ 9
-few_cost (Table table) good = omega arith
-few_cost HFlip good = omega arith
-few_cost VFlip good = omega arith
-few_cost (Crop crop) good = omega arith
-few_cost (Blur blur) good = omega (arith, good.1)
-
 -- n steps of one cost, and the steps behind them
 pub sum_of_run : (n cost : ℕ) (more : List ℕ) → sum (replicate n cost ++ more) ≡ n * cost + sum more
 sum_of_run n cost more =

@@ -1,4 +1,4 @@
--- Operations that follow one another: the pictures between them, and whether each can be done.
+-- Operations that follow one another: the formats between them, and whether each can be done.
 use Rattle.std.specs.Prelude.{◌≡◌, ℕ, ◌≤◌, List, [], ◌∷◌, take, Bool, true, false, ⊤}
 use Rattle.y4m_header.specs.declared.chroma.Chroma.{Chroma}
 use Rattle.frame_view.specs.declared.geometry.Geometry.{Geometry}
@@ -7,7 +7,7 @@ use Rattle.filters.specs.declared.op.Op.{Op}
 use Rattle.filters.specs.declared.op.Op.TheVariants.{Table, HFlip, VFlip, Crop, Blur}
 use Rattle.filters.specs.Image.{IsDoable, image_width, image_height}
 
--- the size of a picture, and how its chroma planes are sampled
+-- the size of frames, and how their chroma planes are sampled
 pub record Format : Type 0 where
   pub width : ℕ
   pub height : ℕ

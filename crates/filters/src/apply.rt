@@ -46,8 +46,8 @@ pub fn apply_at(op: Op, source: &Frame, canvas: &mut Canvas, k: usize)
     apply_band(op, source, &mut band);
 }
 
-/// Makes a canvas of the image's size the image of a frame, whatever it was before. Its line stays. It takes no
-/// memory.
+/// Makes a canvas of the image's size the image of a frame, whatever it was before; its line stays. It takes
+/// no memory.
 pub fn apply_op(op: Op, source: &Frame, canvas: &mut Canvas)
     requires doable { IsDoable op source.now.geometry }
     requires image { IsImageGeometry op source.now.geometry (frame_of canvas.old).geometry }

@@ -1,5 +1,6 @@
 // The text of operations.
-ghost use Rattle.std.specs.Prelude.{◌≡◌, ◌≤◌, ◌<◌, ◌↔◌, ◌⊎◌, length, Some, None, IfOk, IfErr, IsErrOf, IsSomeAnd};
+ghost use Rattle.std.specs.Prelude.{◌≡◌, ◌≤◌, ◌<◌, ◌↔◌, ◌⊎◌, length, Some, None};
+ghost use Rattle.std.specs.Prelude.{IfOk, IfErr, IsErrOf, IsSomeAnd};
 ghost use Rattle.std.specs.Option.{option_map, ok_or};
 ghost use Rattle.filters.specs.OpsText.{ops_of};
 
@@ -13,10 +14,10 @@ use y4m_header::text::cut;
 /// The operations that a text says.
 ///
 /// A text is 1 to 8 parts joined by `+`. A part is `invert`, `hflip`, `vflip`, `thresh:t`, `clamp:low,high`,
-/// `crop:x,y,width,height` or `blur:radius`; a number is 1 to 9 decimal digits, with leading zeros or without.
-/// Samples are 0 to 255, `low` is at most `high`, and a radius is 1 to 8; whether a rectangle lies in a picture is
-/// seen when the chain is made. `NoMemory` is answered where the text says operations, and no memory was granted
-/// for their list.
+/// `crop:x,y,width,height` or `blur:radius`; a number is 1 to 9 decimal digits, leading zeros included.
+/// Samples are 0 to 255, `low` is at most `high`, and a radius is 1 to 8; whether a rectangle lies in a
+/// picture is seen when the chain is made. `NoMemory` is answered where the text says at most 8 operations
+/// and the memory of their list is refused; no other answer needs memory.
 pub fn parse_ops(alloc: Global, text: &[u8]) -> Result<Vec<Op>, FilterError>
     ensures ops { IfOk result (λ ops. ops_of text.now ≡ Some ops.items) }
     ensures few { IfOk result (λ ops. length ops.items ≤ 8) }

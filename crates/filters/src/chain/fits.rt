@@ -3,6 +3,7 @@ ghost use Rattle.std.specs.Prelude.{◌≡◌, ◌≤◌, ◌<◌, ◌+◌, ◌%
 ghost use Rattle.filters.specs.Image.{HasGoodRadius, IsRectangleOf, IsDoable};
 ghost use Rattle.filters.specs.Chain.{IsImageGeometry, is_crop};
 
+use crate::limits::MOST_RADIUS;
 use crate::op::{Crop, Op};
 use frame_view::Geometry;
 
@@ -11,7 +12,7 @@ pub fn has_good_radius(op: &Op) -> bool
     ensures { IsTrue result ↔ HasGoodRadius op.now }
 {
     match op {
-        Op::Blur(blur) => blur.radius >= 1 && blur.radius <= 8,
+        Op::Blur(blur) => blur.radius >= 1 && blur.radius <= MOST_RADIUS,
         Op::Table(_) | Op::HFlip | Op::VFlip | Op::Crop(_) => true,
     }
 }

@@ -67,8 +67,8 @@ fn paint_next(chain: &Chain, i: usize, canvases: &mut [Canvas])
 }
 
 impl Chain {
-    /// A canvas for each operation's output, each with this line. `NoMemory` is answered where the memory of one
-    /// of them wasn't granted.
+    /// A canvas for each operation's output, each with this line. `NoMemory` is answered where the memory of
+    /// one of them, or of their list, is refused; those that were made are let go.
     pub fn canvases(&self, alloc: Global, line: &[u8]) -> Result<Vec<Canvas>, FilterError>
         requires { IsFrameLine line.now }
         ensures ok { IfOk result (λ canvases. AreCanvases self.now canvases.items) }
@@ -85,8 +85,8 @@ impl Chain {
         Ok(canvases)
     }
 
-    /// The image of a frame: each operation is done on the image that the one before it made. `NoMemory` is answered
-    /// where the memory of one of these images wasn't granted.
+    /// The image of a frame: each operation is done on the image that the one before it made. `NoMemory` is
+    /// answered where the memory of one of these images is refused; the frame stays as it is.
     pub fn apply(&self, alloc: Global, source: &Frame) -> Result<Frame, FilterError>
         requires { source.now.geometry ≡ self.now.geometry }
         ensures image { IfOk result (λ image.
@@ -103,9 +103,9 @@ impl Chain {
         Ok(image)
     }
 
-    /// Writes the canvases so that the last one holds the image of the frame; the others serve the operations before
-    /// it, and keep their lines. It takes no memory, and the canvases may be written again for the next frame with
-    /// this line.
+    /// Writes the canvases so that the last one holds the image of the frame; the others serve the operations
+    /// before it. Every canvas keeps its line. It takes no memory, and the canvases may be written again for
+    /// the next frame with this line.
     pub fn apply_into(&self, source: &Frame, canvases: &mut [Canvas])
         requires geometry { source.now.geometry ≡ self.now.geometry }
         requires canvases { AreCanvases self.now canvases.old }
