@@ -7,7 +7,7 @@ use Rattle.frame_view.specs.declared.geometry.Geometry.{Geometry}
 use Rattle.filters.specs.Chain.{ChainValue, IsImageGeometry, format_of, format_after, format_at}
 use Rattle.filters.proofs.ChainDoable.{last_format_more}
 use Rattle.std.proofs.Common.{slice_get, slice_set, Some, inl, inr, ◌++◌, ◌-◌, ◌≤◌, ◌≢◌, ℕ, ◌≡◌, ◌+◌, ◌<◌, zero, suc}
-use Rattle.std.proofs.Common.{List, [], ◌∷◌, length, take, get_or, arith, refl, sym, ap, subst, ◌∙◌, add-one, IsSomeAnd}
+use Rattle.std.proofs.Common.{List, [], ◌∷◌, length, take, get_or, arith, refl, sym, ap, subst, ◌∙◌, add-one, All, IsSomeAnd}
 use Rattle.frame_view.specs.Frame.{line_of}
 use Rattle.filters.specs.declared.op.Op.{Op}
 use Rattle.filters.specs.ChainImage.{AreCanvases, FrameValue, IsCanvasAt, IsImage, IsImageByAll, KeepLines, last_canvas}
@@ -101,6 +101,13 @@ of_last P canvases some held d = rw (slice_get-get_or canvases (length canvases 
 pub is_of_last : (P : Canvas → Type 0) (canvases : List Canvas) (d : Canvas) → 0 < length canvases
     → P (get_or canvases (length canvases - 1) d) → IsSomeAnd (last_canvas canvases) P
 is_of_last P canvases d some held = rw (slice_get-get_or canvases (length canvases - 1) d (omega arith)) held
+
+pub of_last_of_all : (P : Canvas → Type 0) (canvases : List Canvas) → 0 < length canvases → All P canvases
+    → IsSomeAnd (last_canvas canvases) P
+of_last_of_all P [] some held = absurd (omega arith)
+of_last_of_all P (canvas ∷ canvases) some held =
+    let last = length (canvas ∷ canvases) - 1 in
+    is_of_last P (canvas ∷ canvases) canvas some (held last canvas (omega arith))
 
 pub painted_rest : (done rest canvases : List Canvas) (i : ℕ) (canvas : Canvas) → canvases ≡ done ++ rest → length done ≡ i
     → done ++ slice_set rest 0 canvas ≡ slice_set canvases i canvas
