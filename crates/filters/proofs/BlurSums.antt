@@ -88,24 +88,6 @@ written_more f xs i v h e before =
     let P : ℕ → Type 0 = λ w. (k : ℕ) → k < i + 1 → get_or (set xs i w) k 0 ≡ f k in
     subst P (sym e) (fill_by_more f xs i 0 h before)
 
--- The sum of two terms at each place is the sum of two sums.
-sum_below_add : (f g : ℕ → ℕ) (n : ℕ) → sum_below (λ k. f k + g k) n ≡ sum_below f n + sum_below g n
-sum_below_add f g zero = omega arith
-sum_below_add f g (suc n) = let before = sum_below_add f g n in omega arith
-
-sum_below_zero : (n : ℕ) → sum_below (λ k. 0) n ≡ 0
-sum_below_zero zero = refl
-sum_below_zero (suc n) = let before = sum_below_zero n in omega arith
-
--- A double sum by rows is the one by columns.
-pub sum_below_swap : (f : ℕ → ℕ → ℕ) (m n : ℕ) → sum_below (λ i. sum_below (λ j. f i j) n) m ≡ sum_below (λ j. sum_below (λ i. f i j) m) n
-sum_below_swap f zero n = sym (sum_below_zero n)
-sum_below_swap f (suc m) n =
-    let before : sum_below (λ i. sum_below (λ j. f i j) n) m ≡ sum_below (λ j. sum_below (λ i. f i j) m) n = sum_below_swap f m n in
-    let added : sum_below (λ j. sum_below (λ i. f i j) m + f m j) n ≡ sum_below (λ j. sum_below (λ i. f i j) m) n + sum_below (λ j. f m j) n =
-    sum_below_add (λ j. sum_below (λ i. f i j) m) (λ j. f m j) n in
-    omega arith
-
 square_some : (s : ℕ) → 0 < s → 0 < s * s
 square_some s some = grind arith
 

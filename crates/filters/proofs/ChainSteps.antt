@@ -2,7 +2,7 @@
 use Rattle.std.proofs.Common.{ℕ, ◌≡◌, ◌+◌, ◌<◌, ◌≤◌, zero, suc, List, [], ◌∷◌, length, take, sum, get_or, arith, refl, sym, ap, add-one, inl, inr}
 use Rattle.std.specs.Int.{div_ceil}
 use Rattle.std.proofs.lemmas.Bool.{cases_order}
-use Rattle.std.proofs.lemmas.List.Sums.{sum_by_more, sum_by-take-le}
+use Rattle.std.proofs.lemmas.List.Sums.{sum_by_more}
 use Rattle.filters.specs.declared.op.Op.{Op}
 use Rattle.filters.specs.Image.{image_height}
 use Rattle.filters.specs.Chain.{ChainValue, Format, format_of, format_at, format_after, last_format}
@@ -15,12 +15,12 @@ length-band_counts [] h b = refl
 length-band_counts (op ∷ ops) h b = ap suc (length-band_counts ops (image_height op h) b)
 
 -- the bands of an operation are those of its output
-pub count_at : (ops : List Op) (picture : Format) (b i : ℕ) → i < length ops
-    → get_or (band_counts ops picture.height b) i 0 ≡ div_ceil (last_format (take (i + 1) ops) picture).height b
-count_at [] picture b i h = absurd (omega arith)
-count_at (op ∷ ops) picture b zero h = refl
-count_at (op ∷ ops) picture b (suc i) h =
-    let rest = count_at ops (format_after op picture) b i (omega arith) in
+pub count_at : (ops : List Op) (format : Format) (b i : ℕ) → i < length ops
+    → get_or (band_counts ops format.height b) i 0 ≡ div_ceil (last_format (take (i + 1) ops) format).height b
+count_at [] format b i h = absurd (omega arith)
+count_at (op ∷ ops) format b zero h = refl
+count_at (op ∷ ops) format b (suc i) h =
+    let rest = count_at ops (format_after op format) b i (omega arith) in
     rw add-one (rw add-one at rest)
 
 sum_at : (counts : List ℕ) (i : ℕ) → i < length counts → sum (take (i + 1) counts) ≡ sum (take i counts) + get_or counts i 0
@@ -43,10 +43,6 @@ pub step_after : (counts : List ℕ) (k op band i j : ℕ) → IsStep counts k o
 step_after counts k op band i j s h l =
     omega (arith, sum_at counts i (omega (arith, s.of_chain)), sum_ordered counts (i + 1) op (omega arith) (omega (arith, s.of_chain)), s.number)
 
--- each band has a step
-pub step_within : (counts : List ℕ) (i j : ℕ) → i < length counts → j < get_or counts i 0 → sum (take i counts) + j < sum counts
-step_within counts i j h l = omega (arith, sum_at counts i h, sum_by-take-le (λ n. n) counts (i + 1))
-
 -- a step is one band of one operation
 pub one_step : (counts : List ℕ) (k op band i j : ℕ) → IsStep counts k op band → IsStep counts k i j → (i ≡ op) × (j ≡ band)
 one_step counts k op band i j s t = elim (cases_order i op) [
@@ -62,7 +58,7 @@ pub count_of_output : (chain : ChainValue) (i : ℕ) (output : Geometry) → i <
     → band_count output chain.band_height.rows ≡ get_or (counts_of chain) i 0
 count_of_output chain i output h e =
     let within : i < length chain.ops = rw length-band_counts at h in
-    let height : output.height ≡ (format_at chain (i + 1)).height = ap (λ picture. picture.height) e in
+    let height : output.height ≡ (format_at chain (i + 1)).height = ap (λ format. format.height) e in
     rw height (sym (count_at chain.ops (format_of chain.geometry) chain.band_height.rows i within))
 
 pub band_of : (chain : ChainValue) (k op band : ℕ) (output : Geometry) → IsStep (counts_of chain) k op band → format_of output ≡ format_at chain (op + 1)

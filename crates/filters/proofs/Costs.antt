@@ -12,8 +12,8 @@ use Rattle.filters.specs.declared.chain.steps.StepRun.{StepRun}
 use Rattle.filters.specs.declared.op.Op.{Op}
 use Rattle.filters.specs.declared.op.Op.TheVariants.{Table, HFlip, VFlip, Crop, Blur}
 use Rattle.frame_view.specs.declared.geometry.Geometry.{Geometry}
-use Rattle.filters.specs.Image.{IsDoable, image_height}
-use Rattle.filters.specs.Chain.{ChainValue, HasGoodRadius}
+use Rattle.filters.specs.Image.{HasGoodRadius, IsDoable, image_height}
+use Rattle.filters.specs.Chain.{ChainValue}
 use Rattle.filters.specs.Steps.{band_counts, counts_of, IsStep}
 use Rattle.filters.specs.Costs.{op_cost, costs_by, step_costs, IsRun}
 use Rattle.filters.proofs.ChainSteps.{one_step}
@@ -24,13 +24,6 @@ some_cost HFlip = omega arith
 some_cost VFlip = omega arith
 some_cost (Crop crop) = omega arith
 some_cost (Blur blur) = omega arith
-
-pub few_cost : (op : Op) → HasGoodRadius op → op_cost op ≤ 9
-few_cost (Table table) good = omega arith
-few_cost HFlip good = omega arith
-few_cost VFlip good = omega arith
-few_cost (Crop crop) good = omega arith
-few_cost (Blur blur) good = omega (arith, good.1)
 
 -- n steps of one cost, and the steps behind them
 pub sum_of_run : (n cost : ℕ) (more : List ℕ) → sum (replicate n cost ++ more) ≡ n * cost + sum more

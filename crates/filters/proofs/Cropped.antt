@@ -8,7 +8,8 @@ use Rattle.frame_view.specs.Places.{plane_width, plane_height, by_plane}
 use Rattle.filters.specs.declared.op.Op.TheVariants.{Crop}
 use Rattle.filters.specs.declared.op.Crop.{Crop as Rectangle}
 use Rattle.filters.specs.Pixel.{offset}
-use Rattle.filters.specs.Image.{IsRectangleOf, IsImageGeometry}
+use Rattle.filters.specs.Image.{IsRectangleOf}
+use Rattle.filters.specs.Chain.{IsImageGeometry}
 
 quotients_across : (c : Chroma) (x w n : ℕ) → x % horizontal_divisor c ≡ 0 → x + w ≤ n → x / horizontal_divisor c + w / horizontal_divisor c ≤ n / horizontal_divisor c
 quotients_across S420 x w n h k = omega arith
@@ -34,14 +35,18 @@ pub columns_within : (crop : Rectangle) (g image : Geometry) (p : ℕ) → IsRec
     → offset p crop.x (horizontal_divisor g.chroma) + plane_width image p ≤ plane_width g p
 unfolding plane_width
 columns_within crop g image p r i =
+    let width : image.width ≡ crop.width = ap (λ format. format.width) i.format in
+    let chroma : image.chroma ≡ g.chroma = ap (λ format. format.chroma) i.format in
     let wide : by_plane p image.width (image.width / horizontal_divisor image.chroma) ≡ by_plane p crop.width (crop.width / horizontal_divisor g.chroma) =
-    ap (λ z. by_plane p image.width (image.width / horizontal_divisor z)) i.chroma ∙ ap (λ z. by_plane p z (z / horizontal_divisor g.chroma)) i.width in
+    ap (λ z. by_plane p image.width (image.width / horizontal_divisor z)) chroma ∙ ap (λ z. by_plane p z (z / horizontal_divisor g.chroma)) width in
     rw wide (by_test (eqb p 1 || eqb p 2) crop.x crop.width g.width _ _ _ r.across (quotients_across g.chroma crop.x crop.width g.width r.whole_x r.across))
 
 pub rows_within : (crop : Rectangle) (g image : Geometry) (p : ℕ) → IsRectangleOf crop g → IsImageGeometry (Crop crop) g image
     → offset p crop.y (vertical_divisor g.chroma) + plane_height image p ≤ plane_height g p
 unfolding plane_height
 rows_within crop g image p r i =
+    let height : image.height ≡ crop.height = ap (λ format. format.height) i.format in
+    let chroma : image.chroma ≡ g.chroma = ap (λ format. format.chroma) i.format in
     let high : by_plane p image.height (image.height / vertical_divisor image.chroma) ≡ by_plane p crop.height (crop.height / vertical_divisor g.chroma) =
-    ap (λ z. by_plane p image.height (image.height / vertical_divisor z)) i.chroma ∙ ap (λ z. by_plane p z (z / vertical_divisor g.chroma)) i.height in
+    ap (λ z. by_plane p image.height (image.height / vertical_divisor z)) chroma ∙ ap (λ z. by_plane p z (z / vertical_divisor g.chroma)) height in
     rw high (by_test (eqb p 1 || eqb p 2) crop.y crop.height g.height _ _ _ r.down (quotients_down g.chroma crop.y crop.height g.height r.whole_y r.down))

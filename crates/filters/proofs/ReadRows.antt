@@ -1,10 +1,9 @@
 -- The samples of rows that are read from a frame.
-use Rattle.std.proofs.Common.{ℕ, ◌≡◌, ◌+◌, ◌-◌, ◌*◌, ◌/◌, ◌<◌, ◌≤◌, List, length, slice_index, arith, ap, sym, ◌∙◌, take, drop}
+use Rattle.std.proofs.Common.{ℕ, ◌≡◌, ◌+◌, ◌-◌, ◌*◌, ◌<◌, ◌≤◌, List, length, slice_index, arith, ap, sym, ◌∙◌, take, drop}
 use Rattle.std.proofs.Math.Nat.{mul-le-mul_right}
 use Rattle.std.proofs.lemmas.List.{get_or-take, get_or-drop}
 use Rattle.frame_view.specs.declared.geometry.Geometry.{Geometry}
-use Rattle.frame_view.specs.Places.{plane_width, plane_height, row_start, by_plane}
-use Rattle.y4m_header.specs.Chroma.{horizontal_divisor, vertical_divisor}
+use Rattle.frame_view.specs.Places.{plane_width, row_start}
 use Rattle.frame_view.specs.Written.{IsRows}
 use Rattle.frame_view.specs.Rows.{sample, row_of, run_of}
 
@@ -29,14 +28,6 @@ row-sample g bytes p y x l =
     ap (slice_index (row_of g bytes p y)) (let s : x ≡ 0 * plane_width g p + x = omega arith in s)
     ∙ run-sample g bytes p y (y + 1) 0 x (omega arith) l
     ∙ ap (λ z. sample g bytes p z x) same
-
-pub same_width : (g image : Geometry) (p : ℕ) → image.width ≡ g.width → image.chroma ≡ g.chroma → plane_width image p ≡ plane_width g p
-unfolding plane_width
-same_width g image p w c = ap (λ z. by_plane p image.width (image.width / horizontal_divisor z)) c ∙ ap (λ z. by_plane p z (z / horizontal_divisor g.chroma)) w
-
-pub same_height : (g image : Geometry) (p : ℕ) → image.height ≡ g.height → image.chroma ≡ g.chroma → plane_height image p ≡ plane_height g p
-unfolding plane_height
-same_height g image p h c = ap (λ z. by_plane p image.height (image.height / vertical_divisor z)) c ∙ ap (λ z. by_plane p z (z / vertical_divisor g.chroma)) h
 
 -- the bytes of a part of a row
 pub part-sample : (row : List ℕ) (from n x : ℕ) → x < n → slice_index (take (from + n - from) (drop from row)) x ≡ slice_index row (from + x)

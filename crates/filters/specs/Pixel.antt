@@ -42,5 +42,6 @@ pixel (Table table) chroma p source y x = entry table p (source.at y x)
 pixel HFlip chroma p source y x = source.at y (source.columns - 1 - x)
 pixel VFlip chroma p source y x = source.at (source.rows - 1 - y) x
 pixel (Crop crop) chroma p source y x =
-    source.at (y + offset p crop.y (vertical_divisor chroma)) (x + offset p crop.x (horizontal_divisor chroma))
+    source.at (y + offset p crop.y (vertical_divisor chroma))
+    (x + offset p crop.x (horizontal_divisor chroma))
 pixel (Blur blur) chroma p source y x = blurred source.at source.columns source.rows blur.radius y x

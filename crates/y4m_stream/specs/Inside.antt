@@ -1,14 +1,16 @@
 -- What contracts inside the crate speak of.
-use Rattle.std.specs.Prelude.{◌≡◌, ℕ, ◌+◌, ◌-◌, ◌<◌, ◌≤◌, ◌⊎◌, ⊤, List, ◌∷◌, ◌++◌, length, take, drop, slice_index_or, Option, Some, None, IfSome, unwrap_or, All, true, false, Result, Ok, Err}
+use Rattle.std.specs.Prelude.{◌≡◌, ℕ, ◌+◌, ◌<◌, ◌≤◌, ◌⊎◌, ⊤, List, ◌∷◌, ◌++◌, length, take, drop}
+use Rattle.std.specs.Prelude.{Option, Some, None}
+use Rattle.std.specs.Prelude.{IfSome, IsSomeAnd, unwrap_or, All, true, false, Result, Ok, Err}
 use Rattle.std.specs.Io.KnownBytes.{Appends, Consumes, IsAtEnd, Keeps, prepend_known}
 use Rattle.frame_view.specs.declared.frame.Frame.{Frame}
 use Rattle.row_bands.specs.declared.band_height.BandHeight.{BandHeight}
 use Rattle.row_bands.specs.declared.canvas.Canvas.{Canvas}
-use Rattle.row_bands.specs.Canvas.{frame_of, height_of}
+use Rattle.row_bands.specs.Canvas.{frame_of}
 use Rattle.filters.specs.declared.error.FilterError.TheVariants.{NoMemory as NoFilterMemory}
 use Rattle.filters.specs.declared.op.Op.{Op}
-use Rattle.filters.specs.Chain.{ChainValue, format_of, format_at, last_format}
-use Rattle.filters.specs.ChainImage.{IsChainImage, value_of}
+use Rattle.filters.specs.Chain.{ChainValue, format_of, last_format}
+use Rattle.filters.specs.ChainImage.{AreCanvases, IsChainImage, last_canvas, value_of}
 use Rattle.filters.specs.Refusal.{IsChain}
 use Rattle.y4m_header.specs.Header.{HeaderValue}
 use Rattle.y4m_header.specs.FrameLine.{IsFrameLine}
@@ -103,22 +105,10 @@ BeginsFrame old new phase phase' (Ok None) =
 BeginsFrame old new phase phase' (Err fault) =
     (header : HeaderValue) → Answers (state_of header phase old) (state_of header phase' new) (Err fault)
 
--- there is a canvas for the output of each operation, in bands of the chain's height
-pub record AreOfSizes (chain : ChainValue) (canvases : List Canvas) : Type 0 where
-  pub count : length canvases ≡ length chain.ops
-  pub each : (i : ℕ) (d : Canvas) → i < length chain.ops
-      → format_of (frame_of (slice_index_or canvases i d)).geometry ≡ format_at chain (i + 1)
-  pub heights : (i : ℕ) (d : Canvas) → i < length chain.ops
-      → height_of (slice_index_or canvases i d) ≡ chain.band_height.rows
-
--- the frame that the last canvas holds
-abbrev pub IsLast : ChainValue → List Canvas → Frame → Type 0
-IsLast chain canvases frame = (d : Canvas) × (frame ≡ frame_of (slice_index_or canvases (length chain.ops - 1) d))
-
 -- the last canvas holds the image of this frame
 abbrev pub HoldImage : ChainValue → List Canvas → Frame → Type 0
-HoldImage chain canvases source = (d : Canvas)
-    → IsChainImage chain.ops (value_of source) (value_of (frame_of (slice_index_or canvases (length chain.ops - 1) d)))
+HoldImage chain canvases source = IsSomeAnd (last_canvas canvases)
+    (λ canvas. IsChainImage chain.ops (value_of source) (value_of (frame_of canvas)))
 
 -- the header of the images that the chain makes of the header's frames
 pub record IsHeaderOfImages (chain : ChainValue) (header shown : HeaderValue) : Type 0 where
@@ -133,7 +123,7 @@ pub record IsFilterFor (ops : List Op) (height : BandHeight) (header : HeaderVal
   pub is_chain : IsChain filter.images.chain
   pub frame : IsOfHeader header filter.frame.geometry
   pub of_chain : filter.frame.geometry ≡ filter.images.chain.geometry
-  pub sizes : AreOfSizes filter.images.chain filter.images.canvases.items
+  pub canvases : AreCanvases filter.images.chain filter.images.canvases.items
   pub shown : IsHeaderOfImages filter.images.chain header (unwrap_or filter.resized header)
 
 -- the writer's frames are of the size of the chain's images

@@ -1,4 +1,4 @@
-use Rattle.filters.proofs.ChainImages.{is_frame_line, format_next, op_image_at}
+use Rattle.filters.proofs.ChainImages.{is_frame_line, format_next, image_at}
 use Rattle.filters.proofs.chain.images.image_by.Goals as goal
 
 pub new-requires : goal.new-requires
@@ -10,7 +10,7 @@ apply_op-requires-clause-image c =
 
 pub returns-clause-image : goal.returns-clause-image
 returns-clause-image c d =
-    rw c.into_frame.ensures (op_image_at c.args.chain.now.ops c.args.i c.op.result d _ _ c.op.ensures.value c.apply_op.ensures.image)
+    rw c.into_frame.ensures (image_at c.args.chain.now.ops c.args.i c.op.result d _ _ c.op.ensures.value c.apply_op.ensures.image)
 
 pub returns-clause-format : goal.returns-clause-format
 returns-clause-format c =

@@ -16,9 +16,9 @@ overflow_mul-cost c =
 pub loop-op-preserved : goal.loop-op-preserved
 loop-op-preserved c =
     let h = c.loop-op-test.true in
-    let image = c.output_of-picture.ensures in
+    let image = c.output_of-reached.ensures in
     let so_far = c.loop-op.invariant in
-    let bands : c.count-bands.result ≡ div_ceil c.output_of-picture.result.height c.args.band_height.rows =
+    let bands : c.count-bands.result ≡ div_ceil c.output_of-reached.result.height c.args.band_height.rows =
     c.count-bands.ensures.value ∙ rw (c.new.ensures.geometry, c.new.ensures.height) refl in
     let few : c.count-bands.result * c.cost.result ≤ 8192 * 9 = mul-le-mul c.count-bands.ensures.few c.cost.ensures.few in
     record {
@@ -27,7 +27,7 @@ loop-op-preserved c =
         λ rest. so_far.doable.1 (doable_before _ _ _ _ _ h (c.if-not-is_doable.ensures.0 refl) image rest),
       );
       steps = let next = steps_next _ _ _ _ _ c.args.band_height.rows h image in omega (arith, next);
-      cost = let next = costs_next _ _ _ _ _ c.args.band_height.rows h image in omega (arith, next, ap (λ n. n * c.cost.result) bands, ap (λ n. div_ceil c.output_of-picture.result.height c.args.band_height.rows * n) c.cost.ensures.value);
+      cost = let next = costs_next _ _ _ _ _ c.args.band_height.rows h image in omega (arith, next, ap (λ n. n * c.cost.result) bands, ap (λ n. div_ceil c.output_of-reached.result.height c.args.band_height.rows * n) c.cost.ensures.value);
       some = omega arith;
       few = omega arith;
       cheap = omega (arith, few);
