@@ -1,7 +1,6 @@
 -- A line is refused for one reason.
-use Rattle.std.proofs.Common.{◌≡◌, ℕ, ◌<◌, ◌⊎◌, inl, inr, List, [], ◌∷◌, length, All, Any, slice_get}
-use Rattle.std.proofs.Common.{refl, sym, ap, ◌∙◌, subst, arith, suc, zero, Bool, false, IsTrue}
-use Rattle.std.proofs.Common.{◌↔◌}
+use Rattle.std.proofs.Common.{◌≡◌, ℕ, ◌<◌, ◌⊎◌, inl, inr, List, [], ◌∷◌, All, Any, slice_get}
+use Rattle.std.proofs.Common.{refl, sym, ap, ◌∙◌, subst, arith, suc, zero}
 use Rattle.std.specs.Str.Parse.{digits_value}
 use Rattle.std.proofs.lemmas.Bool.{cases_eq}
 use Rattle.y4m_header.specs.declared.chroma.Chroma.{Chroma}
@@ -14,7 +13,7 @@ use Rattle.y4m_header.specs.HeaderLine.{IsY4mLine, IsSize, StatesSize, StatesFor
 use Rattle.y4m_header.specs.HeaderLine.{IsWithinLimits, IsHeaderLine, widths, heights, chromas}
 use Rattle.y4m_header.specs.Refusal.{IsRefusedAs, HasGoodSizes, HasBadSize, HasNoRepeat, HasRepeat}
 use Rattle.y4m_header.specs.Refusal.{HasSizes, LacksSize, IsTooLarge}
-use Rattle.y4m_header.proofs.TagLists.{not_repeated, all_good, length_one}
+use Rattle.y4m_header.proofs.TagLists.{all_good, length_one}
 use Rattle.y4m_header.proofs.ChromaTable.{names_one_form}
 
 -- what no bad value leaves
@@ -114,16 +113,6 @@ refusal_of_test NotDivisible = refl
 refusal_of_test TooLarge = refl
 refusal_of_test NoMemory = refl
 refusal_of_test NotFrame = refl
-
--- no second value was found
-pub none_repeated : (line : List ℕ) (w h c : Bool) → (IsTrue w ↔ (1 < length (widths line)))
-    → (IsTrue h ↔ (1 < length (heights line))) → (IsTrue c ↔ (1 < length (chromas line)))
-    → w ≡ false → h ≡ false → c ≡ false → HasNoRepeat line
-none_repeated line w h c wide high form no_w no_h no_c = record {
-  one_width = not_repeated w (widths line) wide no_w;
-  one_height = not_repeated h (heights line) high no_h;
-  one_chroma = not_repeated c (chromas line) form no_c;
-}
 
 pub good_sizes : (line : List ℕ) (w h : ℕ) → StatesSize (widths line) w → StatesSize (heights line) h
     → HasGoodSizes line

@@ -64,11 +64,6 @@ keeps_bad whole value left keeps none = keeps.bad (Any-head (λ v. ¬ IsSize v) 
 pub keeps_all : (whole : List (List ℕ)) → KeepsSizes whole [] → All IsSize whole
 keeps_all whole keeps = keeps.good (All-nil IsSize)
 
--- a second value was not found
-pub not_repeated : (repeated : Bool) (given : List (List ℕ)) → (IsTrue repeated ↔ (1 < length given))
-    → repeated ≡ false → length given ≤ 1
-not_repeated repeated given two none = grind arith
-
 pub length_none : (given : List (List ℕ)) → None ≡ slice_get given 0 → length given ≡ 0
 length_none [] none = refl
 length_none (value ∷ more) none = absurd (cc)
