@@ -1,11 +1,7 @@
 // Filters YUV4MPEG2 streams, and runs scripts on accounts, from standard input to standard output.
 #![tactic(auto)]
 
-mod program;
-mod script;
-mod words;
-
-use program::main_on;
+use serve_report::main_on;
 use std::alloc::AllocError;
 use std::io::{ErrorKind, Lock, Write};
 use std::process::ExitCode;
