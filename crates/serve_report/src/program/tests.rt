@@ -4,6 +4,9 @@ use std::io::{self, ErrorKind, Read};
 use std::process::Abort;
 use std::test::Fail;
 
+mod command_line;
+mod watches;
+
 fn words_of(alloc: Global, line: &str) -> Result<Vec<String>, AllocError> {
     let mut words = Vec::new(alloc);
     for word in line.split(' ') {
@@ -29,7 +32,7 @@ fn says<R: Read + Drop>(
     status: u8,
 ) -> Result<usize, Fail> {
     let words = words_of(alloc, line)?;
-    let mut faults = [0; 64];
+    let mut faults = [0; 512];
     let mut rest = faults.as_mut_slice();
     let answer = main_on(alloc, &words, input, &mut room, &mut rest);
     let left = rest.len();
@@ -137,38 +140,6 @@ fn a_fault_of_the_header_is_named(rt: HostRuntime) -> Result<(), Fail> {
         rt.alloc(),
         b"YUV4MPEG2 W16385 H1 Cmono\n",
         "y4mserve: read Header TooLarge\n",
-    )
-}
-
-#[test]
-fn wrong_words_are_refused(rt: HostRuntime) -> Result<(), Fail> {
-    runs(
-        &rt,
-        rt.alloc(),
-        "filter blur:9",
-        b"",
-        b"",
-        "y4mserve: BadOp\n",
-        2,
-    )?;
-    runs(&rt, rt.alloc(), "filter", b"", b"", "y4mserve: usage\n", 2)?;
-    runs(
-        &rt,
-        rt.alloc(),
-        "filter invert invert",
-        b"",
-        b"",
-        "y4mserve: usage\n",
-        2,
-    )?;
-    runs(
-        &rt,
-        rt.alloc(),
-        "invert filter",
-        b"",
-        b"",
-        "y4mserve: usage\n",
-        2,
     )
 }
 
