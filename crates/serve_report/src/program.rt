@@ -1,4 +1,7 @@
 // The program, over any reader and writers.
+ghost use Rattle.std.specs.Prelude.{◌≡◌, ◌≤◌};
+ghost use Rattle.std.specs.Io.KnownBytes.{Keeps};
+
 use crate::script::replay;
 use crate::tell::tell;
 use crate::watch::{Unwatched, Watch};
@@ -30,7 +33,9 @@ enum WordFault {
 }
 
 impl WordFault {
-    fn status(self) -> u8 {
+    fn status(self) -> u8
+        ensures { result ≤ 2 }
+    {
         if self == WordFault::Ops(FilterError::NoMemory) {
             1
         } else {
@@ -41,14 +46,18 @@ impl WordFault {
 
 /// Runs the program with these words, which follow its name, and answers its status: 0 where all went well, 1 after a
 /// fault of the stream or of the script or for want of memory, 2 for wrong words. A fault is one line on `errors`; that
-/// of a script is the last line on `output`. Help that is asked for is written to `output`.
+/// of a script is the last line on `output`. Help that is asked for is written to `output`. Where the words are wrong,
+/// nothing is.
 pub fn main_on<R: Read + Drop, W: Write, E: Write>(
     alloc: Global,
     words: &[String],
     input: R,
     output: &mut W,
     errors: &mut E,
-) -> u8 {
+) -> u8
+    ensures status { result ≤ 2 }
+    ensures untouched { result ≡ 2 → Keeps (W.contents output.old) (W.contents output.new) }
+{
     run_on(alloc, words, input, output, errors, &Unwatched)
 }
 
@@ -64,7 +73,10 @@ pub fn run_on<R: Read + Drop, W: Write, E: Write, V: Watch>(
     output: &mut W,
     errors: &mut E,
     watch: &V,
-) -> u8 {
+) -> u8
+    ensures status { result ≤ 2 }
+    ensures untouched { result ≡ 2 → Keeps (W.contents output.old) (W.contents output.new) }
+{
     match read_words(alloc, words) {
         Ok(Request::Filter(asked)) => run_filter(alloc, asked, input, output, errors, watch),
         Ok(Request::Replay) => run_replay(alloc, input, output, errors),
@@ -81,7 +93,9 @@ pub fn run_on<R: Read + Drop, W: Write, E: Write, V: Watch>(
 }
 
 /// Writes help that was asked for.
-fn write_help<W: Write, E: Write>(text: &String, output: &mut W, errors: &mut E) -> u8 {
+fn write_help<W: Write, E: Write>(text: &String, output: &mut W, errors: &mut E) -> u8
+    ensures { result ≤ 1 }
+{
     match output.write_all(text.as_bytes()) {
         Ok(()) => 0,
         Err(_) => {
@@ -118,7 +132,10 @@ fn run_filter<R: Read + Drop, W: Write, E: Write, V: Watch>(
     output: &mut W,
     errors: &mut E,
     watch: &V,
-) -> u8 {
+) -> u8
+    ensures status { result ≤ 2 }
+    ensures untouched { result ≡ 2 → Keeps (W.contents output.old) (W.contents output.new) }
+{
     let (ops, height) = match check_words(alloc, asked, watch) {
         Ok(checked) => checked,
         Err(fault) => {
@@ -155,7 +172,9 @@ fn run_replay<R: Read + Drop, W: Write, E: Write>(
     input: R,
     output: &mut W,
     errors: &mut E,
-) -> u8 {
+) -> u8
+    ensures { result ≤ 1 }
+{
     let (_, result) = replay(alloc, OverRead::new(input), OverWrite::new(output));
     match result {
         Ok(true) => 0,

@@ -1,5 +1,5 @@
 //! The line that shows how far a run has come.
-ghost use Rattle.std.specs.Prelude.{◌≡◌, ◌≤◌, ◌+◌, ◌↔◌, IsTrue};
+ghost use Rattle.std.specs.Prelude.{◌≡◌, ◌≤◌, ◌+◌, ◌-◌, ◌^◌, ◌↔◌, IsTrue, min};
 
 use std::fmt;
 use std::io::Write;
@@ -31,9 +31,11 @@ impl Progress {
         }
     }
 
-    /// The same, with so many frames and bytes more.
+    /// The same, with so many frames and bytes more. A number of 64 bits stays at its last value.
     pub fn with(self, frames: u64, bytes: u64) -> Progress
-        ensures { result.shown ≡ self.shown }
+        ensures frames { result.frames ≡ min (self.frames + frames) (2 ^ 64 - 1) }
+        ensures bytes { result.bytes ≡ min (self.bytes + bytes) (2 ^ 64 - 1) }
+        ensures shown { result.shown ≡ self.shown }
     {
         Progress {
             frames: self.frames.saturating_add(frames),
