@@ -120,13 +120,12 @@ pub const REPLAY_PAGE: &str =
   Each prints 'budget C deadline D', as the account then stands. An empty line
   and a line that begins with '#' do nothing. A script has at most 1048576 bytes.
 
-A fault of the script is the last line on standard output, 'line N: WORD', with
-status 1:
+Faults of the script, printed as the last line, 'line N: WORD'; status 1:
   BadLine        The line has none of these forms, or there is no account yet.
   BadBandwidth   Q and T are out of range.
   Range          More units than can be charged.
   TooLong        The script is over its limit (N is 0).
   NoMemory       No memory was left. This one is told on standard error too.
-Other faults are one line on standard error behind 'y4mserve: ', with status 1:
+Other faults, each one line on standard error behind 'y4mserve: '; status 1:
   read           Reading failed. Nothing was run.
   write          Writing failed, or nobody reads on.";

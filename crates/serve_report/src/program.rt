@@ -64,8 +64,8 @@ pub fn main_on<R: Read + Drop, W: Write, E: Write>(
 /// The same, under a watch.
 ///
 /// `filter` asks it for terminals once the words are right and before anything is read. It takes no terminal as its
-/// output, status 2, and where its input is one it says what it waits for. It tells the watch of each frame. With
-/// `--quiet` it does neither.
+/// output, status 2. Where its input is one it says what it waits for, and it tells the watch of each frame, unless the
+/// words have `--quiet`.
 pub fn run_on<R: Read + Drop, W: Write, E: Write, V: Watch>(
     alloc: Global,
     words: &[String],

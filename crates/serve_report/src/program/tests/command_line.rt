@@ -28,6 +28,15 @@ fn the_parser_tells_wrong_words_in_its_own(rt: HostRuntime) -> Result<(), Fail> 
             "error: unexpected argument 'now' found\n\n\
              Usage: y4mserve replay\n\nFor more information, try '--help'.\n",
         ),
+    ] {
+        runs(&rt, rt.alloc(), line, b"", b"", said, 2)?;
+    }
+    Ok(())
+}
+
+#[test]
+fn the_parser_tells_the_range_of_a_number(rt: HostRuntime) -> Result<(), Fail> {
+    for (line, said) in [
         (
             "filter --band 130 invert",
             "error: invalid value '130' for '--band <B>': 130 is not in 2..=128\n\n\
