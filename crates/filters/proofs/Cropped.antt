@@ -1,11 +1,11 @@
 -- A rectangle lies in every plane that it is taken from.
-use Rattle.std.proofs.Common.{ℕ, ◌≡◌, ◌+◌, ◌/◌, ◌%◌, ◌≤◌, arith, Bool, true, false, eqb, ◌||◌, if◌then◌else◌}
+use Rattle.std.proofs.Common.{ℕ, ◌≡◌, ◌+◌, ◌/◌, ◌%◌, ◌≤◌, arith, Bool, true, false, if◌then◌else◌}
 use Rattle.std.proofs.Common.{ap, ◌∙◌}
 use Rattle.y4m_header.specs.declared.chroma.Chroma.{Chroma}
 use Rattle.y4m_header.specs.declared.chroma.Chroma.TheVariants.{S420, S422, S411, S444, S444Alpha, Mono}
 use Rattle.y4m_header.specs.Chroma.{horizontal_divisor, vertical_divisor}
 use Rattle.frame_view.specs.declared.geometry.Geometry.{Geometry}
-use Rattle.frame_view.specs.Places.{plane_width, plane_height, by_plane}
+use Rattle.frame_view.specs.Places.{plane_width, plane_height, by_plane, is_chroma_plane}
 use Rattle.filters.specs.declared.op.Op.TheVariants.{Crop}
 use Rattle.filters.specs.declared.op.Crop.{Crop as Rectangle}
 use Rattle.filters.specs.Pixel.{offset}
@@ -46,7 +46,7 @@ columns_within crop g image p r i =
     ≡ by_plane p crop.width (crop.width / horizontal_divisor g.chroma) =
     ap (λ z. by_plane p image.width (image.width / horizontal_divisor z)) chroma
     ∙ ap (λ z. by_plane p z (z / horizontal_divisor g.chroma)) width in
-    rw wide (by_test (eqb p 1 || eqb p 2) crop.x crop.width g.width _ _ _ r.across
+    rw wide (by_test (is_chroma_plane p) crop.x crop.width g.width _ _ _ r.across
     (quotients_across g.chroma crop.x crop.width g.width r.whole_x r.across))
 
 pub rows_within : (crop : Rectangle) (g image : Geometry) (p : ℕ) → IsRectangleOf crop g
@@ -60,5 +60,5 @@ rows_within crop g image p r i =
     ≡ by_plane p crop.height (crop.height / vertical_divisor g.chroma) =
     ap (λ z. by_plane p image.height (image.height / vertical_divisor z)) chroma
     ∙ ap (λ z. by_plane p z (z / vertical_divisor g.chroma)) height in
-    rw high (by_test (eqb p 1 || eqb p 2) crop.y crop.height g.height _ _ _ r.down
+    rw high (by_test (is_chroma_plane p) crop.y crop.height g.height _ _ _ r.down
     (quotients_down g.chroma crop.y crop.height g.height r.whole_y r.down))
