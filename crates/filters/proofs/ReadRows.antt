@@ -1,5 +1,6 @@
 -- The samples of rows that are read from a frame.
-use Rattle.std.proofs.Common.{ℕ, ◌≡◌, ◌+◌, ◌-◌, ◌*◌, ◌<◌, ◌≤◌, List, length, slice_index, arith, ap, sym, ◌∙◌, take, drop}
+use Rattle.std.proofs.Common.{ℕ, ◌≡◌, ◌+◌, ◌-◌, ◌*◌, ◌<◌, ◌≤◌, List, length, slice_index, arith, ap, sym, ◌∙◌}
+use Rattle.std.proofs.Common.{take, drop}
 use Rattle.std.proofs.Math.Nat.{mul-le-mul_right}
 use Rattle.std.proofs.lemmas.List.{get_or-take, get_or-drop}
 use Rattle.frame_view.specs.declared.geometry.Geometry.{Geometry}
@@ -30,11 +31,14 @@ row-sample g bytes p y x l =
     ∙ ap (λ z. sample g bytes p z x) same
 
 -- the bytes of a part of a row
-pub part-sample : (row : List ℕ) (from n x : ℕ) → x < n → slice_index (take (from + n - from) (drop from row)) x ≡ slice_index row (from + x)
-part-sample row from n x h = get_or-take (from + n - from) (drop from row) x 0 (omega arith) ∙ get_or-drop from row x 0
+pub part-sample : (row : List ℕ) (from n x : ℕ) → x < n
+    → slice_index (take (from + n - from) (drop from row)) x ≡ slice_index row (from + x)
+part-sample row from n x h =
+    get_or-take (from + n - from) (drop from row) x 0 (omega arith) ∙ get_or-drop from row x 0
 
 -- rows that hold the samples of a picture are its rows
-pub rows_held : (picture : ℕ → ℕ → ℕ → ℕ) (target : Geometry) (p columns from to : ℕ) (rows : List ℕ) → columns ≡ plane_width target p → length rows ≡ (to - from) * columns
+pub rows_held : (picture : ℕ → ℕ → ℕ → ℕ) (target : Geometry) (p columns from to : ℕ) (rows : List ℕ)
+    → columns ≡ plane_width target p → length rows ≡ (to - from) * columns
     → ((v x : ℕ) → from + v < to → x < columns → slice_index rows (v * columns + x) ≡ picture p (from + v) x)
     → IsRows picture target p from to rows
 rows_held picture target p columns from to rows e n h = record {

@@ -12,7 +12,7 @@ use crate::blur::blur_rows;
 use crate::flip::mirror_row;
 use crate::op::{Blur, Crop, Op, Table};
 use crate::table::table_row;
-use frame_view::{Frame, Geometry};
+use frame_view::{Frame, Geometry, is_chroma_plane};
 
 /// Writes the rows from `from` on to `to`, which is left out, of plane `p` of the image of a frame.
 ///
@@ -103,7 +103,7 @@ fn offsets(crop: Crop, geometry: Geometry, p: usize) -> (usize, usize)
     ensures down { result.1 ≡ offset p crop.y (vertical_divisor geometry.chroma) }
 {
     let divisors = geometry.chroma.divisors();
-    if p == 1 || p == 2 {
+    if is_chroma_plane(p) {
         (
             (crop.x / divisors.horizontal) as usize,
             (crop.y / divisors.vertical) as usize,

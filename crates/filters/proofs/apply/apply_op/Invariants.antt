@@ -11,5 +11,6 @@ invariant-loop-k l = record {
   geometry : (frame_of l.canvas).geometry ≡ (frame_of l.fn.canvas).geometry;
   line : line_of (frame_of l.canvas) ≡ line_of (frame_of l.fn.canvas);
   height : height_of l.canvas ≡ height_of l.fn.canvas;
-  rows : HasRowsAbove (image_pixel l.op l.source.geometry (samples_of l.source)) (min (frame_of l.canvas).geometry.height (luma_from (height_of l.canvas) l.k)) (frame_of l.canvas);
+  rows : HasRowsAbove (image_pixel l.op l.source.geometry (samples_of l.source))
+      (min (frame_of l.canvas).geometry.height (luma_from (height_of l.canvas) l.k)) (frame_of l.canvas);
 }

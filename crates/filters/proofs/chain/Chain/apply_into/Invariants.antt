@@ -8,5 +8,7 @@ abbrev pub invariant-loop-i : goal.invariant-loop-i
 invariant-loop-i l = record {
   canvases : AreCanvases l.self l.canvases;
   lines : KeepLines l.fn.canvases l.canvases;
-  by_all : (d : Canvas) → IsImageByAll (take l.i l.self.ops) (value_of l.source) (value_of (frame_of (get_or l.canvases (l.i - 1) d)));
+  by_all : (d : Canvas)
+      → IsImageByAll (take l.i l.self.ops) (value_of l.source)
+      (value_of (frame_of (get_or l.canvases (l.i - 1) d)));
 }

@@ -17,5 +17,6 @@ loop-i-preserved c =
             format = rw made.geometry c.geometry_after.ensures;
             height = c.in_ok-canvas.ensures.height ∙ ap (λ b. b.rows) c.band_height.ensures;
           });
-      lines = canvases_more (λ k canvas. line_of (frame_of canvas) ≡ c.args.line.now) _ _ _ c.loop-i.i so_far.count pushed so_far.lines made.line;
+      lines = canvases_more (λ k canvas. line_of (frame_of canvas) ≡ c.args.line.now) _ _ _ c.loop-i.i
+          so_far.count pushed so_far.lines made.line;
     }

@@ -9,7 +9,8 @@ pub returns-clause-costs : goal.returns-clause-costs
 returns-clause-costs c =
     let inside = c.self.inside in
     rw (sym c.self.view_is)
-    (length-costs_by inside.ops.items inside.geometry.height inside.band_height.rows ∙ sym c.self.invariant.steps)
+    (length-costs_by inside.ops.items inside.geometry.height inside.band_height.rows
+    ∙ sym c.self.invariant.steps)
 
 pub returns-clause-few : goal.returns-clause-few
 returns-clause-few c =

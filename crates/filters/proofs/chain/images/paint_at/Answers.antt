@@ -8,9 +8,11 @@ apply_op-requires-clause-image c = c.op.ensures.image _ _ c.requires.reaches c.r
 pub returns-clause-canvas : goal.returns-clause-canvas
 returns-clause-canvas c = record {
   format =
-      format_next c.args.chain.now c.args.i c.op.result c.args.source.now.geometry _ c.requires.op c.op.ensures.value c.requires.reaches c.apply_op.ensures.image.geometry;
+      format_next c.args.chain.now c.args.i c.op.result c.args.source.now.geometry _ c.requires.op
+      c.op.ensures.value c.requires.reaches c.apply_op.ensures.image.geometry;
   height = c.apply_op.ensures.height ∙ c.requires.canvas.height;
 }
 
 pub returns-clause-image : goal.returns-clause-image
-returns-clause-image c d = image_at c.args.chain.now.ops c.args.i c.op.result d _ _ c.op.ensures.value c.apply_op.ensures.image
+returns-clause-image c d =
+    image_at c.args.chain.now.ops c.args.i c.op.result d _ _ c.op.ensures.value c.apply_op.ensures.image
