@@ -1,0 +1,13 @@
+//! The machine that serves streams of frames: workers that are leased one stream at a time, each stream under the
+//! account of a constant bandwidth server, the earliest deadline first.
+//!
+//! `specs/Rules.antt` says which replies are right after which past, and `specs/Headline.antt` what follows of every
+//! run. [`laws`] has each law of the definitions as a function.
+#![tactic(auto)]
+
+pub mod held;
+pub mod laws;
+pub mod refusal;
+
+pub use held::Held;
+pub use refusal::Refusal;
