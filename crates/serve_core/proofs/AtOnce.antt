@@ -7,7 +7,8 @@ use Rattle.std.proofs.lemmas.Option.{slice_get_within}
 use Rattle.cbs_account.specs.Balance.{Balance}
 use Rattle.cbs_account.specs.Rules.{after_unit, after_units}
 use Rattle.serve_core.specs.declared.held.Held.{Held}
-use Rattle.serve_core.specs.AtOnce.{AtOnceLaw, at_once, bands_settled, cost_of_next, with_used, worked_at_once}
+use Rattle.serve_core.specs.AtOnce.{AtOnceLaw, at_once, bands_settled, cost_of_next, with_used}
+use Rattle.serve_core.specs.AtOnce.{worked_at_once}
 use Rattle.serve_core.specs.Counts.{Worked, settled}
 use Rattle.serve_core.specs.Events.{Band, Reply, Settle, Stepped}
 use Rattle.serve_core.specs.Grants.{cost_of_band, cost_of_first}
@@ -27,7 +28,8 @@ set_same (y ∷ xs) zero x e = cc
 set_same (y ∷ xs) (suc i) x e = ap (λ ys. y ∷ ys) (set_same xs i x e)
 
 -- one more of the first bands, whether or not there is one
-first_more : (k : ℕ) (costs : List ℕ) → cost_of_first (suc k) costs ≡ cost_of_band k costs + cost_of_first k costs
+first_more : (k : ℕ) (costs : List ℕ) → cost_of_first (suc k) costs
+    ≡ cost_of_band k costs + cost_of_first k costs
 first_more zero [] = refl
 first_more (suc k) [] = refl
 first_more zero (c ∷ costs) = sum_cons c [] ∙ omega arith
@@ -36,7 +38,8 @@ first_more (suc k) (c ∷ costs) =
 
 units_more : (k n : ℕ) (b : Balance) → after_units (k + n) b ≡ after_units k (after_units n b)
 units_more zero n b = rw (let e : 0 + n ≡ n = omega arith in e) refl
-units_more (suc k) n b = rw (let e : suc k + n ≡ suc (k + n) = omega arith in e) (ap after_unit (units_more k n b))
+units_more (suc k) n b =
+    rw (let e : suc k + n ≡ suc (k + n) = omega arith in e) (ap after_unit (units_more k n b))
 
 test_no : (a b : ℕ) → a ≢ b → nat_eq a b ≡ false
 test_no a b e = grind (arith, nat_tests)
@@ -60,7 +63,8 @@ module _ {F : Type 0} where
   -- no band, and one band more
   none_at_once : (x : StreamState F) → worked_at_once 0 x ≡ x
   none_at_once x =
-      with_charge x (x.charged + 0) x.charged (x.done + 0) x.done x.account x.account (omega arith) (omega arith) refl
+      with_charge x (x.charged + 0) x.charged (x.done + 0) x.done x.account x.account (omega arith)
+      (omega arith) refl
 
   more_at_once : (k : ℕ) (x : StreamState F) → did (worked_at_once k x) Worked ≡ worked_at_once (suc k) x
   more_at_once k x =
@@ -83,23 +87,27 @@ module _ {F : Type 0} where
       ∙ set_same m.workers w (Some l) e))
 
   -- the lease and the stream are there
-  lease_at_once : (m : State F) (w k : ℕ) (l : Held) (x : StreamState F) → slice_get m.workers w ≡ Some (Some l)
+  lease_at_once : (m : State F) (w k : ℕ) (l : Held) (x : StreamState F)
+      → slice_get m.workers w ≡ Some (Some l)
       → slice_get (at_once m w k l x).workers w ≡ Some (Some (with_used k l))
   lease_at_once m w k l x e =
       slice_get_set_same m.workers w (Some (with_used k l)) (slice_get_within m.workers w (Some l) e)
 
-  stream_at_once : (m : State F) (w k : ℕ) (l : Held) (x : StreamState F) → slice_get m.streams l.stream ≡ Some x
+  stream_at_once : (m : State F) (w k : ℕ) (l : Held) (x : StreamState F)
+      → slice_get m.streams l.stream ≡ Some x
       → slice_get (at_once m w k l x).streams l.stream ≡ Some (worked_at_once k x)
   stream_at_once m w k l x f =
       slice_get_set_same m.streams l.stream (worked_at_once k x) (slice_get_within m.streams l.stream x f)
 
   -- the state in which worker w's lease l is over and its stream is y
   abbrev pub after_settled : State F → ℕ → Held → StreamState F → State F
-  after_settled m w l y = state m.clock m.quantum (slice_set m.streams l.stream y) (slice_set m.workers w None)
+  after_settled m w l y =
+      state m.clock m.quantum (slice_set m.streams l.stream y) (slice_set m.workers w None)
 
 module _ {F : Type 0} (G : Type 0) where
   -- one band more, from there
-  at_once_more : (m : State F) (w k : ℕ) (l : Held) (x : StreamState F) → slice_get m.workers w ≡ Some (Some l)
+  at_once_more : (m : State F) (w k : ℕ) (l : Held) (x : StreamState F)
+      → slice_get m.workers w ≡ Some (Some l)
       → slice_get m.streams l.stream ≡ Some x
       → let r : Reply F G = Stepped in after (at_once m w k l x) (Band w) r ≡ at_once m w (suc k) l x
   at_once_more m w k l x e f =
@@ -114,7 +122,8 @@ module _ {F : Type 0} (G : Type 0) where
       ∙ ap (λ (h : Held). slice_set m.workers w (Some h))
       (used_more l (l.used + k + 1) (l.used + suc k) (omega arith)))
 
-module _ {F G : Type 0} (measures : StreamSpec → F → Bool → Type 0) (is_image : StreamSpec → F → G → Type 0) where
+module _ {F G : Type 0} (measures : StreamSpec → F → Bool → Type 0)
+    (is_image : StreamSpec → F → G → Type 0) where
   band_allowed : (m : State F) (w : ℕ) (l : Held) → slice_get m.workers w ≡ Some (Some l) → l.used ≢ l.grant
       → Allows measures is_image m (Band w) Stepped
   band_allowed m w l e n = rw e (rw (test_no l.used l.grant n) refl)
@@ -125,8 +134,13 @@ module _ {F G : Type 0} (measures : StreamSpec → F → Bool → Type 0) (is_im
       let before = at_once_is m w k l x e f (omega arith) in
       let less : l.used + k ≢ l.grant = omega arith in
       let allowed = band_allowed (at_once m w k l x) w (with_used k l) (lease_at_once m w k l x e) less in (
-        (before.0, subst (λ (n : State F). Allows measures is_image n (Band w) Stepped) (sym before.1) allowed),
-        ap (λ (n : State F). let r : Reply F G = Stepped in after n (Band w) r) before.1 ∙ at_once_more G m w k l x e f,
+        (
+          before.0,
+          subst (λ (n : State F). Allows measures is_image n (Band w) Stepped)
+              (sym before.1) allowed,
+        ),
+        ap (λ (n : State F). let r : Reply F G = Stepped in after n (Band w) r) before.1
+            ∙ at_once_more G m w k l x e f,
       )
 
   -- and the settlement after them

@@ -1,6 +1,7 @@
 -- The rules leave one choice.
-use Rattle.std.proofs.Common.{ℕ, ◌≡◌, ◌≤◌, ◌⊎◌, inl, inr, Bool, nat_lt, refl, sym, ◌∙◌, ap}
-use Rattle.std.proofs.Common.{subst, arith, List, Option, Some, None, slice_get, MatchOption, MatchBool, IsSomeAnd, true, false}
+use Rattle.std.proofs.Common.{ℕ, ◌≡◌, ◌≤◌, ◌⊎◌, inl, inr, Bool, nat_lt, refl, sym, ◌∙◌, ap, subst, arith}
+use Rattle.std.proofs.Common.{List, Option, Some, None, slice_get, MatchOption, MatchBool, IsSomeAnd, true}
+use Rattle.std.proofs.Common.{false}
 use Rattle.edf_pool.specs.Earliest.{IsEarliest, IsReady, NoneReady}
 use Rattle.serve_core.specs.declared.held.Held.{Held}
 use Rattle.serve_core.specs.declared.refusal.Refusal.{Refusal}
@@ -8,8 +9,8 @@ use Rattle.serve_core.specs.declared.refusal.Refusal.TheVariants as refusals
 use Rattle.serve_core.specs.Events.{Accepted, Arrive, Band, Close, Collect, GivenBack, Image, Lease, Leased}
 use Rattle.serve_core.specs.Events.{Refused, Reply, Settle, Tick}
 use Rattle.serve_core.specs.Laws.{AreDetermined, IsMemoryChoice, OneChoiceLaw}
-use Rattle.serve_core.specs.Rules.{AllowsArrive, AllowsCollect, AllowsLease, arrival_refusal, band_reply, close_reply}
-use Rattle.serve_core.specs.Rules.{grant, lack_reply, settle_reply}
+use Rattle.serve_core.specs.Rules.{AllowsArrive, AllowsCollect, AllowsLease, arrival_refusal, band_reply}
+use Rattle.serve_core.specs.Rules.{close_reply, grant, lack_reply, settle_reply}
 use Rattle.serve_core.specs.Setup.{StreamSpec}
 use Rattle.serve_core.specs.States.{State, StreamState, deadlines}
 use Rattle.serve_core.proofs.Options.{some_and}
@@ -83,7 +84,8 @@ module _ {F G : Type 0} where
   same_end None r q h k = absurd h
   same_end (Some x) r q h k = h ∙ sym k
 
-  same_stream : (o : Option (StreamState F)) (x : Reply F G) (P : Reply F G → StreamState F → Type 0) (r q : Reply F G)
+  same_stream : (o : Option (StreamState F)) (x : Reply F G) (P : Reply F G → StreamState F → Type 0)
+      (r q : Reply F G)
       → ((y : StreamState F) → P r y → P q y → r ≡ q)
       → MatchOption o (r ≡ x) (P r) → MatchOption o (q ≡ x) (P q) → r ≡ q
   same_stream None x P r q f h k = h ∙ sym k
@@ -97,8 +99,10 @@ module _ {F G : Type 0} where
   same_collect true (Some f) P k r q one h j = h.2 ∙ ap Image (one f h.0 j.0 h.1 j.1) ∙ sym j.2
   same_collect false o P k r q one h j = h ∙ sym j
 
-module _ {F G : Type 0} (measures : StreamSpec → F → Bool → Type 0) (is_image : StreamSpec → F → G → Type 0) where
-  arrive_choice : AreDetermined measures is_image → (o : Option (StreamState F)) (s : ℕ) (f : F) (r q : Reply F G)
+module _ {F G : Type 0} (measures : StreamSpec → F → Bool → Type 0)
+    (is_image : StreamSpec → F → G → Type 0) where
+  arrive_choice : AreDetermined measures is_image
+      → (o : Option (StreamState F)) (s : ℕ) (f : F) (r q : Reply F G)
       → MatchOption o (r ≡ GivenBack refusals.NoStream f) (λ x.
       (is_sized : Bool) × measures x.spec f is_sized × AllowsArrive is_sized x f r)
       → MatchOption o (q ≡ GivenBack refusals.NoStream f) (λ x.
@@ -134,5 +138,6 @@ module _ {F G : Type 0} (measures : StreamSpec → F → Bool → Type 0) (is_im
   one_choice one m (Collect s) r q h k =
       inl (same_stream (slice_get m.streams s) (Refused refusals.NoStream)
       (λ v x. AllowsCollect measures is_image x v) r q
-      (λ x a b. same_collect (nat_lt x.collected x.finished) (slice_get x.frames 0) (is_image x.spec) (lack_reply x)
+      (λ x a b. same_collect (nat_lt x.collected x.finished) (slice_get x.frames 0) (is_image x.spec)
+      (lack_reply x)
       r q (one.1 x.spec) a b) h k)

@@ -9,7 +9,8 @@ pub sum_cons : (c : ℕ) (costs : List ℕ) → sum (c ∷ costs) ≡ c + sum co
 sum_cons c costs = sum_by-cons (λ (x : ℕ). x) c costs
 
 -- one band more
-pub cost_more : (k : ℕ) (costs : List ℕ) → k < length costs → cost_of_first (k + 1) costs ≡ cost_of_first k costs + cost_of_band k costs
+pub cost_more : (k : ℕ) (costs : List ℕ) → k < length costs
+    → cost_of_first (k + 1) costs ≡ cost_of_first k costs + cost_of_band k costs
 cost_more k costs l = sum_by_more (λ (x : ℕ). x) costs k 0 l
 
 -- all bands

@@ -1,7 +1,8 @@
 -- Delay, demand, and what can be charged.
-use Rattle.std.proofs.Common.{ℕ, zero, suc, ◌+◌, ◌*◌, ◌^◌, ◌≡◌, ◌≤◌, ◌<◌, ◌⊎◌, inl, inr, Bool, true, false, nat_le}
-use Rattle.std.proofs.Common.{if◌then◌else◌, refl, sym, ◌∙◌, ap, arith, List, [], ◌∷◌, ◌++◌, filter, map, sum_by}
-use Rattle.std.proofs.Common.{Some, slice_get, le_trans, mul-le-mul_left, mul-le-mul_right, le_of_mul-le-mul_right}
+use Rattle.std.proofs.Common.{ℕ, zero, suc, ◌+◌, ◌*◌, ◌^◌, ◌≡◌, ◌≤◌, ◌<◌, ◌⊎◌, inl, inr, Bool, true, false}
+use Rattle.std.proofs.Common.{nat_le, if◌then◌else◌, refl, sym, ◌∙◌, ap, arith, List, [], ◌∷◌, ◌++◌, filter}
+use Rattle.std.proofs.Common.{map, sum_by, Some, slice_get, le_trans, mul-le-mul_left, mul-le-mul_right}
+use Rattle.std.proofs.Common.{le_of_mul-le-mul_right}
 use Rattle.std.proofs.lemmas.Bool.Decides.{nat_tests}
 use Rattle.std.proofs.lemmas.Grind.{div_ceil_times}
 use Rattle.std.proofs.lemmas.List.Sums.{sum_by-cons}
@@ -47,7 +48,8 @@ few_units f n s d k m b l o p q =
     omega (arith, one, two)
 
 -- the last deadline that there can be
-last_deadline : (d t p c : ℕ) → d ≤ t + p * (1 + c) → t ≤ 2 ^ 60 → p ≤ 1048576 → c ≤ 2 ^ 24 * 2 ^ 15 → d < 2 ^ 62
+last_deadline : (d t p c : ℕ) → d ≤ t + p * (1 + c) → t ≤ 2 ^ 60 → p ≤ 1048576 → c ≤ 2 ^ 24 * 2 ^ 15
+    → d < 2 ^ 62
 last_deadline d t p c h a b e =
     let one : p * (1 + c) ≤ 1048576 * (1 + c) = mul-le-mul_right (1 + c) b in
     omega (arith, h, one)
@@ -70,7 +72,8 @@ module _ {F : Type 0} where
         | inr l ↦ let p = h.account.paid l in omega (arith, p)
       ]
 
-  demand_one : (d : ℕ) (b : Bool) (x : StreamState F) (xs : List (StreamState F)) → nat_le x.account.deadline d ≡ b
+  demand_one : (d : ℕ) (b : Bool) (x : StreamState F) (xs : List (StreamState F))
+      → nat_le x.account.deadline d ≡ b
       → demand d (x ∷ xs) ≡ (if b then x.charged else 0) + demand d xs
   demand_one d true x xs e =
       rw e (sum_by-cons (λ (y : StreamState F). y.charged) x (filter (λ y. nat_le y.account.deadline d) xs))
@@ -79,14 +82,17 @@ module _ {F : Type 0} where
   abbrev shares : List (StreamState F) → ℕ
   shares xs = sum_by (λ x. its_share x.spec) xs
 
-  demand_more : (d : ℕ) (x : StreamState F) (xs : List (StreamState F)) (b : Bool) → nat_le x.account.deadline d ≡ b
+  demand_more : (d : ℕ) (x : StreamState F) (xs : List (StreamState F)) (b : Bool)
+      → nat_le x.account.deadline d ≡ b
       → (b ≡ true → x.charged * 1000000 ≤ d * its_share x.spec) → demand d xs * 1000000 ≤ d * shares xs
       → demand d (x ∷ xs) * 1000000 ≤ d * shares (x ∷ xs)
   demand_more d x xs true e c r =
       let here = c refl in
-      rw (demand_one d true x xs e, sum_by-cons (λ (y : StreamState F). its_share y.spec) x xs) (omega (arith, here, r))
+      rw (demand_one d true x xs e, sum_by-cons (λ (y : StreamState F). its_share y.spec) x xs)
+      (omega (arith, here, r))
   demand_more d x xs false e c r =
-      rw (demand_one d false x xs e, sum_by-cons (λ (y : StreamState F). its_share y.spec) x xs) (omega (arith, r))
+      rw (demand_one d false x xs e, sum_by-cons (λ (y : StreamState F). its_share y.spec) x xs)
+      (omega (arith, r))
 
   demand_within : (t d : ℕ) (xs : List (StreamState F))
       → ((s : ℕ) (x : StreamState F) → slice_get xs s ≡ Some x → IsSound t x)
@@ -125,11 +131,13 @@ module _ {F : Type 0} where
       let done = cost_of_first x.done (costs x.spec) in
       let few : x.finished * cost x.spec + done + k ≤ 2 ^ 24 * 2 ^ 15 =
       few_units x.finished x.accepted (cost x.spec) done k (2 ^ 24) (2 ^ 15) l many m h.limits.cost in
-      let last = last_deadline (after_units k x.account).deadline t x.spec.period (x.charged + k) paid.soon clock
+      let last = last_deadline (after_units k x.account).deadline t x.spec.period
+      (x.charged + k) paid.soon clock
       h.bandwidth.2 (omega (arith, few, h.charged)) in
       (omega (arith, m, h.limits.cost), last)
 
-module _ {F G : Type 0} (measures : StreamSpec → F → Bool → Type 0) (is_image : StreamSpec → F → G → Type 0) where
+module _ {F G : Type 0} (measures : StreamSpec → F → Bool → Type 0)
+    (is_image : StreamSpec → F → G → Type 0) where
   -- a stream of the summary is what its past makes of its spec
   pub past_of : (setup : Setup) (p : Transcript F G) (s : ℕ) (x : StreamState F)
       → slice_get (state_of setup p).streams s ≡ Some x
@@ -164,7 +172,8 @@ module _ {F G : Type 0} (measures : StreamSpec → F → Bool → Type 0) (is_im
         λ s x k. paid_always m.clock x (h.streams s x k),
         λ d.
             let one = demand_within m.clock d m.streams h.streams in
-            let same = specs_same (λ s spec. stream_of spec (past setup s p)) 0 setup.streams (λ s spec. refl) in
+            let same = specs_same (λ s spec. stream_of spec (past setup s p)) 0 setup.streams
+            (λ s spec. refl) in
             let two : d * shares m.streams ≤ d * (1000000 * setup.workers) = rw same (mul-le-mul_left d f) in
             omega (arith, one, two),
       )

@@ -1,35 +1,39 @@
 -- What a close and the answer Drained say of all that follows.
-use Rattle.std.proofs.Common.{ℕ, ◌≡◌, ◌≤◌, Bool, true, false, nat_eq, nat_lt, if◌then◌else◌, ◌&&◌, refl, sym, ◌∙◌, ap}
-use Rattle.std.proofs.Common.{subst, arith, List, length, take_all, Option, Some, None, slice_get, MatchBool}
-use Rattle.std.proofs.Common.{IsSomeAnd}
+use Rattle.std.proofs.Common.{ℕ, ◌≡◌, ◌≤◌, Bool, true, false, nat_eq, nat_lt, if◌then◌else◌, ◌&&◌, refl, sym}
+use Rattle.std.proofs.Common.{◌∙◌, ap, subst, arith, List, length, take_all, Option, Some, None, slice_get}
+use Rattle.std.proofs.Common.{MatchBool, IsSomeAnd}
 use Rattle.std.proofs.lemmas.Option.{MatchOption-at_some}
 use Rattle.std.specs.List.{AllZip}
 use Rattle.serve_core.specs.declared.refusal.Refusal.TheVariants as refusals
-use Rattle.serve_core.specs.Counts.{Deed, accepted, collected, deed}
-use Rattle.serve_core.specs.Counts.{delivered, frames, held_below, is_closed, now}
+use Rattle.serve_core.specs.Counts.{Deed, accepted, collected, deed, delivered, frames, held_below, is_closed}
+use Rattle.serve_core.specs.Counts.{now}
 use Rattle.serve_core.specs.Delivered.{CloseLaw, DrainedLaw}
 use Rattle.serve_core.specs.Events.{Collect, Image, Refused, Reply, Start, Then, Transcript, joined}
 use Rattle.serve_core.specs.Rules.{AllowsCollect, IsLegal}
 use Rattle.serve_core.specs.Setup.{IsWithin, Setup, StreamSpec}
 use Rattle.serve_core.specs.States.{StreamState, past, stream_of}
-use Rattle.serve_core.proofs.Pasts.{IsShutStill, delivered_is, length_frames, none_if, past_can, past_sound, shut_more}
-use Rattle.serve_core.proofs.Pasts.{stream_at}
+use Rattle.serve_core.proofs.Pasts.{IsShutStill, delivered_is, length_frames, none_if, past_can, past_sound}
+use Rattle.serve_core.proofs.Pasts.{shut_more, stream_at}
 use Rattle.serve_core.proofs.Turns.{tested_ge, tested_eq}
 
-module _ {F G : Type 0} (measures : StreamSpec → F → Bool → Type 0) (is_image : StreamSpec → F → G → Type 0) where
+module _ {F G : Type 0} (measures : StreamSpec → F → Bool → Type 0)
+    (is_image : StreamSpec → F → G → Type 0) where
   -- what a legal transcript begins with is legal
-  pub legal_before : (setup : Setup) (q later : Transcript F G) → IsLegal measures is_image setup (joined q later)
+  pub legal_before : (setup : Setup) (q later : Transcript F G)
+      → IsLegal measures is_image setup (joined q later)
       → IsLegal measures is_image setup q
   legal_before setup q Start l = l
   legal_before setup q (Then p e r) l = legal_before setup q p l.0
 
-  shut_still : (setup : Setup) (q later : Transcript F G) (s : ℕ) (spec : StreamSpec) (h : List (Deed F)) → IsWithin setup
+  shut_still : (setup : Setup) (q later : Transcript F G) (s : ℕ) (spec : StreamSpec) (h : List (Deed F))
+      → IsWithin setup
       → IsLegal measures is_image setup (joined q later) → slice_get setup.streams s ≡ Some spec
       → IsShutStill h (past setup s q) → IsShutStill h (past setup s (joined q later))
   shut_still setup q Start s spec h v l k i = i
   shut_still setup q (Then p e r) s spec h v l k i =
       let before = joined q p in
-      shut_more (now before) spec h (past setup s before) (deed s (now before) (held_below setup.workers before) e r)
+      shut_more (now before) spec h (past setup s before)
+      (deed s (now before) (held_below setup.workers before) e r)
       (past_can measures is_image setup before e r s spec v l k) (shut_still setup q p s spec h v l.0 k i)
 
   pub close_is : CloseLaw measures is_image
@@ -38,7 +42,8 @@ module _ {F G : Type 0} (measures : StreamSpec → F → Bool → Type 0) (is_im
       let still = shut_still setup q b.0 s spec (past setup s q) v whole k (c, refl, omega arith) in
       ap (λ (p : Transcript F G). frames (past setup s p)) b.1 ∙ still.1
 
-  drained_test : (b c d : Bool) (P : F → Type 0) (o : Option F) → let r : Reply F G = Refused refusals.Drained in
+  drained_test : (b c d : Bool) (P : F → Type 0) (o : Option F)
+      → let r : Reply F G = Refused refusals.Drained in
       ((f : F) → P f → ⊥)
       → MatchBool b (IsSomeAnd o P) (r ≡ Refused (if c && d then refusals.Drained else refusals.Empty))
       → (b ≡ false) × (c ≡ true) × (d ≡ true)
@@ -73,7 +78,8 @@ module _ {F G : Type 0} (measures : StreamSpec → F → Bool → Type 0) (is_im
   all_delivered setup p s spec v l k e =
       let h = past setup s p in
       let many : length (frames h) ≤ collected h = omega (arith, e, length_frames h) in
-      subst (λ (fs : List F). AllZip (is_image spec) fs (delivered s p)) (take_all (collected h) (frames h) many)
+      subst (λ (fs : List F). AllZip (is_image spec) fs (delivered s p))
+      (take_all (collected h) (frames h) many)
       (delivered_is measures is_image setup p s spec v l k)
 
   drained_joined : (setup : Setup) (q later : Transcript F G) (s : ℕ) (spec : StreamSpec) → IsWithin setup
@@ -86,7 +92,8 @@ module _ {F G : Type 0} (measures : StreamSpec → F → Bool → Type 0) (is_im
       let p : Transcript F G = joined now later in
       let at : IsLegal measures is_image setup now = legal_before setup now later l in
       let was = past_sound measures is_image setup q s spec v at.0 k in
-      let answer = MatchOption-at_some (d ≡ Refused refusals.NoStream) (λ x. AllowsCollect measures is_image x d)
+      let answer = MatchOption-at_some (d ≡ Refused refusals.NoStream)
+      (λ x. AllowsCollect measures is_image x d)
       (stream_of spec (past setup s q)) (stream_at measures is_image setup q s spec k) at.1 in
       let facts = drained_facts (stream_of spec (past setup s q)) answer in
       let same : past setup s now ≡ past setup s q = none_if F (nat_eq s s) (past setup s q) in

@@ -11,7 +11,8 @@ use Rattle.serve_core.proofs.Pasts.{delivered_is, stream_at}
 use Rattle.serve_core.proofs.Soundness.{one_item}
 use Rattle.serve_core.proofs.Turns.{lease_inv}
 
-module _ {F G : Type 0} (measures : StreamSpec → F → Bool → Type 0) (is_image : StreamSpec → F → G → Type 0) where
+module _ {F G : Type 0} (measures : StreamSpec → F → Bool → Type 0)
+    (is_image : StreamSpec → F → G → Type 0) where
   served_is : (setup : Setup) (p : Transcript F G) (s : ℕ) (spec : StreamSpec) → IsWithin setup
       → IsLegal measures is_image setup p → slice_get setup.streams s ≡ Some spec
       → IsServed measures is_image setup p s spec
@@ -26,7 +27,8 @@ module _ {F G : Type 0} (measures : StreamSpec → F → Bool → Type 0) (is_im
   }
 
   lease_legal : (setup : Setup) (q : Transcript F G) (w s n g : ℕ)
-      → IsLegal measures is_image setup (Then q (Lease w) (Leased s n g)) → IsEarliest (deadlines (state_of setup q)) s
+      → IsLegal measures is_image setup (Then q (Lease w) (Leased s n g))
+      → IsEarliest (deadlines (state_of setup q)) s
   lease_legal setup q w s n g l =
       let m = state_of setup q in
       (lease_inv F G (slice_get m.workers w) (AllowsLease {F = F} {G = G} m (Leased s n g)) s n g l.1).1.0

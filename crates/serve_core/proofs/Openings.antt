@@ -11,16 +11,19 @@ use Rattle.serve_core.proofs.Kept.{step_sound}
 use Rattle.serve_core.proofs.Summary.{summary_more}
 
 module _ {F G : Type 0} where
-  pub from_opening : (setup : Setup) (p : Transcript F G) → state_of setup p ≡ state_from (opening_state F G setup) p
+  pub from_opening : (setup : Setup) (p : Transcript F G)
+      → state_of setup p ≡ state_from (opening_state F G setup) p
   from_opening setup Start = refl
   from_opening setup (Then p e r) =
       summary_more F G setup p e r ∙ ap (λ (m : State F). after m e r) (from_opening setup p)
 
-  pub joined_state : (m : State F) (p q : Transcript F G) → state_from m (joined p q) ≡ state_from (state_from m p) q
+  pub joined_state : (m : State F) (p q : Transcript F G)
+      → state_from m (joined p q) ≡ state_from (state_from m p) q
   joined_state m p Start = refl
   joined_state m p (Then q e r) = ap (λ (n : State F). after n e r) (joined_state m p q)
 
-module _ {F G : Type 0} (measures : StreamSpec → F → Bool → Type 0) (is_image : StreamSpec → F → G → Type 0) where
+module _ {F G : Type 0} (measures : StreamSpec → F → Bool → Type 0)
+    (is_image : StreamSpec → F → G → Type 0) where
   pub step_is : StepLaw measures is_image
   step_is setup p e r l a = ((l, a), summary_more F G setup p e r)
 
@@ -32,7 +35,8 @@ module _ {F G : Type 0} (measures : StreamSpec → F → Bool → Type 0) (is_im
     subst (λ (m : State F). Allows measures is_image m e r) (from_opening setup p) l.1,
   )
 
-  opening_legal : (setup : Setup) (p : Transcript F G) → IsLegalFrom measures is_image (opening_state F G setup) p
+  opening_legal : (setup : Setup) (p : Transcript F G)
+      → IsLegalFrom measures is_image (opening_state F G setup) p
       → IsLegal measures is_image setup p
   opening_legal setup Start l = tt
   opening_legal setup (Then p e r) l = (
@@ -60,7 +64,8 @@ module _ {F G : Type 0} (measures : StreamSpec → F → Bool → Type 0) (is_im
   pub going_on_is : GoingOnLaw measures is_image
   going_on_is setup p q n l h =
       let m = opening_state F G setup in
-      let led : Leads measures is_image m p (state_of setup p) = (legal_opening setup p l, sym (from_opening setup p)) in
+      let led : Leads measures is_image m p (state_of setup p) =
+      (legal_opening setup p l, sym (from_opening setup p)) in
       let all = join_is m (state_of setup p) n p q led h in
       (opening_legal setup (joined p q) all.0, from_opening setup (joined p q) ∙ all.1)
 

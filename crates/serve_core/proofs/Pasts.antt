@@ -1,16 +1,19 @@
 -- What a legal transcript says of one stream's past.
-use Rattle.std.proofs.Common.{ℕ, ◌+◌, ◌≡◌, ◌≤◌, ◌<◌, inl, inr, Bool, true, false, nat_eq, if◌then◌else◌, refl, sym, ◌∙◌, ap, subst, arith, List, [], ◌∷◌, ◌++◌, take, drop, length, get_or, Option, Some, None, slice_get, add-zero}
-use Rattle.std.proofs.lemmas.List.{length_push, drop-append-le, take-append-le, drop-drop, take_more, get_or-drop}
+use Rattle.std.proofs.Common.{ℕ, ◌+◌, ◌≡◌, ◌≤◌, ◌<◌, inl, inr, Bool, true, false, nat_eq, if◌then◌else◌, refl}
+use Rattle.std.proofs.Common.{sym, ◌∙◌, ap, subst, arith, List, [], ◌∷◌, ◌++◌, take, drop, length, get_or}
+use Rattle.std.proofs.Common.{Option, Some, None, slice_get, add-zero}
+use Rattle.std.proofs.lemmas.List.{length_push, drop-append-le, take-append-le, drop-drop, take_more}
+use Rattle.std.proofs.lemmas.List.{get_or-drop}
 use Rattle.std.proofs.lemmas.Option.{MatchOption-at_some, get_or_from_slice_get}
 use Rattle.std.specs.List.{AllZip}
 use Rattle.serve_core.specs.declared.refusal.Refusal.TheVariants as refusals
 use Rattle.serve_core.specs.Counts.{Back, Came, Deed, Ended, Lent, Shut, Taken, Worked, accepted, came}
-use Rattle.serve_core.specs.Counts.{collected, deed, delivered, frames, has_stream, held_below, is_closed, lent, now}
-use Rattle.serve_core.specs.Counts.{settled, shut, waiting, with_deed, worked}
+use Rattle.serve_core.specs.Counts.{collected, deed, delivered, frames, has_stream, held_below, is_closed}
+use Rattle.serve_core.specs.Counts.{lent, now, settled, shut, waiting, with_deed, worked}
 use Rattle.serve_core.specs.Delivered.{DeliveredLaw}
 use Rattle.serve_core.specs.Events.{Accepted, Arrive, Band, Close, Closing, Collect, Event, Finished, Image}
-use Rattle.serve_core.specs.Events.{Lease, Leased, Refused, Reply, Returned, Settle, Start, Stepped, Then, Tick}
-use Rattle.serve_core.specs.Events.{Transcript}
+use Rattle.serve_core.specs.Events.{Lease, Leased, Refused, Reply, Returned, Settle, Start, Stepped, Then}
+use Rattle.serve_core.specs.Events.{Tick, Transcript}
 use Rattle.serve_core.specs.Laws.{ChargeLaw, HolderLaw}
 use Rattle.serve_core.specs.Rules.{AllowsCollect, IsLegal}
 use Rattle.serve_core.specs.Setup.{IsWithin, Setup, StreamSpec}
@@ -34,9 +37,12 @@ module _ {F : Type 0} where
   length_frames (Taken ∷ h) = length_frames h
 
   -- what waits is what isn't collected
-  waiting_more : (h : List (Deed F)) (o : Option (Deed F)) → collected h ≤ length (frames h) → waiting h ≡ drop (collected h) (frames h) → waiting (with_deed o h) ≡ drop (collected (with_deed o h)) (frames (with_deed o h))
+  waiting_more : (h : List (Deed F)) (o : Option (Deed F)) → collected h ≤ length (frames h)
+      → waiting h ≡ drop (collected h) (frames h)
+      → waiting (with_deed o h) ≡ drop (collected (with_deed o h)) (frames (with_deed o h))
   waiting_more h None l e = e
-  waiting_more h (Some (Came t f)) l e = ap (λ (xs : List F). xs ++ f ∷ []) e ∙ sym (drop-append-le (collected h) (frames h) (f ∷ []) l)
+  waiting_more h (Some (Came t f)) l e = ap (λ (xs : List F). xs ++ f ∷ []) e
+      ∙ sym (drop-append-le (collected h) (frames h) (f ∷ []) l)
   waiting_more h (Some Worked) l e = e
   waiting_more h (Some (Lent w)) l e = e
   waiting_more h (Some Back) l e = e
@@ -49,7 +55,8 @@ module _ {F : Type 0} where
   IsUntaken o = Unit {0}
 
   -- the frames that were taken, where none more is
-  taken_same : (h : List (Deed F)) (o : Option (Deed F)) → IsUntaken o → collected h ≤ length (frames h) → take (collected (with_deed o h)) (frames (with_deed o h)) ≡ take (collected h) (frames h)
+  taken_same : (h : List (Deed F)) (o : Option (Deed F)) → IsUntaken o → collected h ≤ length (frames h)
+      → take (collected (with_deed o h)) (frames (with_deed o h)) ≡ take (collected h) (frames h)
   taken_same h None u l = refl
   taken_same h (Some (Came t f)) u l = take-append-le (collected h) (frames h) (f ∷ []) l
   taken_same h (Some Worked) u l = refl
@@ -60,17 +67,23 @@ module _ {F : Type 0} where
   taken_same h (Some Taken) u l = absurd u
 
   -- one more frame is taken
-  taken_more : (h : List (Deed F)) (f : F) → collected h < length (frames h) → waiting h ≡ drop (collected h) (frames h) → slice_get (waiting h) 0 ≡ Some f → take (collected h + 1) (frames h) ≡ take (collected h) (frames h) ++ f ∷ []
+  taken_more : (h : List (Deed F)) (f : F) → collected h < length (frames h)
+      → waiting h ≡ drop (collected h) (frames h) → slice_get (waiting h) 0 ≡ Some f
+      → take (collected h + 1) (frames h) ≡ take (collected h) (frames h) ++ f ∷ []
   taken_more h f l e k =
       let first : get_or (waiting h) 0 f ≡ f = get_or_from_slice_get (waiting h) 0 f f k in
-      let at : get_or (frames h) (collected h) f ≡ f = ap (λ (n : ℕ). get_or (frames h) n f) (sym (add-zero (collected h))) ∙ sym (get_or-drop (collected h) (frames h) 0 f) ∙ ap (λ (xs : List F). get_or xs 0 f) (sym e) ∙ first in
+      let at : get_or (frames h) (collected h) f ≡ f =
+      ap (λ (n : ℕ). get_or (frames h) n f) (sym (add-zero (collected h)))
+      ∙ sym (get_or-drop (collected h) (frames h) 0 f) ∙ ap (λ (xs : List F). get_or xs 0 f) (sym e)
+      ∙ first in
       take_more (frames h) (collected h) f l ∙ ap (λ (x : F). take (collected h) (frames h) ++ x ∷ []) at
 
   -- nothing comes to a closed stream
   abbrev pub IsShutStill : List (Deed F) → List (Deed F) → Type 0
   IsShutStill h k = (is_closed k ≡ true) × (frames k ≡ frames h) × (collected h ≤ collected k)
 
-  pub shut_more : (t : ℕ) (spec : StreamSpec) (h k : List (Deed F)) (o : Option (Deed F)) → CanAny t (stream_of spec k) o → IsShutStill h k → IsShutStill h (with_deed o k)
+  pub shut_more : (t : ℕ) (spec : StreamSpec) (h k : List (Deed F)) (o : Option (Deed F))
+      → CanAny t (stream_of spec k) o → IsShutStill h k → IsShutStill h (with_deed o k)
   shut_more t spec h k None c s = s
   shut_more t spec h k (Some (Came r f)) c s = absurd (let open_still = c.1 in let shut_now = s.0 in cc)
   shut_more t spec h k (Some Worked) c s = s
@@ -80,7 +93,8 @@ module _ {F : Type 0} where
   shut_more t spec h k (Some Shut) c s = (refl, s.1, s.2)
   shut_more t spec h k (Some Taken) c s = (s.0, s.1, omega (arith, s.2))
 
-zip_push : {X Y : Type 0} (R : X → Y → Type 0) (xs : List X) (ys : List Y) (x : X) (y : Y) → AllZip R xs ys → R x y
+zip_push : {X Y : Type 0} (R : X → Y → Type 0) (xs : List X) (ys : List Y) (x : X) (y : Y) → AllZip R xs ys
+    → R x y
     → AllZip R (xs ++ x ∷ []) (ys ++ y ∷ [])
 zip_push R [] [] x y h r = (r, tt)
 zip_push R [] (b ∷ ys) x y h r = absurd h
@@ -121,27 +135,46 @@ module _ {F G : Type 0} where
   untaken_lent s w (Leased u n g) = untaken_if F (nat_eq u s) w
   untaken_lent s w r = tt
 
-module _ {F G : Type 0} (measures : StreamSpec → F → Bool → Type 0) (is_image : StreamSpec → F → G → Type 0) where
-  pub stream_at : (setup : Setup) (p : Transcript F G) (s : ℕ) (spec : StreamSpec) → slice_get setup.streams s ≡ Some spec → slice_get (state_of setup p).streams s ≡ Some (stream_of spec (past setup s p))
+module _ {F G : Type 0} (measures : StreamSpec → F → Bool → Type 0)
+    (is_image : StreamSpec → F → G → Type 0) where
+  pub stream_at : (setup : Setup) (p : Transcript F G) (s : ℕ) (spec : StreamSpec)
+      → slice_get setup.streams s ≡ Some spec
+      → slice_get (state_of setup p).streams s ≡ Some (stream_of spec (past setup s p))
   stream_at setup p s spec k = map_at_get (λ s spec. stream_of spec (past setup s p)) s setup.streams spec k
 
   -- the stream after a legal transcript is sound
-  pub past_sound : (setup : Setup) (p : Transcript F G) (s : ℕ) (spec : StreamSpec) → IsWithin setup → IsLegal measures is_image setup p → slice_get setup.streams s ≡ Some spec → IsSound (now p) (stream_of spec (past setup s p))
-  past_sound setup p s spec v l k = (sound measures is_image setup p v l).streams s (stream_of spec (past setup s p)) (stream_at setup p s spec k)
+  pub past_sound : (setup : Setup) (p : Transcript F G) (s : ℕ) (spec : StreamSpec) → IsWithin setup
+      → IsLegal measures is_image setup p → slice_get setup.streams s ≡ Some spec
+      → IsSound (now p) (stream_of spec (past setup s p))
+  past_sound setup p s spec v l k =
+      (sound measures is_image setup p v l).streams s (stream_of spec (past setup s p))
+      (stream_at setup p s spec k)
 
   -- and the next deed can be
-  pub past_can : (setup : Setup) (p : Transcript F G) (e : Event F) (r : Reply F G) (s : ℕ) (spec : StreamSpec) → IsWithin setup → IsLegal measures is_image setup (Then p e r) → slice_get setup.streams s ≡ Some spec
+  pub past_can : (setup : Setup) (p : Transcript F G) (e : Event F) (r : Reply F G) (s : ℕ)
+      (spec : StreamSpec) → IsWithin setup → IsLegal measures is_image setup (Then p e r)
+      → slice_get setup.streams s ≡ Some spec
       → CanAny (now p) (stream_of spec (past setup s p)) (deed s (now p) (held_below setup.workers p) e r)
   past_can setup p e r s spec v l k =
-      let c = can measures is_image (state_of setup p) e r s (stream_of spec (past setup s p)) (sound measures is_image setup p v l.0) l.1 (stream_at setup p s spec k) in
-      subst (CanAny (now p) (stream_of spec (past setup s p))) (sym (deed_same s (now p) (held_below setup.workers p) (held_at (state_of setup p).workers) e r (held_by_list setup p))) c
+      let c = can measures is_image (state_of setup p) e r s (stream_of spec (past setup s p))
+      (sound measures is_image setup p v l.0) l.1 (stream_at setup p s spec k) in
+      subst (CanAny (now p) (stream_of spec (past setup s p)))
+      (sym (deed_same s (now p) (held_below setup.workers p) (held_at (state_of setup p).workers) e r
+      (held_by_list setup p))) c
 
-  taken_within : (setup : Setup) (p : Transcript F G) (s : ℕ) (spec : StreamSpec) → IsWithin setup → IsLegal measures is_image setup p → slice_get setup.streams s ≡ Some spec → collected (past setup s p) ≤ length (frames (past setup s p))
-  taken_within setup p s spec v l k = let h = past_sound setup p s spec v l k in omega (arith, length_frames (past setup s p), h.in_order, h.finished)
+  taken_within : (setup : Setup) (p : Transcript F G) (s : ℕ) (spec : StreamSpec) → IsWithin setup
+      → IsLegal measures is_image setup p → slice_get setup.streams s ≡ Some spec
+      → collected (past setup s p) ≤ length (frames (past setup s p))
+  taken_within setup p s spec v l k = let h = past_sound setup p s spec v l k in
+      omega (arith, length_frames (past setup s p), h.in_order, h.finished)
 
-  pub waiting_is : (setup : Setup) (p : Transcript F G) (s : ℕ) (spec : StreamSpec) → IsWithin setup → IsLegal measures is_image setup p → slice_get setup.streams s ≡ Some spec → waiting (past setup s p) ≡ drop (collected (past setup s p)) (frames (past setup s p))
+  pub waiting_is : (setup : Setup) (p : Transcript F G) (s : ℕ) (spec : StreamSpec) → IsWithin setup
+      → IsLegal measures is_image setup p → slice_get setup.streams s ≡ Some spec
+      → waiting (past setup s p) ≡ drop (collected (past setup s p)) (frames (past setup s p))
   waiting_is setup Start s spec v l k = refl
-  waiting_is setup (Then p e r) s spec v l k = waiting_more (past setup s p) (deed s (now p) (held_below setup.workers p) e r) (taken_within setup p s spec v l.0 k) (waiting_is setup p s spec v l.0 k)
+  waiting_is setup (Then p e r) s spec v l k =
+      waiting_more (past setup s p) (deed s (now p) (held_below setup.workers p) e r)
+      (taken_within setup p s spec v l.0 k) (waiting_is setup p s spec v l.0 k)
 
   -- these are the images of the frames that were taken
   abbrev pub Gave : StreamSpec → List (Deed F) → List G → Type 0
@@ -157,8 +190,10 @@ module _ {F G : Type 0} (measures : StreamSpec → F → Bool → Type 0) (is_im
   gave_none spec h true images g = g
   gave_none spec h false images g = g
 
-  gave_more : (spec : StreamSpec) (h : List (Deed F)) (images : List G) (g : G) → collected h < length (frames h)
-      → waiting h ≡ drop (collected h) (frames h) → AllowsCollect measures is_image (stream_of spec h) (Image g)
+  gave_more : (spec : StreamSpec) (h : List (Deed F)) (images : List G) (g : G)
+      → collected h < length (frames h)
+      → waiting h ≡ drop (collected h) (frames h)
+      → AllowsCollect measures is_image (stream_of spec h) (Image g)
       → Gave spec h images → Gave spec (Taken ∷ h) (images ++ g ∷ [])
   gave_more spec h images g l e c gave =
       let f = (image_facts measures is_image (stream_of spec h) g c).1 in
@@ -173,7 +208,8 @@ module _ {F G : Type 0} (measures : StreamSpec → F → Bool → Type 0) (is_im
   gave_image setup p s spec g v l k gave =
       let h = past setup s p in
       let c = MatchOption-at_some (let r : Reply F G = Image g in r ≡ Refused refusals.NoStream)
-      (λ x. AllowsCollect measures is_image x (Image g)) (stream_of spec h) (stream_at setup p s spec k) l.1 in
+      (λ x. AllowsCollect measures is_image x (Image g)) (stream_of spec h)
+      (stream_at setup p s spec k) l.1 in
       let sound = past_sound setup p s spec v l.0 k in
       let taken = (image_facts measures is_image (stream_of spec h) g c).0 in
       let less : collected h < length (frames h) = omega (arith, length_frames h, sound.finished, taken) in
@@ -203,7 +239,8 @@ module _ {F G : Type 0} (measures : StreamSpec → F → Bool → Type 0) (is_im
       let before = delivered_is setup p s spec v l.0 k in
       elim (same_or u s) [
         | inl q ↦ rw q.1 (gave_image setup p s spec g v
-            (subst (λ (t : ℕ). IsLegal measures is_image setup (Then p (Collect t) (Image g))) q.0 l) k before)
+            (subst (λ (t : ℕ). IsLegal measures is_image setup (Then p (Collect t) (Image g))) q.0 l)
+            k before)
         | inr q ↦ rw q.1 before
       ]
   delivered_is setup (Then p (Collect u) r) s spec v l k =

@@ -1,6 +1,6 @@
 -- Streams that are ready, and what the earliest deadline says of them.
-use Rattle.std.proofs.Common.{ℕ, ◌-◌, ◌≡◌, ◌≤◌, ◌<◌, Bool, true, false, ◌&&◌, nat_lt, Option, Some, None, is_none}
-use Rattle.std.proofs.Common.{slice_get, if◌then◌else◌, refl, sym, ◌∙◌, ap, subst, arith}
+use Rattle.std.proofs.Common.{ℕ, ◌-◌, ◌≡◌, ◌≤◌, ◌<◌, Bool, true, false, ◌&&◌, nat_lt, Option, Some, None}
+use Rattle.std.proofs.Common.{is_none, slice_get, if◌then◌else◌, refl, sym, ◌∙◌, ap, subst, arith}
 use Rattle.std.proofs.lemmas.Bool.Decides.{nat_tests}
 use Rattle.std.proofs.lemmas.Option.{slice_get-map}
 use Rattle.edf_pool.specs.Earliest.{IsEarliest}
@@ -36,12 +36,17 @@ module _ {F : Type 0} where
   pub ready_facts : (x : StreamState F) → is_ready x ≡ true → IsReady x
   ready_facts x h =
       let one = both (nat_lt x.finished x.accepted) _ h in
-      let two = both (is_none x.holder) _ one.1 in
-      (less_is x.finished x.accepted one.0, none_is x.holder two.0, less_is (x.finished - x.collected) x.spec.outbox two.1)
+      let two = both (is_none x.holder) _ one.1 in (
+        less_is x.finished x.accepted one.0,
+        none_is x.holder two.0,
+        less_is
+            (x.finished - x.collected) x.spec.outbox two.1,
+      )
 
   pub ready_test : (x : StreamState F) → IsReady x → is_ready x ≡ true
   ready_test x h =
-      rw (less_test x.finished x.accepted h.0, h.1, less_test (x.finished - x.collected) x.spec.outbox h.2) refl
+      rw (less_test x.finished x.accepted h.0, h.1, less_test (x.finished - x.collected) x.spec.outbox h.2)
+      refl
 
   pub deadline_at : (m : State F) (s : ℕ) (x : StreamState F) → slice_get m.streams s ≡ Some x
       → slice_get (deadlines m) s ≡ Some (ready_deadline x)
@@ -55,7 +60,8 @@ module _ {F : Type 0} where
       → slice_get m.streams s ≡ Some x → (is_ready x ≡ true) × (h.deadline ≡ x.account.deadline)
   earliest_shown m s x h e =
       let shown : Some (ready_deadline x) ≡ Some (Some h.deadline) = sym (deadline_at m s x e) ∙ h.ready in
-      shown_or (is_ready x) x.account.deadline h.deadline (some_same (ready_deadline x) (Some h.deadline) shown)
+      shown_or (is_ready x) x.account.deadline h.deadline
+      (some_same (ready_deadline x) (Some h.deadline) shown)
 
   pub earliest_ready : (m : State F) (s : ℕ) (x : StreamState F) → IsEarliest (deadlines m) s
       → slice_get m.streams s ≡ Some x → IsReady x
@@ -66,4 +72,5 @@ module _ {F : Type 0} where
       → x.account.deadline ≤ y.account.deadline
   earliest_due m s u x y h e f ready =
       let shown = deadline_at m u y f ∙ ap Some (ready_shown y ready) in
-      subst (λ (d : ℕ). d ≤ y.account.deadline) (earliest_shown m s x h e).1 (h.earliest u y.account.deadline shown)
+      subst (λ (d : ℕ). d ≤ y.account.deadline) (earliest_shown m s x h e).1
+      (h.earliest u y.account.deadline shown)

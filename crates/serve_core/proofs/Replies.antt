@@ -1,6 +1,7 @@
 -- Each event has a right reply.
-use Rattle.std.proofs.Common.{ℕ, zero, suc, ◌≡◌, ◌≤◌, ◌<◌, ◌⊎◌, inl, inr, Bool, nat_lt, refl, subst, arith, le_trans}
-use Rattle.std.proofs.Common.{List, [], ◌∷◌, length, Option, Some, None, slice_get, MatchOption, MatchBool, IsSomeAnd, true, false}
+use Rattle.std.proofs.Common.{ℕ, zero, suc, ◌≡◌, ◌≤◌, ◌<◌, ◌⊎◌, inl, inr, Bool, nat_lt, refl, subst, arith}
+use Rattle.std.proofs.Common.{le_trans, List, [], ◌∷◌, length, Option, Some, None, slice_get, MatchOption}
+use Rattle.std.proofs.Common.{MatchBool, IsSomeAnd, true, false}
 use Rattle.edf_pool.specs.Earliest.{IsEarliest, IsReady, NoneReady}
 use Rattle.serve_core.specs.declared.held.Held.{Held}
 use Rattle.serve_core.specs.declared.refusal.Refusal.{Refusal}
@@ -8,8 +9,8 @@ use Rattle.serve_core.specs.declared.refusal.Refusal.TheVariants as refusals
 use Rattle.serve_core.specs.Events.{Accepted, Arrive, Band, Close, Collect, GivenBack, Image, Lease, Leased}
 use Rattle.serve_core.specs.Events.{Refused, Reply, Settle, Tick}
 use Rattle.serve_core.specs.Laws.{AnswerLaw}
-use Rattle.serve_core.specs.Rules.{AllowsArrive, AllowsCollect, AllowsLease, arrival_refusal, band_reply, close_reply}
-use Rattle.serve_core.specs.Rules.{grant, lack_reply, settle_reply, tick_reply}
+use Rattle.serve_core.specs.Rules.{AllowsArrive, AllowsCollect, AllowsLease, arrival_refusal, band_reply}
+use Rattle.serve_core.specs.Rules.{close_reply, grant, lack_reply, settle_reply, tick_reply}
 use Rattle.serve_core.specs.Setup.{StreamSpec}
 use Rattle.serve_core.specs.Sound.{IsSound}
 use Rattle.serve_core.specs.States.{State, StreamState, deadlines, ready_deadline}
@@ -38,7 +39,8 @@ later_first ds d s h l (suc t) e r = h.earliest t e r
 
 later_lowest : (ds : List (Option ℕ)) (d : Option ℕ) (s : ℕ) (h : IsEarliest ds s)
     → ((e : ℕ) → d ≡ Some e → h.deadline < e) → (t : ℕ) → IsReady (d ∷ ds) t h.deadline → suc s ≤ t
-later_lowest ds d s h l zero r = absurd (let less = l h.deadline (at_first d ds h.deadline r) in omega (arith, less))
+later_lowest ds d s h l zero r =
+    absurd (let less = l h.deadline (at_first d ds h.deadline r) in omega (arith, less))
 later_lowest ds d s h l (suc t) r = let low = h.lowest t r in omega (arith, low)
 
 later_earliest : (ds : List (Option ℕ)) (d : Option ℕ) (s : ℕ) (h : IsEarliest ds s)
@@ -55,8 +57,10 @@ first_due : (d : ℕ) (ds : List (Option ℕ)) → ((t e : ℕ) → IsReady ds t
 first_due d ds h zero e r = let same : d ≡ e = some_same d e (at_first (Some d) ds e r) in omega (arith, same)
 first_due d ds h (suc t) e r = h t e r
 
-first_earliest : (d : ℕ) (ds : List (Option ℕ)) → ((t e : ℕ) → IsReady ds t e → d ≤ e) → IsEarliest (Some d ∷ ds) 0
-first_earliest d ds h = record { deadline = d; ready = refl; earliest = first_due d ds h; lowest = λ t r. omega arith }
+first_earliest : (d : ℕ) (ds : List (Option ℕ)) → ((t e : ℕ) → IsReady ds t e → d ≤ e)
+    → IsEarliest (Some d ∷ ds) 0
+first_earliest d ds h =
+    record { deadline = d; ready = refl; earliest = first_due d ds h; lowest = λ t r. omega arith }
 
 not_some : (e : ℕ) → None ≡ Some e → ⊥
 not_some e p = cc
@@ -109,12 +113,14 @@ module _ {F G : Type 0} where
   answer_step (Some (Some l)) P f = f l refl
 
   answer_stream : (o : Option (StreamState F)) (x : Reply F G) (P : Reply F G → StreamState F → Type 0)
-      → ((y : StreamState F) → o ≡ Some y → (r : Reply F G) × P r y) → (r : Reply F G) × MatchOption o (r ≡ x) (P r)
+      → ((y : StreamState F) → o ≡ Some y → (r : Reply F G) × P r y)
+      → (r : Reply F G) × MatchOption o (r ≡ x) (P r)
   answer_stream None x P f = (x, refl)
   answer_stream (Some y) x P f = f y refl
 
   answer_arrival : (o : Option Refusal) (a : ℕ) (f : F)
-      → (r : Reply F G) × MatchOption o ((r ≡ Accepted a) ⊎ (r ≡ GivenBack refusals.NoMemory f)) (λ k. r ≡ GivenBack k f)
+      → (r : Reply F G) × MatchOption o ((r ≡ Accepted a) ⊎ (r ≡ GivenBack refusals.NoMemory f))
+      (λ k. r ≡ GivenBack k f)
   answer_arrival None a f = (Accepted a, inl refl)
   answer_arrival (Some k) a f = (GivenBack k f, refl)
 
@@ -131,7 +137,8 @@ first_item : {X : Type 0} (xs : List X) → 0 < length xs → (x : X) × (slice_
 first_item [] l = absurd (omega arith)
 first_item (x ∷ xs) l = (x, refl)
 
-module _ {F G : Type 0} (measures : StreamSpec → F → Bool → Type 0) (is_image : StreamSpec → F → G → Type 0) where
+module _ {F G : Type 0} (measures : StreamSpec → F → Bool → Type 0)
+    (is_image : StreamSpec → F → G → Type 0) where
   finished_frame : (t : ℕ) (x : StreamState F) → IsSound t x → nat_lt x.collected x.finished ≡ true
       → (f : F) × (slice_get x.frames 0 ≡ Some f)
   finished_frame t x h test =
@@ -152,7 +159,8 @@ module _ {F G : Type 0} (measures : StreamSpec → F → Bool → Type 0) (is_im
   answers sizes m (Settle w) h images =
       answer_step (slice_get m.workers w)
       (λ r l. IsSomeAnd (slice_get m.streams l.stream) (λ x. r ≡ settle_reply x))
-      (λ l e. let x = h.leases w l e in (settle_reply x.0, and_some (slice_get m.streams l.stream) _ x.0 x.1 refl))
+      (λ l e. let x = h.leases w l e in
+      (settle_reply x.0, and_some (slice_get m.streams l.stream) _ x.0 x.1 refl))
   answers sizes m (Tick to) h images = (tick_reply m.clock to, refl)
   answers sizes m (Close s) h images =
       answer_stream (slice_get m.streams s) (Refused refusals.NoStream) (λ r x. r ≡ close_reply x)

@@ -1,6 +1,6 @@
 -- A deed of one stream and a change of one lease, in the lists of all.
-use Rattle.std.proofs.Common.{ℕ, zero, suc, ◌+◌, ◌≡◌, ◌≢◌, List, [], ◌∷◌, Option, Some, None, Bool, true, false, nat_eq}
-use Rattle.std.proofs.Common.{slice_get, slice_set, refl, sym, ◌∙◌, ap, arith, if◌then◌else◌}
+use Rattle.std.proofs.Common.{ℕ, zero, suc, ◌+◌, ◌≡◌, ◌≢◌, List, [], ◌∷◌, Option, Some, None, Bool, true}
+use Rattle.std.proofs.Common.{false, nat_eq, slice_get, slice_set, refl, sym, ◌∙◌, ap, arith, if◌then◌else◌}
 use Rattle.std.proofs.lemmas.Bool.Decides.{nat_tests}
 use Rattle.serve_core.specs.declared.held.Held.{Held}
 use Rattle.serve_core.specs.Counts.{Deed}
@@ -10,7 +10,8 @@ use Rattle.serve_core.proofs.Lists.{map_at_kept, map_at_one}
 abbrev pub new_lease : ℕ → ℕ → ℕ → Held
 new_lease s n g = record { stream = s; number = n; grant = g; used = 0 }
 
-pub held_at_is : (ws : List (Option Held)) (w : ℕ) (h : Option Held) → slice_get ws w ≡ Some h → held_at ws w ≡ h
+pub held_at_is : (ws : List (Option Held)) (w : ℕ) (h : Option Held) → slice_get ws w ≡ Some h
+    → held_at ws w ≡ h
 held_at_is [] w h e = absurd (cc)
 held_at_is (g ∷ gs) zero h e = cc
 held_at_is (g ∷ gs) (suc w) h e = held_at_is gs w h e
@@ -27,14 +28,16 @@ other_lease : (f : Option Held → Option Held) (w v : ℕ) (h : Option Held) �
     → (if nat_eq w v then f h else h) ≡ h
 other_lease f w v h n = grind (arith, nat_tests)
 
-this_lease : (f : Option Held → Option Held) (w : ℕ) (h : Option Held) → (if nat_eq w (w + 0) then f h else h) ≡ f h
+this_lease : (f : Option Held → Option Held) (w : ℕ) (h : Option Held)
+    → (if nat_eq w (w + 0) then f h else h) ≡ f h
 this_lease f w h = grind (arith, nat_tests)
 
 -- one lease changes
 pub one_lease : (f : Option Held → Option Held) (w : ℕ) (ws : List (Option Held)) (h : Option Held)
     → slice_get ws w ≡ Some h → map_at 0 (λ v g. if nat_eq w v then f g else g) ws ≡ slice_set ws w (f h)
 one_lease f w ws h e =
-    map_at_one (λ v g. if nat_eq w v then f g else g) 0 w ws h e (other_lease f w) ∙ ap (slice_set ws w) (this_lease f w h)
+    map_at_one (λ v g. if nat_eq w v then f g else g) 0 w ws h e (other_lease f w)
+    ∙ ap (slice_set ws w) (this_lease f w h)
 
 module _ {F : Type 0} where
   abbrev pub state : ℕ → ℕ → List (StreamState F) → List (Option Held) → State F

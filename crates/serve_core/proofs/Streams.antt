@@ -1,5 +1,7 @@
 -- Each deed that can be keeps a stream sound.
-use Rattle.std.proofs.Common.{ℕ, ◌+◌, ◌*◌, ◌≡◌, ◌≢◌, ◌≤◌, ◌<◌, ◌⊎◌, inl, inr, true, false, nat_eq, if◌then◌else◌, refl, sym, ◌∙◌, ap, subst, arith, [], Option, Some, None, length-drop}
+use Rattle.std.proofs.Common.{ℕ, ◌+◌, ◌*◌, ◌≡◌, ◌≢◌, ◌≤◌, ◌<◌, ◌⊎◌, inl, inr, true, false, nat_eq}
+use Rattle.std.proofs.Common.{if◌then◌else◌, refl, sym, ◌∙◌, ap, subst, arith, [], Option, Some, None}
+use Rattle.std.proofs.Common.{length-drop}
 use Rattle.std.proofs.lemmas.Bool.Decides.{nat_tests}
 use Rattle.std.proofs.lemmas.List.{length_push}
 use Rattle.cbs_account.specs.Rules.{after_idle}
@@ -16,7 +18,9 @@ pub same_or : (a b : ℕ) → ((a ≡ b) × (nat_eq a b ≡ true)) ⊎ ((a ≢ b
 same_or a b = grind (arith, nat_tests)
 
 -- a frame that is finished cost all that its bands cost
-ended_charge : (f d : ℕ) (spec : StreamSpec) (c : ℕ) → d ≡ steps spec → c ≡ f * cost spec + cost_of_first d (costs spec) → c ≡ (f + 1) * cost spec + cost_of_first 0 (costs spec)
+ended_charge : (f d : ℕ) (spec : StreamSpec) (c : ℕ) → d ≡ steps spec
+    → c ≡ f * cost spec + cost_of_first d (costs spec)
+    → c ≡ (f + 1) * cost spec + cost_of_first 0 (costs spec)
 ended_charge f d spec c e h =
     let all : cost_of_first d (costs spec) ≡ cost spec = rw e (cost_all (costs spec)) in
     omega (arith, h, all)
@@ -24,7 +28,8 @@ ended_charge f d spec c e h =
 module _ {F : Type 0} where
   -- what a deed takes
   abbrev pub Can : ℕ → StreamState F → Deed F → Type 0
-  Can t x (Came r f) = (r ≡ t) × (x.is_closed ≡ false) × (x.accepted ≢ x.spec.frames) × (x.accepted < x.finished + x.spec.queue)
+  Can t x (Came r f) = (r ≡ t) × (x.is_closed ≡ false) × (x.accepted ≢ x.spec.frames)
+      × (x.accepted < x.finished + x.spec.queue)
   Can t x Worked = (out_count x.holder ≡ 1) × (x.done < steps x.spec)
   Can t x (Lent w) = IsReady x
   Can t x Back = (out_count x.holder ≡ 1) × (x.done < steps x.spec)
@@ -36,7 +41,8 @@ module _ {F : Type 0} where
   CanAny t x None = Unit {0}
   CanAny t x (Some d) = Can t x d
 
-  pub opened_sound : (spec : StreamSpec) → IsWithinLimits spec → HasBandwidth spec → IsSound 0 (stream_of {F = F} spec [])
+  pub opened_sound : (spec : StreamSpec) → IsWithinLimits spec → HasBandwidth spec
+      → IsSound 0 (stream_of {F = F} spec [])
   opened_sound spec k v = record {
     limits = k;
     bandwidth = v;
@@ -70,11 +76,16 @@ module _ {F : Type 0} where
     frames = h.frames;
   }
 
-  came_paid : (t : ℕ) (x : StreamState F) → IsSound t x → IsPaid x.spec t (x.accepted + 1) x.charged (if nat_eq x.accepted x.finished then after_idle t x.account else x.account)
+  came_paid : (t : ℕ) (x : StreamState F) → IsSound t x
+      → IsPaid x.spec t (x.accepted + 1) x.charged
+      (if nat_eq x.accepted x.finished then after_idle t x.account else x.account)
   came_paid t x h =
       elim (same_or x.accepted x.finished) [
-        | inl p ↦ rw p.1 (paid_arrived x.spec t x.accepted x.charged x.account h.bandwidth (λ z. let n : x.finished ≡ 0 = omega arith in let d : x.done ≡ 0 = h.idle (sym p.0) in h.charged ∙ rw (n, d) (omega arith)) h.account)
-        | inr p ↦ rw p.1 (paid_kept x.spec t x.accepted x.charged x.account (omega (arith, h.finished)) h.account)
+        | inl p ↦ rw p.1 (paid_arrived x.spec t x.accepted x.charged x.account h.bandwidth
+            (λ z. let n : x.finished ≡ 0 = omega arith in let d : x.done ≡ 0 = h.idle (sym p.0) in h.charged
+            ∙ rw (n, d) (omega arith)) h.account)
+        | inr p ↦ rw p.1 (paid_kept x.spec t x.accepted x.charged x.account
+            (omega (arith, h.finished)) h.account)
       ]
 
   pub did_sound : (t : ℕ) (x : StreamState F) (d : Deed F) → IsSound t x → Can t x d → IsSound t (did x d)
@@ -82,7 +93,9 @@ module _ {F : Type 0} where
       record {
         limits = h.limits;
         bandwidth = h.bandwidth;
-        account = subst (λ (m : ℕ). IsPaid x.spec t (x.accepted + 1) x.charged (if nat_eq x.accepted x.finished then after_idle m x.account else x.account)) (sym c.0) (came_paid t x h);
+        account = subst (λ (m : ℕ). IsPaid x.spec t (x.accepted + 1) x.charged
+            (if nat_eq x.accepted x.finished then after_idle m x.account else x.account)) (sym c.0)
+            (came_paid t x h);
         charged = h.charged;
         done = h.done;
         rest = h.rest;
@@ -98,7 +111,8 @@ module _ {F : Type 0} where
       record {
         limits = h.limits;
         bandwidth = h.bandwidth;
-        account = units_paid x.spec t x.accepted x.charged (next_cost x) x.account h.bandwidth (omega (arith, h.finished, c.0)) h.account;
+        account = units_paid x.spec t x.accepted x.charged (next_cost x) x.account h.bandwidth
+            (omega (arith, h.finished, c.0)) h.account;
         charged = omega (arith, h.charged, cost_more x.done (costs x.spec) c.1);
         done = omega (arith, c.1);
         rest = λ e. absurd (let z : out_count x.holder ≡ 0 = ap out_count e in omega (arith, c.0, z));
@@ -191,6 +205,7 @@ module _ {F : Type 0} where
         frames = omega (arith, length-drop 1 x.frames, h.frames, h.finished, c);
       }
 
-  pub did_any_sound : (t : ℕ) (x : StreamState F) (o : Option (Deed F)) → IsSound t x → CanAny t x o → IsSound t (did_any x o)
+  pub did_any_sound : (t : ℕ) (x : StreamState F) (o : Option (Deed F)) → IsSound t x → CanAny t x o
+      → IsSound t (did_any x o)
   did_any_sound t x None h c = h
   did_any_sound t x (Some d) h c = did_sound t x d h c

@@ -1,13 +1,15 @@
 -- Bands that are charged at once, where their lease is settled.
-use Rattle.std.specs.Prelude.{ℕ, zero, suc, ◌+◌, ◌≡◌, ◌≤◌, Bool, drop, slice_get, slice_set, Some, IsSomeAnd}
+use Rattle.std.specs.Prelude.{ℕ, zero, suc, ◌+◌, ◌≡◌, ◌≤◌, drop, slice_get, slice_set, Some, IsSomeAnd}
 use Rattle.cbs_account.specs.Rules.{after_units}
 use Rattle.serve_core.specs.declared.held.Held.{Held}
-use Rattle.serve_core.specs.Events.{Event, Lease, Band, Settle, Reply, Leased, Stepped, Transcript, Start, Then}
+use Rattle.serve_core.specs.Events.{Event, Lease, Band, Settle, Reply, Leased, Stepped, Transcript, Start}
+use Rattle.serve_core.specs.Events.{Then}
 use Rattle.serve_core.specs.Grants.{cost_of_first}
 use Rattle.serve_core.specs.Leads.{Leads}
 use Rattle.serve_core.specs.Rules.{Allows}
-use Rattle.serve_core.specs.Setup.{StreamSpec, costs}
+use Rattle.serve_core.specs.Setup.{costs}
 use Rattle.serve_core.specs.Sound.{Sound}
+use Rattle.serve_core.specs.Setup.{ImageRelation, SizeTest}
 use Rattle.serve_core.specs.States.{StreamState, State, after}
 
 -- a lease with k bands more
@@ -51,7 +53,7 @@ module _ {F G : Type 0} where
   abbrev pub bands_settled : (w k : ℕ) → Reply F G → Transcript F G
   bands_settled w k r = Then (bands w k) (Settle w) r
 
-module _ {F G : Type 0} (measures : StreamSpec → F → Bool → Type 0) (is_image : StreamSpec → F → G → Type 0) where
+module _ {F G : Type 0} (measures : SizeTest F) (is_image : ImageRelation F G) where
   -- bands that are charged one by one lead to where their sum leads at once
   abbrev pub AtOnceLaw : Type 0
   AtOnceLaw =

@@ -1,10 +1,10 @@
 -- Bare transcripts: those without their frames and images.
-use Rattle.std.specs.Prelude.{◌≡◌, ⊤, Bool, map}
-use Rattle.serve_core.specs.Events.{Event, Arrive, Lease, Band, Settle, Tick, Close, Collect, Transcript, Start, Then}
-use Rattle.serve_core.specs.Events.{Reply, Accepted, Leased, Stepped, Returned, Finished, Ticked, Closing, Image}
-use Rattle.serve_core.specs.Events.{Refused, GivenBack}
+use Rattle.std.specs.Prelude.{◌≡◌, ⊤, map}
+use Rattle.serve_core.specs.Events.{Event, Arrive, Lease, Band, Settle, Tick, Close, Collect, Transcript}
+use Rattle.serve_core.specs.Events.{Start, Then, Reply, Accepted, Leased, Stepped, Returned, Finished, Ticked}
+use Rattle.serve_core.specs.Events.{Closing, Image, Refused, GivenBack}
 use Rattle.serve_core.specs.Rules.{IsLegal}
-use Rattle.serve_core.specs.Setup.{Setup, StreamSpec}
+use Rattle.serve_core.specs.Setup.{Setup, ImageRelation, SizeTest}
 use Rattle.serve_core.specs.States.{StreamState, State, state_of}
 
 -- what stands for a frame that is left unread
@@ -12,10 +12,10 @@ abbrev pub Blank : Type 0
 Blank = Unit {0}
 
 -- it may have the stream's size or not, and its image is left unread too
-abbrev pub measures_any : StreamSpec → Blank → Bool → Type 0
+abbrev pub measures_any : SizeTest Blank
 measures_any spec frame is_sized = ⊤
 
-abbrev pub is_any_image : StreamSpec → Blank → Blank → Type 0
+abbrev pub is_any_image : ImageRelation Blank Blank
 is_any_image spec source image = ⊤
 
 module _ {F : Type 0} where
@@ -48,7 +48,12 @@ module _ {F : Type 0} where
 
   abbrev pub bare_state : State F → State Blank
   bare_state m =
-      record { clock = m.clock; quantum = m.quantum; streams = map bare_stream m.streams; workers = m.workers }
+      record {
+        clock = m.clock;
+        quantum = m.quantum;
+        streams = map bare_stream m.streams;
+        workers = m.workers;
+      }
 
 module _ {F G : Type 0} where
   abbrev pub bare_reply : Reply F G → Reply Blank Blank
@@ -67,9 +72,10 @@ module _ {F G : Type 0} where
   bare Start = Start
   bare (Then p e r) = Then (bare p) (bare_event e) (bare_reply r)
 
-module _ {F G : Type 0} (measures : StreamSpec → F → Bool → Type 0) (is_image : StreamSpec → F → G → Type 0) where
+module _ {F G : Type 0} (measures : SizeTest F) (is_image : ImageRelation F G) where
   -- a legal transcript without its frames is legal, and leads to the state without its frames
   abbrev pub BareLaw : Type 0
   BareLaw =
       (setup : Setup) (p : Transcript F G) → IsLegal measures is_image setup p
-      → IsLegal measures_any is_any_image setup (bare p) × (state_of setup (bare p) ≡ bare_state (state_of setup p))
+      → IsLegal measures_any is_any_image setup (bare p)
+      × (state_of setup (bare p) ≡ bare_state (state_of setup p))

@@ -3,12 +3,13 @@ use Rattle.std.specs.Prelude.{ℕ, ◌+◌, Bool, true, false, nat_eq, nat_lt, L
 use Rattle.std.specs.Prelude.{Option, Some, None, if◌then◌else◌}
 use Rattle.cbs_account.specs.Rules.{OwnEvent, UnitOfWork, Idle}
 use Rattle.serve_core.specs.declared.held.Held.{Held}
-use Rattle.serve_core.specs.Events.{Event, Arrive, Lease, Band, Settle, Tick, Close, Collect, Transcript, Start, Then}
-use Rattle.serve_core.specs.Events.{Reply, Accepted, Leased, Stepped, Returned, Finished, Ticked, Closing, Image}
+use Rattle.serve_core.specs.Events.{Event, Arrive, Lease, Band, Settle, Tick, Close, Collect, Transcript}
+use Rattle.serve_core.specs.Events.{Start, Then, Reply, Accepted, Leased, Stepped, Returned, Finished, Ticked}
+use Rattle.serve_core.specs.Events.{Closing, Image}
 use Rattle.serve_core.specs.Grants.{cost_of_band}
 
--- what happens to one stream: a frame comes, a band of its frame is done, the frame is lent to a worker, comes back or
--- is finished, the stream is shut, and an image of it is taken
+-- what happens to one stream: a frame comes, a band of its frame is done, the frame is lent to a worker,
+-- comes back or is finished, the stream is shut, and an image of it is taken
 pub data Deed (F : Type 0) : Type 0 where
   Came : (moment : ℕ) (frame : F) → Deed F
   Worked : Deed F
@@ -20,7 +21,8 @@ pub data Deed (F : Type 0) : Type 0 where
 
 abbrev pub one_more_used : Option Held → Option Held
 one_more_used None = None
-one_more_used (Some l) = Some (record { stream = l.stream; number = l.number; grant = l.grant; used = l.used + 1 })
+one_more_used (Some l) =
+    Some (record { stream = l.stream; number = l.number; grant = l.grant; used = l.used + 1 })
 
 -- whether a worker has stream s
 abbrev pub has_stream : ℕ → Option Held → Bool
@@ -173,8 +175,8 @@ module _ {F : Type 0} where
   waiting (Taken ∷ h) = drop 1 (waiting h)
   waiting (d ∷ h) = waiting h
 
-  -- what the stream's account lives by, the latest first: the arrivals that find no unfinished frame, and as many units
-  -- for each band as it costs
+  -- what the stream's account lives by, the latest first: the arrivals that find no unfinished frame, and as
+  -- many units for each band as it costs
   abbrev pub own_events : List ℕ → List (Deed F) → List OwnEvent
   own_events costs [] = []
   own_events costs (Came t f ∷ h) =

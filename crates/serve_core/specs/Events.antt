@@ -1,4 +1,5 @@
--- Transcripts: what was asked of the machine, and what it answered. A frame is of any type F, an image of any type G.
+-- Transcripts: what was asked of the machine, and what it answered. A frame is of any type F, an image of any
+-- type G.
 use Rattle.std.specs.Prelude.{ℕ, List, ◌∷◌}
 use Rattle.serve_core.specs.declared.refusal.Refusal.{Refusal}
 

@@ -1,5 +1,5 @@
 -- What is promised of every run: the headline.
-use Rattle.std.specs.Prelude.{ℕ, ◌≡◌, Bool, IsTrue, take, slice_get, Some}
+use Rattle.std.specs.Prelude.{ℕ, ◌≡◌, IsTrue, take, slice_get, Some}
 use Rattle.std.specs.List.{AllZip}
 use Rattle.cbs_account.specs.Rules.{cbs}
 use Rattle.edf_pool.specs.Earliest.{IsEarliest}
@@ -8,10 +8,10 @@ use Rattle.serve_core.specs.Counts.{collected, is_closed, frames, own_events, de
 use Rattle.serve_core.specs.Delivered.{BeginsWith}
 use Rattle.serve_core.specs.Events.{Lease, Collect, Leased, Refused, Transcript, Then}
 use Rattle.serve_core.specs.Rules.{IsLegal}
-use Rattle.serve_core.specs.Setup.{Setup, StreamSpec, IsWithin, costs}
+use Rattle.serve_core.specs.Setup.{Setup, StreamSpec, IsWithin, costs, ImageRelation, SizeTest}
 use Rattle.serve_core.specs.States.{StreamState, state_of, past, deadlines}
 
-module _ {F G : Type 0} (measures : StreamSpec → F → Bool → Type 0) (is_image : StreamSpec → F → G → Type 0) where
+module _ {F G : Type 0} (measures : SizeTest F) (is_image : ImageRelation F G) where
   -- stream s of the setup after the transcript p
   pub record IsServed (setup : Setup) (p : Transcript F G) (s : ℕ) (spec : StreamSpec) : Type 0 where
     -- its delivered list is the images of its first accepted frames, in order, each once
@@ -31,7 +31,8 @@ module _ {F G : Type 0} (measures : StreamSpec → F → Bool → Type 0) (is_im
         → x.account ≡ cbs spec.maximum spec.period (own_events (costs spec) (past setup s p))
 
   pub record IsAsPromised (setup : Setup) (p : Transcript F G) : Type 0 where
-    pub streams : (s : ℕ) (spec : StreamSpec) → slice_get setup.streams s ≡ Some spec → IsServed setup p s spec
+    pub streams : (s : ℕ) (spec : StreamSpec) → slice_get setup.streams s ≡ Some spec
+        → IsServed setup p s spec
     -- every lease goes to an earliest deadline
     pub leases :
         (q : Transcript F G) (w s number grant : ℕ) → BeginsWith p (Then q (Lease w) (Leased s number grant))
@@ -39,4 +40,5 @@ module _ {F G : Type 0} (measures : StreamSpec → F → Bool → Type 0) (is_im
 
   abbrev pub HeadlineLaw : Type 0
   HeadlineLaw =
-      (setup : Setup) (p : Transcript F G) → IsWithin setup → IsLegal measures is_image setup p → IsAsPromised setup p
+      (setup : Setup) (p : Transcript F G) → IsWithin setup → IsLegal measures is_image setup p
+      → IsAsPromised setup p

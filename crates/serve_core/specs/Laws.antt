@@ -1,16 +1,18 @@
 -- Laws of legal transcripts: soundness, what is right to answer, charges, delay and demand.
-use Rattle.std.specs.Prelude.{ℕ, ◌+◌, ◌*◌, ◌≡◌, ◌≤◌, ◌↔◌, ◌⊎◌, Bool, IsTrue, nat_le, List, ◌∷◌, ◌++◌, filter, sum_by}
-use Rattle.std.specs.Prelude.{slice_get, Some}
+use Rattle.std.specs.Prelude.{ℕ, ◌+◌, ◌*◌, ◌≡◌, ◌≤◌, ◌↔◌, ◌⊎◌, Bool, IsTrue, nat_le, List, ◌∷◌, ◌++◌, filter}
+use Rattle.std.specs.Prelude.{sum_by, slice_get, Some}
 use Rattle.cbs_account.specs.Laws.{unit_count}
 use Rattle.cbs_account.specs.Rules.{OwnEvent, Idle}
 use Rattle.serve_core.specs.declared.held.Held.{Held}
 use Rattle.serve_core.specs.declared.refusal.Refusal.TheVariants as refusals
 use Rattle.serve_core.specs.Counts.{own_events}
-use Rattle.serve_core.specs.Events.{Event, Arrive, Lease, Reply, Accepted, Leased, GivenBack, Transcript, Then}
+use Rattle.serve_core.specs.Events.{Event, Arrive, Lease, Reply, Accepted, Leased, GivenBack, Transcript}
+use Rattle.serve_core.specs.Events.{Then}
 use Rattle.serve_core.specs.Grants.{cost_of_first}
 use Rattle.serve_core.specs.Rules.{IsLegal, Allows}
 use Rattle.serve_core.specs.Setup.{Setup, StreamSpec, IsWithin, Fits, costs, cost}
 use Rattle.serve_core.specs.Sound.{Sound}
+use Rattle.serve_core.specs.Setup.{ImageRelation, SizeTest}
 use Rattle.serve_core.specs.States.{StreamState, State, state_of, after, past, is_ready}
 
 -- what the streams were charged whose deadline is at most d
@@ -23,11 +25,12 @@ module _ {F G : Type 0} where
   IsMemoryChoice e r q =
       (s n : ℕ) × (f : F) × (e ≡ Arrive s f) × (r ≡ Accepted n) × (q ≡ GivenBack refusals.NoMemory f)
 
-module _ {F G : Type 0} (measures : StreamSpec → F → Bool → Type 0) (is_image : StreamSpec → F → G → Type 0) where
+module _ {F G : Type 0} (measures : SizeTest F) (is_image : ImageRelation F G) where
   -- each right reply keeps a state sound
   abbrev pub SoundStepLaw : Type 0
   SoundStepLaw =
-      (m : State F) (e : Event F) (r : Reply F G) → Sound m → Allows measures is_image m e r → Sound (after m e r)
+      (m : State F) (e : Event F) (r : Reply F G) → Sound m → Allows measures is_image m e r
+      → Sound (after m e r)
 
   -- each legal transcript leads to a sound state
   abbrev pub SoundLaw : Type 0
@@ -71,8 +74,8 @@ module _ {F G : Type 0} (measures : StreamSpec → F → Bool → Type 0) (is_im
       → IsLegal measures is_image setup p → slice_get (state_of setup p).streams s ≡ Some x
       → x.charged ≡ x.finished * cost x.spec + cost_of_first x.done (costs x.spec)
 
-  -- where s is leased while u is ready, and n units of s came since an idle arrival of s at r, with the c, Q and T of s
-  -- before the lease: (n + c) * T <= (d_u - r) * Q
+  -- where s is leased while u is ready, and n units of s came since an idle arrival of s at r, with the c, Q
+  -- and T of s before the lease: (n + c) * T <= (d_u - r) * Q
   abbrev pub DelayLaw : Type 0
   DelayLaw =
       (setup : Setup) (p : Transcript F G) (w s number grant u r : ℕ) (x y : StreamState F)

@@ -1,9 +1,10 @@
 -- Transcripts from any opening state.
-use Rattle.std.specs.Prelude.{◌≡◌, ◌↔◌, ⊤, Bool}
+use Rattle.std.specs.Prelude.{◌≡◌, ◌↔◌, ⊤}
 use Rattle.serve_core.specs.Events.{Event, Reply, Transcript, Start, Then, joined}
 use Rattle.serve_core.specs.Rules.{Allows, IsLegal}
-use Rattle.serve_core.specs.Setup.{Setup, StreamSpec}
+use Rattle.serve_core.specs.Setup.{Setup}
 use Rattle.serve_core.specs.Sound.{Sound}
+use Rattle.serve_core.specs.Setup.{ImageRelation, SizeTest}
 use Rattle.serve_core.specs.States.{State, state_of, after, opening}
 
 module _ {F G : Type 0} where
@@ -16,7 +17,7 @@ module _ {F G : Type 0} where
 abbrev pub opening_state : (F G : Type 0) → Setup → State F
 opening_state F G setup = state_of setup (opening {F = F} {G = G})
 
-module _ {F G : Type 0} (measures : StreamSpec → F → Bool → Type 0) (is_image : StreamSpec → F → G → Type 0) where
+module _ {F G : Type 0} (measures : SizeTest F) (is_image : ImageRelation F G) where
   -- from the opening state on, each reply is one that is right after what came before it
   abbrev pub IsLegalFrom : State F → Transcript F G → Type 0
   IsLegalFrom m Start = ⊤
@@ -31,7 +32,8 @@ module _ {F G : Type 0} (measures : StreamSpec → F → Bool → Type 0) (is_im
   StepLaw =
       (setup : Setup) (p : Transcript F G) (e : Event F) (r : Reply F G) → IsLegal measures is_image setup p
       → Allows measures is_image (state_of setup p) e r
-      → IsLegal measures is_image setup (Then p e r) × (state_of setup (Then p e r) ≡ after (state_of setup p) e r)
+      → IsLegal measures is_image setup (Then p e r)
+      × (state_of setup (Then p e r) ≡ after (state_of setup p) e r)
 
   -- a setup's transcripts are those from the state before any event
   abbrev pub OpeningLaw : Type 0

@@ -1,19 +1,19 @@
 -- Which replies the machine may give.
-use Rattle.std.specs.Prelude.{ℕ, ◌-◌, ◌≡◌, ◌^◌, ◌⊎◌, ⊤, Bool, not, ◌&&◌, nat_eq, nat_lt, nat_le, drop, slice_get}
-use Rattle.std.specs.Prelude.{Option, Some, None, MatchOption, MatchBool, IsSomeAnd, if◌then◌else◌}
+use Rattle.std.specs.Prelude.{ℕ, ◌-◌, ◌≡◌, ◌^◌, ◌⊎◌, ⊤, Bool, not, ◌&&◌, nat_eq, nat_lt, nat_le, drop}
+use Rattle.std.specs.Prelude.{slice_get, Option, Some, None, MatchOption, MatchBool, IsSomeAnd, if◌then◌else◌}
 use Rattle.edf_pool.specs.Earliest.{IsEarliest, NoneReady}
 use Rattle.serve_core.specs.declared.held.Held.{Held}
 use Rattle.serve_core.specs.declared.refusal.Refusal.{Refusal}
 use Rattle.serve_core.specs.declared.refusal.Refusal.TheVariants as refusals
-use Rattle.serve_core.specs.Events.{Event, Arrive, Lease, Band, Settle, Tick, Close, Collect, Transcript, Start, Then}
-use Rattle.serve_core.specs.Events.{Reply, Accepted, Leased, Stepped, Returned, Finished, Ticked, Closing, Image}
-use Rattle.serve_core.specs.Events.{Refused, GivenBack}
+use Rattle.serve_core.specs.Events.{Event, Arrive, Lease, Band, Settle, Tick, Close, Collect, Transcript}
+use Rattle.serve_core.specs.Events.{Start, Then, Reply, Accepted, Leased, Stepped, Returned, Finished, Ticked}
+use Rattle.serve_core.specs.Events.{Closing, Image, Refused, GivenBack}
 use Rattle.serve_core.specs.Grants.{grant_of}
-use Rattle.serve_core.specs.Setup.{Setup, StreamSpec, costs, steps}
+use Rattle.serve_core.specs.Setup.{Setup, costs, steps, ImageRelation, SizeTest}
 use Rattle.serve_core.specs.States.{StreamState, State, state_of, deadlines}
 
 module _ {F : Type 0} where
-  -- why a frame is refused: the first reason that holds. is_sized tells whether the frame has the stream's size
+  -- why a frame is refused: the first reason that holds. is_sized: whether it has the stream's size
   abbrev pub arrival_refusal : Bool → StreamState F → Option Refusal
   arrival_refusal is_sized x =
       if x.is_closed then Some refusals.Closed
@@ -62,9 +62,7 @@ module _ {F G : Type 0} where
   lack_reply x =
       Refused (if x.is_closed && nat_eq x.accepted x.finished then refusals.Drained else refusals.Empty)
 
--- measures spec f is_sized: frame f may be found to have the stream's size, or not to have it. is_image spec f g: g is
--- the image of f
-module _ {F G : Type 0} (measures : StreamSpec → F → Bool → Type 0) (is_image : StreamSpec → F → G → Type 0) where
+module _ {F G : Type 0} (measures : SizeTest F) (is_image : ImageRelation F G) where
   -- an image of the first frame that isn't collected, where that is finished
   abbrev pub AllowsCollect : StreamState F → Reply F G → Type 0
   AllowsCollect x r =

@@ -1,5 +1,5 @@
 -- What a machine is made for, and the limits of its numbers.
-use Rattle.std.specs.Prelude.{ℕ, ◌≡◌, ◌≤◌, ◌^◌, All, List, length, map, sum}
+use Rattle.std.specs.Prelude.{ℕ, Bool, ◌≡◌, ◌≤◌, ◌^◌, All, List, length, map, sum}
 use Rattle.cbs_account.specs.Admission.{Load, Reservation, load_of}
 use Rattle.cbs_account.specs.Admission as admission
 use Rattle.cbs_account.specs.Balance.{IsBandwidth}
@@ -15,10 +15,18 @@ pub record StreamSpec : Type 0 where
   -- Q and T of its account: Q units in every T moments
   pub maximum : ℕ
   pub period : ℕ
-  -- how many frames may be unfinished, how many may be finished and not collected, and how many may be accepted at all
+  -- how many frames may be unfinished, how many finished ones uncollected, and how many may come at all
   pub queue : ℕ
   pub outbox : ℕ
   pub frames : ℕ
+
+-- how a test of a frame's size may come out: in one way, or in both where the frame is left unread
+abbrev pub SizeTest : Type 0 → Type 1
+SizeTest F = (spec : StreamSpec) (frame : F) (is_sized : Bool) → Type 0
+
+-- whether an image is that of a frame
+abbrev pub ImageRelation : Type 0 → Type 0 → Type 1
+ImageRelation F G = (spec : StreamSpec) (source : F) (image : G) → Type 0
 
 -- the workers, the most bands of one lease, and the streams, numbered from 0
 pub record Setup : Type 0 where

@@ -19,7 +19,8 @@ pub record IsPaid (spec : StreamSpec) (t n c : ℕ) (a : Balance) : Type 0 where
   pub most : a.budget ≤ spec.maximum
   pub first : n ≡ 0 → a.deadline ≡ 0
   pub soon : a.deadline ≤ t + spec.period * (1 + c)
-  -- with the budget that is left, the units are no more than the bandwidth's part of the time up to the deadline
+  -- with the budget that is left, the units are no more than the bandwidth's part of the time up to the
+  -- deadline
   pub paid : 1 ≤ n → (c + a.budget) * spec.period ≤ a.deadline * spec.maximum
 
 module _ {F : Type 0} where

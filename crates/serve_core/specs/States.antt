@@ -1,12 +1,12 @@
 -- The state that a transcript leads to, which is its summary, and what one more event makes of it.
-use Rattle.std.specs.Prelude.{ℕ, zero, suc, ◌+◌, ◌-◌, Bool, true, ◌&&◌, List, [], ◌∷◌, ◌++◌, drop, map, replicate}
-use Rattle.std.specs.Prelude.{nat_eq, nat_lt, Option, Some, None, is_none, if◌then◌else◌}
+use Rattle.std.specs.Prelude.{ℕ, zero, suc, ◌+◌, ◌-◌, Bool, true, ◌&&◌, List, [], ◌∷◌, ◌++◌, drop, map}
+use Rattle.std.specs.Prelude.{replicate, nat_eq, nat_lt, Option, Some, None, is_none, if◌then◌else◌}
 use Rattle.cbs_account.specs.Balance.{Balance}
 use Rattle.cbs_account.specs.Rules.{after_units, after_idle, cbs}
 use Rattle.serve_core.specs.declared.held.Held.{Held}
 use Rattle.serve_core.specs.Counts.{Deed, Came, Worked, Lent, Back, Ended, Shut, Taken, deed, history}
-use Rattle.serve_core.specs.Counts.{clock_after, now, held_after, held, waiting, own_events}
-use Rattle.serve_core.specs.Counts.{accepted, finished, collected, is_closed, charged, done, holder}
+use Rattle.serve_core.specs.Counts.{clock_after, now, held_after, held, waiting, own_events, accepted}
+use Rattle.serve_core.specs.Counts.{finished, collected, is_closed, charged, done, holder}
 use Rattle.serve_core.specs.Events.{Event, Reply, Transcript, Start}
 use Rattle.serve_core.specs.Grants.{cost_of_band}
 use Rattle.serve_core.specs.Setup.{Setup, StreamSpec, costs}
@@ -86,7 +86,8 @@ module _ {F : Type 0} where
 
   -- a stream can be leased: it has an unfinished frame, which isn't out, and room in its outbox
   abbrev pub is_ready : StreamState F → Bool
-  is_ready x = nat_lt x.finished x.accepted && (is_none x.holder && nat_lt (x.finished - x.collected) x.spec.outbox)
+  is_ready x = nat_lt x.finished x.accepted &&
+      (is_none x.holder && nat_lt (x.finished - x.collected) x.spec.outbox)
 
   abbrev pub ready_deadline : StreamState F → Option ℕ
   ready_deadline x = if is_ready x then Some x.account.deadline else None

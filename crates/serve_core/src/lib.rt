@@ -1,8 +1,8 @@
-//! The machine that serves streams of frames: workers that are leased one stream at a time, each stream under the
-//! account of a constant bandwidth server, the earliest deadline first.
+//! The machine that serves streams of frames: workers that are leased one stream at a time, each stream under
+//! the account of a constant bandwidth server, the earliest deadline first.
 //!
-//! `specs/Rules.antt` says which replies are right after which past, and `specs/Headline.antt` what follows of every
-//! run. [`laws`] has each law of the definitions as a function.
+//! `specs/Rules.antt` says which replies are right after which past, and `specs/Headline.antt` what follows
+//! of every run. [`laws`] has each law of the definitions as a function.
 #![tactic(auto)]
 
 pub mod held;

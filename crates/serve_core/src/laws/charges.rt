@@ -16,7 +16,8 @@ pub fn charge_law()
     ensures { ChargeLaw measures is_image }
 {}
 
-/// No lease goes to a stream that had more than its bandwidth, up to the deadline of any other stream that is ready.
+/// No lease goes to a stream that had more than its bandwidth, up to the deadline of any other stream that is
+/// ready.
 pub fn delay_law()
     ensures { DelayLaw measures is_image }
 {

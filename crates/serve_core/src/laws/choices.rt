@@ -2,8 +2,8 @@
 ghost use Rattle.serve_core.specs.Frames.{measures, is_image};
 ghost use Rattle.serve_core.specs.Laws.{AnswerLaw, OneChoiceLaw};
 
-/// The rules leave one choice: whether a frame that can be accepted is refused for want of memory. All other replies are
-/// determined, images as far as a frame has one image.
+/// The rules leave one choice: whether a frame that can be accepted is refused for want of memory. All other
+/// replies are determined, images as far as a frame has one image.
 pub fn one_choice_law()
     ensures { OneChoiceLaw measures is_image }
 {}
