@@ -21,3 +21,4 @@ pub mod Bares
 pub mod Openings
 pub mod AtOnce
 pub mod Leased
+pub mod Admissions

@@ -1,4 +1,5 @@
 pub mod Setup
+pub mod Admitted
 pub mod Grants
 pub mod Events
 pub mod Counts

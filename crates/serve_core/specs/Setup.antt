@@ -34,6 +34,9 @@ pub record Setup : Type 0 where
   pub quantum : ℕ
   pub streams : List StreamSpec
 
+abbrev pub setup_of : ℕ → ℕ → List StreamSpec → Setup
+setup_of workers quantum streams = record { workers = workers; quantum = quantum; streams = streams }
+
 -- what each step of a frame costs; a step is one band of one operation
 abbrev pub costs : StreamSpec → List ℕ
 costs spec = step_costs spec.chain
@@ -85,3 +88,7 @@ load workers streams = load_of workers (map reservation_of streams)
 -- the shares of all streams are at most the whole of the workers
 abbrev pub Fits : Setup → Type 0
 Fits setup = admission.Fits (load setup.workers setup.streams)
+
+-- all numbers are within their limits, and the streams fit
+abbrev pub IsSetup : Setup → Type 0
+IsSetup setup = IsWithin setup × Fits setup
