@@ -1,0 +1,6 @@
+use Rattle.serve_core.specs.Frames.{measures, is_image}
+use Rattle.serve_core.proofs.AtOnce.{at_once_is}
+use Rattle.serve_core.proofs.laws.charges.at_once_law.Goals as goal
+
+pub returns : goal.returns
+returns c = at_once_is measures is_image

@@ -1,0 +1,6 @@
+use Rattle.serve_core.specs.Frames.{measures, is_image}
+use Rattle.serve_core.proofs.Demands.{demand_is}
+use Rattle.serve_core.proofs.laws.charges.demand_law.Goals as goal
+
+pub returns : goal.returns
+returns c = demand_is measures is_image

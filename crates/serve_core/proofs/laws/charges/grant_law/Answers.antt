@@ -1,0 +1,5 @@
+use Rattle.serve_core.proofs.Grants.{grant_is}
+use Rattle.serve_core.proofs.laws.charges.grant_law.Goals as goal
+
+pub returns : goal.returns
+returns c = grant_is

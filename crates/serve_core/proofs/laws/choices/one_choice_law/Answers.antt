@@ -1,0 +1,6 @@
+use Rattle.serve_core.specs.Frames.{measures, is_image}
+use Rattle.serve_core.proofs.Choices.{one_choice}
+use Rattle.serve_core.proofs.laws.choices.one_choice_law.Goals as goal
+
+pub returns : goal.returns
+returns c = one_choice measures is_image

@@ -1,0 +1,6 @@
+use Rattle.serve_core.specs.Frames.{measures, is_image}
+use Rattle.serve_core.proofs.Openings.{sound_from}
+use Rattle.serve_core.proofs.laws.sound.sound_from_law.Goals as goal
+
+pub returns : goal.returns
+returns c = sound_from measures is_image

@@ -1,0 +1,15 @@
+pub mod Setup
+pub mod Admitted
+pub mod Grants
+pub mod Events
+pub mod Counts
+pub mod States
+pub mod Rules
+pub mod Sound
+pub mod Leads
+pub mod AtOnce
+pub mod Bare
+pub mod Laws
+pub mod Delivered
+pub mod Headline
+pub mod Frames

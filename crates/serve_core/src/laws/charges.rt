@@ -1,0 +1,45 @@
+//! What streams are charged, and what that keeps of the workers' time.
+ghost use Rattle.serve_core.specs.AtOnce.{AtOnceLaw, LentLaw, StillLaw};
+ghost use Rattle.serve_core.specs.Frames.{measures, is_image};
+ghost use Rattle.serve_core.specs.Grants.{GrantLaw};
+ghost use Rattle.serve_core.specs.Laws.{ChargeLaw, DelayLaw, DemandLaw};
+
+use cbs_account::bandwidth;
+
+/// The grant of a lease is the greatest that there may be.
+pub fn grant_law()
+    ensures { GrantLaw }
+{}
+
+/// What a stream was charged is what its finished frames cost, and the bands that are done of the next one.
+pub fn charge_law()
+    ensures { ChargeLaw measures is_image }
+{}
+
+/// No lease goes to a stream that had more than its bandwidth, up to the deadline of any other stream that is
+/// ready.
+pub fn delay_law()
+    ensures { DelayLaw measures is_image }
+{
+    bandwidth();
+}
+
+/// What is due by a moment is no more than the workers can do by then.
+pub fn demand_law()
+    ensures { DemandLaw measures is_image }
+{}
+
+/// Bands that are charged one by one lead to where their sum leads at once.
+pub fn at_once_law()
+    ensures { AtOnceLaw measures is_image }
+{}
+
+/// A lease can be settled, with any number of its bands, from the time that it is given.
+pub fn lent_law()
+    ensures { LentLaw measures is_image }
+{}
+
+/// A lease can be settled as long as it is the same, whatever else happens.
+pub fn still_law()
+    ensures { StillLaw measures is_image }
+{}

@@ -1,0 +1,38 @@
+//! What streams deliver, and the headline.
+ghost use Rattle.serve_core.specs.Delivered.{CloseLaw, DeliveredLaw, DrainedLaw, WaitingLaw};
+ghost use Rattle.serve_core.specs.Frames.{measures, is_image};
+ghost use Rattle.serve_core.specs.Headline.{HeadlineLaw};
+
+/// The headline. For every list of arrivals, leases, band steps, settlements, clock ticks, closes and
+/// collections, each stream's delivered list is the filter's images of its first n accepted frames, in order,
+/// each once, and all of them once it answers drained; nothing is accepted after its close; its budget and
+/// deadline are the rules' of constant bandwidth servers for its own arrivals and charges; every lease goes
+/// to an earliest deadline.
+///
+/// It is said of every legal transcript, from the definitions alone; that what a machine answers is a legal
+/// transcript is the contract of its runs.
+pub fn headline()
+    ensures { HeadlineLaw measures is_image }
+{}
+
+/// The frames that a stream keeps are the accepted ones from the first that isn't collected on.
+pub fn waiting_law()
+    ensures { WaitingLaw measures is_image }
+{}
+
+/// What a stream delivered is the images of its first accepted frames, in order, each once: as many as were
+/// collected.
+pub fn delivered_law()
+    ensures { DeliveredLaw measures is_image }
+{}
+
+/// Nothing is accepted after a close.
+pub fn close_law()
+    ensures { CloseLaw measures is_image }
+{}
+
+/// Once a stream answered Drained it has delivered the images of all its accepted frames, and no more are
+/// accepted.
+pub fn drained_law()
+    ensures { DrainedLaw measures is_image }
+{}

@@ -1,0 +1,33 @@
+//! How transcripts lead from one state to another.
+ghost use Rattle.serve_core.specs.Bare.{BareLaw};
+ghost use Rattle.serve_core.specs.Frames.{measures, is_image};
+ghost use Rattle.serve_core.specs.Leads.{GoingOnLaw, JoinLaw, OpeningLaw, StepLaw};
+
+/// One more event with a right reply leads a legal transcript on to another, whose state is what the event
+/// makes of the state before.
+pub fn step_law()
+    ensures { StepLaw measures is_image }
+{}
+
+/// The legal transcripts of a setup are those from its opening state, the state before any event, and they
+/// lead from there to where the setup says.
+pub fn opening_law()
+    ensures { OpeningLaw measures is_image }
+{}
+
+/// What leads on from the state of a legal transcript gives, behind it, a legal transcript again.
+pub fn going_on_law()
+    ensures { GoingOnLaw measures is_image }
+{}
+
+/// Where one transcript leads from a state to a second, and another from there to a third, one after the
+/// other leads from the first to the third.
+pub fn join_law()
+    ensures { JoinLaw measures is_image }
+{}
+
+/// A legal transcript without its frames is a legal bare transcript, which leads to the state without its
+/// frames.
+pub fn bare_law()
+    ensures { BareLaw measures is_image }
+{}

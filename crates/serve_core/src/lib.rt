@@ -1,0 +1,19 @@
+//! The machine that serves streams of frames: workers that are leased one stream at a time, each stream under
+//! the account of a constant bandwidth server, the earliest deadline first.
+//!
+//! `specs/Rules.antt` says which replies are right after which past, and `specs/Headline.antt` what follows
+//! of every run. [`laws`] has each law of the definitions as a function.
+#![tactic(auto)]
+
+pub mod held;
+pub mod job_spec;
+pub mod laws;
+pub mod refusal;
+pub mod setup;
+pub mod spec;
+
+pub use held::Held;
+pub use job_spec::JobSpec;
+pub use refusal::Refusal;
+pub use setup::{Setup, SetupError};
+pub use spec::StreamSpec;

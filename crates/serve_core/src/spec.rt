@@ -1,0 +1,110 @@
+//! What a stream is served with.
+ghost use Rattle.std.specs.Prelude.{◌≡◌, ◌≤◌, ◌↔◌, IsTrue};
+ghost use Rattle.std.specs.Arc.{arc_value};
+ghost use Rattle.serve_core.specs.Setup as rules;
+ghost use Rattle.serve_core.specs.Setup.{IsWithinLimits};
+
+use crate::job_spec::JobSpec;
+use filters::MOST_COST;
+use frame_view::Geometry;
+use std::marker::Model;
+use std::sync::Arc;
+
+/// The most frames of a stream that may be unfinished, and the most finished ones that may be uncollected.
+const MOST_PLACES: u64 = 256;
+
+/// The most frames that a stream may accept at all.
+const MOST_FRAMES: u64 = 1 << 24;
+
+/// What a stream is served with: its frames' geometry, its chain, its account, and how many frames it may
+/// have. Contracts see it as the record of that name in `specs/Setup.antt`.
+#[derive(Debug, Drop)]
+pub struct StreamSpec {
+    pub(crate) geometry: Geometry,
+    pub(crate) spec: Arc<JobSpec>,
+    pub(crate) maximum: u64,
+    pub(crate) period: u64,
+    pub(crate) queue: u64,
+    pub(crate) outbox: u64,
+    pub(crate) frames: u64,
+}
+
+impl Model for StreamSpec {
+    ghost use Rattle.std.specs.Arc.{arc_value};
+    ghost use Rattle.serve_core.specs.Setup as rules;
+
+    ghost Value = { rules.StreamSpec };
+
+    ghost view = { λ a. record {
+      geometry = a.geometry;
+      chain = arc_value a.spec;
+      maximum = a.maximum;
+      period = a.period;
+      queue = a.queue;
+      outbox = a.outbox;
+      frames = a.frames;
+    } };
+}
+
+impl StreamSpec {
+    /// A stream of frames of this geometry, filtered by this chain, that may use `q` units in every `t`
+    /// moments.
+    ///
+    /// At most `queue` of its frames may be unfinished and `outbox` finished ones uncollected, and `frames`
+    /// may be accepted at all. Nothing is checked before [`Setup::new`](crate::Setup::new).
+    pub fn new(
+        geometry: Geometry,
+        spec: Arc<JobSpec>,
+        q: u64,
+        t: u64,
+        queue: u64,
+        outbox: u64,
+        frames: u64,
+    ) -> StreamSpec
+        ensures { result ≡ record {
+          geometry = geometry;
+          chain = arc_value spec;
+          maximum = q;
+          period = t;
+          queue = queue;
+          outbox = outbox;
+          frames = frames;
+        } }
+    {
+        StreamSpec {
+            geometry,
+            spec,
+            maximum: q,
+            period: t,
+            queue,
+            outbox,
+            frames,
+        }
+    }
+
+    /// Whether each number but those of the account is within its limits, and the chain was made for the
+    /// geometry.
+    pub(crate) fn is_within_limits(&self) -> bool
+        ensures { IsTrue result ↔ IsWithinLimits self.now }
+    {
+        let chain = self.spec.chain();
+        prove!(1 <= chain.steps());
+        prove!(chain.cost() <= MOST_COST);
+        if !is_same(chain.geometry(), self.geometry) {
+            return false;
+        }
+        if self.queue < 1 || self.queue > MOST_PLACES {
+            return false;
+        }
+        if self.outbox < 1 || self.outbox > MOST_PLACES {
+            return false;
+        }
+        1 <= self.frames && self.frames <= MOST_FRAMES
+    }
+}
+
+fn is_same(one: Geometry, other: Geometry) -> bool
+    ensures { IsTrue result ↔ (one ≡ other) }
+{
+    one.width == other.width && one.height == other.height && one.chroma == other.chroma
+}
