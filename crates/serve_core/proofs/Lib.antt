@@ -16,6 +16,7 @@ pub mod Endings
 pub mod Headlines
 pub mod Demands
 pub mod Choices
+pub mod Images
 pub mod Replies
 pub mod Bares
 pub mod Openings

@@ -1,6 +1,7 @@
 use Rattle.serve_core.specs.Frames.{measures, is_image}
 use Rattle.serve_core.proofs.Choices.{one_choice}
+use Rattle.serve_core.proofs.Images.{determined}
 use Rattle.serve_core.proofs.laws.choices.one_choice_law.Goals as goal
 
 pub returns : goal.returns
-returns c = one_choice measures is_image
+returns c = record { determined = determined; one_choice = one_choice measures is_image }
