@@ -6,8 +6,8 @@ ghost use Rattle.serve_core.specs.Grants as rules;
 
 use filters::Chain;
 
-/// The bands that a lease grants where `done` are done: as many as the quantum allows and the budget pays for, but at
-/// least one.
+/// The bands that a lease grants where `done` are done: as many as the quantum allows and the budget pays
+/// for, but at least one.
 pub(crate) fn grant_of(chain: &Chain, quantum: u64, budget: u64, done: u32) -> u64
     requires { done ≤ steps_of chain.now }
     ensures { result ≡ rules.grant_of quantum budget (drop done (step_costs chain.now)) }
@@ -15,8 +15,8 @@ pub(crate) fn grant_of(chain: &Chain, quantum: u64, budget: u64, done: u32) -> u
     paid_count(chain, quantum, budget, done).max(1)
 }
 
-/// How many of the steps from `done` on, at most `most`, the budget pays for. The steps of one operation cost the same,
-/// so each turn passes one.
+/// How many of the steps from `done` on, at most `most`, the budget pays for. The steps of one operation cost
+/// the same, so each turn passes one.
 fn paid_count(chain: &Chain, most: u64, budget: u64, done: u32) -> u64
     requires { done ≤ steps_of chain.now }
     ensures { result ≡ rules.paid_count most budget (drop done (step_costs chain.now)) }
