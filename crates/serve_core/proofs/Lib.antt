@@ -1,6 +1,7 @@
 pub mod Lists
 pub mod Costs
 pub mod Grants
+pub mod Paying
 pub mod Steps
 pub mod Summary
 pub mod Accounts

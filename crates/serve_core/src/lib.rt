@@ -5,6 +5,7 @@
 //! of every run. [`laws`] has each law of the definitions as a function.
 #![tactic(auto)]
 
+mod grant;
 pub mod held;
 pub mod job_spec;
 pub mod laws;
