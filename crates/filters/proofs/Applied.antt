@@ -9,15 +9,15 @@ use Rattle.frame_view.specs.Places.{plane_width, plane_height}
 use Rattle.frame_view.specs.Frame.{samples_of}
 use Rattle.frame_view.specs.Rows.{sample}
 use Rattle.row_bands.specs.Bands.{band_count, luma_from, luma_to}
-use Rattle.row_bands.specs.Written.{HasBand, HasRowsAbove}
+use Rattle.row_bands.specs.Written.{HasBand}
 use Rattle.row_bands.proofs.Bands.{rows_above-height}
 use Rattle.row_bands.proofs.Parts.{starts_inside}
-use Rattle.row_bands.proofs.Written.{band_joins}
+use Rattle.row_bands.proofs.Written.{HasRowsAbove, band_joins}
 
 -- one more band of a canvas
 pub next_band : (picture : ℕ → ℕ → ℕ → ℕ) (b b' k : ℕ) (old new : Frame) → 0 < b → b' ≡ b → k < band_count old.geometry b
     → HasRowsAbove picture (min old.geometry.height (luma_from b k)) old
-    → HasBand picture (luma_from b k) (luma_to old.geometry b k) (plane_count old.geometry.chroma) old new
+    → HasBand picture (luma_from b k) (luma_to old.geometry b k) old new
     → HasRowsAbove picture (min new.geometry.height (luma_from b' (k + 1))) new
 next_band picture b b' k old new hb same hk h band =
     let n = old.geometry.height in

@@ -1,6 +1,5 @@
 // An operation on a frame, band by band.
 ghost use Rattle.std.specs.Prelude.{◌≡◌, ◌<◌};
-ghost use Rattle.y4m_header.specs.Chroma.{plane_count};
 ghost use Rattle.frame_view.specs.Frame.{line_of, samples_of};
 ghost use Rattle.row_bands.specs.Bands.{band_count, luma_from, luma_to};
 ghost use Rattle.row_bands.specs.Canvas.{band_geometry, frame_of, height_of};
@@ -36,8 +35,7 @@ pub fn apply_at(op: Op, source: &Frame, canvas: &mut Canvas, k: usize)
     requires band { k < band_count (frame_of canvas.old).geometry (height_of canvas.old) }
     ensures height { height_of canvas.new ≡ height_of canvas.old }
     ensures rows { HasBand (image_pixel op source.now.geometry (samples_of source.now)) (luma_from (height_of canvas.old) k)
-        (luma_to (frame_of canvas.old).geometry (height_of canvas.old) k) (plane_count (frame_of canvas.old).geometry.chroma)
-        (frame_of canvas.old) (frame_of canvas.new) }
+        (luma_to (frame_of canvas.old).geometry (height_of canvas.old) k) (frame_of canvas.old) (frame_of canvas.new) }
 {
     let mut band = canvas.band_mut(k);
     apply_band(op, source, &mut band);

@@ -2,7 +2,7 @@ use Rattle.std.proofs.Common.{◌≡◌, min}
 use Rattle.frame_view.specs.Frame.{line_of, samples_of}
 use Rattle.row_bands.specs.Bands.{luma_from}
 use Rattle.row_bands.specs.Canvas.{frame_of, height_of}
-use Rattle.row_bands.specs.Written.{HasRowsAbove}
+use Rattle.row_bands.proofs.Written.{HasRowsAbove}
 use Rattle.filters.specs.Image.{image_pixel}
 use Rattle.filters.proofs.apply.apply_op.Given as goal
 
