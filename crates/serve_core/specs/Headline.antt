@@ -1,5 +1,5 @@
 -- What is promised of every run: the headline.
-use Rattle.std.specs.Prelude.{ℕ, ◌≡◌, IsTrue, List, take, drop, slice_get, Option, Some, None, IsSomeAnd}
+use Rattle.std.specs.Prelude.{ℕ, ◌≡◌, IsTrue, List, length, take, drop, slice_get, Option, Some, None, IsSomeAnd}
 use Rattle.std.specs.Prelude.{if◌then◌else◌}
 use Rattle.std.specs.List.{AllZip}
 use Rattle.cbs_account.specs.Balance.{Balance}
@@ -8,11 +8,11 @@ use Rattle.edf_pool.specs.Earliest.{IsEarliest}
 use Rattle.serve_core.specs.declared.refusal.Refusal.TheVariants as refusals
 use Rattle.serve_core.specs.Counts.{Deed, finished, collected, is_closed, done, frames, own_events, delivered}
 use Rattle.serve_core.specs.Delivered.{BeginsWith}
-use Rattle.serve_core.specs.Events.{Lease, Collect, Leased, Refused, Transcript, Then}
+use Rattle.serve_core.specs.Events.{Event, Lease, Collect, Reply, Leased, Refused, Transcript, Then, told}
 use Rattle.serve_core.specs.Grants.{grant_of}
 use Rattle.serve_core.specs.Rules.{IsLegal}
 use Rattle.serve_core.specs.Setup.{Setup, StreamSpec, IsWithin, costs, ImageRelation, SizeTest}
-use Rattle.serve_core.specs.States.{stream_of, map_at, past, is_ready}
+use Rattle.serve_core.specs.States.{stream_of, map_at, past, opening, is_ready}
 
 module _ {F : Type 0} where
   -- the budget and the deadline that the rules give a stream for its own arrivals and charges
@@ -65,3 +65,9 @@ module _ {F G : Type 0} (measures : SizeTest F) (is_image : ImageRelation F G) w
   HeadlineLaw =
       (setup : Setup) (p : Transcript F G) → IsWithin setup → IsLegal measures is_image setup p
       → IsAsPromised setup p
+
+  -- the replies to these events, in order: as many, each right after what came before it, and as promised
+  pub record IsRun (setup : Setup) (events : List (Event F)) (replies : List (Reply F G)) : Type 0 where
+    pub answered : length events ≡ length replies
+    pub legal : IsLegal measures is_image setup (told opening events replies)
+    pub promised : IsAsPromised setup (told opening events replies)
