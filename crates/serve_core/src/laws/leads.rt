@@ -1,5 +1,5 @@
 //! How transcripts lead from one state to another.
-ghost use Rattle.serve_core.specs.Bare.{BareLaw};
+ghost use Rattle.serve_core.specs.Bare.{BareFromLaw, BareLaw};
 ghost use Rattle.serve_core.specs.Frames.{measures, is_image};
 ghost use Rattle.serve_core.specs.Leads.{GoingOnLaw, JoinLaw, OpeningLaw, StepLaw};
 
@@ -27,7 +27,8 @@ pub fn join_law()
 {}
 
 /// A legal transcript without its frames is a legal bare transcript, which leads to the state without its
-/// frames.
+/// frames, from the setup or from any opening state.
 pub fn bare_law()
-    ensures { BareLaw measures is_image }
+    ensures of_setup { BareLaw measures is_image }
+    ensures from { BareFromLaw measures is_image }
 {}
