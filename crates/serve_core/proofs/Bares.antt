@@ -9,8 +9,8 @@ use Rattle.edf_pool.specs.Earliest.{IsEarliest, NoneReady}
 use Rattle.serve_core.specs.declared.refusal.Refusal.{Refusal}
 use Rattle.serve_core.specs.declared.refusal.Refusal.TheVariants as refusals
 use Rattle.serve_core.specs.declared.held.Held.{Held}
-use Rattle.serve_core.specs.Bare.{BareFromLaw, BareLaw, Blank, bare, blank, bare_event, bare_reply, bare_state}
-use Rattle.serve_core.specs.Bare.{bare_stream, is_any_image, measures_any}
+use Rattle.serve_core.specs.Bare.{BareFromLaw, BareLaw, Blank, bare, blank, bare_event, bare_reply}
+use Rattle.serve_core.specs.Bare.{bare_state, bare_stream, is_any_image, measures_any}
 use Rattle.serve_core.specs.Counts.{Back, Came, Deed, Ended, Lent, Shut, Taken, Worked, came, clock_after}
 use Rattle.serve_core.specs.Counts.{deed, has_stream, held_after, held_after_band, held_after_lease}
 use Rattle.serve_core.specs.Counts.{held_after_settle, lent, settled, shut, taken, worked}

@@ -1,6 +1,6 @@
 -- What is promised of every run: the headline.
-use Rattle.std.specs.Prelude.{ℕ, ◌≡◌, IsTrue, List, length, take, drop, slice_get, Option, Some, None, IsSomeAnd}
-use Rattle.std.specs.Prelude.{if◌then◌else◌}
+use Rattle.std.specs.Prelude.{ℕ, ◌≡◌, IsTrue, List, length, take, drop, slice_get, Option, Some, None}
+use Rattle.std.specs.Prelude.{IsSomeAnd, if◌then◌else◌}
 use Rattle.std.specs.List.{AllZip}
 use Rattle.cbs_account.specs.Balance.{Balance}
 use Rattle.cbs_account.specs.Rules.{cbs}

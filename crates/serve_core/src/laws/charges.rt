@@ -1,5 +1,5 @@
 //! What streams are charged, and what that keeps of the workers' time.
-ghost use Rattle.serve_core.specs.AtOnce.{AtOnceLaw, LentLaw, StillLaw};
+ghost use Rattle.serve_core.specs.AtOnce.{AtOnceLaw, LentLaw, SettledLaw, StillLaw};
 ghost use Rattle.serve_core.specs.Bare.{measures_any, is_any_image};
 ghost use Rattle.serve_core.specs.Frames.{measures, is_image};
 ghost use Rattle.serve_core.specs.Grants.{GrantLaw};
@@ -34,6 +34,13 @@ pub fn demand_law()
 pub fn at_once_law()
     ensures of_frames { AtOnceLaw measures is_image }
     ensures bare { AtOnceLaw measures_any is_any_image }
+{}
+
+/// Bands that are charged one by one, and the settlement behind them, lead to where the sum of their units and
+/// the returned or finished stream lead at once.
+pub fn settled_law()
+    ensures of_frames { SettledLaw measures is_image }
+    ensures bare { SettledLaw measures_any is_any_image }
 {}
 
 /// A lease can be settled, with any number of its bands, from the time that it is given.
