@@ -26,7 +26,8 @@ command_of_one name value =
 abbrev pub command_of_two : List ℕ → List ℕ → List ℕ → Option AccountCommand
 command_of_two name q t =
     if bytes_eq name (codes "account")
-    then option_and_then (λ maximum. option_map (λ period. Open maximum period) (word_number t)) (word_number q)
+    then option_and_then
+    (λ maximum. option_map (λ period. Open maximum period) (word_number t)) (word_number q)
     else None
 
 -- the command that these words write, if they are of its form

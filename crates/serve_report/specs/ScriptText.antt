@@ -7,8 +7,8 @@ without_empty_end [] = []
 without_empty_end ([] ∷ []) = []
 without_empty_end (line ∷ more) = line ∷ without_empty_end more
 
--- the lines of a script, each ended by a line feed, which the last one may lack; a carriage return is a byte like
--- any other
+-- the lines of a script, each ended by a line feed, which the last one may lack; a carriage return is a byte
+-- like any other
 abbrev pub script_lines : List ℕ → List (List ℕ)
 script_lines text = without_empty_end (parts 10 text)
 
