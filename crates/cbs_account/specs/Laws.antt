@@ -55,8 +55,8 @@ DeadlineLimit =
     (q t m : ℕ) (past : List OwnEvent) → NoneAfter m past
     → (cbs q t past).deadline ≤ m + t * (1 + unit_count past)
 
--- k units can be charged where n units and arrivals up to the moment m left a deadline so near, and more of both
--- followed: if m is at most 2^60, no arrival came after it, and all units together are at most 2^39
+-- k units can be charged where n units and arrivals up to the moment m left a deadline so near, and more of
+-- both followed: if m is at most 2^60, no arrival came after it, and all units together are at most 2^39
 abbrev pub ChargeLimit : Type 0
 ChargeLimit =
     (m n k : ℕ) (later : List OwnEvent) (b : Balance) → m ≤ 2 ^ 60 → b.period ≤ 1048576
@@ -65,8 +65,8 @@ ChargeLimit =
     → n + unit_count later + k ≤ 2 ^ 39
     → CanCharge k (after_all b later)
 
--- servers that fit on their workers ask for no more time than these have: in a time m that each period divides,
--- the sum of Q * (m / T) is at most m for each worker
+-- servers that fit on their workers ask for no more time than these have: in a time m that each period
+-- divides, the sum of Q * (m / T) is at most m for each worker
 abbrev pub TotalBandwidth : Type 0
 TotalBandwidth =
     (workers m : ℕ) (servers : List Reservation) → Fits (load_of workers servers)

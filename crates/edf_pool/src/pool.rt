@@ -1,5 +1,6 @@
 //! The ready streams as a winner tree.
-ghost use Rattle.std.specs.Prelude.{◌≡◌, ◌+◌, ◌-◌, ◌<◌, ◌≤◌, IfOk, IfSome, IfNone, None, length, replicate, drop, slice_set};
+ghost use Rattle.std.specs.Prelude.{◌≡◌, ◌+◌, ◌-◌, ◌<◌, ◌≤◌, IfOk, IfSome, IfNone, None, length, replicate};
+ghost use Rattle.std.specs.Prelude.{drop, slice_set};
 ghost use Rattle.edf_pool.specs.Earliest.{IsEarliest, NoneReady};
 ghost use Rattle.edf_pool.specs.Tree.{AreWinners};
 

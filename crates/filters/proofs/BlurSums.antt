@@ -1,5 +1,6 @@
 -- Sums by index, and sums over a window that moves by one place.
-use Rattle.std.proofs.Common.{◌≡◌, ℕ, ◌+◌, ◌-◌, ◌*◌, ◌≤◌, ◌<◌, ◌/◌, ◌^◌, refl, suc, zero, arith, subst, sym, ap, ◌∙◌, ◌⊎◌, ⊎_elim}
+use Rattle.std.proofs.Common.{◌≡◌, ℕ, ◌+◌, ◌-◌, ◌*◌, ◌≤◌, ◌<◌, ◌/◌, ◌^◌, refl, suc, zero, arith, subst, sym}
+use Rattle.std.proofs.Common.{ap, ◌∙◌, ◌⊎◌, ⊎_elim}
 use Rattle.std.proofs.Common.{List, length, get_or, set}
 use Rattle.std.proofs.lemmas.List.Edits.{fill_by_more}
 use Rattle.std.proofs.Math.Numerals.{add-one}
@@ -44,7 +45,8 @@ pub window_slides : (c : ℕ → ℕ) (x n : ℕ) →
     sum_below (λ j. c (x + j)) (n + 1) ≡ c x + sum_below (λ j. c (x + 1 + j)) n
 window_slides c x zero = let e : c (x + 0) ≡ c x = ap c (omega arith) in omega arith
 window_slides c x (suc n) =
-    let before : sum_below (λ j. c (x + j)) (n + 1) ≡ c x + sum_below (λ j. c (x + 1 + j)) n = window_slides c x n in
+    let before : sum_below (λ j. c (x + j)) (n + 1) ≡ c x + sum_below (λ j. c (x + 1 + j)) n =
+    window_slides c x n in
     let more : sum_below (λ j. c (x + j)) (suc n + 1) ≡ sum_below (λ j. c (x + j)) (suc n) + c (x + suc n) =
     sum_below_more (λ j. c (x + j)) (suc n) in
     let one : sum_below (λ j. c (x + j)) (n + 1) ≡ sum_below (λ j. c (x + j)) (suc n) =
@@ -63,22 +65,25 @@ term_within f (suc n) k h =
     (λ (l : k < n). let before : f k ≤ sum_below f n = term_within f n k l in omega arith)
     (split k n h)
 
--- A window of s terms is its first s - 1 terms and its last one, and its first one and the s - 1 terms after it.
+-- A window of s terms is its first s - 1 terms and its last one, and its first one and the s - 1 terms then.
 pub window_enters : (c : ℕ → ℕ) (x s : ℕ) → 0 < s →
     sum_below (λ j. c (x + j)) s ≡ sum_below (λ j. c (x + j)) (s - 1) + c (x + (s - 1))
 window_enters c x s h =
     let e : s - 1 + 1 ≡ s = omega arith in
     let more : sum_below (λ j. c (x + j)) (s - 1 + 1) ≡ sum_below (λ j. c (x + j)) (s - 1) + c (x + (s - 1)) =
     sum_below_more (λ j. c (x + j)) (s - 1) in
-    let same : sum_below (λ j. c (x + j)) (s - 1 + 1) ≡ sum_below (λ j. c (x + j)) s = ap (λ m. sum_below (λ j. c (x + j)) m) e in
+    let same : sum_below (λ j. c (x + j)) (s - 1 + 1) ≡ sum_below (λ j. c (x + j)) s =
+    ap (λ m. sum_below (λ j. c (x + j)) m) e in
     omega arith
 
 pub window_leaves : (c : ℕ → ℕ) (x s : ℕ) → 0 < s →
     sum_below (λ j. c (x + j)) s ≡ c x + sum_below (λ j. c (x + 1 + j)) (s - 1)
 window_leaves c x s h =
     let e : s - 1 + 1 ≡ s = omega arith in
-    let slid : sum_below (λ j. c (x + j)) (s - 1 + 1) ≡ c x + sum_below (λ j. c (x + 1 + j)) (s - 1) = window_slides c x (s - 1) in
-    let same : sum_below (λ j. c (x + j)) (s - 1 + 1) ≡ sum_below (λ j. c (x + j)) s = ap (λ m. sum_below (λ j. c (x + j)) m) e in
+    let slid : sum_below (λ j. c (x + j)) (s - 1 + 1) ≡ c x + sum_below (λ j. c (x + 1 + j)) (s - 1) =
+    window_slides c x (s - 1) in
+    let same : sum_below (λ j. c (x + j)) (s - 1 + 1) ≡ sum_below (λ j. c (x + j)) s =
+    ap (λ m. sum_below (λ j. c (x + j)) m) e in
     omega arith
 
 -- A loop that writes f k at each index k, one step on.
@@ -87,24 +92,6 @@ pub written_more : (f : ℕ → ℕ) (xs : List ℕ) (i v : ℕ) → i < length 
 written_more f xs i v h e before =
     let P : ℕ → Type 0 = λ w. (k : ℕ) → k < i + 1 → get_or (set xs i w) k 0 ≡ f k in
     subst P (sym e) (fill_by_more f xs i 0 h before)
-
--- The sum of two terms at each place is the sum of two sums.
-sum_below_add : (f g : ℕ → ℕ) (n : ℕ) → sum_below (λ k. f k + g k) n ≡ sum_below f n + sum_below g n
-sum_below_add f g zero = omega arith
-sum_below_add f g (suc n) = let before = sum_below_add f g n in omega arith
-
-sum_below_zero : (n : ℕ) → sum_below (λ k. 0) n ≡ 0
-sum_below_zero zero = refl
-sum_below_zero (suc n) = let before = sum_below_zero n in omega arith
-
--- A double sum by rows is the one by columns.
-pub sum_below_swap : (f : ℕ → ℕ → ℕ) (m n : ℕ) → sum_below (λ i. sum_below (λ j. f i j) n) m ≡ sum_below (λ j. sum_below (λ i. f i j) m) n
-sum_below_swap f zero n = sym (sum_below_zero n)
-sum_below_swap f (suc m) n =
-    let before : sum_below (λ i. sum_below (λ j. f i j) n) m ≡ sum_below (λ j. sum_below (λ i. f i j) m) n = sum_below_swap f m n in
-    let added : sum_below (λ j. sum_below (λ i. f i j) m + f m j) n ≡ sum_below (λ j. sum_below (λ i. f i j) m) n + sum_below (λ j. f m j) n =
-    sum_below_add (λ j. sum_below (λ i. f i j) m) (λ j. f m j) n in
-    omega arith
 
 square_some : (s : ℕ) → 0 < s → 0 < s * s
 square_some s some = grind arith

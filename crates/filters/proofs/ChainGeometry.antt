@@ -1,4 +1,4 @@
--- A geometry is its picture.
+-- A geometry is its format.
 use Rattle.std.proofs.Common.{◌≡◌, ◌≤◌, ◌%◌, ap, subst}
 use Rattle.std.proofs.Props.{props}
 use Rattle.y4m_header.specs.Chroma.{horizontal_divisor, vertical_divisor, data_len}

@@ -2,100 +2,155 @@
 use Rattle.std.proofs.Math.Logic.{∥∥₁_elim}
 use Rattle.std.proofs.Props.{props}
 use Rattle.y4m_header.specs.FrameLine.{IsFrameLine}
-use Rattle.std.proofs.lemmas.Option.{get_or_from_slice_get}
+use Rattle.std.proofs.lemmas.Option.{get_or_from_slice_get, slice_get-get_or}
 use Rattle.frame_view.specs.declared.geometry.Geometry.{Geometry}
-use Rattle.filters.specs.Chain.{ChainValue, format_of, format_after, format_at}
-use Rattle.filters.proofs.ChainDoable.{last_format_more, format_of-image}
-use Rattle.std.proofs.Common.{slice_get, slice_set, Some, inl, inr, ◌++◌, ◌-◌, ◌≤◌, ◌≢◌, ℕ, ◌≡◌, ◌+◌, ◌<◌, zero, suc, List, [], ◌∷◌, length, take, get_or, arith, refl, sym, ap, ◌∙◌, add-one}
-use Rattle.frame_view.specs.declared.frame.Frame.{Frame}
+use Rattle.filters.specs.Chain.{ChainValue, IsImageGeometry, format_of, format_after, format_at}
+use Rattle.filters.proofs.ChainDoable.{last_format_more}
+use Rattle.std.proofs.Common.{slice_get, slice_set, Some, inl, inr, ◌++◌, ◌-◌, ◌≤◌, ◌≢◌, ℕ, ◌≡◌, ◌+◌, ◌<◌}
+use Rattle.std.proofs.Common.{zero, suc}
+use Rattle.std.proofs.Common.{List, [], ◌∷◌, length, take, get_or, arith, refl, sym, ap, subst, ◌∙◌, add-one}
+use Rattle.std.proofs.Common.{All, IsSomeAnd}
+use Rattle.frame_view.specs.Frame.{line_of}
 use Rattle.filters.specs.declared.op.Op.{Op}
-use Rattle.filters.specs.Image.{IsImage, IsImageGeometry}
-use Rattle.filters.specs.ChainImage.{FrameValue, value_of, IsOpImage, IsChainImage, IsCanvasAt, AreCanvases}
+use Rattle.filters.specs.ChainImage.{AreCanvases, FrameValue, IsCanvasAt, IsImage, IsImageByAll, KeepLines}
+use Rattle.filters.specs.ChainImage.{last_canvas}
 use Rattle.row_bands.specs.declared.canvas.Canvas.{Canvas}
+use Rattle.row_bands.specs.Canvas.{frame_of}
 use Rattle.std.proofs.Math.ListN.{get_or-append}
 use Rattle.std.proofs.Math.Seq.{get_or-append_seam}
 use Rattle.std.proofs.lemmas.Bool.{cases_order}
-use Rattle.std.proofs.lemmas.List.{get_or_default, get_or-set_same, get_or-set_other, length-set, set-append_right, get_or-append_right}
+use Rattle.std.proofs.lemmas.List.{get_or_default, get_or-set_same, get_or-set_other, length-set}
+use Rattle.std.proofs.lemmas.List.{set-append_right, get_or-append_right}
 
-pub op_image : (op : Op) (source image : Frame) → IsImage op source image → IsOpImage op (value_of source) (value_of image)
-op_image op source image is = record { geometry = is.geometry; line = is.line; whole = omega (arith, image.fits, image.samples.ok); pixels = is.pixels }
+-- an image is made of a frame with whatever line
+image_of_lined : (op : Op) (source image : FrameValue) (line : List ℕ)
+    → IsImage op (record source { line = line }) image → IsImage op source image
+image_of_lined op source image line is =
+    record { geometry = is.geometry; whole = is.whole; pixels = is.pixels }
 
 -- one operation more
 pub image_more : (ops : List Op) (source between image : FrameValue) (i : ℕ) (d : Op) → i < length ops
-    → IsChainImage (take i ops) source between → IsOpImage (get_or ops i d) between image → IsChainImage (take (i + 1) ops) source image
+    → IsImageByAll (take i ops) source between → IsImage (get_or ops i d) between image
+    → IsImageByAll (take (i + 1) ops) source image
 image_more [] source between image i d h all is = absurd (omega arith)
-image_more (op ∷ ops) source between image zero d h all is = (image, rw all at is, refl)
+image_more (op ∷ ops) source between image zero d h all is =
+    (image, image_of_lined op source image between.line (subst (λ v. IsImage op v image) all is), refl)
 image_more (op ∷ ops) source between image (suc i) d h all is =
-    let rest : IsChainImage (take (i + 1) ops) all.0 image = image_more ops all.0 between image i d (omega arith) all.2 is in
+    let rest : IsImageByAll (take (i + 1) ops) all.0 image =
+    image_more ops all.0 between image i d (omega arith) all.2 is in
     rw add-one (all.0, all.1, rw add-one at rest)
 
 pub is_frame_line : (line : List ℕ) → ∥ IsFrameLine line ∥₁ → IsFrameLine line
 is_frame_line line s = ∥∥₁_elim s (hlevel props) (λ is. is)
 
--- the picture that an operation of a chain makes of the one that reaches it
-pub format_next : (chain : ChainValue) (i : ℕ) (op : Op) (g image : Geometry) → i < length chain.ops → slice_get chain.ops i ≡ Some op
+-- the format that an operation of a chain makes of the one that reaches it
+pub format_next : (chain : ChainValue) (i : ℕ) (op : Op) (g image : Geometry) → i < length chain.ops
+    → slice_get chain.ops i ≡ Some op
     → format_of g ≡ format_at chain i → IsImageGeometry op g image → format_of image ≡ format_at chain (i + 1)
 format_next chain i op g image h e p is =
-    format_of-image op g image is ∙ ap (format_after op) p
+    is.format ∙ ap (format_after op) p
     ∙ ap (λ o. format_after o (format_at chain i)) (sym (get_or_from_slice_get chain.ops i op op e))
     ∙ sym (last_format_more chain.ops (format_of chain.geometry) i op h)
 
-pub op_image_at : (ops : List Op) (i : ℕ) (op d : Op) (source image : Frame) → slice_get ops i ≡ Some op → IsImage op source image
-    → IsOpImage (get_or ops i d) (value_of source) (value_of image)
-op_image_at ops i op d source image e is = rw (get_or_from_slice_get ops i op d e) (op_image op source image is)
+pub image_at : (ops : List Op) (i : ℕ) (op d : Op) (source image : FrameValue) → slice_get ops i ≡ Some op
+    → IsImage op source image
+    → IsImage (get_or ops i d) source image
+image_at ops i op d source image e is = rw (get_or_from_slice_get ops i op d e) is
 
 -- one canvas more
-pub canvases_more : (chain : ChainValue) (line : List ℕ) (canvases more : List Canvas) (canvas : Canvas) (i : ℕ) → length canvases ≡ i → more ≡ canvases ++ canvas ∷ []
-    → ((k : ℕ) (d : Canvas) → k < i → IsCanvasAt chain line k (get_or canvases k d)) → IsCanvasAt chain line i canvas
-    → (k : ℕ) (d : Canvas) → k < i + 1 → IsCanvasAt chain line k (get_or more k d)
-canvases_more chain line canvases more canvas i n e each new k d h = elim (cases_order k i) [
+pub canvases_more : (P : ℕ → Canvas → Type 0) (canvases more : List Canvas) (canvas : Canvas) (i : ℕ)
+    → length canvases ≡ i → more ≡ canvases ++ canvas ∷ []
+    → ((k : ℕ) (d : Canvas) → k < i → P k (get_or canvases k d)) → P i canvas
+    → (k : ℕ) (d : Canvas) → k < i + 1 → P k (get_or more k d)
+canvases_more P canvases more canvas i n e each new k d h = elim (cases_order k i) [
   | inl same ↦
       let at : get_or more k d ≡ canvas =
-      ap (λ cs. get_or cs k d) e ∙ ap (λ j. get_or (canvases ++ canvas ∷ []) j d) (same ∙ sym n) ∙ get_or-append_seam canvases canvas [] d in
+      ap (λ cs. get_or cs k d) e ∙ ap (λ j. get_or (canvases ++ canvas ∷ []) j d) (same ∙ sym n)
+      ∙ get_or-append_seam canvases canvas [] d in
       rw (at, same) new
   | inr order ↦ elim order [
     | inl below ↦
-        let at : get_or more k d ≡ get_or canvases k d = ap (λ cs. get_or cs k d) e ∙ get_or-append canvases (canvas ∷ []) d k (omega arith) in
+        let at : get_or more k d ≡ get_or canvases k d =
+        ap (λ cs. get_or cs k d) e ∙ get_or-append canvases (canvas ∷ []) d k (omega arith) in
         rw at (each k d below)
     | inr above ↦ absurd (omega arith)
   ]
 ]
 
 -- one canvas painted
-pub canvases_painted : (chain : ChainValue) (line : List ℕ) (canvases : List Canvas) (i : ℕ) (canvas : Canvas) → AreCanvases chain line canvases → i < length chain.ops
-    → IsCanvasAt chain line i canvas → AreCanvases chain line (slice_set canvases i canvas)
-canvases_painted chain line canvases i canvas all h new = record {
-  count = length-set canvases i canvas ∙ all.count;
-  each = λ k d l. elim (cases_order k i) [
+module _ (canvases : List Canvas) (i : ℕ) (canvas : Canvas) (h : i < length canvases) where
+  pub canvases_painted : (chain : ChainValue) → AreCanvases chain canvases → IsCanvasAt chain i canvas
+      → AreCanvases chain (slice_set canvases i canvas)
+  canvases_painted chain all new = record {
+    count = length-set canvases i canvas ∙ all.count;
+    each = λ k d l. elim (cases_order k i) [
+      | inl same ↦
+          let at : get_or (slice_set canvases i canvas) k d ≡ canvas =
+          ap (λ j. get_or (slice_set canvases i canvas) j d) same ∙ get_or-set_same canvases i canvas d h in
+          rw (at, same) new
+      | inr order ↦
+          let other : k ≢ i = omega (arith, order) in
+          rw (get_or-set_other canvases i k canvas d other) (all.each k d l)
+    ];
+  }
+
+  pub lines_painted : ((d : Canvas) → line_of (frame_of canvas) ≡ line_of (frame_of (get_or canvases i d)))
+      → KeepLines canvases (slice_set canvases i canvas)
+  lines_painted line k d = elim (cases_order k i) [
     | inl same ↦
-        let at : get_or (slice_set canvases i canvas) k d ≡ canvas =
-        ap (λ j. get_or (slice_set canvases i canvas) j d) same ∙ get_or-set_same canvases i canvas d (omega (arith, all.count)) in
-        rw (at, same) new
+        let at : get_or (slice_set canvases i canvas) i d ≡ canvas = get_or-set_same canvases i canvas d h in
+        rw (same, at) (line d)
     | inr order ↦
         let other : k ≢ i = omega (arith, order) in
-        rw (get_or-set_other canvases i k canvas d other) (all.each k d l)
-  ];
-}
+        rw (get_or-set_other canvases i k canvas d other) refl
+  ]
 
-pub painted_rest : (done rest canvases : List Canvas) (i : ℕ) (canvas : Canvas) → canvases ≡ done ++ rest → length done ≡ i
+pub lines_kept : (old mid new : List Canvas) → KeepLines old mid → KeepLines mid new → KeepLines old new
+lines_kept old mid new first then i d = then i d ∙ first i d
+
+-- what holds of the last canvas
+pub of_last : (P : Canvas → Type 0) (canvases : List Canvas) → 0 < length canvases
+    → IsSomeAnd (last_canvas canvases) P
+    → (d : Canvas) → P (get_or canvases (length canvases - 1) d)
+of_last P canvases some held d = rw (slice_get-get_or canvases (length canvases - 1) d (omega arith)) at held
+
+pub is_of_last : (P : Canvas → Type 0) (canvases : List Canvas) (d : Canvas) → 0 < length canvases
+    → P (get_or canvases (length canvases - 1) d) → IsSomeAnd (last_canvas canvases) P
+is_of_last P canvases d some held = rw (slice_get-get_or canvases (length canvases - 1) d (omega arith)) held
+
+pub of_last_of_all : (P : Canvas → Type 0) (canvases : List Canvas) → 0 < length canvases → All P canvases
+    → IsSomeAnd (last_canvas canvases) P
+of_last_of_all P [] some held = absurd (omega arith)
+of_last_of_all P (canvas ∷ canvases) some held =
+    let last = length (canvas ∷ canvases) - 1 in
+    is_of_last P (canvas ∷ canvases) canvas some (held last canvas (omega arith))
+
+pub painted_rest : (done rest canvases : List Canvas) (i : ℕ) (canvas : Canvas) → canvases ≡ done ++ rest
+    → length done ≡ i
     → done ++ slice_set rest 0 canvas ≡ slice_set canvases i canvas
 painted_rest done rest canvases i canvas e n =
     let none : i - i ≡ 0 = omega arith in
-    rw e (sym (set-append_right done rest i i canvas n (omega arith) ∙ ap (λ j. done ++ slice_set rest j canvas) none))
+    rw e (sym
+    (set-append_right done rest i i canvas n (omega arith) ∙ ap (λ j. done ++ slice_set rest j canvas) none))
 
 -- the canvas before
-pub canvas_before : (done rest canvases : List Canvas) (i : ℕ) (before d : Canvas) → canvases ≡ done ++ rest → length done ≡ i → 1 ≤ i → before ≡ get_or done (i - 1) before
+pub canvas_before : (done rest canvases : List Canvas) (i : ℕ) (before d : Canvas) → canvases ≡ done ++ rest
+    → length done ≡ i → 1 ≤ i → before ≡ get_or done (i - 1) before
     → get_or canvases (i - 1) d ≡ before
 canvas_before done rest canvases i before d e n h is =
     ap (λ cs. get_or cs (i - 1) d) e ∙ get_or-append done rest d (i - 1) (omega arith)
     ∙ get_or_default done (i - 1) d before (omega arith) ∙ sym is
 
-pub painted_at : (done rest canvases : List Canvas) (i : ℕ) (canvas d : Canvas) → canvases ≡ done ++ rest → length done ≡ i → i < length canvases
+pub painted_at : (done rest canvases : List Canvas) (i : ℕ) (canvas d : Canvas) → canvases ≡ done ++ rest
+    → length done ≡ i → i < length canvases
     → get_or (done ++ slice_set rest 0 canvas) i d ≡ canvas
 painted_at done rest canvases i canvas d e n h =
-    ap (λ cs. get_or cs i d) (painted_rest done rest canvases i canvas e n) ∙ get_or-set_same canvases i canvas d h
+    ap (λ cs. get_or cs i d) (painted_rest done rest canvases i canvas e n)
+    ∙ get_or-set_same canvases i canvas d h
 
-pub canvas_rest : (done rest canvases : List Canvas) (i : ℕ) (d : Canvas) → canvases ≡ done ++ rest → length done ≡ i → get_or canvases i d ≡ get_or rest 0 d
+pub canvas_rest : (done rest canvases : List Canvas) (i : ℕ) (d : Canvas) → canvases ≡ done ++ rest
+    → length done ≡ i → get_or canvases i d ≡ get_or rest 0 d
 canvas_rest done rest canvases i d e n =
     let none : i - i ≡ 0 = omega arith in
-    ap (λ cs. get_or cs i d) e ∙ get_or-append_right done rest i i d n (omega arith) ∙ ap (λ j. get_or rest j d) none
+    ap (λ cs. get_or cs i d) e ∙ get_or-append_right done rest i i d n (omega arith)
+    ∙ ap (λ j. get_or rest j d) none

@@ -1,5 +1,5 @@
-pub mod Words
 pub mod Numbers
+pub mod OpsLeft
 pub mod BlurSums
 pub mod BlurRows
 pub mod ReadRows

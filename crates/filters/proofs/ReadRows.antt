@@ -1,10 +1,10 @@
 -- The samples of rows that are read from a frame.
-use Rattle.std.proofs.Common.{ℕ, ◌≡◌, ◌+◌, ◌-◌, ◌*◌, ◌/◌, ◌<◌, ◌≤◌, List, length, slice_index, arith, ap, sym, ◌∙◌, take, drop}
+use Rattle.std.proofs.Common.{ℕ, ◌≡◌, ◌+◌, ◌-◌, ◌*◌, ◌<◌, ◌≤◌, List, length, slice_index, arith, ap, sym, ◌∙◌}
+use Rattle.std.proofs.Common.{take, drop}
 use Rattle.std.proofs.Math.Nat.{mul-le-mul_right}
 use Rattle.std.proofs.lemmas.List.{get_or-take, get_or-drop}
 use Rattle.frame_view.specs.declared.geometry.Geometry.{Geometry}
-use Rattle.frame_view.specs.Places.{plane_width, plane_height, row_start, by_plane}
-use Rattle.y4m_header.specs.Chroma.{horizontal_divisor, vertical_divisor}
+use Rattle.frame_view.specs.Places.{plane_width, row_start}
 use Rattle.frame_view.specs.Written.{IsRows}
 use Rattle.frame_view.specs.Rows.{sample, row_of, run_of}
 
@@ -30,20 +30,15 @@ row-sample g bytes p y x l =
     ∙ run-sample g bytes p y (y + 1) 0 x (omega arith) l
     ∙ ap (λ z. sample g bytes p z x) same
 
-pub same_width : (g image : Geometry) (p : ℕ) → image.width ≡ g.width → image.chroma ≡ g.chroma → plane_width image p ≡ plane_width g p
-unfolding plane_width
-same_width g image p w c = ap (λ z. by_plane p image.width (image.width / horizontal_divisor z)) c ∙ ap (λ z. by_plane p z (z / horizontal_divisor g.chroma)) w
-
-pub same_height : (g image : Geometry) (p : ℕ) → image.height ≡ g.height → image.chroma ≡ g.chroma → plane_height image p ≡ plane_height g p
-unfolding plane_height
-same_height g image p h c = ap (λ z. by_plane p image.height (image.height / vertical_divisor z)) c ∙ ap (λ z. by_plane p z (z / vertical_divisor g.chroma)) h
-
 -- the bytes of a part of a row
-pub part-sample : (row : List ℕ) (from n x : ℕ) → x < n → slice_index (take (from + n - from) (drop from row)) x ≡ slice_index row (from + x)
-part-sample row from n x h = get_or-take (from + n - from) (drop from row) x 0 (omega arith) ∙ get_or-drop from row x 0
+pub part-sample : (row : List ℕ) (from n x : ℕ) → x < n
+    → slice_index (take (from + n - from) (drop from row)) x ≡ slice_index row (from + x)
+part-sample row from n x h =
+    get_or-take (from + n - from) (drop from row) x 0 (omega arith) ∙ get_or-drop from row x 0
 
 -- rows that hold the samples of a picture are its rows
-pub rows_held : (picture : ℕ → ℕ → ℕ → ℕ) (target : Geometry) (p columns from to : ℕ) (rows : List ℕ) → columns ≡ plane_width target p → length rows ≡ (to - from) * columns
+pub rows_held : (picture : ℕ → ℕ → ℕ → ℕ) (target : Geometry) (p columns from to : ℕ) (rows : List ℕ)
+    → columns ≡ plane_width target p → length rows ≡ (to - from) * columns
     → ((v x : ℕ) → from + v < to → x < columns → slice_index rows (v * columns + x) ≡ picture p (from + v) x)
     → IsRows picture target p from to rows
 rows_held picture target p columns from to rows e n h = record {

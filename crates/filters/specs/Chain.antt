@@ -1,13 +1,13 @@
--- Operations that follow one another: the pictures between them, and whether each can be done.
-use Rattle.std.specs.Prelude.{ℕ, ◌≤◌, List, [], ◌∷◌, take, Bool, true, false, ⊤}
+-- Operations that follow one another: the formats between them, and whether each can be done.
+use Rattle.std.specs.Prelude.{◌≡◌, ℕ, ◌≤◌, List, [], ◌∷◌, take, Bool, true, false, ⊤}
 use Rattle.y4m_header.specs.declared.chroma.Chroma.{Chroma}
 use Rattle.frame_view.specs.declared.geometry.Geometry.{Geometry}
 use Rattle.row_bands.specs.declared.band_height.BandHeight.{BandHeight}
 use Rattle.filters.specs.declared.op.Op.{Op}
 use Rattle.filters.specs.declared.op.Op.TheVariants.{Table, HFlip, VFlip, Crop, Blur}
-use Rattle.filters.specs.Image.{IsDoable, IsImageGeometry, image_width, image_height}
+use Rattle.filters.specs.Image.{IsDoable, image_width, image_height}
 
--- the size of a picture, and how its chroma planes are sampled
+-- the size of frames, and how their chroma planes are sampled
 pub record Format : Type 0 where
   pub width : ℕ
   pub height : ℕ
@@ -17,8 +17,15 @@ abbrev pub format_of : Geometry → Format
 format_of g = record { width = g.width; height = g.height; chroma = g.chroma }
 
 abbrev pub format_after : Op → Format → Format
-format_after op format =
-    record { width = image_width op format.width; height = image_height op format.height; chroma = format.chroma }
+format_after op format = record {
+  width = image_width op format.width;
+  height = image_height op format.height;
+  chroma = format.chroma;
+}
+
+-- the one geometry is that of the image of frames of the other
+pub record IsImageGeometry (op : Op) (g image : Geometry) : Type 0 where
+  pub format : format_of image ≡ format_after op (format_of g)
 
 -- the format after all these operations
 abbrev pub last_format : List Op → Format → Format
@@ -28,15 +35,8 @@ last_format (op ∷ ops) format = last_format ops (format_after op format)
 -- each operation can be done on the picture that reaches it
 abbrev pub AreDoable : List Op → Geometry → Type 0
 AreDoable [] g = ⊤
-AreDoable (op ∷ ops) g = IsDoable op g × ((image : Geometry) × IsImageGeometry op g image × AreDoable ops image)
-
--- the radius of a blur is 1 to 8
-abbrev pub HasGoodRadius : Op → Type 0
-HasGoodRadius (Table table) = ⊤
-HasGoodRadius HFlip = ⊤
-HasGoodRadius VFlip = ⊤
-HasGoodRadius (Crop crop) = ⊤
-HasGoodRadius (Blur blur) = (1 ≤ blur.radius) × (blur.radius ≤ 8)
+AreDoable (op ∷ ops) g =
+    IsDoable op g × ((image : Geometry) × IsImageGeometry op g image × AreDoable ops image)
 
 -- a chain has 1 to 8 operations
 pub record IsChainLength (count : ℕ) : Type 0 where
@@ -56,7 +56,7 @@ pub record ChainValue : Type 0 where
   pub geometry : Geometry
   pub band_height : BandHeight
 
--- the format after the first operations of a chain, this many: it is that of what reaches the operation behind them
+-- the format after so many operations of a chain, which is that of what reaches the operation behind them
 abbrev pub format_at : ChainValue → ℕ → Format
 format_at chain count = last_format (take count chain.ops) (format_of chain.geometry)
 

@@ -8,15 +8,15 @@ use Rattle.filters.specs.Costs.{cost_of}
 use Rattle.filters.specs.Refusal.{IsChain}
 use Rattle.filters.specs.ChainOutputs.{AreOutputs}
 
-abbrev pub value_of : Inside → ChainValue
-value_of a = record { ops = a.ops.items; geometry = a.geometry; band_height = a.band_height }
+abbrev pub kept_chain : Inside → ChainValue
+kept_chain a = record { ops = a.ops.items; geometry = a.geometry; band_height = a.band_height }
 
 -- the outputs and the number of steps are those of the chain
 pub record IsSound (a : Inside) : Type 0 where
-  pub is_chain : ∥ IsChain (value_of a) ∥₁
+  pub is_chain : ∥ IsChain (kept_chain a) ∥₁
   pub count : IsChainLength (length a.ops.items)
   pub outputs : AreOutputs a.ops.items a.geometry a.outputs.items
-  pub steps : a.steps ≡ steps_of (value_of a)
-  pub cost : a.cost ≡ cost_of (value_of a)
+  pub steps : a.steps ≡ steps_of (kept_chain a)
+  pub cost : a.cost ≡ cost_of (kept_chain a)
   pub some_steps : 1 ≤ a.steps
   pub cheap : a.cost ≤ MOST_COST

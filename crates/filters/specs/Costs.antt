@@ -16,7 +16,7 @@ op_cost VFlip = 1
 op_cost (Crop crop) = 1
 op_cost (Blur blur) = 1 + blur.radius
 
--- the costs of the steps of a frame of h rows: each operation's cost, as often as its output has bands of b rows
+-- the costs of the steps of a frame of h rows: each operation's cost, for each band of b rows of its output
 abbrev pub costs_by : List Op → ℕ → ℕ → List ℕ
 costs_by [] h b = []
 costs_by (op ∷ ops) h b =
@@ -34,5 +34,7 @@ cost_of chain = sum (step_costs chain)
 pub record IsRun (chain : ChainValue) (k : ℕ) (run : StepRun) : Type 0 where
   pub some : 1 ≤ run.count
   pub within : k + run.count ≤ steps_of chain
-  pub of_op : (op band : ℕ) → IsStep (counts_of chain) k op band → band + run.count ≡ slice_index (counts_of chain) op
-  pub costs : drop k (step_costs chain) ≡ replicate run.count run.cost ++ drop (k + run.count) (step_costs chain)
+  pub of_op : (op band : ℕ) → IsStep (counts_of chain) k op band
+      → band + run.count ≡ slice_index (counts_of chain) op
+  pub costs : drop k (step_costs chain)
+      ≡ replicate run.count run.cost ++ drop (k + run.count) (step_costs chain)

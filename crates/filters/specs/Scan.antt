@@ -1,20 +1,10 @@
--- What is left of a text that is read from the left.
-use Rattle.std.specs.Prelude.{ℕ, List, [], ◌∷◌, ◌==◌, Option, Some, None}
-use Rattle.std.specs.List.{slice_split}
-use Rattle.filters.specs.OpsText.{numbers, all_ops}
-use Rattle.filters.specs.declared.op.Op.{Op}
-
--- the pieces of what is left, if anything is
-abbrev pub pieces_left : ℕ → Option (List ℕ) → List (List ℕ)
-pieces_left at None = []
-pieces_left at (Some rest) = slice_split (λ byte. byte == at) rest
+-- What is left of numbers that are read from the left, and lists of so many numbers.
+use Rattle.std.specs.Prelude.{ℕ, List, [], ◌∷◌, Option, Some, None}
+use Rattle.filters.specs.OpsText.{numbers}
 
 abbrev pub numbers_left : Option (List ℕ) → Option (List ℕ)
 numbers_left None = Some []
 numbers_left (Some rest) = numbers rest
-
-abbrev pub ops_left : Option (List ℕ) → Option (List Op)
-ops_left rest = all_ops (pieces_left 43 rest)
 
 abbrev pub only_number : List ℕ → Option ℕ
 only_number (n ∷ []) = Some n

@@ -7,7 +7,7 @@ pub mod steps;
 ghost use Rattle.std.specs.Prelude.{◌≡◌, ◌≢◌, ◌≤◌, IfOk, IfErr, IsErrOf, length};
 ghost use Rattle.frame_view.specs.declared.geometry.Geometry.{Geometry};
 ghost use Rattle.filters.specs.declared.error.FilterError.{FilterError};
-ghost use Rattle.filters.specs.Chain.{HasGoodRadius, IsChainLength, chain_of};
+ghost use Rattle.filters.specs.Chain.{IsChainLength, chain_of};
 ghost use Rattle.filters.specs.Steps.{steps_of};
 ghost use Rattle.filters.specs.Costs.{cost_of};
 ghost use Rattle.filters.specs.Refusal.{IsChain, IsChainRefusedAs};
@@ -24,8 +24,9 @@ use std::marker::Model;
 
 /// One to eight operations, for frames of one geometry, in bands of one height.
 ///
-/// They are applied in order, each to the whole picture that the one before it made. A step is one band of one
-/// operation's output; the steps of a frame are numbered from 0, operation by operation and from the top down.
+/// They are applied in order, each to the whole picture that the one before it made. A step is one band of
+/// one operation's output; the steps of a frame are numbered from 0, operation by operation and from the top
+/// down.
 #[derive(Debug, Drop)]
 pub struct Chain {
     ops: Vec<Op>,
@@ -41,9 +42,9 @@ impl Model for Chain {
 
     ghost Value = { ChainValue };
 
-    ghost use Rattle.filters.specs.ChainInside.{value_of, IsSound};
+    ghost use Rattle.filters.specs.ChainInside.{kept_chain, IsSound};
 
-    ghost view = { value_of };
+    ghost view = { kept_chain };
 
     ghost invariant = { IsSound };
 }
@@ -77,10 +78,11 @@ fn check_chain(
 impl Chain {
     ghost use Rattle.std.specs.Prelude.{◌<◌, ◌+◌, Some, slice_get};
     ghost use Rattle.std.specs.List.{list_any};
-    ghost use Rattle.filters.specs.Image.{IsDoable, IsImageGeometry};
-    ghost use Rattle.filters.specs.Chain.{format_of, format_at, last_format, is_crop};
+    ghost use Rattle.filters.specs.Image.{HasGoodRadius, IsDoable};
+    ghost use Rattle.filters.specs.Chain.{IsImageGeometry, format_of, format_at, last_format, is_crop};
 
-    /// The chain of these operations.
+    /// The chain of these operations. `NoMemory` is answered where they make a chain, and the memory for the
+    /// sizes of its pictures is refused; the operations are let go with each refusal.
     pub fn new(
         alloc: Global,
         ops: Vec<Op>,
@@ -129,8 +131,8 @@ impl Chain {
         self.geometry_after(self.ops.len())
     }
 
-    /// That of the picture after the first operations, this many: it is the output of the last of these, and reaches
-    /// the operation after them.
+    /// That of the picture after so many operations: it is the output of the last of these, and reaches the
+    /// operation after them.
     pub fn geometry_after(&self, count: usize) -> Geometry
         requires { count ≤ length self.now.ops }
         ensures { format_of result ≡ format_at self.now count }
@@ -153,8 +155,8 @@ impl Chain {
         ensures value { slice_get self.now.ops i ≡ Some result }
         ensures radius { HasGoodRadius result }
         ensures doable { (g : Geometry) → format_of g ≡ format_at self.now i → IsDoable result g }
-        ensures image { (g image : Geometry) → format_of g ≡ format_at self.now i → format_of image ≡ format_at self.now (i + 1)
-            → IsImageGeometry result g image }
+        ensures image { (g image : Geometry) → format_of g ≡ format_at self.now i
+            → format_of image ≡ format_at self.now (i + 1) → IsImageGeometry result g image }
     {
         self.ops[i]
     }

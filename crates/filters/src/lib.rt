@@ -4,7 +4,6 @@
 pub mod apply;
 mod blur;
 pub mod chain;
-mod cut;
 pub mod error;
 mod flip;
 pub mod limits;

@@ -1,55 +1,27 @@
 // Decimal numbers between commas.
-ghost use Rattle.std.specs.Prelude.{◌≡◌, ◌∷◌, ◌^◌, ◌<◌, ◌≤◌, [], length, Some, None, IsTrue, MatchOption, IfSome, All, option_and_then, if◌then◌else◌};
+ghost use Rattle.std.specs.Prelude.{◌≡◌, ◌∷◌, ◌<◌, MatchOption, IfSome, option_and_then};
 ghost use Rattle.std.specs.Option.{option_copied, option_map};
-ghost use Rattle.std.specs.Char.{IsAsciiDigit, is_ascii_digit};
-ghost use Rattle.std.specs.List.{list_all};
-ghost use Rattle.filters.specs.OpsText.{is_number, number, numbers};
+ghost use Rattle.y4m_header.specs.Text.{number_of};
+ghost use Rattle.filters.specs.OpsText.{numbers};
 ghost use Rattle.filters.specs.Scan.{numbers_left, only_number, only_two, only_four};
 
-use crate::cut::cut;
+use y4m_header::text::{cut, decimal_number};
 
-/// The number that 1 to 9 digits stand for.
-pub fn number_of(digits: &[u8]) -> Option<u32>
-    ensures { result ≡ if is_number digits.now then Some (number digits.now) else None }
-{
-    if is_number(digits) {
-        Some(value_of(digits))
-    } else {
-        None
-    }
-}
+/// The most digits of a number.
+const MOST_DIGITS: usize = 9;
 
-fn all_digits(digits: &[u8]) -> bool
-    ensures value { result ≡ list_all is_ascii_digit digits.now }
-    ensures each { IsTrue result → All IsAsciiDigit digits.now }
+/// The number that 1 to 9 digits write.
+fn number_of(digits: &[u8]) -> Option<u32>
+    ensures { result ≡ number_of 9 digits.now }
 {
-    digits.iter().all(|digit| digit.is_ascii_digit())
-}
-
-fn is_number(digits: &[u8]) -> bool
-    ensures value { result ≡ is_number digits.now }
-    ensures few { IsTrue result → length digits.now ≤ 9 }
-    ensures digits { IsTrue result → All IsAsciiDigit digits.now }
-{
-    !digits.is_empty() && digits.len() <= 9 && all_digits(digits)
-}
-
-fn value_of(digits: &[u8]) -> u32
-    requires few { length digits.now ≤ 9 }
-    requires digits { All IsAsciiDigit digits.now }
-    ensures { result ≡ number digits.now }
-{
-    let mut value = 0u32;
-    for digit in digits {
-        value = 10 * value + (*digit - b'0') as u32;
-    }
-    value
+    let number = decimal_number(MOST_DIGITS, digits)?;
+    Some(number as u32)
 }
 
 /// The first number, and what stands after the comma behind it.
 fn next_number(text: &[u8]) -> Option<(u32, Option<&[u8]>)>
-    ensures { MatchOption result (numbers text.now ≡ None)
-        (λ next. numbers text.now ≡ option_map (λ more. next.0 ∷ more) (numbers_left (option_copied next.1))) }
+    ensures { MatchOption result (numbers text.now ≡ None) (λ next.
+        numbers text.now ≡ option_map (λ more. next.0 ∷ more) (numbers_left (option_copied next.1))) }
 {
     let (digits, rest) = cut(b',', text);
     Some((number_of(digits)?, rest))

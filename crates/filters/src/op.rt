@@ -43,7 +43,7 @@ pub struct Blur {
 
 impl Op {
     ghost use Rattle.std.specs.Prelude.{◌≡◌, ◌≤◌};
-    ghost use Rattle.filters.specs.Chain.{HasGoodRadius};
+    ghost use Rattle.filters.specs.Image.{HasGoodRadius};
     ghost use Rattle.filters.specs.Costs.{op_cost};
 
     /// What one band of the operation costs, in units: 1, and for a blur its radius more.

@@ -1,28 +1,33 @@
 // The text of operations.
-ghost use Rattle.std.specs.Prelude.{◌≡◌, ◌≤◌, ◌<◌, ◌↔◌, ◌⊎◌, length, Ok, Err, Some, None, IfOk, IfErr, IsErrOf, IfSome, IsSomeAnd, MatchResult};
+ghost use Rattle.std.specs.Prelude.{◌≡◌, ◌≤◌, ◌<◌, ◌↔◌, ◌⊎◌, length, Some, None};
+ghost use Rattle.std.specs.Prelude.{IfOk, IfErr, IsErrOf, IsSomeAnd};
 ghost use Rattle.std.specs.Option.{option_map, ok_or};
 ghost use Rattle.filters.specs.OpsText.{ops_of};
 
-use crate::cut::cut;
 use crate::error::FilterError;
 use crate::limits::MOST_OPS;
 use crate::op::Op;
 use crate::part::op_of_part;
 use std::alloc::Global;
+use y4m_header::text::cut;
 
 /// The operations that a text says.
 ///
 /// A text is 1 to 8 parts joined by `+`. A part is `invert`, `hflip`, `vflip`, `thresh:t`, `clamp:low,high`,
-/// `crop:x,y,width,height` or `blur:radius`; a number is 1 to 9 decimal digits. Samples are 0 to 255, `low` is at
-/// most `high`, and a radius is 1 to 8; whether a rectangle lies in a picture is seen when the chain is made.
+/// `crop:x,y,width,height` or `blur:radius`; a number is 1 to 9 decimal digits, leading zeros included.
+/// Samples are 0 to 255, `low` is at most `high`, and a radius is 1 to 8; whether a rectangle lies in a
+/// picture is seen when the chain is made. `NoMemory` is answered where the text says at most 8 operations
+/// and the memory of their list is refused; no other answer needs memory.
 pub fn parse_ops(alloc: Global, text: &[u8]) -> Result<Vec<Op>, FilterError>
     ensures ops { IfOk result (λ ops. ops_of text.now ≡ Some ops.items) }
     ensures few { IfOk result (λ ops. length ops.items ≤ 8) }
 
     // A part that says none is told of before there are too many.
     ensures bad { IsErrOf result FilterError.BadOp ↔ (ops_of text.now ≡ None) }
-    ensures many { IsErrOf result FilterError.TooManyOps ↔ IsSomeAnd (ops_of text.now) (λ ops. 8 < length ops) }
-    ensures no_other { IfErr result (λ e. (e ≡ FilterError.BadOp) ⊎ (e ≡ FilterError.TooManyOps) ⊎ (e ≡ FilterError.NoMemory)) }
+    ensures many { IsErrOf result FilterError.TooManyOps
+        ↔ IsSomeAnd (ops_of text.now) (λ ops. 8 < length ops) }
+    ensures no_other { IfErr result (λ e.
+        (e ≡ FilterError.BadOp) ⊎ (e ≡ FilterError.TooManyOps) ⊎ (e ≡ FilterError.NoMemory)) }
 {
     let count = count_ops(text)?;
     if count > MOST_OPS {

@@ -1,7 +1,8 @@
 // An operation as a painter of its image.
 ghost use Rattle.std.specs.Prelude.{◌≡◌};
 ghost use Rattle.frame_view.specs.Frame.{samples_of};
-ghost use Rattle.filters.specs.Image.{IsDoable, IsImageGeometry, image_pixel};
+ghost use Rattle.filters.specs.Image.{IsDoable, image_pixel};
+ghost use Rattle.filters.specs.Chain.{IsImageGeometry};
 
 use crate::op::Op;
 use crate::rows::fill_rows;
@@ -19,7 +20,8 @@ pub struct ImagePainter<'a> {
 }
 
 impl Painter for ImagePainter<'_> {
-    ghost picture = { λ painter. image_pixel painter.op painter.source.now.geometry (samples_of painter.source.now) };
+    ghost picture = { λ painter.
+        image_pixel painter.op painter.source.now.geometry (samples_of painter.source.now) };
 
     ghost geometry = { λ painter. painter.target };
 

@@ -1,10 +1,12 @@
 // One operation's text.
 ghost use Rattle.std.specs.Prelude.{◌≡◌, option_and_then};
-ghost use Rattle.filters.specs.OpsText.{numbers, plain_op, numbered_op, op_of_part, threshold_of, clamp_of, crop_of, blur_of};
+ghost use Rattle.filters.specs.OpsText.{numbers, plain_op, numbered_op, op_of_part};
+ghost use Rattle.filters.specs.OpsText.{threshold_of, clamp_of, crop_of, blur_of};
 
-use crate::cut::cut;
+use crate::limits::MOST_RADIUS;
 use crate::number::{four_numbers, one_number, two_numbers};
 use crate::op::{Blur, Crop, Op, Table};
+use y4m_header::text::cut;
 
 fn threshold_of(text: &[u8]) -> Option<Op>
     ensures { result ≡ option_and_then threshold_of (numbers text.now) }
@@ -47,7 +49,7 @@ fn blur_of(text: &[u8]) -> Option<Op>
     ensures { result ≡ option_and_then blur_of (numbers text.now) }
 {
     let radius = one_number(text)?;
-    if radius >= 1 && radius <= 8 {
+    if radius >= 1 && radius <= MOST_RADIUS {
         Some(Op::Blur(Blur { radius }))
     } else {
         None

@@ -5,18 +5,18 @@ ghost use Rattle.frame_view.specs.Places.{plane_width, plane_height};
 ghost use Rattle.frame_view.specs.Frame.{samples_of};
 ghost use Rattle.frame_view.specs.Written.{IsRows};
 ghost use Rattle.filters.specs.Pixel.{offset};
-ghost use Rattle.filters.specs.Image.{IsDoable, IsImageGeometry, HoldsRows, image_pixel};
+ghost use Rattle.filters.specs.Image.{HasGoodRadius, IsDoable, IsRectangleOf, image_pixel};
+ghost use Rattle.filters.specs.Chain.{IsImageGeometry};
 
 use crate::blur::blur_rows;
 use crate::flip::mirror_row;
 use crate::op::{Blur, Crop, Op, Table};
 use crate::table::table_row;
-use frame_view::{Frame, Geometry};
+use frame_view::{Frame, Geometry, is_chroma_plane};
 
 /// Writes the rows from `from` on to `to`, which is left out, of plane `p` of the image of a frame.
 ///
 /// `target` is the geometry of the image, and `rows` are these rows, one after another.
-#[tactic(auto, using(crate::proofs::ReadRows::same_width, crate::proofs::ReadRows::same_height, crate::proofs::Cropped::columns_within, crate::proofs::Cropped::rows_within, crate::proofs::ReadRows::rows_held))]
 pub fn fill_rows(
     op: Op,
     source: &Frame,
@@ -39,7 +39,7 @@ pub fn fill_rows(
         Op::Table(table) => table_rows(table, source, p, columns, from, to, rows),
         Op::HFlip => mirrored_rows(source, p, columns, from, to, rows),
         Op::VFlip => opposite_rows(source, p, columns, from, to, rows),
-        Op::Crop(crop) => cropped_rows(crop, source, p, columns, from, to, rows),
+        Op::Crop(crop) => cropped_rows(crop, source, target, p, columns, from, to, rows),
         Op::Blur(blur) => blurred_rows(blur, source, p, columns, from, to, rows),
     }
 }
@@ -58,18 +58,21 @@ fn table_rows(
     requires inside { to ≤ plane_height source.now.geometry p }
     requires width { columns ≡ plane_width source.now.geometry p }
     requires sized { length rows.old ≡ (to - from) * columns }
-    ensures { HoldsRows (Op.Table table) source.now.geometry (samples_of source.now) p columns from to rows.new }
+    ensures { IsRows (image_pixel (Op.Table table) source.now.geometry (samples_of source.now))
+        source.now.geometry p from to rows.new }
 {
     table_row(table, p, source.rows(p, from, to), rows);
 }
 
+#[tactic(auto, using(crate::proofs::ReadRows::rows_held))]
 fn mirrored_rows(source: &Frame, p: usize, columns: usize, from: usize, to: usize, rows: &mut [u8])
     requires plane { p < plane_count source.now.geometry.chroma }
     requires order { from ≤ to }
     requires inside { to ≤ plane_height source.now.geometry p }
     requires width { columns ≡ plane_width source.now.geometry p }
     requires sized { length rows.old ≡ (to - from) * columns }
-    ensures { HoldsRows Op.HFlip source.now.geometry (samples_of source.now) p columns from to rows.new }
+    ensures { IsRows (image_pixel Op.HFlip source.now.geometry (samples_of source.now))
+        source.now.geometry p from to rows.new }
 {
     for v in 0..to - from {
         let at = v * columns;
@@ -77,13 +80,15 @@ fn mirrored_rows(source: &Frame, p: usize, columns: usize, from: usize, to: usiz
     }
 }
 
+#[tactic(auto, using(crate::proofs::ReadRows::rows_held))]
 fn opposite_rows(source: &Frame, p: usize, columns: usize, from: usize, to: usize, rows: &mut [u8])
     requires plane { p < plane_count source.now.geometry.chroma }
     requires order { from ≤ to }
     requires inside { to ≤ plane_height source.now.geometry p }
     requires width { columns ≡ plane_width source.now.geometry p }
     requires sized { length rows.old ≡ (to - from) * columns }
-    ensures { HoldsRows Op.VFlip source.now.geometry (samples_of source.now) p columns from to rows.new }
+    ensures { IsRows (image_pixel Op.VFlip source.now.geometry (samples_of source.now))
+        source.now.geometry p from to rows.new }
 {
     let last = source.geometry().plane_size(p).rows - 1;
     for v in 0..to - from {
@@ -98,7 +103,7 @@ fn offsets(crop: Crop, geometry: Geometry, p: usize) -> (usize, usize)
     ensures down { result.1 ≡ offset p crop.y (vertical_divisor geometry.chroma) }
 {
     let divisors = geometry.chroma.divisors();
-    if p == 1 || p == 2 {
+    if is_chroma_plane(p) {
         (
             (crop.x / divisors.horizontal) as usize,
             (crop.y / divisors.vertical) as usize,
@@ -108,21 +113,26 @@ fn offsets(crop: Crop, geometry: Geometry, p: usize) -> (usize, usize)
     }
 }
 
+#[tactic(auto, using(crate::proofs::ReadRows::rows_held))]
 fn cropped_rows(
     crop: Crop,
     source: &Frame,
+    target: Geometry,
     p: usize,
     columns: usize,
     from: usize,
     to: usize,
     rows: &mut [u8],
 )
-    requires plane { p < plane_count source.now.geometry.chroma }
+    requires rectangle { IsRectangleOf crop source.now.geometry }
+    requires image { IsImageGeometry (Op.Crop crop) source.now.geometry target }
+    requires plane { p < plane_count target.chroma }
     requires order { from ≤ to }
-    requires inside { offset p crop.y (vertical_divisor source.now.geometry.chroma) + to ≤ plane_height source.now.geometry p }
-    requires width { offset p crop.x (horizontal_divisor source.now.geometry.chroma) + columns ≤ plane_width source.now.geometry p }
+    requires inside { to ≤ plane_height target p }
+    requires width { columns ≡ plane_width target p }
     requires sized { length rows.old ≡ (to - from) * columns }
-    ensures { HoldsRows (Op.Crop crop) source.now.geometry (samples_of source.now) p columns from to rows.new }
+    ensures { IsRows (image_pixel (Op.Crop crop) source.now.geometry (samples_of source.now))
+        target p from to rows.new }
 {
     let (across, down) = offsets(crop, source.geometry(), p);
     for v in 0..to - from {
@@ -141,13 +151,14 @@ fn blurred_rows(
     to: usize,
     rows: &mut [u8],
 )
-    requires few { blur.radius ≤ 8 }
+    requires radius { HasGoodRadius (Op.Blur blur) }
     requires plane { p < plane_count source.now.geometry.chroma }
     requires order { from ≤ to }
     requires inside { to ≤ plane_height source.now.geometry p }
     requires width { columns ≡ plane_width source.now.geometry p }
     requires sized { length rows.old ≡ (to - from) * columns }
-    ensures { HoldsRows (Op.Blur blur) source.now.geometry (samples_of source.now) p columns from to rows.new }
+    ensures { IsRows (image_pixel (Op.Blur blur) source.now.geometry (samples_of source.now))
+        source.now.geometry p from to rows.new }
 {
     let size = source.geometry().plane_size(p);
     let samples = source.rows(p, 0, size.rows);

@@ -3,6 +3,7 @@ ghost use Rattle.std.specs.Prelude.{◌≡◌, ◌-◌, ◌≤◌, length, map, 
 ghost use Rattle.filters.specs.Pixel.{entry, luma_entry, chroma_entry};
 
 use crate::op::Table;
+use frame_view::is_chroma_plane;
 
 /// What a table makes of a row of plane `p`.
 pub fn table_row(table: Table, p: usize, source: &[u8], target: &mut [u8])
@@ -11,7 +12,7 @@ pub fn table_row(table: Table, p: usize, source: &[u8], target: &mut [u8])
 {
     if p == 0 {
         luma_row(table, source, target);
-    } else if p == 1 || p == 2 {
+    } else if is_chroma_plane(p) {
         chroma_row(table, source, target);
     } else {
         target.copy_from_slice(source);

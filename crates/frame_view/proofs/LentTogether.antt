@@ -21,13 +21,13 @@ left xs ys k h = get_or_append_left xs ys 0 k h
 right : (xs ys : List ℕ) (n k j : ℕ) → length xs ≡ n → k ≡ n + j → slice_index (xs ++ ys) k ≡ slice_index ys j
 right xs ys n k j e f = get_or-append_right xs ys n k 0 e (omega arith) ∙ ap (λ z. slice_index ys z) (let s : k - n ≡ j = omega arith in s)
 
-four : (p : ℕ) → p < 4 → (p ≡ 0) ⊎ ((p ≡ 1) ⊎ ((p ≡ 2) ⊎ (p ≡ 3)))
+pub four : (p : ℕ) → p < 4 → (p ≡ 0) ⊎ ((p ≡ 1) ⊎ ((p ≡ 2) ⊎ (p ≡ 3)))
 four p h = grind arith
 
-at_most_four : (g : Geometry) → plane_count g.chroma ≤ 4
+pub at_most_four : (g : Geometry) → plane_count g.chroma ≤ 4
 at_most_four g = elim (counts g.chroma) [ inl e ↦ omega arith | inr (inl e) ↦ omega arith | inr (inr e) ↦ omega arith ]
 
-place_below : (g : Geometry) (p y x : ℕ) → IsPlace g p y x → y * plane_width g p + x < lent_len g p
+pub place_below : (g : Geometry) (p y x : ℕ) → IsPlace g p y x → y * plane_width g p + x < lent_len g p
 place_below g p y x h = omega (arith, lent_size g p h.plane, row_in_plane g p (y + 1) (let k = h.row in omega arith), next_row g p y, next_plane g p, h.column)
 
 -- what stands in a lent plane stands in its own rows

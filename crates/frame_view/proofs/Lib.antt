@@ -7,3 +7,5 @@ pub mod Written
 pub mod Parted
 pub mod LentTogether
 pub mod PutRow
+pub mod Filled
+pub mod OtherRows

@@ -3,9 +3,9 @@ use Rattle.std.proofs.Common.{ℕ, ◌≡◌, ◌+◌, ◌-◌, ◌*◌, ◌/◌
 use Rattle.std.proofs.lemmas.Nat.{div-add-mod', div-mul-add, div_below}
 use Rattle.y4m_header.specs.Chroma.{plane_count}
 use Rattle.frame_view.specs.declared.geometry.Geometry.{Geometry}
-use Rattle.frame_view.specs.Places.{plane_width, plane_height, plane_start, row_start}
-use Rattle.frame_view.specs.Rows.{IsPlace, EachByteInOneRow}
-use Rattle.frame_view.proofs.Places.{first_plane, next_plane, next_row, planes_ordered, planes_fill, row_in_plane, some_columns}
+use Rattle.frame_view.specs.Places.{plane_width, plane_height, plane_start, row_start, frame_len}
+use Rattle.frame_view.specs.Rows.{IsPlace, IsInOneRow, EachByteInOneRow}
+use Rattle.frame_view.proofs.Places.{first_plane, next_plane, next_row, planes_ordered, planes_fill, row_in_plane, row_in_frame, some_columns}
 
 either_side : (i n : ℕ) → (i < n) ⊎ (n ≤ i)
 either_side i n = grind arith
@@ -35,8 +35,9 @@ same_row w z v y x hv hx e =
     let s : z ≡ y = sym (div-mul-add z w v hv) ∙ ap (λ n. n / w) e ∙ div-mul-add y w x hx in
     (s, omega (arith, ap (λ n. n * w) s))
 
-pub each_byte_in_one_row : (g : Geometry) → EachByteInOneRow g
-each_byte_in_one_row g = λ i h.
+-- the byte at i is in one row
+pub each_byte_in_one_row : (g : Geometry) (i : ℕ) → i < frame_len g → IsInOneRow g i
+each_byte_in_one_row g i h =
     let a = plane_at g (plane_count g.chroma) i (omega (arith, planes_fill g)) in
     let p = a.0 in
     let w = plane_width g p in
@@ -59,3 +60,10 @@ each_byte_in_one_row g = λ i h.
           let r = same_row w z v y x b'.column column (omega (arith, a.2, split)) in
           (s, r.0, r.1),
     )
+
+place_in_frame : (g : Geometry) (p y x : ℕ) → IsPlace g p y x → row_start g p y + x < frame_len g
+place_in_frame g p y x h =
+    omega (arith, next_row g p y, h.column, row_in_frame g p (y + 1) h.plane (let k = h.row in omega arith))
+
+pub rows_part : (g : Geometry) → EachByteInOneRow g
+rows_part g = record { bytes = each_byte_in_one_row g; places = place_in_frame g }

@@ -1,18 +1,17 @@
 -- Rows that were written, and what a frame then has.
-use Rattle.std.proofs.Common.{ℕ, ◌≡◌, ◌+◌, ◌*◌, ◌-◌, ◌<◌, ◌≤◌, List, ◌++◌, length, arith, slice_index, slice_range, ap, sym, ◌∙◌, ◌⊎◌, inl, inr, refl, length-append}
+use Rattle.std.proofs.Common.{ℕ, ◌≡◌, ◌+◌, ◌*◌, ◌-◌, ◌<◌, ◌≤◌, List, ◌++◌, length, arith, slice_index, slice_range, ap, ◌∙◌, ◌⊎◌, inl, inr, refl, length-append}
 use Rattle.std.proofs.lemmas.List.{get_or_append_left, get_or-append_right}
-use borrow.Rule.Slice.PartMut.{put_mid}
 use Rattle.y4m_header.specs.Chroma.{plane_count}
 use Rattle.frame_view.specs.declared.geometry.Geometry.{Geometry}
 use Rattle.frame_view.specs.declared.frame.Frame.{Frame}
 use Rattle.frame_view.specs.Places.{plane_width, plane_height, row_start}
-use Rattle.frame_view.specs.Written.{IsRow, IsRows, HasRows}
+use Rattle.frame_view.specs.Written.{IsRows, HasRows}
 use Rattle.frame_view.specs.Lending.{with_samples}
 use Rattle.frame_view.proofs.Places.{row_in_frame}
 use Rattle.frame_view.proofs.Gaps.{gap, row_gap, row_below}
 use Rattle.frame_view.specs.Rows.{sample, run_of}
 use Rattle.std.proofs.lemmas.Grind.{common_steps}
-use Rattle.frame_view.proofs.Over.{over, over_is, over-before, over-inside, over-after}
+use Rattle.frame_view.proofs.Over.{over_is, over-before, over-inside, over-after}
 
 -- lent rows that come back as a picture's are the picture's rows in the frame
 pub lent_rows : (picture : ℕ → ℕ → ℕ → ℕ) (p from to : ℕ) (old : Frame) (ws : List ℕ)
@@ -56,29 +55,14 @@ rows_joined picture g p from mid to xs ys h k a b =
       ];
     }
 
--- one more row, written by a loop over rows
-pub row_put : (picture : ℕ → ℕ → ℕ → ℕ) (g : Geometry) (p from y n at : ℕ) (xs ws : List ℕ) → from ≤ y → n ≡ plane_width g p → at ≡ (y - from) * plane_width g p → at + n ≤ length xs
-    → ((y' x : ℕ) → from ≤ y' → y' < y → x < plane_width g p → slice_index xs ((y' - from) * plane_width g p + x) ≡ picture p y' x)
-    → IsRow picture g p y ws
-    → (y' x : ℕ) → from ≤ y' → y' < y + 1 → x < plane_width g p → slice_index (put_mid at n xs ws) ((y' - from) * plane_width g p + x) ≡ picture p y' x
-row_put picture g p from y n at xs ws h hn ha room f r y' x a b l =
-    let w = plane_width g p in
-    let same : put_mid at n xs ws ≡ over xs at ws = ap (λ z. put_mid at z xs ws) (hn ∙ sym r.len) in
-    let room' : at + length ws ≤ length xs = omega (arith, r.len) in
-    rw same (elim (either_side y' y) [
-      | inl q ↦ over-before xs at ws ((y' - from) * w + x) room' (omega (arith, row_below (y' - from) (y - from) x w (omega arith) l)) ∙ f y' x a q l
-      | inr q ↦ (let e : y' ≡ y = omega arith in let s : (y' - from) * w + x ≡ at + x = ap (λ z. (z - from) * w + x) e ∙ ap (λ z. z + x) (sym ha) in
-          rw s (over-inside xs at ws x room' (omega (arith, r.len)) ∙ r.samples x l ∙ ap (λ z. picture p z x) (sym e)))
-    ])
-
 -- the rows that are left after a cut
 pub rest_rows : (from mid to w n m : ℕ) → from ≤ mid → mid ≤ to → n + (mid - from) * w ≡ m → m ≡ (to - from) * w → n ≡ (to - mid) * w
 rest_rows from mid to w n m h k e f = omega (arith, gap (mid - from) (to - from) w (omega arith), ap (λ z. z * w) (let e : (to - from) - (mid - from) ≡ to - mid = omega arith in e))
 
-length-part : (xs : List ℕ) (a b : ℕ) → b ≤ length xs → length (slice_range xs a b) ≡ b - a
+pub length-part : (xs : List ℕ) (a b : ℕ) → b ≤ length xs → length (slice_range xs a b) ≡ b - a
 length-part xs a b h = grind (arith, common_steps)
 
-read-part : (xs : List ℕ) (a b k : ℕ) → b ≤ length xs → k < b - a → slice_index (slice_range xs a b) k ≡ slice_index xs (a + k)
+pub read-part : (xs : List ℕ) (a b k : ℕ) → b ≤ length xs → k < b - a → slice_index (slice_range xs a b) k ≡ slice_index xs (a + k)
 read-part xs a b k h l = grind (arith, common_steps)
 
 -- rows of a frame are those of the picture that it shows

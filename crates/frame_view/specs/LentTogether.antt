@@ -24,7 +24,8 @@ of_plane (suc (suc (suc p))) luma cb cr alpha = alpha
 
 -- samples with their row y replaced
 abbrev pub put_row : List ℕ → ℕ → ℕ → List ℕ → List ℕ
-put_row samples columns y row = take (y * columns) samples ++ (row ++ drop (length row) (drop (y * columns) samples))
+put_row samples columns y row =
+    take (y * columns) samples ++ (row ++ drop (length row) (drop (y * columns) samples))
 
 -- the two parts are put together again
 abbrev pub LendsParts : MutBor (List ℕ) → MutBor (List ℕ) × MutBor (List ℕ) → Fml

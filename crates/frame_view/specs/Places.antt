@@ -1,11 +1,15 @@
 -- Where the planes of a frame and their rows stand in its bytes.
-use Rattle.std.specs.Prelude.{ℕ, ◌+◌, ◌*◌, ◌/◌, zero, suc, ◌==◌, ◌||◌, if◌then◌else◌}
+use Rattle.std.specs.Prelude.{ℕ, ◌+◌, ◌*◌, ◌/◌, zero, suc, Bool, ◌==◌, ◌||◌, if◌then◌else◌}
 use Rattle.y4m_header.specs.Chroma.{horizontal_divisor, vertical_divisor, data_len}
 use Rattle.frame_view.specs.declared.geometry.Geometry.{Geometry}
 
--- planes 1 and 2 have the divided size, the others the full one
+-- plane 1 is Cb, plane 2 Cr
+abbrev pub is_chroma_plane : ℕ → Bool
+is_chroma_plane p = (p == 1) || (p == 2)
+
+-- the chroma planes have the divided size, the others the full one
 abbrev pub by_plane : ℕ → ℕ → ℕ → ℕ
-by_plane p full divided = if (p == 1) || (p == 2) then divided else full
+by_plane p full divided = if is_chroma_plane p then divided else full
 
 unfoldable pub plane_width : Geometry → ℕ → ℕ
 plane_width g p = by_plane p g.width (g.width / horizontal_divisor g.chroma)

@@ -16,10 +16,15 @@ pub record IsPlace (g : Geometry) (p y x : ℕ) : Type 0 where
   pub row : y < plane_height g p
   pub column : x < plane_width g p
 
--- each byte of a frame is the sample of one place, and of one alone
-abbrev pub EachByteInOneRow : Geometry → Type 0
-EachByteInOneRow g = (i : ℕ) → i < frame_len g
-    → (p y x : ℕ) × IsPlace g p y x × (i ≡ row_start g p y + x) × ((q z v : ℕ) → IsPlace g q z v → i ≡ row_start g q z + v → (q ≡ p) × (z ≡ y) × (v ≡ x))
+-- the byte at i is the sample of one place, and of one alone
+abbrev pub IsInOneRow : Geometry → ℕ → Type 0
+IsInOneRow g i = (p y x : ℕ) × IsPlace g p y x × (i ≡ row_start g p y + x)
+    × ((q z v : ℕ) → IsPlace g q z v → i ≡ row_start g q z + v → (q ≡ p) × (z ≡ y) × (v ≡ x))
+
+-- the rows part the bytes of a frame among them: each byte is in one of them, and they have no others
+pub record EachByteInOneRow (g : Geometry) : Type 0 where
+  pub bytes : (i : ℕ) → i < frame_len g → IsInOneRow g i
+  pub places : (p y x : ℕ) → IsPlace g p y x → row_start g p y + x < frame_len g
 
 -- the rows from one place on to another, which is left out, one after another
 abbrev pub run_of : Geometry → List ℕ → ℕ → ℕ → ℕ → List ℕ
@@ -41,5 +46,8 @@ plane_rows plane = map (λ y. plane_run plane y (y + 1)) (range_with_len 0 plane
 
 -- four planes that come back at once: what stands in one stands in that plane's own rows
 abbrev pub LentPlanesStandInTheirRows : Geometry → Type 0
-LentPlanesStandInTheirRows g = (luma cb cr alpha : List ℕ) → length luma ≡ lent_len g 0 → length cb ≡ lent_len g 1 → length cr ≡ lent_len g 2 → length alpha ≡ lent_len g 3
-    → (p y x : ℕ) → IsPlace g p y x → sample g (luma ++ (cb ++ (cr ++ alpha))) p y x ≡ slice_index (of_plane p luma cb cr alpha) (y * plane_width g p + x)
+LentPlanesStandInTheirRows g = (luma cb cr alpha : List ℕ) → length luma ≡ lent_len g 0
+    → length cb ≡ lent_len g 1 → length cr ≡ lent_len g 2 → length alpha ≡ lent_len g 3
+    → (p y x : ℕ) → IsPlace g p y x
+    → sample g (luma ++ (cb ++ (cr ++ alpha))) p y x
+    ≡ slice_index (of_plane p luma cb cr alpha) (y * plane_width g p + x)

@@ -4,13 +4,15 @@ ghost use Rattle.y4m_header.specs.Chroma.{data_len};
 ghost use Rattle.y4m_header.specs.FrameLine.{IsFrameLine};
 
 use crate::geometry::Geometry;
+use crate::lend_planes;
 use crate::plane::Plane;
 use std::alloc::{AllocError, Global};
 use thiserror::Error;
 
 /// One frame: its geometry, its frame line without the line feed, and the samples of its planes.
 ///
-/// The planes stand one after another in a single buffer, each from its top row on, as a stream has them.
+/// The planes stand one after another in a single buffer, each from its top row on, as a stream has them. A
+/// sample is one byte. The frame owns its line and its buffer; what it lends borrows from it.
 #[derive(Debug, Drop)]
 pub struct Frame {
     pub(crate) geometry: Geometry,
@@ -20,7 +22,7 @@ pub struct Frame {
     pub ghost lined: { ∥ IsFrameLine line.items ∥₁ },
 }
 
-/// The data isn't as long as the geometry asks. What was handed over comes back.
+/// The data isn't as long as the geometry asks. The line and the data that were handed over come back.
 #[derive(Debug, Drop, Error)]
 #[error("WrongLength")]
 pub struct WrongLength {
@@ -29,15 +31,17 @@ pub struct WrongLength {
 }
 
 impl Frame {
-    ghost use Rattle.std.specs.Prelude.{◌≡◌, ℕ, ◌+◌, ◌*◌, ◌-◌, ◌<◌, ◌≤◌, ◌↔◌, length, replicate, IsOk, IfOk, IfErr, OnOk, OnErr};
+    ghost use Rattle.std.specs.Prelude.{◌≡◌, ℕ, ◌*◌, ◌-◌, ◌<◌, ◌≤◌, ◌↔◌, length, replicate, slice_index};
+    ghost use Rattle.std.specs.Prelude.{IsOk, IfOk, IfErr, OnOk, OnErr};
     ghost use Rattle.std.specs.Borrow.{sem};
     ghost use Rattle.y4m_header.specs.Chroma.{plane_count};
-    ghost use Rattle.frame_view.specs.Places.{plane_width, plane_height, row_start, frame_len};
-    ghost use Rattle.frame_view.specs.Rows.{row_of, run_of, rows_of, plane_rows, plane_run};
+    ghost use Rattle.frame_view.specs.Places.{plane_width, plane_height, frame_len};
+    ghost use Rattle.frame_view.specs.Rows.{IsPlace, sample, row_of, run_of, rows_of, plane_rows, plane_run};
     ghost use Rattle.frame_view.specs.Frame.{line_of, samples_of, IsFrameWith};
     ghost use Rattle.frame_view.specs.Lending.{LendsSamples, LendsRows};
 
-    /// A frame of this line and data; the line has no line feed.
+    /// A frame of this line and data; the line has no line feed. It takes both over, copies nothing and takes
+    /// no memory.
     pub fn new(geometry: Geometry, line: Vec<u8>, samples: Vec<u8>) -> Result<Frame, WrongLength>
         requires { IsFrameLine line.items }
         ensures accepted { IsOk result ↔ (vec_len samples ≡ frame_len geometry) }
@@ -54,7 +58,8 @@ impl Frame {
         })
     }
 
-    /// A frame whose samples are all 0.
+    /// A frame whose samples are all 0, with its own copy of the line. It takes memory for the line and for
+    /// the data; where that is refused, it answers the error and keeps none.
     pub fn blank(alloc: Global, geometry: Geometry, line: &[u8]) -> Result<Frame, AllocError>
         requires { IsFrameLine line.now }
         ensures { IfOk result (IsFrameWith geometry line.now (replicate (frame_len geometry) 0)) }
@@ -68,6 +73,22 @@ impl Frame {
         })
     }
 
+    /// Fills each plane with one sample: these are those of Y, Cb, Cr and A, and that of an absent plane goes
+    /// unused.
+    pub fn fill(&mut self, samples: [u8; 4])
+        ensures geometry { self.new.geometry ≡ self.old.geometry }
+        ensures line { line_of self.new ≡ line_of self.old }
+        ensures filled { (p y x : ℕ) → IsPlace self.old.geometry p y x
+            → sample self.old.geometry (samples_of self.new) p y x ≡ slice_index samples p }
+    {
+        lend_planes!(&mut *self => luma, cb, cr, alpha);
+        luma.samples.fill(samples[0]);
+        cb.samples.fill(samples[1]);
+        cr.samples.fill(samples[2]);
+        alpha.samples.fill(samples[3]);
+    }
+
+    /// Its size and the sampling of its chroma planes; they never change.
     pub fn geometry(&self) -> Geometry
         ensures { result ≡ self.now.geometry }
     {
@@ -82,7 +103,7 @@ impl Frame {
         &self.line
     }
 
-    /// The samples of all planes, in the order Y, Cb, Cr, A.
+    /// The samples of all planes, in the order Y, Cb, Cr, A; as many bytes as `Geometry::bytes` says.
     pub fn data(&self) -> &[u8]
         ensures value { result.now ≡ samples_of self.now }
         ensures len { length result.now ≡ frame_len self.now.geometry }
@@ -90,7 +111,7 @@ impl Frame {
         self.samples.as_slice()
     }
 
-    /// The samples of all planes, lent for writing.
+    /// The samples of all planes, as `data` has them, lent for writing.
     pub fn data_mut(&mut self) -> &mut [u8]
         ensures* writes_back { sem 𝓛 (LendsSamples self.entry result) }
         ensures value { result.now ≡ samples_of self.old }
@@ -99,7 +120,10 @@ impl Frame {
         self.samples.as_mut_slice()
     }
 
-    /// Puts this line in place of the frame's own; the samples stay.
+    /// Puts a copy of this line in place of the frame's own; the samples stay.
+    ///
+    /// A line that the frame has already takes no memory. Where memory is refused, the frame keeps its old
+    /// line.
     pub fn set_line(&mut self, alloc: Global, line: &[u8]) -> Result<(), AllocError>
         requires { IsFrameLine line.now }
         ensures geometry { self.new.geometry ≡ self.old.geometry }
@@ -113,7 +137,7 @@ impl Frame {
         Ok(())
     }
 
-    /// The line and the data.
+    /// The line and the data, handed over without a copy.
     pub fn into_parts(self) -> (Vec<u8>, Vec<u8>)
         ensures line { result.0.items ≡ line_of self }
         ensures samples { result.1.items ≡ samples_of self }
@@ -122,7 +146,7 @@ impl Frame {
         (line, samples)
     }
 
-    /// Plane `p`: 0 is Y, 1 Cb, 2 Cr, 3 A.
+    /// Plane `p`, to read: 0 is Y, 1 Cb, 2 Cr, 3 A.
     pub fn plane(&self, p: usize) -> Plane<'_>
         requires { p < plane_count self.now.geometry.chroma }
         ensures columns { result.columns ≡ plane_width self.now.geometry p }
@@ -140,7 +164,7 @@ impl Frame {
         }
     }
 
-    /// Row `y` of plane `p`.
+    /// Row `y` of plane `p`, the top one being 0; as many samples as the plane has columns.
     #[tactic(auto, using(crate::proofs::Places::next_row, crate::proofs::Places::few_rows))]
     pub fn row(&self, p: usize, y: usize) -> &[u8]
         requires plane { p < plane_count self.now.geometry.chroma }
@@ -151,7 +175,8 @@ impl Frame {
         self.rows(p, y, y + 1)
     }
 
-    /// The rows of plane `p` from `from` on to `to`, which is left out, one after another.
+    /// The rows of plane `p` from `from` on to `to`, which is left out, one after another: `to - from` times
+    /// as many samples as the plane has columns, and none where `from` is `to`.
     pub fn rows(&self, p: usize, from: usize, to: usize) -> &[u8]
         requires plane { p < plane_count self.now.geometry.chroma }
         requires order { from ≤ to }
@@ -163,7 +188,7 @@ impl Frame {
         &self.samples[run.start..run.end]
     }
 
-    /// Row `y` of plane `p`, lent for writing.
+    /// Row `y` of plane `p`, as `row` has it, lent for writing.
     #[tactic(auto, using(crate::proofs::Places::next_row, crate::proofs::Places::few_rows))]
     pub fn row_mut(&mut self, p: usize, y: usize) -> &mut [u8]
         requires plane { p < plane_count self.old.geometry.chroma }
@@ -175,7 +200,7 @@ impl Frame {
         self.rows_mut(p, y, y + 1)
     }
 
-    /// The rows of plane `p` from `from` on to `to`, which is left out, lent for writing as one slice.
+    /// The rows of plane `p` from `from` on to `to`, as `rows` has them, lent for writing as one slice.
     pub fn rows_mut(&mut self, p: usize, from: usize, to: usize) -> &mut [u8]
         requires plane { p < plane_count self.old.geometry.chroma }
         requires order { from ≤ to }

@@ -2,13 +2,14 @@
 ghost use Rattle.std.specs.Prelude.{◌≡◌, ◌≤◌, ◌%◌};
 ghost use Rattle.y4m_header.specs.Chroma.{horizontal_divisor, vertical_divisor, data_len};
 
+use crate::chroma_plane::is_chroma_plane;
 use std::ops::Range;
 use y4m_header::{Chroma, Header};
 
 /// The size of a frame in pixels, and how its chroma planes are sampled.
 ///
-/// It is always that of some header line: the chroma planes are whole, and the width, the height and the bytes of
-/// a frame are within their limits.
+/// It is always that of some header line: the chroma planes are whole, and the width, the height and the
+/// bytes of a frame are within their limits. Each pixel has one sample of Y; a sample is one byte.
 #[derive(Clone, Copy, Debug, PartialEq, Eq)]
 pub struct Geometry {
     pub width: u32,
@@ -23,18 +24,18 @@ pub struct Geometry {
     pub ghost small: { data_len width height chroma ≤ 67108864 },
 }
 
-/// The size of one plane, in samples.
+/// The size of one plane, in samples: how many stand in a row, and how many rows there are.
 #[derive(Clone, Copy, Debug, PartialEq, Eq)]
 pub struct PlaneSize {
     pub columns: usize,
     pub rows: usize,
 }
 
-/// One of the four planes that a frame lends at once; a plane that it hasn't has no samples.
+/// One of the four planes that a frame lends at once; a plane that it hasn't has no columns and no samples.
 #[derive(Clone, Copy, Debug, PartialEq, Eq)]
 pub struct LentPlane {
     pub columns: usize,
-    /// In samples.
+    /// The samples of all its rows.
     pub len: usize,
 }
 
@@ -90,7 +91,7 @@ impl Geometry {
         }
     }
 
-    /// The bytes of a frame's data, at most 67,108,864.
+    /// The bytes of a frame's data, one for each sample; at most 67,108,864.
     #[tactic(auto, using(crate::proofs::Places::planes_fill))]
     pub fn bytes(self) -> usize
         ensures value { result ≡ frame_len self }
@@ -100,14 +101,15 @@ impl Geometry {
         self.plane_start(self.planes())
     }
 
-    /// The planes that a frame lends at once.
+    /// The planes that a frame lends at once, one after another in its data.
     #[tactic(auto, using(crate::proofs::Places::lent_fill))]
     pub fn lent(self) -> LentPlanes
         ensures luma { IsLent self 0 result.luma }
         ensures cb { IsLent self 1 result.cb }
         ensures cr { IsLent self 2 result.cr }
         ensures alpha { IsLent self 3 result.alpha }
-        ensures whole { result.luma.len + (result.cb.len + (result.cr.len + result.alpha.len)) ≡ frame_len self }
+        ensures whole { result.luma.len + (result.cb.len + (result.cr.len + result.alpha.len))
+            ≡ frame_len self }
     {
         LentPlanes {
             luma: self.lent_plane(0),
@@ -136,7 +138,7 @@ impl Geometry {
         ensures value { result ≡ plane_width self p }
         ensures narrow { result ≤ 16384 }
     {
-        if p == 1 || p == 2 {
+        if is_chroma_plane(p) {
             (self.width / self.chroma.divisors().horizontal) as usize
         } else {
             self.width as usize
@@ -148,7 +150,7 @@ impl Geometry {
         ensures value { result ≡ plane_height self p }
         ensures low { result ≤ 16384 }
     {
-        if p == 1 || p == 2 {
+        if is_chroma_plane(p) {
             (self.height / self.chroma.divisors().vertical) as usize
         } else {
             self.height as usize

@@ -1,9 +1,10 @@
 // One plane of a frame.
 ghost use Rattle.std.specs.Prelude.{◌≡◌, ◌*◌, length};
 
-/// One plane of a frame, to read.
+/// One plane of a frame, to read; it borrows the frame's samples.
 ///
-/// It is a list of rows, from the top; each has as many samples as the plane has columns.
+/// It is a list of rows, from the top; each has as many samples as the plane has columns. A sample is one
+/// byte.
 #[derive(Clone, Copy, Debug)]
 pub struct Plane<'a> {
     pub columns: usize,
@@ -13,10 +14,10 @@ pub struct Plane<'a> {
 }
 
 impl<'a> Plane<'a> {
-    ghost use Rattle.std.specs.Prelude.{◌≡◌, ◌*◌, ◌<◌, ◌≤◌, ◌+◌, slice_get, Some};
+    ghost use Rattle.std.specs.Prelude.{◌≡◌, ◌<◌, ◌≤◌, ◌+◌, slice_get, Some};
     ghost use Rattle.frame_view.specs.Rows.{plane_run, plane_rows};
 
-    /// Row `y`, the top one being 0.
+    /// Row `y`, the top one being 0; as many samples as the plane has columns.
     pub fn row(&self, y: usize) -> &'a [u8]
         requires { y < self.now.rows }
         ensures value { result.now ≡ plane_run self.now y (y + 1) }
@@ -25,7 +26,8 @@ impl<'a> Plane<'a> {
         self.rows(y, y + 1)
     }
 
-    /// The rows from `from` on to `to`, which is left out, one after another.
+    /// The rows from `from` on to `to`, which is left out, one after another: `to - from` times as many
+    /// samples as the plane has columns.
     pub fn rows(&self, from: usize, to: usize) -> &'a [u8]
         requires order { from ≤ to }
         requires rows { to ≤ self.now.rows }

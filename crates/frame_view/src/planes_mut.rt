@@ -1,11 +1,12 @@
 // All planes of a frame, lent for writing at once.
-ghost use Rattle.std.specs.Prelude.{◌≡◌, ◌+◌, ◌*◌, ◌<◌, ◌≤◌, ◌++◌, length, take, drop, slice_set};
+ghost use Rattle.std.specs.Prelude.{◌≡◌, ◌+◌, ◌*◌, ◌≤◌, length, take, drop};
 ghost use Rattle.std.specs.Borrow.{sem};
 ghost use Rattle.frame_view.specs.LentTogether.{LendsParts, put_row};
 
 /// The rows of one plane, or some of them, lent for writing.
 ///
-/// It is a list of rows, one after another in `samples`. Several of them lend disjoint rows, in any order of use.
+/// It is a list of rows, one after another in `samples`, each as long as there are columns. Several of them
+/// lend disjoint rows, in any order of use.
 #[derive(Drop)]
 pub struct PlaneMut<'a> {
     pub columns: usize,
@@ -35,7 +36,7 @@ impl<'a> PlaneMut<'a> {
     }
 }
 
-/// The rows above row `y`, and those from it on.
+/// The rows above row `y`, and those from it on; each has so many columns.
 pub fn split_rows(samples: &mut [u8], columns: usize, y: usize) -> (&mut [u8], &mut [u8])
     requires { y * columns ≤ length samples.old }
     ensures* writes_back { sem 𝓛 (LendsParts samples.entry result) }
@@ -46,8 +47,8 @@ pub fn split_rows(samples: &mut [u8], columns: usize, y: usize) -> (&mut [u8], &
     samples.split_at_mut(at)
 }
 
-/// Binds the planes of a frame to four names, each a `PlaneMut`, for as long as they are used. A plane that the frame
-/// hasn't has no samples.
+/// Binds the planes of a frame to four names, each a `PlaneMut`, for as long as they are used. A plane that
+/// the frame hasn't has no samples.
 ///
 /// `lend_planes!(&mut frame => luma, cb, cr, alpha);`
 #[macro_export]

@@ -1,5 +1,6 @@
 // Frames of given sizes, with the bytes that the manual page's order of planes and rows gives.
-ghost use Rattle.std.specs.Prelude.{◌≡◌, ◌<◌, ◌≤◌, ◌+◌, ◌-◌, ◌*◌, ◌++◌, IfOk, length, take, drop, replicate, slice_index};
+ghost use Rattle.std.specs.Prelude.{◌≡◌, ◌<◌, ◌≤◌, ◌+◌, ◌-◌, ◌*◌, ◌++◌};
+ghost use Rattle.std.specs.Prelude.{IfOk, length, take, drop, replicate, slice_index};
 ghost use Rattle.y4m_header.specs.Chroma.{plane_count};
 ghost use Rattle.frame_view.specs.Frame.{samples_of, IsFrameWith};
 ghost use Rattle.frame_view.specs.LentTogether.{lent_len};
@@ -8,7 +9,7 @@ ghost use Rattle.frame_view.specs.Written.{HasRows};
 
 use crate::{
     Frame, Geometry, PlaneMut, PlaneSize, lend_planes, lent_planes_stand_in_their_rows,
-    rows_part_the_bytes, split_rows,
+    lent_rows_leave_the_others, rows_part_the_bytes, split_rows,
 };
 use std::alloc::Global;
 use std::test::Fail;
@@ -222,25 +223,13 @@ fn lent_rows_and_lines_are_written(rt: HostRuntime) -> Result<(), Fail> {
     Ok(())
 }
 
-/// The planes are lent at once and written in another order.
-fn fill_planes(frame: &mut Frame, luma_value: u8, cb_value: u8, cr_value: u8, alpha_value: u8)
-    ensures geometry { frame.new.geometry ≡ frame.old.geometry }
-    ensures samples { let g = frame.old.geometry in
-        samples_of frame.new ≡ replicate (lent_len g 0) luma_value ++ (replicate (lent_len g 1) cb_value ++ (replicate (lent_len g 2) cr_value ++ replicate (lent_len g 3) alpha_value)) }
-{
-    lend_planes!(&mut *frame => luma, cb, cr, alpha);
-    cr.samples.fill(cr_value);
-    luma.samples.fill(luma_value);
-    alpha.samples.fill(alpha_value);
-    cb.samples.fill(cb_value);
-}
-
 /// One of the planes is written; the others stay.
 fn fill_cr(frame: &mut Frame, value: u8)
     ensures { let g = frame.old.geometry in
         let from_cb = drop (lent_len g 0) (samples_of frame.old) in
         let from_cr = drop (lent_len g 1) from_cb in
-        samples_of frame.new ≡ take (lent_len g 0) (samples_of frame.old) ++ (take (lent_len g 1) from_cb ++ (replicate (lent_len g 2) value ++ drop (lent_len g 2) from_cr)) }
+        samples_of frame.new ≡ take (lent_len g 0) (samples_of frame.old)
+        ++ (take (lent_len g 1) from_cb ++ (replicate (lent_len g 2) value ++ drop (lent_len g 2) from_cr)) }
 {
     lend_planes!(&mut *frame => _luma, _cb, cr, _alpha);
     cr.samples.fill(value);
@@ -282,7 +271,8 @@ fn put_alpha_row(frame: &mut Frame, y: usize, row: &[u8])
 /// The rows of a plane, lent in two parts.
 fn fill_parts(samples: &mut [u8], columns: usize, y: usize, above: u8, below: u8)
     requires { y * columns ≤ length samples.old }
-    ensures { samples.new ≡ replicate (y * columns) above ++ replicate (length samples.old - y * columns) below }
+    ensures { samples.new
+        ≡ replicate (y * columns) above ++ replicate (length samples.old - y * columns) below }
 {
     let (top, bottom) = split_rows(samples, columns, y);
     bottom.fill(below);
@@ -312,6 +302,21 @@ fn planes_lent_at_once_are_written_in_any_order(rt: HostRuntime) -> Result<(), F
 }
 
 #[test]
+fn absent_planes_are_not_filled(rt: HostRuntime) -> Result<(), Fail> {
+    let mut frame = frame(rt.alloc(), geometry_2x6(), b"FRAME Ip", &SAMPLES)?;
+    frame.fill([16, 128, 129, 255]);
+    assert_eq!(rt; frame.line(), b"FRAME Ip".as_slice());
+    assert_eq!(rt;
+        frame.data(),
+        [
+            16, 16, 16, 16, 16, 16, 16, 16, 16, 16, 16, 16, 128, 128, 128, 129, 129, 129
+        ]
+        .as_slice()
+    );
+    Ok(())
+}
+
+#[test]
 fn four_planes_of_one_pixel(rt: HostRuntime) -> Result<(), Fail> {
     let geometry = Geometry {
         width: 1,
@@ -319,7 +324,7 @@ fn four_planes_of_one_pixel(rt: HostRuntime) -> Result<(), Fail> {
         chroma: Chroma::S444Alpha,
     };
     let mut frame = frame(rt.alloc(), geometry, b"FRAME", &[0; 4])?;
-    fill_planes(&mut frame, 1, 2, 3, 4);
+    frame.fill([1, 2, 3, 4]);
     assert_eq!(rt; frame.data(), [1, 2, 3, 4].as_slice());
     fill_cr(&mut frame, 5);
     assert_eq!(rt; frame.data(), [1, 2, 5, 4].as_slice());
@@ -327,6 +332,7 @@ fn four_planes_of_one_pixel(rt: HostRuntime) -> Result<(), Fail> {
     assert_eq!(rt; frame.data(), [7, 7, 8, 8].as_slice());
     rows_part_the_bytes(geometry);
     lent_planes_stand_in_their_rows(geometry);
+    lent_rows_leave_the_others(&frame);
     Ok(())
 }
 

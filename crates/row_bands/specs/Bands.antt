@@ -1,5 +1,5 @@
 -- How a frame is cut into bands of b luma rows, the last one perhaps of fewer.
-use Rattle.std.specs.Prelude.{◌≡◌, ℕ, ◌+◌, ◌*◌, ◌/◌, ◌<◌, ◌≤◌, min}
+use Rattle.std.specs.Prelude.{◌≡◌, ℕ, ◌+◌, ◌-◌, ◌*◌, ◌/◌, ◌<◌, ◌≤◌, min}
 use Rattle.std.specs.Int.{div_ceil}
 use Rattle.y4m_header.specs.Chroma.{vertical_divisor, plane_count}
 use Rattle.frame_view.specs.declared.geometry.Geometry.{Geometry}
@@ -28,3 +28,8 @@ IsInBand g b k p y = (rows_above g p (luma_from b k) ≤ y) × (y < rows_above g
 abbrev pub EachRowInOneBand : Geometry → ℕ → Type 0
 EachRowInOneBand g b = (p y : ℕ) → p < plane_count g.chroma → y < plane_height g p
     → (k : ℕ) × (k < band_count g b) × IsInBand g b k p y × ((j : ℕ) → IsInBand g b j p y → j ≡ k)
+
+-- the luma row that halves the luma rows from one on to another: half of them stand above it, rounded down to
+-- whole chroma rows
+abbrev pub half_row : Geometry → ℕ → ℕ → ℕ
+half_row g from to = from + (to - from) / 2 / vertical_divisor g.chroma * vertical_divisor g.chroma

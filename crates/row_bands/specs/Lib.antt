@@ -3,3 +3,4 @@ pub mod Bands
 pub mod Canvas
 pub mod Lending
 pub mod Written
+pub mod Halves

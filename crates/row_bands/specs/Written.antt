@@ -7,27 +7,24 @@ use Rattle.frame_view.specs.Places.{plane_width, plane_height}
 use Rattle.frame_view.specs.Rows.{sample}
 use Rattle.row_bands.specs.declared.band.Band.{Band}
 use Rattle.row_bands.specs.Bands.{rows_above}
-use Rattle.row_bands.specs.Canvas.{band_frame, band_geometry, height_of}
+use Rattle.row_bands.specs.Canvas.{band_frame, height_of}
 
--- in the planes below n the rows that go with the luma rows from one on to another are the picture's, and every
--- other sample is as before
-pub record HasBand (picture : ℕ → ℕ → ℕ → ℕ) (from to n : ℕ) (old new : Frame) : Type 0 where
+-- the rows that go with the luma rows from one on to another are the picture's, and every other sample is as
+-- before
+pub record HasBand (picture : ℕ → ℕ → ℕ → ℕ) (from to : ℕ) (old new : Frame) : Type 0 where
   pub geometry : new.geometry ≡ old.geometry
   pub line : new.line ≡ old.line
-  pub rows : (p y x : ℕ) → p < n → rows_above old.geometry p from ≤ y → y < rows_above old.geometry p to → x < plane_width old.geometry p
+  pub rows : (p y x : ℕ) → p < plane_count old.geometry.chroma → rows_above old.geometry p from ≤ y
+      → y < rows_above old.geometry p to → x < plane_width old.geometry p
       → sample old.geometry (samples_of new) p y x ≡ picture p y x
-  pub others : (p y x : ℕ) → p < plane_count old.geometry.chroma → y < plane_height old.geometry p → x < plane_width old.geometry p
-      → (n ≤ p) ⊎ ((y < rows_above old.geometry p from) ⊎ (rows_above old.geometry p to ≤ y))
+  pub others : (p y x : ℕ) → p < plane_count old.geometry.chroma → y < plane_height old.geometry p
+      → x < plane_width old.geometry p
+      → (y < rows_above old.geometry p from) ⊎ (rows_above old.geometry p to ≤ y)
       → sample old.geometry (samples_of new) p y x ≡ sample old.geometry (samples_of old) p y x
-
--- the rows that go with the luma rows above row n are the picture's
-abbrev pub HasRowsAbove : (ℕ → ℕ → ℕ → ℕ) → ℕ → Frame → Type 0
-HasRowsAbove picture n frame = (p y x : ℕ) → p < plane_count frame.geometry.chroma → y < rows_above frame.geometry p n → x < plane_width frame.geometry p
-    → sample frame.geometry (samples_of frame) p y x ≡ picture p y x
 
 -- the new band is the same rows of the same canvas, with the picture's samples; all other rows are as before
 pub record IsPainted (picture : ℕ → ℕ → ℕ → ℕ) (old new : Band) : Type 0 where
   pub from : new.from ≡ old.from
   pub to : new.to ≡ old.to
   pub height : height_of new.canvas.now ≡ height_of old.canvas.now
-  pub band : HasBand picture old.from old.to (plane_count (band_geometry old).chroma) (band_frame old) (band_frame new)
+  pub band : HasBand picture old.from old.to (band_frame old) (band_frame new)

@@ -19,14 +19,15 @@ pub struct Band<'a> {
 }
 
 impl Band<'_> {
-    ghost use Rattle.std.specs.Prelude.{◌≡◌, ℕ, ◌+◌, ◌*◌, ◌-◌, ◌<◌, ◌≤◌, length};
+    ghost use Rattle.std.specs.Prelude.{◌≡◌, ℕ, ◌+◌, ◌*◌, ◌-◌, ◌<◌, ◌≤◌, ◌↔◌, length, IsSome, IfSome};
     ghost use Rattle.std.specs.Borrow.{sem};
     ghost use Rattle.y4m_header.specs.Chroma.{plane_count};
     ghost use Rattle.frame_view.specs.Places.{plane_width, plane_height};
-    ghost use Rattle.frame_view.specs.Rows.{row_of, run_of};
+    ghost use Rattle.frame_view.specs.Rows.{row_of};
     ghost use Rattle.frame_view.specs.Frame.{samples_of};
-    ghost use Rattle.row_bands.specs.Bands.{rows_above};
+    ghost use Rattle.row_bands.specs.Bands.{rows_above, half_row};
     ghost use Rattle.row_bands.specs.Canvas.{band_frame, band_geometry};
+    ghost use Rattle.row_bands.specs.Halves.{part_of};
     ghost use Rattle.row_bands.specs.Lending.{LendsBandRows, LendsPlane};
 
     /// The geometry of the frame that the band is part of.
@@ -36,7 +37,7 @@ impl Band<'_> {
         self.canvas.frame.geometry()
     }
 
-    /// The luma rows of the band: the first one, and the one that follows the last.
+    /// The luma rows of the band, counted in the frame: the first one, and the one that follows the last.
     pub fn luma_rows(&self) -> (usize, usize)
         ensures from { result.0 ≡ self.now.from }
         ensures to { result.1 ≡ self.now.to }
@@ -44,6 +45,19 @@ impl Band<'_> {
         ensures inside { result.1 ≤ (band_geometry self.now).height }
     {
         (self.from, self.to)
+    }
+
+    /// The luma row at which the band is halved, where no chroma row is cut; the lower half may have more rows. None
+    /// where the upper one would have no rows.
+    pub fn half(&self) -> Option<usize>
+        ensures there { IsSome result ↔ (self.now.from < half_row (band_geometry self.now) self.now.from self.now.to) }
+        ensures value { IfSome result (λ row. row ≡ half_row (band_geometry self.now) self.now.from self.now.to) }
+        ensures from { IfSome result (λ row. self.now.from < row) }
+        ensures to { IfSome result (λ row. row < self.now.to) }
+    {
+        let step = self.geometry().chroma.divisors().vertical as usize;
+        let above = (self.to - self.from) / 2 / step * step;
+        (0 < above).then_some(self.from + above)
     }
 
     /// The rows of plane `p` in the band: the first one, and the one that follows the last, counted in the plane.
@@ -62,18 +76,22 @@ impl Band<'_> {
         )
     }
 
-    /// All rows of plane `p` in the band, one after another.
+    /// All rows of plane `p` in the band, one after another: as many samples as it has rows there, times the columns
+    /// of the plane.
     pub fn rows_mut(&mut self, p: usize) -> &mut [u8]
         requires { p < plane_count (band_geometry self.old).chroma }
         ensures* writes_back { sem 𝓛 (LendsPlane self.entry p result) }
-        ensures value { result.now ≡ run_of (band_geometry self.old) (samples_of (band_frame self.old)) p (rows_above (band_geometry self.old) p self.old.from) (rows_above (band_geometry self.old) p self.old.to) }
-        ensures len { length result.now ≡ (rows_above (band_geometry self.old) p self.old.to - rows_above (band_geometry self.old) p self.old.from) * plane_width (band_geometry self.old) p }
+        ensures value { result.now ≡
+            part_of (band_geometry self.old) (samples_of (band_frame self.old)) self.old.from self.old.to p }
+        ensures len { let g = band_geometry self.old in
+            length result.now
+            ≡ (rows_above g p self.old.to - rows_above g p self.old.from) * plane_width g p }
     {
         let (from, to) = self.rows(p);
         self.canvas.rows_mut(p, from, to)
     }
 
-    /// Row `y` of plane `p`; `y` is counted in the plane, not in the band.
+    /// Row `y` of plane `p`, as many samples as the plane has columns; `y` is counted in the plane, not in the band.
     #[tactic(auto, using(crate::proofs::Bands::inside))]
     pub fn row_mut(&mut self, p: usize, y: usize) -> &mut [u8]
         requires plane { p < plane_count (band_geometry self.old).chroma }

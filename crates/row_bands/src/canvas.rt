@@ -22,7 +22,7 @@ impl Canvas {
     ghost use Rattle.frame_view.specs.Frame.{line_of, samples_of, IsFrameWith};
     ghost use Rattle.row_bands.specs.Bands.{band_count, luma_from, luma_to};
     ghost use Rattle.row_bands.specs.Canvas.{frame_of, height_of};
-    ghost use Rattle.row_bands.specs.Lending.{LendsCanvasRows};
+    ghost use Rattle.row_bands.specs.Lending.{LendsCanvas, LendsCanvasRows};
 
     /// A canvas whose samples are all 0.
     pub fn new(
@@ -32,7 +32,8 @@ impl Canvas {
         line: &[u8],
     ) -> Result<Canvas, AllocError>
         requires { IsFrameLine line.now }
-        ensures frame { IfOk result (λ canvas. IsFrameWith geometry line.now (replicate (frame_len geometry) 0) (frame_of canvas)) }
+        ensures frame { IfOk result (λ canvas.
+            IsFrameWith geometry line.now (replicate (frame_len geometry) 0) (frame_of canvas)) }
         ensures height { IfOk result (λ canvas. height_of canvas ≡ height.rows) }
     {
         Ok(Canvas {
@@ -97,6 +98,15 @@ impl Canvas {
             to,
             canvas: self,
         }
+    }
+
+    /// The samples of all planes, lent for writing.
+    pub(crate) fn data_mut(&mut self) -> &mut [u8]
+        ensures* writes_back { sem 𝓛 (LendsCanvas self.entry result) }
+        ensures value { result.now ≡ samples_of self.old.frame }
+        ensures len { length result.now ≡ frame_len self.old.frame.geometry }
+    {
+        self.frame.data_mut()
     }
 
     /// The rows of plane `p` from `from` on to `to`, which is left out, lent for writing as one slice.

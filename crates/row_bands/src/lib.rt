@@ -7,6 +7,7 @@ pub mod band_plan;
 pub mod canvas;
 pub mod halves;
 pub mod painter;
+mod part;
 #[cfg(test)]
 mod tests;
 

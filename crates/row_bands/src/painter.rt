@@ -1,5 +1,5 @@
 // Writing a band from a picture.
-ghost use Rattle.std.specs.Prelude.{◌≡◌, ℕ, ◌<◌, ◌≤◌, ◌-◌, ◌*◌, length};
+ghost use Rattle.std.specs.Prelude.{◌≡◌, ℕ, ◌<◌, ◌≤◌, ◌-◌, ◌*◌, List, length, ⊤};
 ghost use Rattle.y4m_header.specs.Chroma.{plane_count};
 ghost use Rattle.frame_view.specs.declared.geometry.Geometry.{Geometry};
 ghost use Rattle.frame_view.specs.Places.{plane_width, plane_height};
@@ -17,13 +17,18 @@ pub trait Painter {
 
     ghost geometry: { Self → Geometry };
 
-    /// Writes the rows of plane `p` from `from` on to `to`, which is left out, one after another; they are all of `rows`.
+    /// What one call may leave as the rows of a plane from one on to another.
+    ghost paint_gives: { Self → ℕ → ℕ → ℕ → List ℕ → Type 0 } = { λ _ _ _ _ _. ⊤ };
+
+    /// Writes the rows of plane `p` from `from` on to `to`, which is left out, one after another; they are all of
+    /// `rows`, so its length is their number times the columns of the plane.
     fn paint(&self, p: usize, from: usize, to: usize, rows: &mut [u8])
         requires plane { p < plane_count (geometry self.now).chroma }
         requires order { from ≤ to }
         requires inside { to ≤ plane_height (geometry self.now) p }
         requires len { length rows.old ≡ (to - from) * plane_width (geometry self.now) p }
-        ensures { IsRows (picture self.now) (geometry self.now) p from to rows.new };
+        ensures rows { IsRows (picture self.now) (geometry self.now) p from to rows.new }
+        ensures gives { paint_gives self.now p from to rows.new };
 }
 
 /// Writes the painter's rows into a band, plane by plane.
@@ -44,7 +49,9 @@ fn paint_plane<P: Painter>(painter: &P, band: &mut Band<'_>, p: usize)
     ensures from { band.new.from ≡ band.old.from }
     ensures to { band.new.to ≡ band.old.to }
     ensures height { height_of band.new.canvas.now ≡ height_of band.old.canvas.now }
-    ensures rows { HasRows (P.picture painter.now) p (rows_above (band_geometry band.old) p band.old.from) (rows_above (band_geometry band.old) p band.old.to) (band_frame band.old) (band_frame band.new) }
+    ensures rows { let g = band_geometry band.old in
+        HasRows (P.picture painter.now) p (rows_above g p band.old.from) (rows_above g p band.old.to)
+        (band_frame band.old) (band_frame band.new) }
 {
     let (from, to) = band.rows(p);
     painter.paint(p, from, to, band.rows_mut(p));

@@ -1,5 +1,5 @@
 // Bands of small frames.
-ghost use Rattle.std.specs.Prelude.{◌≡◌, ◌≤◌, IfOk, length};
+ghost use Rattle.std.specs.Prelude.{◌≡◌, ◌<◌, ◌≤◌, IfOk, length};
 ghost use Rattle.frame_view.specs.Frame.{samples_of, IsFrameWith};
 ghost use Rattle.frame_view.specs.Rows.{sample};
 
@@ -60,6 +60,44 @@ fn chroma_rows_of_a_band_are_divided(rt: HostRuntime) -> Result<(), Fail> {
     assert_eq!(rt; plan.rows(0, 1), (0, 2));
     assert_eq!(rt; plan.rows(1, 1), (2, 3));
     bands_part_the_rows(geometry, height);
+    Ok(())
+}
+
+/// Where a canvas of this geometry halves band `k`.
+fn half_of(
+    alloc: Global,
+    geometry: Geometry,
+    height: BandHeight,
+    k: usize,
+) -> Result<Option<usize>, Fail> {
+    let line = b"FRAME".as_slice();
+    check_frame_line(line)?;
+    let mut canvas = Canvas::new(alloc, geometry, height, line)?;
+    if k < canvas.plan().count() {
+        Ok(canvas.band_mut(k).half())
+    } else {
+        Err(Fail::from("no such band"))
+    }
+}
+
+#[test]
+fn bands_are_halved_at_a_whole_chroma_row(rt: HostRuntime) -> Result<(), Fail> {
+    let geometry = Geometry {
+        width: 2,
+        height: 6,
+        chroma: Chroma::S420,
+    };
+    let height = BandHeight::new(4).ok_or("no height")?;
+    assert_eq!(rt; half_of(rt.alloc(), geometry, height, 0)?, Some(2));
+    assert_eq!(rt; half_of(rt.alloc(), geometry, height, 1)?, None);
+    let geometry = Geometry {
+        width: 1,
+        height: 3,
+        chroma: Chroma::Mono,
+    };
+    let height = BandHeight::new(2).ok_or("no height")?;
+    assert_eq!(rt; half_of(rt.alloc(), geometry, height, 0)?, Some(1));
+    assert_eq!(rt; half_of(rt.alloc(), geometry, height, 1)?, None);
     Ok(())
 }
 
@@ -195,10 +233,10 @@ fn each_part_of_a_band_is_noted_once(rt: HostRuntime) -> Result<(), Fail> {
         &painter,
         &mut band,
         2,
-        &|half| {
-            if half < 2 {
-                notes[half as usize].fetch_add(1, Ordering::SeqCst);
-            }
+        &|half|
+            requires { half < 2 }
+        {
+            notes[half as usize].fetch_add(1, Ordering::SeqCst);
         },
     );
     assert_eq!(rt; notes[0].load(Ordering::SeqCst), 1);
@@ -297,11 +335,71 @@ fn the_parts_meet_at_the_row(rt: HostRuntime) -> Result<(), Fail> {
     Ok(())
 }
 
-/// Waits until the other part is noted too, or gives up after many looks.
-fn meet(noted: &[AtomicU32; 2], met: &AtomicU32, half: u32) {
-    if half > 1 {
-        return;
+/// Paints 7 everywhere, and counts the calls for a part that isn't noted yet: that above row 2, or that from it on.
+#[derive(Drop)]
+struct Watching<'a> {
+    geometry: Geometry,
+    above: &'a AtomicU32,
+    below: &'a AtomicU32,
+    early: &'a AtomicU32,
+}
+
+impl Painter for Watching<'_> {
+    ghost picture = { λ _ _ _ _. 7 };
+
+    ghost geometry = { λ watching. watching.geometry };
+
+    fn paint(&self, _p: usize, from: usize, _to: usize, rows: &mut [u8]) {
+        let noted = if from < 2 { self.above } else { self.below };
+        if noted.load(Ordering::SeqCst) == 0 {
+            self.early.fetch_add(1, Ordering::SeqCst);
+        }
+        rows.fill(7);
     }
+}
+
+#[test]
+fn each_part_is_noted_before_it_is_painted(rt: HostRuntime) -> Result<(), Fail> {
+    let geometry = Geometry {
+        width: 1,
+        height: 4,
+        chroma: Chroma::S444,
+    };
+    let line = b"FRAME".as_slice();
+    check_frame_line(line)?;
+    let height = BandHeight::new(4).ok_or("no height")?;
+    let mut canvas = Canvas::new(rt.alloc(), geometry, height, line)?;
+    let above = AtomicU32::new(0);
+    let below = AtomicU32::new(0);
+    let early = AtomicU32::new(0);
+    let painter = Watching {
+        geometry,
+        above: &above,
+        below: &below,
+        early: &early,
+    };
+    assert_eq!(rt; canvas.plan().count(), 1);
+    let mut band = canvas.band_mut(0);
+    assert_eq!(rt; band.luma_rows(), (0, 4));
+    paint_halves(
+        &rt,
+        &painter,
+        &mut band,
+        2,
+        &|half| {
+            let noted = if half == 0 { &above } else { &below };
+            noted.fetch_add(1, Ordering::SeqCst);
+        },
+    );
+    assert_eq!(rt; early.load(Ordering::SeqCst), 0);
+    assert_eq!(rt; canvas.frame().data(), [7; 12].as_slice());
+    Ok(())
+}
+
+/// Waits until the other part is noted too, or gives up after many looks.
+fn meet(noted: &[AtomicU32; 2], met: &AtomicU32, half: u32)
+    requires { half < 2 }
+{
     noted[half as usize].store(1, Ordering::SeqCst);
     for _ in 0..400_000_000u32 {
         if noted[1 - half as usize].load(Ordering::SeqCst) == 1 {

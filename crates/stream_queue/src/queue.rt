@@ -1,6 +1,8 @@
 //! A queue whose front item may be out, and keeps its number and its place until it has finished.
-ghost use Rattle.std.specs.Prelude.{◌≡◌, ◌≤◌, ◌<◌, ◌^◌, ◌↔◌, true, IsTrue, IsFalse, IsOk, IfOk, OnOk, OnErr, IsErrOf, IfSome, OnSome, IfNone, IsNone, [], ◌∷◌, option_copied};
-ghost use Rattle.stream_queue.specs.Queue.{HasRoom, IsFull, IsSound, front, opened, with_front, with_front_out, with_last, with_one_finished};
+ghost use Rattle.std.specs.Prelude.{◌≡◌, ◌≤◌, ◌<◌, ◌^◌, ◌↔◌, true, IsTrue, IsFalse, IsOk, IfOk, OnOk, OnErr};
+ghost use Rattle.std.specs.Prelude.{IsErrOf, IfSome, OnSome, IfNone, IsNone, [], ◌∷◌, option_copied};
+ghost use Rattle.stream_queue.specs.Queue.{HasRoom, IsFull, IsSound, front, opened, with_front};
+ghost use Rattle.stream_queue.specs.Queue.{with_front_out, with_last, with_one_finished};
 
 use circular_buffer::HeapCircularBuffer;
 use std::alloc::{AllocError, Global};

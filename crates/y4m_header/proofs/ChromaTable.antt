@@ -1,11 +1,13 @@
 -- A value of C names one form.
-use Rattle.std.proofs.Common.{nat_eq, sym, ◌∙◌, ◌≡◌, ◌↔◌, ℕ, ◌<◌, inl, inr, List, [], ◌∷◌, length, Option, Some, None, Contains, get_or, refl, ap, subst, arith, suc, zero, Bool, true, cond}
+use Rattle.std.proofs.Common.{nat_eq, sym, ◌∙◌, ◌≡◌, ◌↔◌, ℕ, ◌<◌, inl, inr, List, [], ◌∷◌, length}
+use Rattle.std.proofs.Common.{Option, Some, None, Contains, get_or, refl, ap, subst, arith, suc, zero, Bool}
+use Rattle.std.proofs.Common.{true, cond}
 use Rattle.std.proofs.Props.{props}
 use mathlib.Core.Sum.{⊎_set}
 use Rattle.std.specs.Option.{option_eq}
 use Rattle.std.specs.Cmp.Lexicographic.{same_text}
 use lib.Pointwise.{pointwise}
-use Rattle.y4m_header.proofs.Words.{either_test}
+use Rattle.std.proofs.lemmas.Bool.{cases_Bool}
 use Rattle.y4m_header.specs.declared.chroma.Chroma.{Chroma}
 use Rattle.y4m_header.specs.Chroma.{ChromaName, NamesChroma, chroma_table}
 
@@ -22,7 +24,8 @@ abbrev IsEach : List ChromaName → Type 0
 IsEach [] = Unit {0}
 IsEach (name ∷ names) = (form_in chroma_table name.value ≡ Some name.chroma) × IsEach names
 
-at_each : (names : List ChromaName) (k : ℕ) (d : ChromaName) → k < length names → IsEach names → form_in chroma_table (get_or names k d).value ≡ Some (get_or names k d).chroma
+at_each : (names : List ChromaName) (k : ℕ) (d : ChromaName) → k < length names → IsEach names
+    → form_in chroma_table (get_or names k d).value ≡ Some (get_or names k d).chroma
 at_each [] k d h each = absurd (omega arith)
 at_each (name ∷ names) zero d h each = each.0
 at_each (name ∷ names) (suc k) d h each = at_each names k d (omega arith) each.1
@@ -48,15 +51,17 @@ same_value_is None (Some w) e = absurd (cc)
 same_value_is (Some v) None e = absurd (cc)
 same_value_is (Some v) (Some w) e = ap Some (same_text v w (sym e))
 
-name_at : (v w : Option (List ℕ)) (c d : Chroma) → v ≡ w → c ≡ d → (let a : ChromaName = record { value = v; chroma = c } in let b : ChromaName = record { value = w; chroma = d } in a ≡ b)
-name_at v w c d p q = λ i. record { value = p i; chroma = q i }
+name_at : (a b : ChromaName) → a.value ≡ b.value → a.chroma ≡ b.chroma → a ≡ b
+name_at a b p q = λ i. record { value = p i; chroma = q i }
 
-found : (names : List ChromaName) (v : Option (List ℕ)) (c : Chroma) → form_in names v ≡ Some c → Contains names (record { value = v; chroma = c })
+found : (names : List ChromaName) (v : Option (List ℕ)) (c : Chroma) → form_in names v ≡ Some c
+    → Contains names (record { value = v; chroma = c })
 found [] v c e = absurd (cc)
-found (name ∷ names) v c e = elim (either_test (same_value v name.value)) [
+found (name ∷ names) v c e = elim (cases_Bool (same_value v name.value)) [
   | inl same ↦
       let form : name.chroma ≡ c = (let s = rw same at e in cc) in
-      (0, omega arith, name_at name.value v name.chroma c (sym (same_value_is v name.value same)) form)
+      let wanted : ChromaName = record { value = v; chroma = c } in
+      (0, omega arith, name_at name wanted (sym (same_value_is v name.value same)) form)
   | inr other ↦
       let more = found names v c (rw other at e) in
       (suc more.0, omega (arith, more.1), more.2)
@@ -79,5 +84,6 @@ pub names_from_gives : (v : Option (List ℕ)) (c : Chroma) → GivesForm v c �
 names_from_gives v c e = found chroma_table v c e
 
 -- the form that the table gives is the one that the value names
-pub names_form : (v : Option (List ℕ)) (r : Option Chroma) → r ≡ form_in chroma_table v → (c : Chroma) → (r ≡ Some c) ↔ NamesChroma v c
+pub names_form : (v : Option (List ℕ)) (r : Option Chroma) → r ≡ form_in chroma_table v
+    → (c : Chroma) → (r ≡ Some c) ↔ NamesChroma v c
 names_form v r e c = (λ s. names_from_gives v c (sym e ∙ s), λ names. e ∙ gives_from_names v c names)

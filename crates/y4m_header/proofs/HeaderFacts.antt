@@ -1,83 +1,72 @@
 -- What each header keeps, as a fact that its callers may read.
-use Rattle.std.proofs.Common.{◌≡◌, ℕ, ◌<◌, ◌≤◌, List, [], ◌∷◌, length, Option, Some, None, All, slice_get, refl, arith}
+use Rattle.std.proofs.Common.{◌≡◌, ℕ, ◌≤◌, List, [], ◌∷◌, length, slice_get, refl, arith}
+use Rattle.std.specs.Str.Parse.{digits_value}
 use Rattle.std.proofs.Math.Logic.{∥∥₁_elim}
-use Rattle.std.proofs.Math.Nat.{ℕ_set}
 use Rattle.std.proofs.Props.{props}
 use Rattle.y4m_header.proofs.ChromaTable.{GivesForm, gives_prop, gives_from_names, names_from_gives}
 use Rattle.y4m_header.specs.declared.chroma.Chroma.{Chroma}
-use Rattle.y4m_header.specs.Number.{IsSize, number}
-use Rattle.y4m_header.specs.HeaderLine.{IsY4mLine, HasGoodSizes, HasNoRepeat, HasSizes, IsDivided, IsWithinLimits, IsHeaderLine, widths, heights, chromas}
+use Rattle.y4m_header.specs.HeaderLine.{IsY4mLine, IsSize, StatesSize}
+use Rattle.y4m_header.specs.HeaderLine.{IsDivided, IsWithinLimits, IsHeaderLine, widths, heights, chromas}
 
-y4m_prop : (line : List ℕ) → IsProp (IsY4mLine line)
-y4m_prop line = hlevel props
+-- that the values state a size is a fact with one proof at most
+abbrev GivesSize : List (List ℕ) → ℕ → Type 0
+GivesSize [] size = ⊥
+GivesSize (value ∷ []) size = IsSize value × (digits_value 10 value ≡ size)
+GivesSize (value ∷ another ∷ more) size = ⊥
 
-good_prop : (line : List ℕ) → IsProp (HasGoodSizes line)
-good_prop line = hlevel props
+gives_size_prop : (given : List (List ℕ)) (size : ℕ) → IsProp (GivesSize given size)
+gives_size_prop [] size = hlevel props
+gives_size_prop (value ∷ []) size = hlevel props
+gives_size_prop (value ∷ another ∷ more) size = hlevel props
 
-no_repeat_prop : (line : List ℕ) → IsProp (HasNoRepeat line)
-no_repeat_prop line = hlevel props
+gives_from_states : (given : List (List ℕ)) (size : ℕ) → StatesSize given size → GivesSize given size
+gives_from_states given size states = rw states.1 (states.2, states.3)
 
-sizes_prop : (line : List ℕ) → IsProp (HasSizes line)
-sizes_prop line = hlevel props
+states_from_gives : (given : List (List ℕ)) (size : ℕ) → GivesSize given size → StatesSize given size
+states_from_gives [] size gives = absurd gives
+states_from_gives (value ∷ []) size gives = (value, refl, gives.0, gives.1)
+states_from_gives (value ∷ another ∷ more) size gives = absurd gives
 
-divided_prop : (w h : ℕ) (chroma : Chroma) → IsProp (IsDivided w h chroma)
-divided_prop w h chroma = hlevel props
+-- and of the whole header
+record GivesHeader (line : List ℕ) (w h : ℕ) (chroma : Chroma) : Type 0 where
+  pub is_y4m : IsY4mLine line
+  pub width : GivesSize (widths line) w
+  pub height : GivesSize (heights line) h
+  pub one : length (chromas line) ≤ 1
+  pub form : GivesForm (slice_get (chromas line) 0) chroma
+  pub divided : IsDivided w h chroma
+  pub limits : IsWithinLimits w h chroma
 
-limits_prop : (w h : ℕ) (chroma : Chroma) → IsProp (IsWithinLimits w h chroma)
-limits_prop w h chroma = hlevel props
-
--- the number of the first value
-abbrev first_number : List (List ℕ) → ℕ
-first_number [] = 0
-first_number (value ∷ values) = number value
-
-first_is : (values : List (List ℕ)) (n : ℕ) → (value : List ℕ) × (slice_get values 0 ≡ Some value) × (number value ≡ n) → first_number values ≡ n
-first_is [] n first = absurd (let empty : Option (List ℕ) = None in let none : empty ≡ Some first.0 = first.1 in cc)
-first_is (v ∷ values) n first =
-    let same : Some v ≡ Some first.0 = first.1 in
-    let states : number first.0 ≡ n = first.2 in
-    cc
-
-first_of_some : (values : List (List ℕ)) (n : ℕ) → 0 < length values → first_number values ≡ n → (value : List ℕ) × (slice_get values 0 ≡ Some value) × (number value ≡ n)
-first_of_some [] n some e = absurd (omega arith)
-first_of_some (value ∷ values) n some e = (value, refl, e)
-
-number_prop : (m n : ℕ) → IsProp (m ≡ n)
-number_prop m n = ℕ_set m n
+gives_header_prop : (line : List ℕ) (w h : ℕ) (chroma : Chroma) → IsProp (GivesHeader line w h chroma)
+gives_header_prop line w h chroma = hlevel (gives_size_prop, gives_prop, props)
 
 -- a header's invariant as a plain fact
-pub header_from_invariant : (line : List ℕ) (w h : ℕ) (chroma : Chroma) → ∥ IsHeaderLine line w h chroma ∥₁ → IsHeaderLine line w h chroma
+pub header_from_invariant : (line : List ℕ) (w h : ℕ) (chroma : Chroma)
+    → ∥ IsHeaderLine line w h chroma ∥₁ → IsHeaderLine line w h chroma
 header_from_invariant line w h chroma kept =
-    let sizes : HasSizes line = ∥∥₁_elim kept (sizes_prop line) (λ is. is.has_sizes) in
-    let v = slice_get (chromas line) 0 in
-    let wide : first_number (widths line) ≡ w = ∥∥₁_elim kept (number_prop (first_number (widths line)) w) (λ is. first_is (widths line) w is.size.width) in
-    let high : first_number (heights line) ≡ h = ∥∥₁_elim kept (number_prop (first_number (heights line)) h) (λ is. first_is (heights line) h is.size.height) in
-    let gives : GivesForm v chroma = ∥∥₁_elim kept (gives_prop v chroma) (λ is. gives_from_names v chroma is.form) in
+    let is_prop = gives_header_prop line w h chroma in
+    let gives : GivesHeader line w h chroma = ∥∥₁_elim kept is_prop (λ is. record {
+      is_y4m = is.stated.is_y4m;
+      width = gives_from_states (widths line) w is.stated.width;
+      height = gives_from_states (heights line) h is.stated.height;
+      one = is.stated.form.one;
+      form = gives_from_names (slice_get (chromas line) 0) chroma is.stated.form.named;
+      divided = is.divided;
+      limits = is.limits;
+    }) in
     record {
-      is_y4m = ∥∥₁_elim kept (y4m_prop line) (λ is. is.is_y4m);
-      good_sizes = ∥∥₁_elim kept (good_prop line) (λ is. is.good_sizes);
-      no_repeat = ∥∥₁_elim kept (no_repeat_prop line) (λ is. is.no_repeat);
-      has_sizes = sizes;
-      size = record {
-        width = first_of_some (widths line) w sizes.some_width wide;
-        height = first_of_some (heights line) h sizes.some_height high;
+      stated = record {
+        is_y4m = gives.is_y4m;
+        width = states_from_gives (widths line) w gives.width;
+        height = states_from_gives (heights line) h gives.height;
+        form = record {
+          one = gives.one;
+          named = names_from_gives (slice_get (chromas line) 0) chroma gives.form;
+        };
       };
-      form = names_from_gives v chroma gives;
-      divided = ∥∥₁_elim kept (divided_prop w h chroma) (λ is. is.divided);
-      limits = ∥∥₁_elim kept (limits_prop w h chroma) (λ is. is.limits);
+      divided = gives.divided;
+      limits = gives.limits;
     }
 
-first_positive : (values : List (List ℕ)) (n : ℕ) → All IsSize values → (value : List ℕ) × (slice_get values 0 ≡ Some value) × (number value ≡ n) → 1 ≤ n
-first_positive [] n good first = absurd (let empty : Option (List ℕ) = None in let none : empty ≡ Some first.0 = first.1 in cc)
-first_positive (v ∷ values) n good first =
-    let same : Some v ≡ Some first.0 = first.1 in
-    let value : v ≡ first.0 = cc in
-    let size : IsSize v = good 0 v (omega arith) in
-    let states : number v ≡ n = rw value first.2 in
-    omega (arith, size.positive)
-
-pub width_positive : (line : List ℕ) (w h : ℕ) (chroma : Chroma) → IsHeaderLine line w h chroma → 1 ≤ w
-width_positive line w h chroma is = first_positive (widths line) w is.good_sizes.widths_good is.size.width
-
-pub height_positive : (line : List ℕ) (w h : ℕ) (chroma : Chroma) → IsHeaderLine line w h chroma → 1 ≤ h
-height_positive line w h chroma is = first_positive (heights line) h is.good_sizes.heights_good is.size.height
+pub size_positive : (given : List (List ℕ)) (size : ℕ) → StatesSize given size → 1 ≤ size
+size_positive given size states = omega (arith, states.2.positive, states.3)

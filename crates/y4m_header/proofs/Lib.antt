@@ -1,11 +1,10 @@
-pub mod Words
 pub mod TagLists
 pub mod ChromaTable
 pub mod Refusals
 pub mod StreamLaws
 pub mod HeaderFacts
 pub mod Joined
-pub mod Decimals
+pub mod Sizes
 pub mod ResizedLine
 pub mod Cuts
 pub mod Numbers

@@ -1,10 +1,9 @@
 pub mod Header
 pub mod Chroma
+pub mod Text
 pub mod Line
-pub mod Number
 pub mod HeaderLine
 pub mod FrameLine
 pub mod Refusal
 pub mod Resized
 pub mod StreamText
-pub mod Text

@@ -2,6 +2,7 @@
 use Rattle.std.specs.Prelude.{◌≡◌, ℕ, ◌≤◌, List, [], ◌∷◌, ◌++◌, length, All}
 use Rattle.y4m_header.specs.declared.chroma.Chroma.{Chroma}
 use Rattle.y4m_header.specs.Chroma.{data_len}
+use Rattle.y4m_header.specs.Line.{line_feed}
 use Rattle.y4m_header.specs.HeaderLine.{IsHeaderLine}
 use Rattle.y4m_header.specs.FrameLine.{IsFrameLine}
 
@@ -17,7 +18,7 @@ pub record IsFrameOf (len : ℕ) (frame : FrameText) : Type 0 where
 
 -- a frame is its line, a line feed and its data
 abbrev pub text_of : FrameText → List ℕ
-text_of frame = frame.line ++ 10 ∷ frame.samples
+text_of frame = frame.line ++ line_feed ∷ frame.samples
 
 abbrev pub frames_text : List FrameText → List ℕ
 frames_text [] = []
@@ -25,7 +26,7 @@ frames_text (frame ∷ frames) = text_of frame ++ frames_text frames
 
 -- a stream is its header line, a line feed and its frames
 abbrev pub stream_text : List ℕ → List FrameText → List ℕ
-stream_text header frames = header ++ 10 ∷ frames_text frames
+stream_text header frames = header ++ line_feed ∷ frames_text frames
 
 -- the text is that of a header line and frames of its size
 pub record IsStreamText (text header : List ℕ) (frames : List FrameText) : Type 0 where
@@ -37,14 +38,21 @@ pub record IsStreamText (text header : List ℕ) (frames : List FrameText) : Typ
   pub is_text : text ≡ stream_text header frames
 
 -- a stream text of n frames stands at the front of the text
-abbrev pub HoldsFrames : List ℕ → ℕ → Type 0
-HoldsFrames text n = (front rest header : List ℕ) × (frames : List FrameText) × IsStreamText front header frames × (text ≡ front ++ rest) × (length frames ≡ n)
+pub record HoldsFrames (text : List ℕ) (n : ℕ) : Type 0 where
+  pub front : List ℕ
+  pub rest : List ℕ
+  pub header : List ℕ
+  pub frames : List FrameText
+  pub is_text : IsStreamText front header frames
+  pub whole : text ≡ front ++ rest
+  pub count : length frames ≡ n
 
 -- n is the greatest number of frames of a stream text at the front of the text
 pub record IsWholeFrames (text : List ℕ) (n : ℕ) : Type 0 where
   pub holds : HoldsFrames text n
   pub greatest : (m : ℕ) → HoldsFrames text m → m ≤ n
 
--- n frames stand at the front of a text in one way: the front, the rest, the header and the frames are determined
+-- n frames stand at the front of a text in one way
 abbrev pub FramesAreDetermined : Type 0
-FramesAreDetermined = (text : List ℕ) (n : ℕ) (a b : HoldsFrames text n) → (a.0 ≡ b.0) × (a.1 ≡ b.1) × (a.2 ≡ b.2) × (a.3 ≡ b.3)
+FramesAreDetermined = (text : List ℕ) (n : ℕ) (a b : HoldsFrames text n)
+    → (a.front ≡ b.front) × (a.rest ≡ b.rest) × (a.header ≡ b.header) × (a.frames ≡ b.frames)

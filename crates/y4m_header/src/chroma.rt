@@ -29,7 +29,8 @@ impl Chroma {
 
     /// The form that the value of the tag C names; without a tag C there is no value.
     pub fn named(value: Option<&[u8]>) -> Option<Chroma>
-        ensures { (chroma : Chroma) → (result ≡ Some chroma) ↔ NamesChroma (option_copied value.entry) chroma }
+        ensures { (chroma : Chroma)
+            → (result ≡ Some chroma) ↔ NamesChroma (option_copied value.entry) chroma }
     {
         match value {
             None => Some(Chroma::S420),
@@ -66,7 +67,8 @@ impl Chroma {
     }
 }
 
-/// The form that a value of C names. The forms of 4:2:0 differ in where the chroma samples lie, and in nothing else.
+/// The form that a value of C names. The forms of 4:2:0 differ in where the chroma samples lie, and in
+/// nothing else.
 fn form_of(name: &[u8]) -> Option<Chroma>
     ensures { (chroma : Chroma) → (result ≡ Some chroma) ↔ NamesChroma (Some name.now) chroma }
 {

@@ -4,14 +4,15 @@ ghost use Rattle.std.specs.Prelude.{◌≡◌, ◌≢◌, ◌≤◌, ℕ, IfOk, 
 use crate::chroma::Chroma;
 use crate::error::HeaderError;
 use crate::format::read_format;
+use crate::limits::LONGEST_SIDE;
 use crate::resized::resized_line;
 use std::alloc::Global;
 use std::marker::Model;
 
 /// A header line that was accepted, with the size and the chroma form that it states.
 ///
-/// The line is kept byte for byte, without its line feed: the tags that nothing here reads (F, I, A, X and any other)
-/// stay as they came.
+/// The line is kept byte for byte, without its line feed: the tags that nothing here reads (F, I, A, X and
+/// any other) stay as they came.
 #[derive(Debug, Drop)]
 pub struct Header {
     line: Vec<u8>,
@@ -26,7 +27,8 @@ impl Model for Header {
 
     ghost Value = { HeaderValue };
 
-    ghost view = { λ a. record { line = a.line.items; width = a.width; height = a.height; chroma = a.chroma } };
+    ghost view = { λ a.
+        record { line = a.line.items; width = a.width; height = a.height; chroma = a.chroma } };
 
     ghost invariant = { λ a. ∥ IsHeaderLine a.line.items a.width a.height a.chroma ∥₁ };
 }
@@ -36,12 +38,19 @@ impl Header {
     ghost use Rattle.y4m_header.specs.Refusal.{IsRefusedAs};
     ghost use Rattle.y4m_header.specs.Resized.{resized_line};
 
-    /// Reads a header line, given without its line feed, by the grammar of yuv4mpeg(5). Of several faults the one
-    /// is answered that stands first in `HeaderError`.
+    /// Reads a header line, given without its line feed, by the grammar of yuv4mpeg(5).
+    ///
+    /// Where the manual page leaves a choice: a size is 1 to 9 digits, leading zeros allowed; W, H or C twice
+    /// is refused, and any other tag may be repeated; a run of spaces makes no tag; without C the form is
+    /// 4:2:0.
+    ///
+    /// Of several faults the one is answered that stands first in `HeaderError`. `NoMemory` is answered for a
+    /// header line alone, where the memory to keep it is refused.
     pub fn parse(alloc: Global, line: &[u8]) -> Result<Header, HeaderError>
         // What is kept is the line, and what it states.
         ensures line { IfOk result (λ header. header.line ≡ line.now) }
-        ensures stated { IfOk result (λ header. IsHeaderLine line.now header.width header.height header.chroma) }
+        ensures stated { IfOk result (λ header.
+            IsHeaderLine line.now header.width header.height header.chroma) }
 
         // A header line is refused for want of memory alone.
         ensures accepted { (w h : ℕ) (chroma : Chroma) → IsHeaderLine line.now w h chroma
@@ -53,11 +62,8 @@ impl Header {
             → IsErrOf result error }
     {
         let format = read_format(line)?;
-        let Ok(line) = line.to_vec(alloc) else {
-            return Err(HeaderError::NoMemory);
-        };
         Ok(Header {
-            line,
+            line: line.to_vec(alloc)?,
             width: format.width,
             height: format.height,
             chroma: format.chroma,
@@ -68,7 +74,7 @@ impl Header {
     pub fn width(&self) -> u32
         ensures value { result ≡ self.now.width }
         ensures some { 1 ≤ result }
-        ensures limit { result ≤ 16384 }
+        ensures limit { result ≤ LONGEST_SIDE }
     {
         self.width
     }
@@ -77,7 +83,7 @@ impl Header {
     pub fn height(&self) -> u32
         ensures value { result ≡ self.now.height }
         ensures some { 1 ≤ result }
-        ensures limit { result ≤ 16384 }
+        ensures limit { result ≤ LONGEST_SIDE }
     {
         self.height
     }
@@ -98,8 +104,9 @@ impl Header {
         &self.line
     }
 
-    /// The header of a picture cut out of this one: the values of W and H are replaced in place, and all else of the
-    /// line stays byte for byte.
+    /// The header of a picture cut out of this one: the values of W and H are replaced in place, without
+    /// leading zeros, and all else of the line stays byte for byte. `NoMemory` is answered where the memory
+    /// for the new line is refused.
     pub fn resized(&self, alloc: Global, width: u32, height: u32) -> Result<Header, HeaderError>
         requires some_width { 1 ≤ width }
         requires within_width { width ≤ self.now.width }
@@ -113,11 +120,8 @@ impl Header {
         ensures never_longer { IfOk result (λ header. length header.line ≤ length self.now.line) }
         ensures memory { IfErr result (λ error. error ≡ HeaderError.NoMemory) }
     {
-        let Ok(line) = resized_line(alloc, &self.line, width, height) else {
-            return Err(HeaderError::NoMemory);
-        };
         Ok(Header {
-            line,
+            line: resized_line(alloc, &self.line, width, height)?,
             width,
             height,
             chroma: self.chroma,

@@ -7,7 +7,8 @@ pub fn one_format()
     ensures { FormatIsDetermined }
 {}
 
-/// For each number of frames, at most one prefix of a text is a stream text of that many, and it is one in one way.
+/// For each number of frames, at most one prefix of a text is a stream text of that many, and it is one in
+/// one way.
 pub fn one_reading()
     ensures { FramesAreDetermined }
 {}

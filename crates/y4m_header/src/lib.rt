@@ -9,8 +9,8 @@ pub mod header;
 pub mod laws;
 mod limits;
 mod line;
-mod number;
 mod resized;
+mod size;
 mod tags;
 pub mod text;
 

@@ -6,11 +6,11 @@ ghost use Rattle.y4m_header.specs.Refusal.{IsTooLarge};
 
 use crate::chroma::Chroma;
 
-/// In pixels.
-const LONGEST_SIDE: u32 = 16_384;
+/// The greatest width and the greatest height, in pixels.
+pub const LONGEST_SIDE: u32 = 16_384;
 
-/// In bytes.
-const LARGEST_DATA: u64 = 67_108_864;
+/// The most data of a frame, in bytes.
+pub const LARGEST_DATA: u64 = 67_108_864;
 
 /// Whether the planes of the chroma have whole numbers of columns and rows.
 pub fn is_divided(width: u32, height: u32, chroma: Chroma) -> bool
@@ -22,8 +22,8 @@ pub fn is_divided(width: u32, height: u32, chroma: Chroma) -> bool
 
 /// The bytes of a frame's data.
 fn data_len(width: u64, height: u64, chroma: Chroma) -> u64
-    requires width { width ≤ 16384 }
-    requires height { height ≤ 16384 }
+    requires width { width ≤ LONGEST_SIDE }
+    requires height { height ≤ LONGEST_SIDE }
     ensures { result ≡ data_len width height chroma }
 {
     match chroma {

@@ -2,7 +2,7 @@
 ghost use Rattle.std.specs.Prelude.{◌≡◌, ◌∷◌, ◌++◌, IfOk, OnOk, decimal};
 ghost use Rattle.y4m_header.specs.Resized.{resized_line, resized_piece};
 
-use crate::tags::next_piece;
+use crate::text::cut;
 use itoa::Buffer;
 use std::alloc::{AllocError, Global};
 
@@ -34,10 +34,10 @@ pub fn resized_line(
 ) -> Result<Vec<u8>, AllocError>
     ensures { IfOk result (λ text. text.items ≡ resized_line line.now width height) }
 {
-    let (word, mut rest) = next_piece(line);
+    let (word, mut rest) = cut(b' ', line);
     let mut out = Vec::from_slice(alloc, word)?;
     while let Some(text) = rest {
-        let (piece, more) = next_piece(text);
+        let (piece, more) = cut(b' ', text);
         out.push(b' ')?;
         push_piece(&mut out, piece, width, height)?;
         rest = more;

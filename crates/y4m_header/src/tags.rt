@@ -1,26 +1,15 @@
 // The tags of a line.
-ghost use Rattle.std.specs.Prelude.{◌≡◌, ◌<◌, ◌↔◌, IsTrue, IfSome, MatchBool, All, Any, length, slice_get, ◌∷◌};
+ghost use Rattle.std.specs.Prelude.{◌≡◌, ◌<◌, ◌↔◌, IsTrue, MatchBool, All, Any, length, slice_get};
 ghost use Rattle.std.specs.Option.{option_copied};
-ghost use Rattle.y4m_header.specs.Line.{pieces, pieces_left, value_of, values};
-ghost use Rattle.y4m_header.specs.Number.{IsSize};
+ghost use Rattle.y4m_header.specs.HeaderLine.{IsSize};
+ghost use Rattle.y4m_header.specs.Line.{tag_value, values};
 
-use crate::line::space_in;
-use crate::number::is_size;
-
-/// The first piece, and what stands after the space behind it.
-pub fn next_piece(text: &[u8]) -> (&[u8], Option<&[u8]>)
-    ensures pieces { pieces text.now ≡ result.0.now ∷ pieces_left (option_copied result.1) }
-    ensures shorter { IfSome result.1 (λ rest. length rest.now < length text.now) }
-{
-    match space_in(text) {
-        Some(end) => (&text[..end], Some(&text[end + 1..])),
-        None => (text, None),
-    }
-}
+use crate::size::is_size;
+use crate::text::cut;
 
 /// What a piece says, if it is a tag with this letter.
-fn value_of(letter: u8, piece: &[u8]) -> Option<&[u8]>
-    ensures { option_copied result ≡ value_of letter piece.now }
+fn tag_value(letter: u8, piece: &[u8]) -> Option<&[u8]>
+    ensures { option_copied result ≡ tag_value letter piece.now }
 {
     match piece.split_first() {
         Some((first, value)) if *first == letter => Some(value),
@@ -45,10 +34,10 @@ pub fn tags_with(letter: u8, line: &[u8]) -> Tags<'_>
         first: None,
         repeated: false,
     };
-    let (_, mut rest) = next_piece(line);
+    let (_, mut rest) = cut(b' ', line);
     while let Some(text) = rest {
-        let (piece, more) = next_piece(text);
-        if let Some(value) = value_of(letter, piece) {
+        let (piece, more) = cut(b' ', text);
+        if let Some(value) = tag_value(letter, piece) {
             match tags.first {
                 None => tags.first = Some(value),
                 Some(_) => tags.repeated = true,
@@ -64,10 +53,10 @@ pub fn all_sizes(letter: u8, line: &[u8]) -> bool
     ensures { MatchBool result (All IsSize (values letter line.now))
         (Any (λ value. ¬ IsSize value) (values letter line.now)) }
 {
-    let (_, mut rest) = next_piece(line);
+    let (_, mut rest) = cut(b' ', line);
     while let Some(text) = rest {
-        let (piece, more) = next_piece(text);
-        if let Some(value) = value_of(letter, piece) {
+        let (piece, more) = cut(b' ', text);
+        if let Some(value) = tag_value(letter, piece) {
             if !is_size(value) {
                 return false;
             }

@@ -54,7 +54,8 @@ fn are_digits(text: &[u8]) -> bool
     text.iter().all(|byte| byte.is_ascii_digit())
 }
 
-fn digits_value(digits: &[u8]) -> u64
+/// The number that decimal digits write.
+pub(crate) fn digits_value(digits: &[u8]) -> u64
     requires few { length digits.now ≤ MOST_DIGITS }
     requires digits { All IsAsciiDigit digits.now }
     ensures { result ≡ digits_value 10 digits.now }

@@ -50,7 +50,7 @@ opens_at : (bytes : List ℕ) (failures : ℕ) (left : Option (List ℕ)) (now :
 opens_at bytes failures left now (Ok opened) x of_bytes =
     let line = opened.header.line in
     let rest = left_of bytes opened.rest (line ++ 10 ∷ []) x.taken in
-    rw (line_front bytes line rest.0 x.header.is_y4m.is_line (rest.2 ∙ append_assoc line (10 ∷ []) rest.0)) (refl, x.header, rest.1, x.is_open, x.no_failure)
+    rw (line_front bytes line rest.0 x.header.stated.is_y4m.is_line (rest.2 ∙ append_assoc line (10 ∷ []) rest.0)) (refl, x.header, rest.1, x.is_open, x.no_failure)
 opens_at bytes failures left now (Err Device) x of_bytes = absurd (of_bytes.0 refl)
 opens_at bytes failures left now (Err LineTooLong) x of_bytes = rw (long_front bytes x.stands) refl
 opens_at bytes failures left now (Err (Header e)) x of_bytes =

@@ -1,5 +1,6 @@
 -- What filtering a stream answers, with what it read and wrote.
-use Rattle.std.specs.Prelude.{◌≡◌, ℕ, ◌+◌, ◌<◌, ◌≤◌, ◌⊎◌, List, [], ◌∷◌, ◌++◌, length, take, Option, Some, IfSome, Result, Ok, Err, All}
+use Rattle.std.specs.Prelude.{◌≡◌, ℕ, ◌+◌, ◌<◌, ◌≤◌, ◌⊎◌, List, [], ◌∷◌, ◌++◌, length, take, Option, Some}
+use Rattle.std.specs.Prelude.{IfSome, Result, Ok, Err}
 use Rattle.std.specs.Io.KnownBytes.{Appends, Consumes, Keeps}
 use Rattle.y4m_header.specs.declared.chroma.Chroma.{Chroma}
 use Rattle.y4m_header.specs.Chroma.{data_len}
@@ -21,7 +22,8 @@ use Rattle.y4m_stream.specs.Reader.{failures_at}
 use Rattle.y4m_stream.specs.Served.{IsAskedFor, Serves}
 use Rattle.y4m_stream.specs.Writer.{most_frames, write_failures_at}
 
--- what the source had to give and what it has left, and what the sink held before and holds after, where these are known
+-- what the source had to give and what it has left, and what the sink held before and holds after, where
+-- these are known
 pub record Ends : Type 0 where
   pub input : Option (List ℕ)
   pub left : Option (List ℕ)
@@ -29,7 +31,8 @@ pub record Ends : Type 0 where
   pub after : Option (List ℕ)
 
 -- the operations that are asked for make no chain, for this reason
-pub record LacksChain (ops : List Op) (height : BandHeight) (w h : ℕ) (chroma : Chroma) (e : FilterError) : Type 0 where
+pub record LacksChain (ops : List Op) (height : BandHeight) (w h : ℕ) (chroma : Chroma)
+    (e : FilterError) : Type 0 where
   pub chain : ChainValue
   pub asked : IsAskedFor ops height w h chroma chain
   pub refused : IsChainRefusedAs e chain
@@ -63,8 +66,8 @@ pub record Passed (ops : List Op) (height : BandHeight) (input : Option (List �
   pub few : length frames ≤ most_frames
   pub taken : Consumes input rest text
 
--- how far a stream was read: the bytes of a frame's data, how many frames were read, and what stands behind them; and
--- what is to be written for them
+-- how far a stream was read: the bytes of a frame's data, how many frames were read, and what stands behind
+-- them; and what is to be written for them
 pub record Progress : Type 0 where
   pub len : ℕ
   pub count : ℕ
@@ -89,14 +92,15 @@ pub record HasNext (len : ℕ) (rest left : Option (List ℕ)) : Type 0 where
   pub ahead : IsReadAhead more left
 
 -- n bytes of the text went out, from its front; the fault counts them and those that went out earlier
-pub record CutsOff (before after : Option (List ℕ)) (text : List ℕ) (earlier : ℕ) (fault : WriteFault) : Type 0 where
+pub record CutsOff (before after : Option (List ℕ)) (text : List ℕ) (earlier : ℕ)
+    (fault : WriteFault) : Type 0 where
   pub n : ℕ
   pub within : n ≤ length text
   pub front : Appends before after (take n text)
   pub counted : fault ≡ Device (earlier + n)
 
--- why a stream was filtered no further, and what was written: all that was due, or a front of it where a write failed;
--- so many bytes went out earlier
+-- why a stream was filtered no further, and what was written: all that was due, or a front of it where a
+-- write failed; so many bytes went out earlier
 abbrev pub StopsAt : FilterFault → Progress → ℕ → Ends → Type 0
 StopsAt (Read fault) at earlier ends =
     StandsAtFrame at.len fault at.rest ends.left × Appends ends.before ends.after at.due
@@ -137,7 +141,8 @@ abbrev pub filter_reads_told : {T : Type 0} → Result T FilterFault → ℕ →
 filter_reads_told (Ok x) n = n
 filter_reads_told (Err fault) n = filter_reads_at fault n
 
--- no write and no flush failed; or one did, as is told; or another fault came first, and then at most the flush failed
+-- no write and no flush failed; or one did, as is told; or another fault came first, and then at most the
+-- flush failed
 abbrev pub CountsWrites : {T : Type 0} → Result T FilterFault → ℕ → ℕ → Type 0
 CountsWrites (Ok x) old new = new ≡ old
 CountsWrites (Err (Read fault)) old new = (new ≡ old) ⊎ (new ≡ one_more old)

@@ -2,12 +2,14 @@
 use Rattle.std.specs.Prelude.{◌≡◌, ◌≢◌, ℕ, ◌<◌, ◌≤◌, ◌⊎◌, List, ◌∷◌, ◌++◌, length, take, All, Option, IfSome}
 use Rattle.std.specs.Io.KnownBytes.{Consumes}
 use Rattle.y4m_header.specs.declared.error.HeaderError.{HeaderError}
-use Rattle.y4m_header.specs.declared.error.HeaderError.TheVariants.{NoMemory as NoHeaderMemory, NotFrame as NoFrameLine}
+use Rattle.y4m_header.specs.declared.error.HeaderError.TheVariants.{NoMemory as NoHeaderMemory}
+use Rattle.y4m_header.specs.declared.error.HeaderError.TheVariants.{NotFrame as NoFrameLine}
 use Rattle.y4m_header.specs.Line.{IsLine}
 use Rattle.y4m_header.specs.FrameLine.{IsFrameLine}
 use Rattle.y4m_header.specs.Refusal.{IsRefusedAs}
 use Rattle.y4m_stream.specs.declared.fault.ReadFault.{ReadFault}
-use Rattle.y4m_stream.specs.declared.fault.ReadFault.TheVariants.{Device, LineTooLong, Header, NotFrame, Truncated, NoMemory, Failed}
+use Rattle.y4m_stream.specs.declared.fault.ReadFault.TheVariants.{Device, LineTooLong, Header, NotFrame}
+use Rattle.y4m_stream.specs.declared.fault.ReadFault.TheVariants.{Truncated, NoMemory, Failed}
 use Rattle.y4m_stream.specs.declared.lookahead.TheConstants.{LINE_LIMIT}
 
 -- no byte of these is a line feed
@@ -71,7 +73,8 @@ IsReadAhead rest left = HasGiven rest left (λ bytes. length bytes ≤ LINE_LIMI
 abbrev pub StandsAtHeader : ReadFault → Option (List ℕ) → Option (List ℕ) → Type 0
 StandsAtHeader Device rest left = HasGiven rest left IsCutLine
 StandsAtHeader LineTooLong rest left = IfSome rest IsLongLine
-StandsAtHeader (Header e) rest left = (e ≢ NoHeaderMemory) × (e ≢ NoFrameLine) × IfSome rest (HasRefusedHeader e)
+StandsAtHeader (Header e) rest left =
+    (e ≢ NoHeaderMemory) × (e ≢ NoFrameLine) × IfSome rest (HasRefusedHeader e)
 StandsAtHeader NotFrame rest left = ⊥
 StandsAtHeader Truncated rest left = IfSome rest IsCutLine
 StandsAtHeader NoMemory rest left = IfSome rest (HasRefusedHeader NoHeaderMemory) × IsReadAhead rest left

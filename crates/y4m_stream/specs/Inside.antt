@@ -1,21 +1,24 @@
 -- What contracts inside the crate speak of.
-use Rattle.std.specs.Prelude.{◌≡◌, ℕ, ◌+◌, ◌-◌, ◌<◌, ◌≤◌, ◌⊎◌, ⊤, List, ◌∷◌, ◌++◌, length, take, drop, slice_index_or, Option, Some, None, IfSome, unwrap_or, All, true, false, Result, Ok, Err}
+use Rattle.std.specs.Prelude.{◌≡◌, ℕ, ◌+◌, ◌<◌, ◌≤◌, ◌⊎◌, ⊤, List, ◌∷◌, ◌++◌, length, take, drop}
+use Rattle.std.specs.Prelude.{Option, Some, None}
+use Rattle.std.specs.Prelude.{IfSome, IsSomeAnd, unwrap_or, All, true, false, Result, Ok, Err}
 use Rattle.std.specs.Io.KnownBytes.{Appends, Consumes, IsAtEnd, Keeps, prepend_known}
 use Rattle.frame_view.specs.declared.frame.Frame.{Frame}
 use Rattle.row_bands.specs.declared.band_height.BandHeight.{BandHeight}
 use Rattle.row_bands.specs.declared.canvas.Canvas.{Canvas}
-use Rattle.row_bands.specs.Canvas.{frame_of, height_of}
+use Rattle.row_bands.specs.Canvas.{frame_of}
 use Rattle.filters.specs.declared.error.FilterError.TheVariants.{NoMemory as NoFilterMemory}
 use Rattle.filters.specs.declared.op.Op.{Op}
-use Rattle.filters.specs.Chain.{ChainValue, format_of, format_at, last_format}
-use Rattle.filters.specs.ChainImage.{IsChainImage, value_of}
+use Rattle.filters.specs.Chain.{ChainValue, format_of, last_format}
+use Rattle.filters.specs.ChainImage.{AreCanvases, IsChainImage, last_canvas, value_of}
 use Rattle.filters.specs.Refusal.{IsChain}
 use Rattle.y4m_header.specs.Header.{HeaderValue}
 use Rattle.y4m_header.specs.FrameLine.{IsFrameLine}
 use Rattle.y4m_header.specs.Line.{IsLine}
 use Rattle.y4m_header.specs.StreamText.{FrameText, IsFrameOf, frames_text, text_of}
 use Rattle.y4m_stream.specs.declared.fault.ReadFault.{ReadFault}
-use Rattle.y4m_stream.specs.declared.fault.ReadFault.TheVariants.{Device, LineTooLong, Header, NotFrame, Truncated, NoMemory, Failed}
+use Rattle.y4m_stream.specs.declared.fault.ReadFault.TheVariants.{Device, LineTooLong, Header, NotFrame}
+use Rattle.y4m_stream.specs.declared.fault.ReadFault.TheVariants.{Truncated, NoMemory, Failed}
 use Rattle.y4m_stream.specs.declared.reader.Phase.{Phase}
 use Rattle.y4m_stream.specs.declared.reader.Phase.TheVariants.{Open, Failed as HasFailed}
 use Rattle.y4m_stream.specs.declared.fault.WriteFault.{WriteFault}
@@ -30,7 +33,8 @@ use Rattle.y4m_stream.specs.Writer.{WriterState, CutsShort, PutsFrame, most_fram
 use Rattle.y4m_stream.specs.Served.{IsAskedFor, IsImageText, AreImages, served_header}
 use Rattle.y4m_stream.specs.Filtered.{Progress, HasNext, StopsAt}
 
--- the bytes that were read from a source and not yet taken, what it has left, and how many of its reads failed
+-- the bytes that were read from a source and not yet taken, what it has left, and how many of its reads
+-- failed
 pub record LookaheadState : Type 0 where
   pub held : List ℕ
   pub left : Option (List ℕ)
@@ -86,7 +90,8 @@ state_of header phase ahead = record {
   failures = ahead.failures;
 }
 
--- a reader that was open holds a frame line of n bytes, whole at the front, and has failed until it has taken the frame
+-- a reader that was open holds a frame line of n bytes, whole at the front, and has failed until it has taken
+-- the frame
 pub record FindsFrame (old new : LookaheadState) (phase phase' : Phase) (n : ℕ) : Type 0 where
   pub was_open : phase ≡ Open
   pub until : phase' ≡ HasFailed
@@ -96,29 +101,18 @@ pub record FindsFrame (old new : LookaheadState) (phase phase' : Phase) (n : ℕ
   pub no_failure : new.failures ≡ old.failures
 
 -- a frame line is found, or what is answered in place of a frame
-abbrev pub BeginsFrame : LookaheadState → LookaheadState → Phase → Phase → Result (Option ℕ) ReadFault → Type 0
+abbrev pub BeginsFrame : LookaheadState → LookaheadState → Phase → Phase
+    → Result (Option ℕ) ReadFault → Type 0
 BeginsFrame old new phase phase' (Ok (Some n)) = FindsFrame old new phase phase' n
 BeginsFrame old new phase phase' (Ok None) =
     (header : HeaderValue) → Answers (state_of header phase old) (state_of header phase' new) (Ok None)
 BeginsFrame old new phase phase' (Err fault) =
     (header : HeaderValue) → Answers (state_of header phase old) (state_of header phase' new) (Err fault)
 
--- there is a canvas for the output of each operation, in bands of the chain's height
-pub record AreOfSizes (chain : ChainValue) (canvases : List Canvas) : Type 0 where
-  pub count : length canvases ≡ length chain.ops
-  pub each : (i : ℕ) (d : Canvas) → i < length chain.ops
-      → format_of (frame_of (slice_index_or canvases i d)).geometry ≡ format_at chain (i + 1)
-  pub heights : (i : ℕ) (d : Canvas) → i < length chain.ops
-      → height_of (slice_index_or canvases i d) ≡ chain.band_height.rows
-
--- the frame that the last canvas holds
-abbrev pub IsLast : ChainValue → List Canvas → Frame → Type 0
-IsLast chain canvases frame = (d : Canvas) × (frame ≡ frame_of (slice_index_or canvases (length chain.ops - 1) d))
-
 -- the last canvas holds the image of this frame
 abbrev pub HoldImage : ChainValue → List Canvas → Frame → Type 0
-HoldImage chain canvases source = (d : Canvas)
-    → IsChainImage chain.ops (value_of source) (value_of (frame_of (slice_index_or canvases (length chain.ops - 1) d)))
+HoldImage chain canvases source = IsSomeAnd (last_canvas canvases)
+    (λ canvas. IsChainImage chain.ops (value_of source) (value_of (frame_of canvas)))
 
 -- the header of the images that the chain makes of the header's frames
 pub record IsHeaderOfImages (chain : ChainValue) (header shown : HeaderValue) : Type 0 where
@@ -127,13 +121,15 @@ pub record IsHeaderOfImages (chain : ChainValue) (header shown : HeaderValue) : 
   pub height : shown.height ≡ (last_format chain.ops (format_of chain.geometry)).height
   pub chroma : shown.chroma ≡ (last_format chain.ops (format_of chain.geometry)).chroma
 
--- the chain is that of these operations for the header's frames; a frame, an image and a header of their sizes are there
-pub record IsFilterFor (ops : List Op) (height : BandHeight) (header : HeaderValue) (filter : Filter) : Type 0 where
+-- the chain is that of these operations for the header's frames; a frame, an image and a header of their
+-- sizes are there
+pub record IsFilterFor (ops : List Op) (height : BandHeight) (header : HeaderValue)
+    (filter : Filter) : Type 0 where
   pub asked : IsAskedFor ops height header.width header.height header.chroma filter.images.chain
   pub is_chain : IsChain filter.images.chain
   pub frame : IsOfHeader header filter.frame.geometry
   pub of_chain : filter.frame.geometry ≡ filter.images.chain.geometry
-  pub sizes : AreOfSizes filter.images.chain filter.images.canvases.items
+  pub canvases : AreCanvases filter.images.chain filter.images.canvases.items
   pub shown : IsHeaderOfImages filter.images.chain header (unwrap_or filter.resized header)
 
 -- the writer's frames are of the size of the chain's images
@@ -143,13 +139,15 @@ pub record IsWriterFor (chain : ChainValue) (writer : WriterState) : Type 0 wher
   pub chroma : writer.chroma ≡ (last_format chain.ops (format_of chain.geometry)).chroma
 
 -- a frame was taken, and its image went out
-pub record PassesFrame (chain : ChainValue) (reader reader' : ReaderState) (writer writer' : WriterState) (frame image : FrameText) : Type 0 where
+pub record PassesFrame (chain : ChainValue) (reader reader' : ReaderState) (writer writer' : WriterState)
+    (frame image : FrameText) : Type 0 where
   pub taken : TakesFrame reader reader' frame
   pub made : IsImageText chain frame image
   pub put : PutsFrame writer writer' image
 
 -- a frame was taken, and its image didn't go out whole
-pub record CutsImage (chain : ChainValue) (fault : WriteFault) (reader reader' : ReaderState) (writer writer' : WriterState) : Type 0 where
+pub record CutsImage (chain : ChainValue) (fault : WriteFault) (reader reader' : ReaderState)
+    (writer writer' : WriterState) : Type 0 where
   pub frame : FrameText
   pub image : FrameText
   pub taken : TakesFrame reader reader' frame
@@ -157,12 +155,14 @@ pub record CutsImage (chain : ChainValue) (fault : WriteFault) (reader reader' :
   pub cut : CutsShort writer.contents writer'.contents (text_of image) writer.bytes fault
 
 -- no frame is passed on, for this reason
-abbrev pub FailsToPass : ChainValue → FilterFault → ReaderState → ReaderState → WriterState → WriterState → Type 0
+abbrev pub FailsToPass : ChainValue → FilterFault → ReaderState → ReaderState
+    → WriterState → WriterState → Type 0
 FailsToPass chain (Read fault) reader reader' writer writer' =
     StandsAtFrame (data_len_of reader.header) fault reader.rest reader'.left × (writer' ≡ writer)
 FailsToPass chain (Ops e) reader reader' writer writer' = (e ≡ NoFilterMemory)
     × HasNext (data_len_of reader.header) reader.rest reader'.left × (writer' ≡ writer)
-FailsToPass chain (Write fault) reader reader' writer writer' = CutsImage chain fault reader reader' writer writer'
+FailsToPass chain (Write fault) reader reader' writer writer' =
+    CutsImage chain fault reader reader' writer writer'
 FailsToPass chain TooManyFrames reader reader' writer writer' = ⊥
 
 -- frames that were taken, and the images that the chain makes of them
@@ -184,7 +184,8 @@ progress_on {reader = reader} passage = record {
 }
 
 -- all that was left is n frames, and their images went out
-pub record PassesAll (n : ℕ) (chain : ChainValue) (reader reader' : ReaderState) (writer writer' : WriterState) : Type 0 where
+pub record PassesAll (n : ℕ) (chain : ChainValue) (reader reader' : ReaderState)
+    (writer writer' : WriterState) : Type 0 where
   pub passage : Passage chain reader
   pub at_end : IsAtEnd passage.rest
   pub all_read : Keeps passage.rest reader'.left
@@ -228,8 +229,8 @@ Closes (Ok n) writer (Ok m) = m ≡ n
 Closes (Ok n) writer (Err fault) = writer.failed ≡ false → fault ≡ Write (NotWritten writer.bytes)
 Closes (Err fault) writer result = result ≡ Err fault
 
--- after an answer that was no fault, the flush failed exactly where a fault is answered; else it may have, where it was
--- tried
+-- after an answer that was no fault, the flush failed exactly where a fault is answered; else it may have,
+-- where it was tried
 abbrev pub CountsClosing : Result ℕ FilterFault → WriterState → Result ℕ FilterFault → ℕ → Type 0
 CountsClosing (Ok n) writer (Ok m) after = after ≡ writer.failures
 CountsClosing (Ok n) writer (Err fault) after = writer.failed ≡ false → after ≡ one_more writer.failures

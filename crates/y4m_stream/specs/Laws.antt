@@ -1,5 +1,6 @@
 -- What follows from the definitions alone.
-use Rattle.std.specs.Prelude.{◌≡◌, ◌≢◌, ◌+◌, ◌-◌, ◌<◌, ◌^◌, ℕ, List, ◌++◌, length, Option, Some, None, Result, Ok, Err, IfOk, IfErr}
+use Rattle.std.specs.Prelude.{◌≡◌, ◌≢◌, ◌+◌, ◌-◌, ◌<◌, ◌^◌, ℕ, List, ◌++◌, length, Option, Some, None, Result}
+use Rattle.std.specs.Prelude.{Ok, Err, IfOk, IfErr}
 use Rattle.y4m_header.specs.Chroma.{data_len}
 use Rattle.y4m_header.specs.StreamText.{FrameText, IsStreamText, IsWholeFrames}
 use Rattle.row_bands.specs.declared.band_height.BandHeight.{BandHeight}
@@ -16,7 +17,8 @@ use Rattle.y4m_stream.specs.Writer.{write_failures_at}
 
 -- a stream text of these frames is served as one text
 abbrev pub ServedIsDetermined : Type 0
-ServedIsDetermined = (ops : List Op) (height : BandHeight) (text : List ℕ) (frames : List FrameText) (a b : List ℕ)
+ServedIsDetermined =
+    (ops : List Op) (height : BandHeight) (text : List ℕ) (frames : List FrameText) (a b : List ℕ)
     → Serves ops height text frames a → Serves ops height text frames b → a ≡ b
 
 -- the fault lies in the bytes: no read failed, and memory was there
@@ -40,9 +42,11 @@ OpeningIsDetermined = (bytes : List ℕ) (failures : ℕ) (left left' : Option (
     → Opens (Some bytes) failures left' now' b → IfErr b IsOfBytes
     → opening_but_ahead a ≡ opening_but_ahead b
 
--- where these bytes are left, one frame, the end or one fault is answered, and but for a fault one state is left
+-- where these bytes are left, one frame, the end or one fault is answered, and but for a fault one state is
+-- left
 abbrev pub AnswerIsDetermined : Type 0
-AnswerIsDetermined = (old first second : ReaderState) (bytes : List ℕ) (a b : Result (Option FrameText) ReadFault)
+AnswerIsDetermined =
+    (old first second : ReaderState) (bytes : List ℕ) (a b : Result (Option FrameText) ReadFault)
     → old.rest ≡ Some bytes → old.phase ≡ Open
     → Answers old first a → IfErr a IsOfBytes → Answers old second b → IfErr b IsOfBytes
     → (a ≡ b) × IfOk a (λ _. but_ahead first ≡ but_ahead second)

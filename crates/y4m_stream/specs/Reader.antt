@@ -1,5 +1,6 @@
 -- What callers see of a stream's reader, and what its calls answer.
-use Rattle.std.specs.Prelude.{◌≡◌, ℕ, List, [], ◌∷◌, ◌++◌, Bool, true, false, Option, Some, None, Result, Ok, Err}
+use Rattle.std.specs.Prelude.{◌≡◌, ℕ, List, [], ◌∷◌, ◌++◌, Bool, true, false, Option, Some, None, Result, Ok}
+use Rattle.std.specs.Prelude.{Err}
 use Rattle.std.specs.Io.KnownBytes.{Consumes, IsAtEnd, Keeps}
 use Rattle.frame_view.specs.declared.geometry.Geometry.{Geometry}
 use Rattle.frame_view.specs.declared.frame.Frame.{Frame}
@@ -9,14 +10,15 @@ use Rattle.y4m_header.specs.Header.{HeaderValue}
 use Rattle.y4m_header.specs.HeaderLine.{IsHeaderLine}
 use Rattle.y4m_header.specs.StreamText.{FrameText, IsFrameOf, text_of}
 use Rattle.y4m_stream.specs.declared.fault.ReadFault.{ReadFault}
-use Rattle.y4m_stream.specs.declared.fault.ReadFault.TheVariants.{Device, LineTooLong, Header, NotFrame, Truncated, NoMemory, Failed}
+use Rattle.y4m_stream.specs.declared.fault.ReadFault.TheVariants.{Device, LineTooLong, Header, NotFrame}
+use Rattle.y4m_stream.specs.declared.fault.ReadFault.TheVariants.{Truncated, NoMemory, Failed}
 use Rattle.y4m_stream.specs.declared.reader.Phase.{Phase}
 use Rattle.y4m_stream.specs.declared.reader.Phase.TheVariants.{Open, Ended, Failed as HasFailed}
 use Rattle.y4m_stream.specs.Failures.{one_more}
 use Rattle.y4m_stream.specs.Front.{IsReadAhead, StandsAtHeader, StandsAtFrame}
 
--- the rest is what is kept unread followed by what the source has left, where that is known; then the header, what the
--- next call does, and how many reads failed
+-- the rest is what is kept unread followed by what the source has left, where that is known; then the header,
+-- what the next call does, and how many reads failed
 pub record ReaderState : Type 0 where
   pub rest : Option (List ℕ)
   pub left : Option (List ℕ)
@@ -47,8 +49,10 @@ pub record IsOpened (rest : Option (List ℕ)) (failures : ℕ) (opened : Reader
   pub is_open : opened.phase ≡ Open
   pub no_failure : opened.failures ≡ failures
 
--- the fault stands where the header line should; the source has this left, and so many of its reads have failed now
-pub record FailsToOpen (rest : Option (List ℕ)) (failures : ℕ) (left : Option (List ℕ)) (now : ℕ) (fault : ReadFault) : Type 0 where
+-- the fault stands where the header line should; the source has this left, and so many of its reads have
+-- failed now
+pub record FailsToOpen (rest : Option (List ℕ)) (failures : ℕ) (left : Option (List ℕ)) (now : ℕ)
+    (fault : ReadFault) : Type 0 where
   pub stands : StandsAtHeader fault rest left
   pub told : now ≡ failures_at fault failures
 

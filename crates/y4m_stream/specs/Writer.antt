@@ -1,5 +1,6 @@
 -- What callers see of a stream's writer, and what its calls do.
-use Rattle.std.specs.Prelude.{◌≡◌, ℕ, ◌+◌, ◌<◌, ◌^◌, List, [], ◌∷◌, ◌++◌, length, take, Option, Result, Ok, Err, MatchResult, Bool, true, false}
+use Rattle.std.specs.Prelude.{◌≡◌, ℕ, ◌+◌, ◌<◌, ◌^◌, List, [], ◌∷◌, ◌++◌, length, take, Option, Result, Ok}
+use Rattle.std.specs.Prelude.{Err, MatchResult, Bool, true, false}
 use Rattle.std.specs.Io.KnownBytes.{Appends}
 use Rattle.frame_view.specs.declared.geometry.Geometry.{Geometry}
 use Rattle.y4m_header.specs.declared.chroma.Chroma.{Chroma}
@@ -9,8 +10,8 @@ use Rattle.y4m_stream.specs.declared.fault.WriteFault.{WriteFault}
 use Rattle.y4m_stream.specs.declared.fault.WriteFault.TheVariants.{Device, Failed}
 use Rattle.y4m_stream.specs.Failures.{one_more}
 
--- what the sink holds, where that is known; the size of the frames; what went out since the writer was opened, and
--- whether it has failed; how many writes and flushes failed
+-- what the sink holds, where that is known; the size of the frames; what went out since the writer was
+-- opened, and whether it has failed; how many writes and flushes failed
 pub record WriterState : Type 0 where
   pub contents : Option (List ℕ)
   pub width : ℕ
@@ -40,15 +41,18 @@ abbrev pub PutsText : {T : Type 0} → Option (List ℕ) → Option (List ℕ) �
 PutsText old new text answer =
     MatchResult answer (λ _. Appends old new text) (λ n. (n < length text) × Appends old new (take n text))
 
--- n bytes of the text went out, from its front, and not all; the fault counts them and those that went out before
-pub record CutsShort (old new : Option (List ℕ)) (text : List ℕ) (before : ℕ) (fault : WriteFault) : Type 0 where
+-- n bytes of the text went out, from its front, and not all; the fault counts them and those that went out
+-- before
+pub record CutsShort (old new : Option (List ℕ)) (text : List ℕ) (before : ℕ)
+    (fault : WriteFault) : Type 0 where
   pub n : ℕ
   pub partly : n < length text
   pub front : Appends old new (take n text)
   pub counted : fault ≡ Device (before + n)
 
 -- the header line and its line feed went out, and nothing else is counted yet
-pub record IsOpenedFor (header : HeaderValue) (contents : Option (List ℕ)) (failures : ℕ) (opened : WriterState) : Type 0 where
+pub record IsOpenedFor (header : HeaderValue) (contents : Option (List ℕ)) (failures : ℕ)
+    (opened : WriterState) : Type 0 where
   pub wrote : Appends contents opened.contents (header.line ++ 10 ∷ [])
   pub width : opened.width ≡ header.width
   pub height : opened.height ≡ header.height
@@ -90,6 +94,7 @@ PutsOpen old new frame (Ok x) = PutsFrame old new frame
 PutsOpen old new frame (Err fault) = FailsToPut old new frame fault
 
 -- what putting a frame does: it writes, or it answers that the writer has failed
-pub record Puts {T : Type 0} (old new : WriterState) (frame : FrameText) (answer : Result T WriteFault) : Type 0 where
+pub record Puts {T : Type 0} (old new : WriterState) (frame : FrameText)
+    (answer : Result T WriteFault) : Type 0 where
   pub is_open : old.failed ≡ false → PutsOpen old new frame answer
   pub has_failed : old.failed ≡ true → (answer ≡ Err Failed) × (new ≡ old)

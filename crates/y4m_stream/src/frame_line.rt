@@ -1,5 +1,6 @@
 // A frame at the front of what is left: its line, and the data behind it.
-ghost use Rattle.std.specs.Prelude.{◌≡◌, ◌+◌, ◌<◌, ◌∷◌, ◌++◌, take, drop, length, [], Ok, true, false, IfOk, IfErr, IfSome, IfNone, OnOk, ◌≤◌};
+ghost use Rattle.std.specs.Prelude.{◌≡◌, ◌+◌, ◌<◌, ◌∷◌, ◌++◌, take, drop, length, [], Ok, true, false, IfOk};
+ghost use Rattle.std.specs.Prelude.{IfErr, IfSome, IfNone, OnOk, ◌≤◌};
 ghost use Rattle.std.specs.Io.KnownBytes.{Consumes, IsAtEnd, Keeps};
 ghost use Rattle.frame_view.specs.Frame.{line_of, samples_of};
 ghost use Rattle.y4m_header.specs.FrameLine.{IsFrameLine};
@@ -64,7 +65,8 @@ pub fn take_data<R: Source>(
     ensures geometry { frame.new.geometry ≡ frame.old.geometry }
     ensures line { line_of frame.new ≡ line_of frame.old }
     ensures len { length (samples_of frame.new) ≡ length (samples_of frame.old) }
-    ensures ok { OnOk result (Consumes (rest_of input.old) (rest_of input.new) (text_of (frame_text_of frame.new))) }
+    ensures ok { OnOk result
+        (Consumes (rest_of input.old) (rest_of input.new) (text_of (frame_text_of frame.new))) }
     ensures fault { IfErr result (λ fault.
         StandsAtFrame (length (samples_of frame.old)) fault (rest_of input.old) input.new.left) }
     ensures few { length input.new.held ≤ LINE_LIMIT }

@@ -1,5 +1,6 @@
 // A source, and the bytes that were read from it and not yet taken.
-ghost use Rattle.std.specs.Prelude.{◌≡◌, ◌+◌, ◌-◌, ◌<◌, ◌≤◌, [], ◌++◌, length, take, drop, min, IfOk, IfErr, OnOk, OnErr};
+ghost use Rattle.std.specs.Prelude.{◌≡◌, ◌+◌, ◌-◌, ◌<◌, ◌≤◌, [], ◌++◌, length, take, drop, min, IfOk, IfErr};
+ghost use Rattle.std.specs.Prelude.{OnOk, OnErr};
 ghost use Rattle.std.specs.Io.KnownBytes.{Consumes, IsAtEnd, Keeps};
 ghost use Rattle.y4m_stream.specs.Failures.{failures_after};
 ghost use Rattle.y4m_stream.specs.Inside.{LacksBytes, rest_of};
@@ -30,7 +31,11 @@ impl<R: Source> Model for Lookahead<R> {
 
     ghost Value = { LookaheadState };
 
-    ghost view = { λ a. record { held = take a.len a.bytes; left = R.remaining a.source; failures = R.failures a.source } };
+    ghost view = { λ a. record {
+      held = take a.len a.bytes;
+      left = R.remaining a.source;
+      failures = R.failures a.source;
+    } };
 
     ghost invariant = { λ a. a.len ≤ LINE_LIMIT };
 }
@@ -93,7 +98,8 @@ impl<R: Source> Lookahead<R> {
     /// Takes as many bytes as `out` has off the front: those that are held, and then the source's.
     pub fn take_exactly(&mut self, out: &mut [u8]) -> Result<(), ReadFault>
         ensures ok { OnOk result (Consumes (rest_of self.old) (rest_of self.new) out.new) }
-        ensures fault { IfErr result (λ fault. LacksBytes (length out.old) fault (rest_of self.old) self.new.left) }
+        ensures fault { IfErr result (λ fault.
+            LacksBytes (length out.old) fault (rest_of self.old) self.new.left) }
         ensures few { length self.new.held ≤ LINE_LIMIT }
         ensures told { self.new.failures ≡ failures_told result self.old.failures }
     {

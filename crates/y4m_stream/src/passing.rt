@@ -2,7 +2,9 @@
 ghost use Rattle.std.specs.Prelude.{◌≡◌, ◌+◌, ◌<◌, ◌^◌, Ok, true, false, IfOk, IfErr};
 ghost use Rattle.y4m_header.specs.StreamText.{FrameText};
 ghost use Rattle.y4m_stream.specs.Filtered.{filter_reads_told};
-ghost use Rattle.y4m_stream.specs.Inside.{AreOfSizes, FailsToPass, HasFailedAt, IsWriterFor, PassesAll, PassesFrame, Stops, filter_writes_told};
+ghost use Rattle.filters.specs.ChainImage.{AreCanvases};
+ghost use Rattle.y4m_stream.specs.Inside.{FailsToPass, HasFailedAt, IsWriterFor, PassesAll, PassesFrame};
+ghost use Rattle.y4m_stream.specs.Inside.{Stops, filter_writes_told};
 ghost use Rattle.y4m_stream.specs.Reader.{IsOfHeader, MeetsEnd, frame_text_of};
 ghost use Rattle.y4m_stream.specs.Writer.{most_frames};
 
@@ -27,7 +29,7 @@ fn pass_frame<R: Source + Drop, W: Sink>(
 ) -> Result<bool, FilterFault>
     requires header { IsOfHeader reader.old.header frame.old.geometry }
     requires chain { frame.old.geometry ≡ images.old.chain.geometry }
-    requires sizes { AreOfSizes images.old.chain images.old.canvases.items }
+    requires canvases { AreCanvases images.old.chain images.old.canvases.items }
     requires size { IsWriterFor images.old.chain writer.old }
     requires few { writer.old.frames < most_frames }
     requires writing { writer.old.failed ≡ false }
@@ -35,9 +37,10 @@ fn pass_frame<R: Source + Drop, W: Sink>(
     ensures frame { frame.new.geometry ≡ frame.old.geometry }
     ensures header { reader.new.header ≡ reader.old.header }
     ensures chain { images.new.chain ≡ images.old.chain }
-    ensures sizes { AreOfSizes images.new.chain images.new.canvases.items }
+    ensures canvases { AreCanvases images.new.chain images.new.canvases.items }
     ensures passed { result ≡ Ok true → (image : FrameText)
-        × PassesFrame images.old.chain reader.old reader.new writer.old writer.new (frame_text_of frame.new) image }
+        × PassesFrame images.old.chain reader.old reader.new writer.old writer.new
+        (frame_text_of frame.new) image }
     ensures end { result ≡ Ok false → MeetsEnd reader.old reader.new × (writer.new ≡ writer.old) }
     ensures fault { IfErr result (λ fault.
         FailsToPass images.old.chain fault reader.old reader.new writer.old writer.new) }
@@ -53,7 +56,8 @@ fn pass_frame<R: Source + Drop, W: Sink>(
     Ok(true)
 }
 
-/// Reads frames to the end and writes their images. A frame and its pictures have the same memory for all of them.
+/// Reads frames to the end and writes their images. A frame and its pictures have the same memory for all of
+/// them.
 pub fn pass_frames<R: Source + Drop, W: Sink>(
     alloc: Global,
     reader: &mut StreamReader<R>,
@@ -63,12 +67,13 @@ pub fn pass_frames<R: Source + Drop, W: Sink>(
 ) -> Result<u64, FilterFault>
     requires header { IsOfHeader reader.old.header frame.old.geometry }
     requires chain { frame.old.geometry ≡ images.old.chain.geometry }
-    requires sizes { AreOfSizes images.old.chain images.old.canvases.items }
+    requires canvases { AreCanvases images.old.chain images.old.canvases.items }
     requires size { IsWriterFor images.old.chain writer.old }
     requires none { writer.old.frames ≡ 0 }
     requires writing { writer.old.failed ≡ false }
     requires open { reader.old.phase ≡ Phase.Open }
-    ensures passed { IfOk result (λ n. PassesAll n images.old.chain reader.old reader.new writer.old writer.new) }
+    ensures passed { IfOk result (λ n.
+        PassesAll n images.old.chain reader.old reader.new writer.old writer.new) }
     ensures fault { IfErr result (λ fault.
         Stops images.old.chain fault reader.old reader.new writer.old writer.new) }
     ensures failed { IfErr result (λ fault. HasFailedAt fault writer.new) }

@@ -49,7 +49,8 @@ pub fn put_line<W: Sink>(writer: &mut W, line: &[u8]) -> Result<(), usize>
 pub fn put_frame<W: Sink>(writer: &mut W, line: &[u8], bytes: &[u8]) -> Result<(), usize>
     requires line { length line.now ≤ 1023 }
     requires bytes { length bytes.now < 2 ^ 62 }
-    ensures text { PutsText (W.contents writer.old) (W.contents writer.new) (line.now ++ 10 ∷ bytes.now) result }
+    ensures text { PutsText (W.contents writer.old) (W.contents writer.new)
+        (line.now ++ 10 ∷ bytes.now) result }
     ensures failures { W.failures writer.new ≡ failures_after result (W.failures writer.old) }
 {
     put_line(writer, line)?;

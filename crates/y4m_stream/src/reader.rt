@@ -1,11 +1,13 @@
 // A reader of frames, which fails for good at its first fault.
-ghost use Rattle.std.specs.Prelude.{◌≡◌, ◌≤◌, ◌∷◌, ◌++◌, [], ℕ, List, Option, length, take, IfOk, IfErr, IfSome, OnOk};
+ghost use Rattle.std.specs.Prelude.{◌≡◌, ◌≤◌, ◌∷◌, ◌++◌, [], ℕ, List, Option, length, take, IfOk, IfErr};
+ghost use Rattle.std.specs.Prelude.{IfSome, OnOk};
 ghost use Rattle.std.specs.Io.KnownBytes.{Consumes};
 ghost use Rattle.y4m_header.specs.FrameLine.{IsFrameLine};
 ghost use Rattle.y4m_header.specs.HeaderLine.{IsHeaderLine};
 ghost use Rattle.y4m_stream.specs.Front.{StandsAtHeader};
 ghost use Rattle.y4m_stream.specs.Inside.{BeginsFrame, rest_of};
-ghost use Rattle.y4m_stream.specs.Reader.{Answers, FailsToOpen, IsOfHeader, IsOpened, Opens, answer_into, answer_of, failures_told};
+ghost use Rattle.y4m_stream.specs.Reader.{Answers, FailsToOpen, IsOfHeader, IsOpened, Opens, answer_into};
+ghost use Rattle.y4m_stream.specs.Reader.{answer_of, failures_told};
 
 use crate::device::Source;
 use crate::fault::ReadFault;
@@ -30,8 +32,10 @@ pub enum Phase {
 
 /// Takes the header line and its line feed off the front.
 fn take_header<R: Source>(alloc: Global, input: &mut Lookahead<R>) -> Result<Header, ReadFault>
-    ensures header { IfOk result (λ header. IsHeaderLine header.line header.width header.height header.chroma) }
-    ensures taken { IfOk result (λ header. Consumes (rest_of input.old) (rest_of input.new) (header.line ++ 10 ∷ [])) }
+    ensures header { IfOk result (λ header.
+        IsHeaderLine header.line header.width header.height header.chroma) }
+    ensures taken { IfOk result (λ header.
+        Consumes (rest_of input.old) (rest_of input.new) (header.line ++ 10 ∷ [])) }
     ensures fault { IfErr result (λ fault. StandsAtHeader fault (rest_of input.old) input.new.left) }
     ensures few { OnOk result (length input.new.held ≤ LINE_LIMIT) }
     ensures told { input.new.failures ≡ failures_told result input.old.failures }
@@ -142,7 +146,8 @@ impl<R: Source + Drop> StreamReader<R> {
     /// there was no memory for the frame.
     pub fn next_frame(&mut self, alloc: Global) -> Result<Option<Frame>, ReadFault>
         ensures answer { Answers self.old self.new (answer_of result) }
-        ensures geometry { IfOk result (λ next. IfSome next (λ frame. IsOfHeader self.old.header frame.geometry)) }
+        ensures geometry { IfOk result (λ next. IfSome next (λ frame.
+            IsOfHeader self.old.header frame.geometry)) }
     {
         let Some(end) = begin_frame(&mut self.input, &mut self.phase)? else {
             return Ok(None);

@@ -3,7 +3,8 @@ ghost use Rattle.std.specs.Prelude.{◌≡◌, ◌<◌, ◌^◌, ◌↔◌, [], 
 ghost use Rattle.std.specs.Io.KnownBytes.{Keeps};
 ghost use Rattle.y4m_stream.specs.Failures.{one_more};
 ghost use Rattle.y4m_stream.specs.Reader.{frame_text_of};
-ghost use Rattle.y4m_stream.specs.Writer.{CutsShort, IsOfSize, IsOpenedFor, Puts, most_frames, write_failures_told};
+ghost use Rattle.y4m_stream.specs.Writer.{CutsShort, IsOfSize, IsOpenedFor, Puts, most_frames};
+ghost use Rattle.y4m_stream.specs.Writer.{write_failures_told};
 
 use crate::device::Sink;
 use crate::fault::WriteFault;

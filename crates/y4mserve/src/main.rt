@@ -1,14 +1,13 @@
 // Filters YUV4MPEG2 streams, and runs scripts on accounts, from standard input to standard output.
 #![tactic(auto)]
 
-mod program;
-mod script;
-mod words;
+mod terminals;
 
-use program::main_on;
+use serve_report::run_on;
 use std::alloc::AllocError;
 use std::io::{ErrorKind, Lock, Write};
 use std::process::ExitCode;
+use terminals::Terminals;
 
 /// The words behind the program's name; none where one of them is no text.
 fn own_words(rt: &HostRuntime) -> Result<Vec<String>, AllocError> {
@@ -24,15 +23,16 @@ fn main(rt: HostRuntime) -> ExitCode {
     let mut output = rt.stdout().lock();
     let mut errors = rt.stderr().lock();
     let Ok(words) = own_words(&rt) else {
-        let _ = writeln!(errors, "y4mserve: NoMemory");
+        let _ = errors.write_all(b"y4mserve: NoMemory\n");
         return ExitCode::from(1);
     };
-    let status = main_on(
+    let status = run_on(
         rt.alloc(),
         &words,
         rt.stdin().lock(),
         &mut output,
         &mut errors,
+        &Terminals::new(&rt),
     );
     ExitCode::from(status)
 }

@@ -2,7 +2,8 @@
 
 ghost use Rattle.std.specs.Prelude.{◌≡◌, codes, IfOk};
 ghost use Rattle.frame_view.specs.Frame.{line_of};
-ghost use Rattle.filters.specs.Image.{IsDoable, IsImageGeometry};
+ghost use Rattle.filters.specs.Image.{IsDoable};
+ghost use Rattle.filters.specs.Chain.{IsImageGeometry};
 
 use super::apply_op;
 use crate::op::{Blur, Crop, Op, Table};

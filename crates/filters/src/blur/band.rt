@@ -9,10 +9,12 @@ use super::window::mean_squares;
 
 /// The row whose sums of columns these are. The columns stay; the places beside them are written.
 fn mean_row(columns: &mut [u16], radius: usize, target: &mut [u8])
+    requires reach { 1 ≤ radius }
     requires small { radius ≤ 8 }
     requires some { 0 < length target.old }
     requires sized { length target.old + 2 * radius ≡ length columns.old }
-    requires bytes { (x : ℕ) → x < length target.old → slice_index columns.old (radius + x) ≤ 255 * side radius }
+    requires bytes { (x : ℕ) → x < length target.old →
+        slice_index columns.old (radius + x) ≤ 255 * side radius }
     ensures kept { (x : ℕ) → x < length target.old →
         slice_index columns.new (radius + x) ≡ slice_index columns.old (radius + x) }
     ensures means { (x : ℕ) → x < length target.old →
@@ -33,6 +35,7 @@ fn blur_band(
     columns: &mut [u16],
     target: &mut [u8],
 )
+    requires reach { 1 ≤ radius }
     requires small { radius ≤ 8 }
     requires some { from < to }
     requires rows { to ≤ plane.now.height }
@@ -62,6 +65,7 @@ fn blur_band_in<const ROOM: usize>(
 )
     requires room { plane.now.width + 2 * radius ≤ ROOM }
     requires most { ROOM ≤ 16400 }
+    requires reach { 1 ≤ radius }
     requires small { radius ≤ 8 }
     requires some { from < to }
     requires rows { to ≤ plane.now.height }
@@ -94,6 +98,7 @@ pub fn blur_rows(
     requires some_width { 0 < width }
     requires wide { width ≤ 16384 }
     requires high { height ≤ 16384 }
+    requires reach { 1 ≤ radius }
     requires small { radius ≤ 8 }
     requires rows { to ≤ height }
     requires sized { length target.old ≡ (to - from) * width }

@@ -28,15 +28,6 @@ impl SourcePlane<'_> {
         let from = y * self.width;
         &self.samples[from..from + self.width]
     }
-
-    /// The sample of row `y` and column `x`.
-    pub fn sample(&self, y: usize, x: usize) -> u8
-        requires down { y < self.now.height }
-        requires across { x < self.now.width }
-        ensures { result ≡ pixel_of self.now.samples.now self.now.width y x }
-    {
-        self.samples[y * self.width + x]
-    }
 }
 
 /// The place `at + k - radius`, or where a line of `count` places has none there, the nearest that it has.

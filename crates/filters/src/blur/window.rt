@@ -49,6 +49,7 @@ fn slide_window<const SIDE: usize>(columns: &[u16], target: &mut [u8])
 
 /// The rounded means of the squares of columns that begin at each place, by their radius.
 pub fn mean_squares(columns: &[u16], radius: usize, target: &mut [u8])
+    requires reach { 1 ≤ radius }
     requires small { radius ≤ 8 }
     requires sized { length target.old + 2 * radius ≡ length columns.now }
     requires bytes { (k : ℕ) → k < length columns.now → slice_index columns.now k ≤ 255 * side radius }
@@ -58,7 +59,6 @@ pub fn mean_squares(columns: &[u16], radius: usize, target: &mut [u8])
         / (side radius * side radius) }
 {
     match radius {
-        0 => slide_window::<1>(columns, target),
         1 => slide_window::<3>(columns, target),
         2 => slide_window::<5>(columns, target),
         3 => slide_window::<7>(columns, target),

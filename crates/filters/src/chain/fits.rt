@@ -1,8 +1,9 @@
 // Which operations a picture can take, and what they make of its geometry.
 ghost use Rattle.std.specs.Prelude.{◌≡◌, ◌≤◌, ◌<◌, ◌+◌, ◌%◌, ◌↔◌, IsTrue};
-ghost use Rattle.filters.specs.Image.{IsRectangleOf, IsDoable, IsImageGeometry};
-ghost use Rattle.filters.specs.Chain.{HasGoodRadius, is_crop};
+ghost use Rattle.filters.specs.Image.{HasGoodRadius, IsRectangleOf, IsDoable};
+ghost use Rattle.filters.specs.Chain.{IsImageGeometry, is_crop};
 
+use crate::limits::MOST_RADIUS;
 use crate::op::{Crop, Op};
 use frame_view::Geometry;
 
@@ -11,7 +12,7 @@ pub fn has_good_radius(op: &Op) -> bool
     ensures { IsTrue result ↔ HasGoodRadius op.now }
 {
     match op {
-        Op::Blur(blur) => blur.radius >= 1 && blur.radius <= 8,
+        Op::Blur(blur) => blur.radius >= 1 && blur.radius <= MOST_RADIUS,
         Op::Table(_) | Op::HFlip | Op::VFlip | Op::Crop(_) => true,
     }
 }
@@ -19,7 +20,8 @@ pub fn has_good_radius(op: &Op) -> bool
 /// Whether the pixels from `from` on, this many, are some pixels of a line and cut no chroma sample.
 fn is_part(from: u32, count: u32, line: u32, divisor: u32) -> bool
     requires { 0 < divisor }
-    ensures { IsTrue result ↔ ((1 ≤ count) × (from + count ≤ line) × (from % divisor ≡ 0) × (count % divisor ≡ 0)) }
+    ensures { IsTrue result
+        ↔ ((1 ≤ count) × (from + count ≤ line) × (from % divisor ≡ 0) × (count % divisor ≡ 0)) }
 {
     count >= 1
         && from as u64 + count as u64 <= line as u64

@@ -1,13 +1,14 @@
 // The images of frames by a chain.
-ghost use Rattle.std.specs.Prelude.{◌≡◌, ◌+◌, ℕ, List, ◌-◌, ◌<◌, ◌≤◌, length, IfOk, IfErr, slice_index_or};
+ghost use Rattle.std.specs.Prelude.{◌≡◌, ◌+◌, ◌-◌, ◌<◌, ◌≤◌, ℕ, All, length, slice_index_or};
+ghost use Rattle.std.specs.Prelude.{IfOk, IfErr, IsSomeAnd};
 ghost use Rattle.y4m_header.specs.FrameLine.{IsFrameLine};
 ghost use Rattle.frame_view.specs.Frame.{line_of};
 ghost use Rattle.row_bands.specs.declared.canvas.Canvas.{Canvas};
 ghost use Rattle.row_bands.specs.Canvas.{frame_of};
-ghost use Rattle.filters.specs.Chain.{format_of, format_at, last_format};
-ghost use Rattle.filters.specs.ChainImage.{value_of, IsChainImage, IsCanvasAt, AreCanvases};
 ghost use Rattle.filters.specs.declared.op.Op.{Op};
-ghost use Rattle.filters.specs.ChainImage.{IsOpImage};
+ghost use Rattle.filters.specs.Chain.{format_of, format_at, last_format};
+ghost use Rattle.filters.specs.ChainImage.{AreCanvases, IsCanvasAt, IsChainImage, IsImage, KeepLines};
+ghost use Rattle.filters.specs.ChainImage.{last_canvas, value_of};
 
 use crate::apply::apply_op;
 use crate::chain::Chain;
@@ -16,12 +17,14 @@ use frame_view::Frame;
 use row_bands::Canvas;
 use std::alloc::Global;
 
-/// The image of a frame by operation `i` alone.
+/// The image of a frame by operation `i` alone, with the frame's line.
 fn image_by(chain: &Chain, alloc: Global, i: usize, source: &Frame) -> Result<Frame, FilterError>
     requires op { i < length chain.now.ops }
     requires few { i < 8 }
     requires reaches { format_of source.now.geometry ≡ format_at chain.now i }
-    ensures image { IfOk result (λ image. (d : Op) → IsOpImage (slice_index_or chain.now.ops i d) (value_of source.now) (value_of image)) }
+    ensures image { IfOk result (λ image. (d : Op) →
+        IsImage (slice_index_or chain.now.ops i d) (value_of source.now) (value_of image)) }
+    ensures line { IfOk result (λ image. line_of image ≡ line_of source.now) }
     ensures format { IfOk result (λ image. format_of image.geometry ≡ format_at chain.now (i + 1)) }
     ensures memory { IfErr result (λ e. e ≡ FilterError.NoMemory) }
 {
@@ -35,37 +38,42 @@ fn image_by(chain: &Chain, alloc: Global, i: usize, source: &Frame) -> Result<Fr
     Ok(canvas.into_frame())
 }
 
-/// Makes canvas `i` the image of a frame by operation `i` alone.
+/// Makes canvas `i` the image of a frame by operation `i` alone. Its line stays.
 fn paint_at(chain: &Chain, i: usize, source: &Frame, canvas: &mut Canvas)
     requires op { i < length chain.now.ops }
     requires reaches { format_of source.now.geometry ≡ format_at chain.now i }
-    requires canvas { IsCanvasAt chain.now (line_of source.now) i canvas.old }
-    ensures canvas { IsCanvasAt chain.now (line_of source.now) i canvas.new }
-    ensures image { (d : Op) → IsOpImage (slice_index_or chain.now.ops i d) (value_of source.now) (value_of (frame_of canvas.new)) }
+    requires canvas { IsCanvasAt chain.now i canvas.old }
+    ensures canvas { IsCanvasAt chain.now i canvas.new }
+    ensures line { line_of (frame_of canvas.new) ≡ line_of (frame_of canvas.old) }
+    ensures image { (d : Op) →
+        IsImage (slice_index_or chain.now.ops i d) (value_of source.now) (value_of (frame_of canvas.new)) }
 {
     apply_op(chain.op(i), source, canvas);
 }
 
-/// Makes canvas `i` the image by operation `i` of what the canvas before it holds.
+/// Makes canvas `i` the image by operation `i` of what the canvas before it holds. All lines stay.
 fn paint_next(chain: &Chain, i: usize, canvases: &mut [Canvas])
     requires some { 1 ≤ i }
     requires op { i < length chain.now.ops }
-    requires canvas { i < length canvases.old }
-    requires reaches { (d : Canvas) → format_of (frame_of (slice_index_or canvases.old (i - 1) d)).geometry ≡ format_at chain.now i }
-    requires canvases { (d : Canvas) → AreCanvases chain.now (line_of (frame_of (slice_index_or canvases.old (i - 1) d))) canvases.old }
-    ensures canvases { (d : Canvas) → AreCanvases chain.now (line_of (frame_of (slice_index_or canvases.old (i - 1) d))) canvases.new }
-    ensures image { (o : Op) (d : Canvas) → IsOpImage (slice_index_or chain.now.ops i o)
-        (value_of (frame_of (slice_index_or canvases.old (i - 1) d))) (value_of (frame_of (slice_index_or canvases.new i d))) }
+    requires canvases { AreCanvases chain.now canvases.old }
+    ensures canvases { AreCanvases chain.now canvases.new }
+    ensures lines { KeepLines canvases.old canvases.new }
+    ensures image { (o : Op) (d : Canvas) → IsImage (slice_index_or chain.now.ops i o)
+        (value_of (frame_of (slice_index_or canvases.old (i - 1) d)))
+        (value_of (frame_of (slice_index_or canvases.new i d))) }
 {
     let (done, rest) = canvases.split_at_mut(i);
     paint_at(chain, i, done[i - 1].frame(), &mut rest[0]);
 }
 
 impl Chain {
-    /// A canvas for each operation's output, for frames with this line.
+    /// A canvas for each operation's output, each with this line. `NoMemory` is answered where the memory of
+    /// one of them, or of their list, is refused; those that were made are let go.
     pub fn canvases(&self, alloc: Global, line: &[u8]) -> Result<Vec<Canvas>, FilterError>
         requires { IsFrameLine line.now }
-        ensures ok { IfOk result (λ canvases. AreCanvases self.now line.now canvases.items) }
+        ensures ok { IfOk result (λ canvases. AreCanvases self.now canvases.items) }
+        ensures lines { IfOk result (λ canvases.
+            All (λ canvas. line_of (frame_of canvas) ≡ line.now) canvases.items) }
         ensures memory { IfErr result (λ e. e ≡ FilterError.NoMemory) }
     {
         let count = self.ops().len();
@@ -77,11 +85,14 @@ impl Chain {
         Ok(canvases)
     }
 
-    /// The image of a frame: each operation is done on the image that the one before it made.
+    /// The image of a frame: each operation is done on the image that the one before it made. `NoMemory` is
+    /// answered where the memory of one of these images is refused; the frame stays as it is.
     pub fn apply(&self, alloc: Global, source: &Frame) -> Result<Frame, FilterError>
         requires { source.now.geometry ≡ self.now.geometry }
-        ensures image { IfOk result (λ image. IsChainImage self.now.ops (value_of source.now) (value_of image)) }
-        ensures format { IfOk result (λ image. format_of image.geometry ≡ last_format self.now.ops (format_of self.now.geometry)) }
+        ensures image { IfOk result (λ image.
+            IsChainImage self.now.ops (value_of source.now) (value_of image)) }
+        ensures format { IfOk result (λ image.
+            format_of image.geometry ≡ last_format self.now.ops (format_of self.now.geometry)) }
         ensures memory { IfErr result (λ e. e ≡ FilterError.NoMemory) }
     {
         let count = self.ops().len();
@@ -92,14 +103,18 @@ impl Chain {
         Ok(image)
     }
 
-    /// Writes the canvases so that the last one holds the image of the frame; the others serve the operations before it.
-    /// It takes no memory, and the canvases may be written again for the next frame with this line.
+    /// Writes the canvases so that the last one holds the image of the frame; the others serve the operations
+    /// before it. Every canvas keeps its line. It takes no memory, and the canvases may be written again for
+    /// the next frame with this line.
     pub fn apply_into(&self, source: &Frame, canvases: &mut [Canvas])
         requires geometry { source.now.geometry ≡ self.now.geometry }
-        requires canvases { AreCanvases self.now (line_of source.now) canvases.old }
-        ensures canvases { AreCanvases self.now (line_of source.now) canvases.new }
-        ensures image { (d : Canvas) → IsChainImage self.now.ops (value_of source.now)
-            (value_of (frame_of (slice_index_or canvases.new (length self.now.ops - 1) d))) }
+        requires canvases { AreCanvases self.now canvases.old }
+        requires line { IsSomeAnd (last_canvas canvases.old)
+            (λ canvas. line_of (frame_of canvas) ≡ line_of source.now) }
+        ensures canvases { AreCanvases self.now canvases.new }
+        ensures lines { KeepLines canvases.old canvases.new }
+        ensures image { IsSomeAnd (last_canvas canvases.new)
+            (λ canvas. IsChainImage self.now.ops (value_of source.now) (value_of (frame_of canvas))) }
     {
         let count = self.ops().len();
         paint_at(self, 0, source, &mut canvases[0]);

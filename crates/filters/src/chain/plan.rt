@@ -22,19 +22,21 @@ pub struct Totals {
 pub fn totals_of(ops: &[Op], geometry: Geometry, band_height: BandHeight) -> Option<Totals>
     requires { length ops.now ≤ 8 }
     ensures doable { IsSome result ↔ AreDoable ops.now geometry }
-    ensures steps { IfSome result (λ totals. totals.steps ≡ step_count ops.now geometry.height band_height.rows) }
-    ensures cost { IfSome result (λ totals. totals.cost ≡ sum (costs_by ops.now geometry.height band_height.rows)) }
+    ensures steps { IfSome result (λ totals.
+        totals.steps ≡ step_count ops.now geometry.height band_height.rows) }
+    ensures cost { IfSome result (λ totals.
+        totals.cost ≡ sum (costs_by ops.now geometry.height band_height.rows)) }
     ensures some { IfSome result (λ totals. length ops.now ≤ totals.steps) }
 {
-    let mut picture = geometry;
+    let mut reached = geometry;
     let mut steps = 0;
     let mut cost = 0;
     for op in ops {
-        if !is_doable(*op, picture) {
+        if !is_doable(*op, reached) {
             return None;
         }
-        picture = output_of(*op, picture);
-        let bands = BandPlan::new(picture, band_height).count() as u32;
+        reached = output_of(*op, reached);
+        let bands = BandPlan::new(reached, band_height).count() as u32;
         steps += bands;
         cost += bands * op.cost();
     }
@@ -51,10 +53,10 @@ pub fn outputs_of(
     ensures { IfOk result (λ outputs. AreOutputs ops.now geometry outputs.items) }
 {
     let mut outputs = Vec::with_capacity(alloc, ops.len())?;
-    let mut picture = geometry;
+    let mut reached = geometry;
     for op in ops {
-        picture = output_of(*op, picture);
-        outputs.push(picture)?;
+        reached = output_of(*op, reached);
+        outputs.push(reached)?;
     }
     Ok(outputs)
 }

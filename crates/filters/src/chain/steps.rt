@@ -50,7 +50,7 @@ impl Chain {
         op_of_step(&self.outputs, self.band_height, k)
     }
 
-    /// What step `k` costs, in units: a band of a blur of radius r costs 1 + r, a band of any other operation 1.
+    /// What step `k` costs, in units: a band of a blur of radius r costs 1 + r, any other band 1.
     pub fn cost_of_step(&self, k: u32) -> u32
         requires { k < steps_of self.now }
         ensures value { slice_get (step_costs self.now) k ≡ Some result }

@@ -62,13 +62,13 @@ fn a_band_of_a_blur_costs_its_radius_more(rt: HostRuntime) -> Result<(), Fail> {
 
 #[test]
 fn a_step_costs_what_its_operation_does(rt: HostRuntime) -> Result<(), Fail> {
-    let picture = Geometry {
+    let geometry = Geometry {
         width: 4,
         height: 10,
         chroma: Chroma::Mono,
     };
     let ops = [blur(2), crop(0, 0, 2, 3), blur(1), Op::HFlip];
-    let chain = chain_of(rt.alloc(), &ops, picture)?;
+    let chain = chain_of(rt.alloc(), &ops, geometry)?;
     assert_eq!(rt; (chain.steps(), chain.cost()), (11, 23));
     let wanted = [
         (5, 3),
@@ -122,13 +122,13 @@ fn a_crop_cuts_no_chroma_sample(rt: HostRuntime) -> Result<(), Fail> {
 
 #[test]
 fn a_crop_reaches_the_edge_and_no_further(rt: HostRuntime) -> Result<(), Fail> {
-    let picture = Geometry {
+    let geometry = Geometry {
         width: 3,
         height: 5,
         chroma: Chroma::S444Alpha,
     };
     for op in [crop(2, 4, 1, 1), crop(0, 0, 3, 5), crop(1, 3, 2, 2)] {
-        chain_of(rt.alloc(), &[op], picture)?;
+        chain_of(rt.alloc(), &[op], geometry)?;
     }
     let most = u32::MAX;
     for op in [
@@ -142,7 +142,7 @@ fn a_crop_reaches_the_edge_and_no_further(rt: HostRuntime) -> Result<(), Fail> {
         crop(0, 0, 0, 1),
         crop(0, 0, 1, 0),
     ] {
-        let refused = chain_of(rt.alloc(), &[op], picture);
+        let refused = chain_of(rt.alloc(), &[op], geometry);
         assert_eq!(rt; refused.err(), Some(FilterError::BadCrop));
     }
     Ok(())
@@ -195,16 +195,16 @@ fn the_first_fault_is_the_one_that_is_told(rt: HostRuntime) -> Result<(), Fail> 
 
 #[test]
 fn steps_go_by_the_height_of_each_output(rt: HostRuntime) -> Result<(), Fail> {
-    let picture = Geometry {
+    let geometry = Geometry {
         width: 4,
         height: 10,
         chroma: Chroma::Mono,
     };
     let ops = [Op::Table(Table::Invert), crop(0, 0, 2, 3), Op::VFlip];
-    let chain = chain_of(rt.alloc(), &ops, picture)?;
+    let chain = chain_of(rt.alloc(), &ops, geometry)?;
     assert_eq!(rt; chain.steps(), 9);
     assert_eq!(rt; chain.ops(), ops.as_slice());
-    assert_eq!(rt; chain.geometry(), picture);
+    assert_eq!(rt; chain.geometry(), geometry);
     assert_eq!(rt; chain.band_height().rows(), 2);
     assert!(rt; chain.has_crop());
     let out = chain.out_geometry();
@@ -247,15 +247,15 @@ fn shows(
     rt: &impl Abort,
     alloc: Global,
     ops: &[Op],
-    picture: Geometry,
+    geometry: Geometry,
     samples: &[u8],
     image: &[u8],
 ) -> Result<(), Fail> {
     let line = b"FRAME Ip".as_slice();
     assert!(rt; check_frame_line(line).is_ok());
-    let source = Frame::new(picture, line.to_vec(alloc)?, samples.to_vec(alloc)?)?;
+    let source = Frame::new(geometry, line.to_vec(alloc)?, samples.to_vec(alloc)?)?;
     let height = BandHeight::new(2).ok_or("no height")?;
-    let chain = Chain::new(alloc, ops.to_vec(alloc)?, picture, height)?;
+    let chain = Chain::new(alloc, ops.to_vec(alloc)?, geometry, height)?;
     let made = chain.apply(alloc, &source)?;
     assert_eq!(rt; made.data(), image);
     assert_eq!(rt; made.line(), line);
@@ -284,7 +284,7 @@ fn a_crop_takes_its_samples_of_every_plane(rt: HostRuntime) -> Result<(), Fail> 
 
 #[test]
 fn operations_are_done_in_order(rt: HostRuntime) -> Result<(), Fail> {
-    let picture = Geometry {
+    let geometry = Geometry {
         width: 2,
         height: 2,
         chroma: Chroma::S420,
@@ -295,7 +295,7 @@ fn operations_are_done_in_order(rt: HostRuntime) -> Result<(), Fail> {
         &rt,
         rt.alloc(),
         &ops,
-        picture,
+        geometry,
         &[1, 2, 3, 4, 0x50, 0x60],
         &image,
     )?;

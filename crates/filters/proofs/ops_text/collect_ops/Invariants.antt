@@ -1,7 +1,7 @@
 use Rattle.std.proofs.Common.{◌≡◌, ◌+◌, ◌++◌, length}
 use Rattle.std.specs.Option.{option_copied, option_map_or, option_map}
 use Rattle.filters.specs.OpsText.{ops_of}
-use Rattle.filters.specs.Scan.{ops_left}
+use Rattle.filters.proofs.OpsLeft.{ops_left}
 use Rattle.filters.proofs.ops_text.collect_ops.Given as goal
 
 abbrev pub invariant-loop-rest : goal.invariant-loop-rest

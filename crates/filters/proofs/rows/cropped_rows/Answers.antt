@@ -10,6 +10,7 @@ use Rattle.filters.specs.Image.{image_pixel}
 use Rattle.frame_view.proofs.Places.{few_rows}
 use Rattle.filters.proofs.ReadRows.{row-sample, part-sample}
 use Rattle.filters.proofs.BlurRows.{row_written}
+use Rattle.filters.proofs.Cropped.{columns_within, rows_within}
 use Rattle.filters.proofs.rows.cropped_rows.Goals as goal
 
 pub loop-v-preserved : goal.loop-v-preserved
@@ -21,25 +22,60 @@ loop-v-preserved c =
     let y = c.args.from + c.loop-v.v in
     let row = c.row-row.result.now in
     let written = c.copy_from_slice.new.self in
-    let fits : c.loop-v.v * w + w ≤ length c.loop-v.rows = omega (arith, row_fits c.loop-v.v w (c.args.to - c.args.from) w (omega arith) (omega arith)) in
+    let within = columns_within c.args.crop g c.args.target p c.requires.rectangle c.requires.image in
+    let fits : c.loop-v.v * w + w ≤ length c.loop-v.rows =
+    omega (arith, row_fits c.loop-v.v w (c.args.to - c.args.from) w (omega arith) (omega arith)) in
     let wide : length written ≡ w = omega (arith, length-take {A = ℕ}, length-drop {A = ℕ}) in
-    row_written (λ v x. image_pixel (Crop c.args.crop) g samples p (c.args.from + v) x) w c.loop-v.v c.loop-v.rows written _
+    row_written (λ v x. image_pixel (Crop c.args.crop) g samples p (c.args.from + v) x) w c.loop-v.v
+    c.loop-v.rows written _
     wide (omega arith) c.loop-v.invariant
     (λ x h.
-    let across = c.offsets-across.ensures.across ∙ ap (λ z. offset p c.args.crop.x (horizontal_divisor z.chroma)) c.geometry.ensures in
-    let down = c.offsets-across.ensures.down ∙ ap (λ z. offset p c.args.crop.y (vertical_divisor z.chroma)) c.geometry.ensures in
+    let across =
+    c.offsets-across.ensures.across
+    ∙ ap (λ z. offset p c.args.crop.x (horizontal_divisor z.chroma)) c.geometry.ensures in
+    let down =
+    c.offsets-across.ensures.down
+    ∙ ap (λ z. offset p c.args.crop.y (vertical_divisor z.chroma)) c.geometry.ensures in
     ap (λ s. slice_index s x) c.copy_from_slice.ensures.after
     ∙ part-sample row c.offsets-across.result.0 w x h
     ∙ ap (λ s. slice_index s (c.offsets-across.result.0 + x)) c.row-row.ensures.value
     ∙ row-sample g samples p (y + c.offsets-across.result.1) (c.offsets-across.result.0 + x) (omega arith)
     ∙ ap (λ n. sample g samples p (y + n) (c.offsets-across.result.0 + x)) down
-    ∙ ap (sample g samples p (y + offset p c.args.crop.y (vertical_divisor g.chroma))) (let e : c.offsets-across.result.0 + x ≡ x + offset p c.args.crop.x (horizontal_divisor g.chroma) = omega arith in e))
+    ∙ ap (sample g samples p (y + offset p c.args.crop.y (vertical_divisor g.chroma)))
+    (let e : c.offsets-across.result.0 + x
+    ≡ x + offset p c.args.crop.x (horizontal_divisor g.chroma) = omega arith in e))
 
 pub overflow_add-from-in-loop-v : goal.overflow_add-from-in-loop-v
 overflow_add-from-in-loop-v c =
     let g = c.args.source.now.geometry in
-    let down = c.offsets-across.ensures.down ∙ ap (λ z. offset c.args.p c.args.crop.y (vertical_divisor z.chroma)) c.geometry.ensures in
-    omega (arith, few_rows g c.args.p)
+    let down =
+    c.offsets-across.ensures.down
+    ∙ ap (λ z. offset c.args.p c.args.crop.y (vertical_divisor z.chroma)) c.geometry.ensures in
+    let within = rows_within c.args.crop g c.args.target c.args.p c.requires.rectangle c.requires.image in
+    omega (arith, few_rows g c.args.p, within)
+
+pub row-row-requires-clause-row : goal.row-row-requires-clause-row
+row-row-requires-clause-row c =
+    let g = c.args.source.now.geometry in
+    let down =
+    c.offsets-across.ensures.down
+    ∙ ap (λ z. offset c.args.p c.args.crop.y (vertical_divisor z.chroma)) c.geometry.ensures in
+    let within = rows_within c.args.crop g c.args.target c.args.p c.requires.rectangle c.requires.image in
+    omega (arith, within)
+
+pub slice_bounds-copy_from_slice-end-in-loop-v : goal.slice_bounds-copy_from_slice-end-in-loop-v
+slice_bounds-copy_from_slice-end-in-loop-v c =
+    let g = c.args.source.now.geometry in
+    let across =
+    c.offsets-across.ensures.across
+    ∙ ap (λ z. offset c.args.p c.args.crop.x (horizontal_divisor z.chroma)) c.geometry.ensures in
+    let within = columns_within c.args.crop g c.args.target c.args.p c.requires.rectangle c.requires.image in
+    omega (arith, within, across)
 
 pub slice_bounds-copy_from_slice-end : goal.slice_bounds-copy_from_slice-end
-slice_bounds-copy_from_slice-end c = omega (arith, row_fits c.loop-v.v c.args.columns (c.args.to - c.args.from) c.args.columns (omega arith) (omega arith))
+slice_bounds-copy_from_slice-end c =
+    omega (
+      arith,
+      row_fits c.loop-v.v c.args.columns (c.args.to - c.args.from) c.args.columns (omega arith)
+          (omega arith),
+    )

@@ -18,9 +18,11 @@ loop-v-preserved c =
     let y = c.args.from + c.loop-v.v in
     let row = c.row.result.now in
     let written = c.mirror_row.new.target in
-    let fits : c.loop-v.v * w + w ≤ length c.loop-v.rows = omega (arith, row_fits c.loop-v.v w (c.args.to - c.args.from) w (omega arith) (omega arith)) in
+    let fits : c.loop-v.v * w + w ≤ length c.loop-v.rows =
+    omega (arith, row_fits c.loop-v.v w (c.args.to - c.args.from) w (omega arith) (omega arith)) in
     let wide : length written ≡ w = omega (arith, length-take {A = ℕ}, length-drop {A = ℕ}) in
-    row_written (λ v x. image_pixel HFlip g samples p (c.args.from + v) x) w c.loop-v.v c.loop-v.rows written _
+    row_written (λ v x. image_pixel HFlip g samples p (c.args.from + v) x) w c.loop-v.v c.loop-v.rows written
+    _
     wide (omega arith) c.loop-v.invariant
     (λ x h. c.mirror_row.ensures x (omega arith)
     ∙ ap (λ n. slice_index row (n - 1 - x)) (c.row.ensures.len ∙ sym c.requires.width)

@@ -19,10 +19,13 @@ loop-v-preserved c =
     let y = c.args.from + c.loop-v.v in
     let row = c.row.result.now in
     let written = c.copy_from_slice.new.self in
-    let fits : c.loop-v.v * w + w ≤ length c.loop-v.rows = omega (arith, row_fits c.loop-v.v w (c.args.to - c.args.from) w (omega arith) (omega arith)) in
+    let fits : c.loop-v.v * w + w ≤ length c.loop-v.rows =
+    omega (arith, row_fits c.loop-v.v w (c.args.to - c.args.from) w (omega arith) (omega arith)) in
     let wide : length written ≡ w = omega (arith, length-take {A = ℕ}, length-drop {A = ℕ}) in
-    row_written (λ v x. image_pixel VFlip g samples p (c.args.from + v) x) w c.loop-v.v c.loop-v.rows written _
+    row_written (λ v x. image_pixel VFlip g samples p (c.args.from + v) x) w c.loop-v.v c.loop-v.rows written
+    _
     wide (omega arith) c.loop-v.invariant
     (λ x h. ap (λ s. slice_index s x) (c.copy_from_slice.ensures.after ∙ c.row.ensures.value)
     ∙ row-sample g samples p _ x (omega arith)
-    ∙ ap (λ n. sample g samples p (n - 1 - y) x) (c.plane_size-last.ensures.rows ∙ ap (λ z. plane_height z p) c.geometry.ensures))
+    ∙ ap (λ n. sample g samples p (n - 1 - y) x)
+    (c.plane_size-last.ensures.rows ∙ ap (λ z. plane_height z p) c.geometry.ensures))

@@ -1,18 +1,15 @@
-use Rattle.std.proofs.Common.{◌∙◌, ◌≤◌}
-use Rattle.row_bands.proofs.Bands.{inside}
-use Rattle.row_bands.specs.Canvas.{band_geometry}
-use Rattle.row_bands.proofs.Written.{one_more_plane}
+use Rattle.std.proofs.Common.{rules, refl}
+use Rattle.row_bands.specs.Canvas.{band_frame}
+use Rattle.row_bands.proofs.Filled.{both_parts}
 use Rattle.row_bands.proofs.halves.paint_halves.Goals as goal
 
-pub loop-p-preserved : goal.loop-p-preserved
-loop-p-preserved g c =
-    let band = c.loop-p.band in
-    let old = c.args.band.now in
-    let low : old.to ≤ (band_geometry band).height = rw c.loop-p.invariant.to at band.inside in
+pub returns-clause-painted : goal.returns-clause-painted
+returns-clause-painted g c =
+    let band = c.args.band.now in
     record {
-      same = c.paint_plane_halves.ensures.same_reference ∙ c.loop-p.invariant.same;
-      from = c.paint_plane_halves.ensures.from ∙ c.loop-p.invariant.from;
-      to = c.paint_plane_halves.ensures.to ∙ c.loop-p.invariant.to;
-      height = c.paint_plane_halves.ensures.height ∙ c.loop-p.invariant.height;
-      rows = one_more_plane _ _ _ _ _ _ _ (λ q. inside (band_geometry band) q old.to low) c.loop-p.invariant.rows (rw (← c.loop-p.invariant.from, ← c.loop-p.invariant.to) c.paint_plane_halves.ensures.rows);
+      from = refl;
+      to = refl;
+      height = refl;
+      band = both_parts (g.P.Painter.picture c.args.painter.now) (g.P.Painter.paint_gives c.args.painter.now) band.from c.args.row band.to (band_frame band)
+          c.paint_parts.new.samples c.requires.from c.requires.to band.inside (search rules) (search rules);
     }

@@ -1,5 +1,5 @@
 use Rattle.std.proofs.Common.{◌≡◌}
-use Rattle.row_bands.specs.Written.{HasBand}
+use Rattle.row_bands.proofs.Written.{HasPlanes}
 use Rattle.row_bands.specs.Canvas.{band_frame, height_of}
 use Rattle.row_bands.proofs.painter.paint_band.Given as goal
 
@@ -9,5 +9,5 @@ invariant-loop-p g l = record {
   from : l.band.from ≡ l.fn.band.from;
   to : l.band.to ≡ l.fn.band.to;
   height : height_of l.band.canvas.now ≡ height_of l.fn.band.canvas.now;
-  rows : HasBand (g.P.Painter.picture l.painter) l.fn.band.from l.fn.band.to l.p (band_frame l.fn.band) (band_frame l.band);
+  rows : HasPlanes (g.P.Painter.picture l.painter) l.fn.band.from l.fn.band.to l.p (band_frame l.fn.band) (band_frame l.band);
 }

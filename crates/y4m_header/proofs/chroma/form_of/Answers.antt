@@ -1,7 +1,8 @@
 use Rattle.std.proofs.Common.{◌≡◌, refl, codes, false, nat_eq}
 use Rattle.std.specs.Cmp.Lexicographic.{pointwise, same_text}
 use Rattle.y4m_header.proofs.ChromaTable.{names_form}
-use Rattle.y4m_header.proofs.chroma.form_of.Goals.{then-eq, else-eq, then-eq-2, else-eq-2, then-eq-3, else-eq-3}
+use Rattle.y4m_header.proofs.chroma.form_of.Goals.{then-eq, else-eq, then-eq-2, else-eq-2}
+use Rattle.y4m_header.proofs.chroma.form_of.Goals.{then-eq-3, else-eq-3}
 use Rattle.y4m_header.proofs.chroma.form_of.Goals as goal
 
 pub returns-then-eq-4 : goal.returns-then-eq-4

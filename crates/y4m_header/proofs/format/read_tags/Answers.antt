@@ -1,18 +1,25 @@
+use Rattle.y4m_header.proofs.Refusals.{good_sizes, has_sizes}
 use Rattle.y4m_header.proofs.format.read_tags.Goals as goal
 
 pub returns-in_default-clause-refused : goal.returns-in_default-clause-refused
 returns-in_default-clause-refused c =
+    let line = c.args.line.now in
     let stated = c.in_ok-width.ensures.stated in
-    (stated.0, stated.1, stated.2, stated.3, λ chroma names. c.in_default.not-Some chroma ((c.named.ensures chroma).1 (rw c.tags_with.ensures.first names)))
+    let good = good_sizes line c.in_ok-width.width c.in_ok-width.height stated.2 stated.3 in
+    let some = has_sizes line c.in_ok-width.width c.in_ok-width.height stated.2 stated.3 in
+    let names = rw c.tags_with.ensures.first at c.named.ensures in
+    (stated.0, good, stated.1, some, λ chroma named. c.in_default.not-Some chroma ((names chroma).1 named))
 
 pub returns-clause-stated : goal.returns-clause-stated
 returns-clause-stated c =
     let stated = c.in_ok-width.ensures.stated in
+    let names = rw c.tags_with.ensures.first at c.named.ensures in
     record {
       is_y4m = stated.0;
-      good_sizes = stated.1;
-      no_repeat = stated.2;
-      has_sizes = stated.3;
-      size = stated.4;
-      form = rw c.tags_with.ensures.first at ((c.named.ensures c.in-Some.chroma).0 c.in-Some.is);
+      width = stated.2;
+      height = stated.3;
+      form = record {
+        one = stated.1.one_chroma;
+        named = (names c.in-Some.chroma).0 c.in-Some.is;
+      };
     }

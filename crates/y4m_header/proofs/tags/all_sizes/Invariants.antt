@@ -1,13 +1,15 @@
 use Rattle.std.proofs.Common.{◌+◌, length}
 use Rattle.std.specs.Option.{option_copied, option_map_or}
 use Rattle.std.specs.List.{filter_map}
-use Rattle.y4m_header.specs.Line.{values, value_of, pieces_left}
+use Rattle.y4m_header.specs.Line.{space, values, tag_value}
+use Rattle.y4m_header.specs.Text.{parts_left}
 use Rattle.y4m_header.proofs.TagLists.{KeepsSizes}
 use Rattle.y4m_header.proofs.tags.all_sizes.Given as goal
 
 abbrev pub invariant-loop-rest : goal.invariant-loop-rest
 invariant-loop-rest l =
-    KeepsSizes (values l.letter l.line) (filter_map (value_of l.letter) (pieces_left (option_copied l.rest)))
+    let left = filter_map (tag_value l.letter) (parts_left space (option_copied l.rest)) in
+    KeepsSizes (values l.letter l.line) left
 
 abbrev pub decreases-loop-rest : goal.decreases-loop-rest
 decreases-loop-rest l = option_map_or (λ rest. length rest.now + 1) l.rest 0

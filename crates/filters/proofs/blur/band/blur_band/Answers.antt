@@ -1,4 +1,5 @@
-use Rattle.std.proofs.Common.{◌≡◌, ◌+◌, ◌-◌, ◌*◌, ◌/◌, ◌≤◌, ◌<◌, ℕ, length, slice_index, arith, ap, ◌∙◌, take, drop}
+use Rattle.std.proofs.Common.{◌≡◌, ◌+◌, ◌-◌, ◌*◌, ◌/◌, ◌≤◌, ◌<◌, ℕ, length, slice_index, arith, ap, ◌∙◌, take}
+use Rattle.std.proofs.Common.{drop}
 use Rattle.std.proofs.lemmas.List.{length-take, length-drop}
 use Rattle.std.proofs.lemmas.Nat.{row_fits}
 use Rattle.filters.specs.Blur.{sum_below, clamped, side, column_sum, blurred, pixel_of}
@@ -12,7 +13,10 @@ mean_row-requires-clause-bytes c x h =
     let within : x < plane.width = omega (arith, length-take {A = ℕ}) in
     let y = c.args.from + c.loop-v.v in
     let at = c.loop-v.invariant.0 x within in
-    let most = sum_below_most (λ i. pixel_of plane.samples.now plane.width (clamped plane.height c.args.radius y i) x) 255 (side c.args.radius) (λ k p. plane.bytes (clamped plane.height c.args.radius y k * plane.width + x)) in
+    let most =
+    sum_below_most (λ i. pixel_of plane.samples.now plane.width (clamped plane.height c.args.radius y i) x)
+    255 (side c.args.radius)
+    (λ k p. plane.bytes (clamped plane.height c.args.radius y k * plane.width + x)) in
     omega arith
 
 pub loop-v-preserved : goal.loop-v-preserved
@@ -30,7 +34,8 @@ loop-v-preserved c =
     let wide : length (take (v * width + width - v * width) (drop (v * width) c.loop-v.target)) ≡ width =
     omega (arith, length-take {A = ℕ}, length-drop {A = ℕ}) in (
       λ x h. c.next_columns.ensures x h ∙ ap (λ y. column_sum pixel plane.height r y x) (omega arith),
-      row_written (λ v x. blurred pixel width plane.height r (c.args.from + v) x) width v c.loop-v.target c.mean_row.new.target _
+      row_written (λ v x. blurred pixel width plane.height r (c.args.from + v) x) width v c.loop-v.target
+          c.mean_row.new.target _
           (omega arith) (omega arith) c.loop-v.invariant.1
           (λ x h.
           c.mean_row.ensures.means x (omega arith)

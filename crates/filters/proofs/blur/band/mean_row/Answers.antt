@@ -9,7 +9,9 @@ returns-clause-means c x h =
     let columns = c.args.columns.now in
     let width = length c.args.target.now in
     let n = side r * side r in
-    let terms = sum_below_same (λ j. slice_index c.repeat_ends.new.columns (x + j)) (λ j. slice_index columns (r + clamped width r x j)) (side r)
+    let terms =
+    sum_below_same (λ j. slice_index c.repeat_ends.new.columns (x + j))
+    (λ j. slice_index columns (r + clamped width r x j)) (side r)
     (λ j p.
     let place : clamped (length columns - 2 * r) r 0 (x + j) ≡ clamped width r x j = omega arith in
     c.repeat_ends.ensures (x + j) (omega arith) ∙ ap (λ k. slice_index columns (r + k)) place) in

@@ -3,5 +3,6 @@ use Rattle.filters.proofs.blur.columns.add_row.Given as goal
 
 abbrev pub invariant-loop-x : goal.invariant-loop-x
 invariant-loop-x l =
-    ((k : ℕ) → k < l.x → slice_index l.columns (l.radius + k) ≡ slice_index l.fn.columns (l.radius + k) + slice_index l.row k)
+    ((k : ℕ) → k < l.x
+    → slice_index l.columns (l.radius + k) ≡ slice_index l.fn.columns (l.radius + k) + slice_index l.row k)
     × ((k : ℕ) → l.x ≤ k → slice_index l.columns (l.radius + k) ≡ slice_index l.fn.columns (l.radius + k))

@@ -10,7 +10,10 @@ loop-i-preserved c =
           let added = c.add_row.ensures x (omega arith) in
           let so_far = c.loop-i.invariant.0 x h in
           let read = rw (c.clamped_place.ensures.place) at (c.row.ensures.samples x h) in
-          let more = sum_below_more (λ i. pixel_of plane.samples.now plane.width (clamped plane.height c.args.radius c.args.y i) x) c.loop-i.i in
+          let more =
+          sum_below_more
+          (λ i. pixel_of plane.samples.now plane.width (clamped plane.height c.args.radius c.args.y i) x)
+          c.loop-i.i in
           omega arith),
       (λ x h.
           let added = c.add_row.ensures x (omega arith) in

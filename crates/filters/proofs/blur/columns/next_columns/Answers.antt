@@ -7,7 +7,11 @@ pub move_row-requires-clause-room : goal.move_row-requires-clause-room
 move_row-requires-clause-room c x h =
     let plane = c.args.plane.now in
     let at = c.requires.at x (omega arith) in
-    let most = sum_below_most (λ i. pixel_of plane.samples.now plane.width (clamped plane.height c.args.radius c.args.y i) x) 255 (side c.args.radius) (λ k p. plane.bytes (clamped plane.height c.args.radius c.args.y k * plane.width + x)) in
+    let most =
+    sum_below_most
+    (λ i. pixel_of plane.samples.now plane.width (clamped plane.height c.args.radius c.args.y i) x) 255
+    (side c.args.radius)
+    (λ k p. plane.bytes (clamped plane.height c.args.radius c.args.y k * plane.width + x)) in
     omega arith
 
 pub move_row-requires-clause-kept : goal.move_row-requires-clause-kept
@@ -15,7 +19,10 @@ move_row-requires-clause-kept c x h =
     let plane = c.args.plane.now in
     let at = c.requires.at x (omega arith) in
     let read = rw (c.clamped_place-2.ensures.place) at (c.row-leaving.ensures.samples x (omega arith)) in
-    let within = term_within (λ i. pixel_of plane.samples.now plane.width (clamped plane.height c.args.radius c.args.y i) x) (side c.args.radius) 0 (omega arith) in
+    let within =
+    term_within
+    (λ i. pixel_of plane.samples.now plane.width (clamped plane.height c.args.radius c.args.y i) x)
+    (side c.args.radius) 0 (omega arith) in
     omega arith
 
 pub returns : goal.returns
@@ -25,5 +32,7 @@ returns c x h =
     let moved = c.move_row.ensures x (omega arith) in
     let leaves = rw (c.clamped_place-2.ensures.place) at (c.row-leaving.ensures.samples x h) in
     let enters = rw (c.clamped_place.ensures.place) at (c.row-entering.ensures.samples x h) in
-    let slides = sum_slides (λ v. pixel_of plane.samples.now plane.width v x) plane.height c.args.radius c.args.y (side c.args.radius) in
+    let slides =
+    sum_slides (λ v. pixel_of plane.samples.now plane.width v x) plane.height c.args.radius c.args.y
+    (side c.args.radius) in
     omega arith

@@ -7,7 +7,8 @@ pub overflow_add-sum-in-loop-x : goal.overflow_add-sum-in-loop-x
 overflow_add-sum-in-loop-x g c =
     let x = c.loop-x.x in
     let enters = window_enters (λ k. slice_index c.args.columns.now k) x g.row.SIDE c.requires.some in
-    let fits = square_fits (λ j. slice_index c.args.columns.now (x + j)) g.row.SIDE c.requires.some c.requires.few
+    let fits =
+    square_fits (λ j. slice_index c.args.columns.now (x + j)) g.row.SIDE c.requires.some c.requires.few
     (λ j h. c.requires.bytes (x + j) (omega arith)) in
     omega arith
 
@@ -15,14 +16,17 @@ pub quotient-requires-clause-fits : goal.quotient-requires-clause-fits
 quotient-requires-clause-fits g c =
     let x = c.loop-x.x in
     let enters = window_enters (λ k. slice_index c.args.columns.now k) x g.row.SIDE c.requires.some in
-    let fits = square_fits (λ j. slice_index c.args.columns.now (x + j)) g.row.SIDE c.requires.some c.requires.few
+    let fits =
+    square_fits (λ j. slice_index c.args.columns.now (x + j)) g.row.SIDE c.requires.some c.requires.few
     (λ j h. c.requires.bytes (x + j) (omega arith)) in
     omega arith
 
 pub overflow_sub-sum-in-loop-x : goal.overflow_sub-sum-in-loop-x
 overflow_sub-sum-in-loop-x g c =
-    let enters = window_enters (λ k. slice_index c.args.columns.now k) c.loop-x.x g.row.SIDE c.requires.some in
-    let leaves = window_leaves (λ k. slice_index c.args.columns.now k) c.loop-x.x g.row.SIDE c.requires.some in
+    let enters =
+    window_enters (λ k. slice_index c.args.columns.now k) c.loop-x.x g.row.SIDE c.requires.some in
+    let leaves =
+    window_leaves (λ k. slice_index c.args.columns.now k) c.loop-x.x g.row.SIDE c.requires.some in
     omega arith
 
 pub loop-x-preserved : goal.loop-x-preserved

@@ -6,4 +6,5 @@ abbrev pub invariant-loop-x : goal.invariant-loop-x
 invariant-loop-x g l =
     (l.sum ≡ g.row.SIDE * g.row.SIDE / 2 + sum_below (λ j. slice_index l.columns (l.x + j)) (g.row.SIDE - 1))
     × ((k : ℕ) → k < l.x → slice_index l.target k
-    ≡ (sum_below (λ j. slice_index l.columns (k + j)) g.row.SIDE + g.row.SIDE * g.row.SIDE / 2) / (g.row.SIDE * g.row.SIDE))
+    ≡ (sum_below (λ j. slice_index l.columns (k + j)) g.row.SIDE + g.row.SIDE * g.row.SIDE / 2) /
+    (g.row.SIDE * g.row.SIDE))

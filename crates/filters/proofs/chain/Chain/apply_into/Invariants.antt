@@ -1,12 +1,14 @@
 use Rattle.std.proofs.Common.{◌-◌, take, get_or}
 use Rattle.row_bands.specs.declared.canvas.Canvas.{Canvas}
 use Rattle.row_bands.specs.Canvas.{frame_of}
-use Rattle.frame_view.specs.Frame.{line_of}
-use Rattle.filters.specs.ChainImage.{value_of, IsChainImage, AreCanvases}
+use Rattle.filters.specs.ChainImage.{AreCanvases, IsImageByAll, KeepLines, value_of}
 use Rattle.filters.proofs.chain.Chain.apply_into.Given as goal
 
 abbrev pub invariant-loop-i : goal.invariant-loop-i
 invariant-loop-i l = record {
-  canvases : AreCanvases l.self (line_of l.source) l.canvases;
-  image : (d : Canvas) → IsChainImage (take l.i l.self.ops) (value_of l.source) (value_of (frame_of (get_or l.canvases (l.i - 1) d)));
+  canvases : AreCanvases l.self l.canvases;
+  lines : KeepLines l.fn.canvases l.canvases;
+  by_all : (d : Canvas)
+      → IsImageByAll (take l.i l.self.ops) (value_of l.source)
+      (value_of (frame_of (get_or l.canvases (l.i - 1) d)));
 }

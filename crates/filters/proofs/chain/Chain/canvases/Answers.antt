@@ -1,4 +1,7 @@
-use Rattle.std.proofs.Common.{arith, ap, ◌∙◌, length-append}
+use Rattle.std.proofs.Common.{◌≡◌, arith, ap, ◌∙◌, length-append}
+use Rattle.frame_view.specs.Frame.{line_of}
+use Rattle.row_bands.specs.Canvas.{frame_of}
+use Rattle.filters.specs.ChainImage.{IsCanvasAt}
 use Rattle.filters.proofs.ChainImages.{canvases_more}
 use Rattle.filters.proofs.chain.Chain.canvases.Goals as goal
 
@@ -9,10 +12,11 @@ loop-i-preserved c =
     let made = c.in_ok-canvas.ensures.frame in
     record {
       count = rw (pushed, length-append) (omega (arith, so_far.count));
-      each = canvases_more c.args.self.now c.args.line.now _ _ _ c.loop-i.i so_far.count pushed so_far.each
+      each = canvases_more (IsCanvasAt c.args.self.now) _ _ _ c.loop-i.i so_far.count pushed so_far.each
           (record {
             format = rw made.geometry c.geometry_after.ensures;
             height = c.in_ok-canvas.ensures.height ∙ ap (λ b. b.rows) c.band_height.ensures;
-            line = made.line;
           });
+      lines = canvases_more (λ k canvas. line_of (frame_of canvas) ≡ c.args.line.now) _ _ _ c.loop-i.i
+          so_far.count pushed so_far.lines made.line;
     }

@@ -11,4 +11,6 @@ pub returns : goal.returns
 returns c =
     let within = rw (sym c.self.view_is) at c.requires in
     let count : c.args.count ≡ c.args.count - 1 + 1 = omega arith in
-    rw (sym c.self.view_is, count) (output_at _ _ c.self.inside.geometry (c.args.count - 1) _ c.self.invariant.outputs (omega (arith, within)) c.index.ensures)
+    rw (sym c.self.view_is, count)
+    (output_at _ _ c.self.inside.geometry (c.args.count - 1) _ c.self.invariant.outputs
+    (omega (arith, within)) c.index.ensures)

@@ -10,5 +10,7 @@ returns-clause-run c =
     let height = ap (λ chain. chain.band_height.rows) c.self.view_is in
     let bands : c.count-bands.result ≡ get_or (counts_of c.args.self.now) c.op_of_step-op.result.0 0 =
     c.count-bands.ensures.value ∙ rw (c.new.ensures.geometry, c.new.ensures.height, height)
-    (count_of_output c.args.self.now c.op_of_step-op.result.0 c.geometry_after.result step.of_chain c.geometry_after.ensures) in
-    run_at _ _ _ _ c.count-bands.result c.cost.result c.op.result step bands c.op.ensures.value c.cost.ensures.value
+    (count_of_output c.args.self.now c.op_of_step-op.result.0 c.geometry_after.result step.of_chain
+    c.geometry_after.ensures) in
+    run_at _ _ _ _ c.count-bands.result c.cost.result c.op.result step bands c.op.ensures.value
+    c.cost.ensures.value

@@ -1,40 +1,50 @@
-use Rattle.std.proofs.Common.{◌≡◌, ◌-◌, get_or, sym, ap, ◌∙◌, arith}
+use Rattle.std.proofs.Common.{◌≡◌, ◌-◌, ◌<◌, get_or, length, sym, ap, ◌∙◌, arith}
+use Rattle.frame_view.specs.Frame.{line_of}
 use Rattle.row_bands.specs.Canvas.{frame_of}
-use Rattle.filters.proofs.ChainImages.{canvases_painted, painted_rest, painted_at, canvas_before, canvas_rest}
+use Rattle.filters.proofs.ChainImages.{canvases_painted, lines_painted, painted_rest, painted_at}
+use Rattle.filters.proofs.ChainImages.{canvas_before, canvas_rest}
+use Rattle.std.proofs.lemmas.List.{get_or_default}
 use Rattle.filters.proofs.chain.images.paint_next.Goals as goal
 
 pub paint_at-requires-clause-canvas : goal.paint_at-requires-clause-canvas
 paint_at-requires-clause-canvas c =
     let parts = c.split_at_mut-done.ensures in
-    let canvases = c.args.canvases.now in
     let d = c.index-rest-0.result in
-    let held : get_or canvases (c.args.i - 1) d ≡ c.index-done-i.result =
-    canvas_before _ _ canvases c.args.i c.index-done-i.result d parts.value parts.front_len c.requires.some c.index-done-i.is in
-    let source : frame_of (get_or canvases (c.args.i - 1) d) ≡ c.frame.result.now =
-    sym (c.frame.ensures ∙ ap frame_of (sym c.index-done-i.is ∙ sym held)) in
-    let all = c.requires.canvases d in
-    let its = rw (canvas_rest _ _ canvases c.args.i d parts.value parts.front_len) at (all.each c.args.i d c.requires.op) in
-    rw source at its
+    rw (canvas_rest _ _ c.args.canvases.now c.args.i d parts.value parts.front_len) at
+    (c.requires.canvases.each c.args.i d c.requires.op)
 
 pub returns-clause-canvases : goal.returns-clause-canvases
-returns-clause-canvases c d =
+returns-clause-canvases c =
     let parts = c.split_at_mut-done.ensures in
     let canvases = c.args.canvases.now in
-    let held : get_or canvases (c.args.i - 1) d ≡ c.index-done-i.result =
-    canvas_before _ _ canvases c.args.i c.index-done-i.result d parts.value parts.front_len c.requires.some c.index-done-i.is in
-    let source : c.frame.result.now ≡ frame_of (get_or canvases (c.args.i - 1) d) =
-    c.frame.ensures ∙ ap frame_of (sym c.index-done-i.is ∙ sym held) in
+    let within : c.args.i < length canvases = omega (arith, c.requires.op, c.requires.canvases.count) in
     rw (painted_rest _ _ canvases c.args.i c.paint_at.new.canvas parts.value parts.front_len)
-    (canvases_painted _ _ _ _ _ (c.requires.canvases d) c.requires.op (rw source at c.paint_at.ensures.canvas))
+    (canvases_painted canvases c.args.i c.paint_at.new.canvas within c.args.chain.now c.requires.canvases
+    c.paint_at.ensures.canvas)
+
+pub returns-clause-lines : goal.returns-clause-lines
+returns-clause-lines c =
+    let parts = c.split_at_mut-done.ensures in
+    let canvases = c.args.canvases.now in
+    let within : c.args.i < length canvases = omega (arith, c.requires.op, c.requires.canvases.count) in
+    let first = c.index-rest-0.result in
+    let before : get_or canvases c.args.i first ≡ get_or c.split_at_mut-done.result.1.now 0 first =
+    canvas_rest _ _ canvases c.args.i first parts.value parts.front_len in
+    rw (painted_rest _ _ canvases c.args.i c.paint_at.new.canvas parts.value parts.front_len)
+    (lines_painted canvases c.args.i c.paint_at.new.canvas within
+    (λ d. c.paint_at.ensures.line
+    ∙ ap (λ canvas. line_of (frame_of canvas))
+    (sym before ∙ get_or_default canvases c.args.i first d within)))
 
 pub returns-clause-image : goal.returns-clause-image
 returns-clause-image c o d =
     let parts = c.split_at_mut-done.ensures in
     let canvases = c.args.canvases.now in
+    let within : c.args.i < length canvases = omega (arith, c.requires.op, c.requires.canvases.count) in
     let held : get_or canvases (c.args.i - 1) d ≡ c.index-done-i.result =
-    canvas_before _ _ canvases c.args.i c.index-done-i.result d parts.value parts.front_len c.requires.some c.index-done-i.is in
+    canvas_before _ _ canvases c.args.i c.index-done-i.result d parts.value parts.front_len c.requires.some
+    c.index-done-i.is in
     let source : c.frame.result.now ≡ frame_of (get_or canvases (c.args.i - 1) d) =
     c.frame.ensures ∙ ap frame_of (sym c.index-done-i.is ∙ sym held) in
-    let all = c.requires.canvases d in
-    rw (painted_at _ _ canvases c.args.i c.paint_at.new.canvas d parts.value parts.front_len (omega (arith, all.count)))
+    rw (painted_at _ _ canvases c.args.i c.paint_at.new.canvas d parts.value parts.front_len within)
     (rw source at (c.paint_at.ensures.image o))

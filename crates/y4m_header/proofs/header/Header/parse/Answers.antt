@@ -13,8 +13,8 @@ returns-in_err-format-clause-each c error other refused =
     let p = err_from_is_err_and c.from_residual.result c.from_residual.ensures.1 in
     rw (p.1, p.2) (ap Err (one_refusal _ _ error c.in_err-format.ensures.refused refused))
 
-pub returns-in_default-clause-each : goal.returns-in_default-clause-each
-returns-in_default-clause-each c error other refused =
+pub returns-in_err-to_vec-clause-each : goal.returns-in_err-to_vec-clause-each
+returns-in_err-to_vec-clause-each c error other refused =
     absurd (other (header_refusal _ _ _ _ error c.in_ok-format.ensures.stated refused))
 
 pub returns-clause-each : goal.returns-clause-each

@@ -1,0 +1,29 @@
+# Completion of y4mserve's words for bash. Source this file, or put it as `y4mserve` into
+# ~/.local/share/bash-completion/completions.
+
+_y4mserve() {
+    local current=$2 previous=$3 command="" at words
+    for ((at = 1; at < COMP_CWORD; at++)); do
+        case ${COMP_WORDS[at]} in
+            filter | replay | help) command=${COMP_WORDS[at]} && break ;;
+        esac
+    done
+    case $command in
+        "") words="filter replay help -h --help -V --version" ;;
+        help) words="filter replay help" ;;
+        replay) words="-h --help" ;;
+        filter) words="--band -q --quiet -h --help" ;;
+    esac
+    if [[ $command == filter && $previous == --band ]]; then
+        words="2 4 8 16 32 64 128"
+    elif [[ $command == filter && $current != -* ]]; then
+        # Only the operation behind the last + is completed.
+        local before=${current%"${current##*+}"}
+        compopt -o nospace
+        mapfile -t COMPREPLY < <(compgen -P "$before" -W "invert thresh: clamp: hflip vflip crop: blur:" -- "${current##*+}")
+        return
+    fi
+    mapfile -t COMPREPLY < <(compgen -W "$words" -- "$current")
+}
+
+complete -F _y4mserve y4mserve

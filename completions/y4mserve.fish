@@ -1,0 +1,25 @@
+# Completion of y4mserve's words for fish. Put this file into ~/.config/fish/completions.
+
+# The operations, each behind what stands before the last + of the word.
+function __y4mserve_operations
+    set -l before (string match -r '^.*\+' -- (commandline -ct))
+    printf '%s\t%s\n' \
+        "$before"invert 'each sample of Y, Cb and Cr becomes 255 - v' \
+        "$before"thresh: 'thresh:T - Y becomes 255 from T on, else 0' \
+        "$before"clamp: 'clamp:LO,HI - Y is moved into LO to HI' \
+        "$before"hflip 'every plane is mirrored left to right' \
+        "$before"vflip 'every plane is mirrored top to bottom' \
+        "$before"crop: 'crop:X,Y,W,H - a rectangle of the picture' \
+        "$before"blur: 'blur:R - the mean of the square of side 2R+1'
+end
+
+complete -c y4mserve -f
+complete -c y4mserve -n __fish_use_subcommand -a filter -d 'Filters a stream from standard input to standard output'
+complete -c y4mserve -n __fish_use_subcommand -a replay -d 'Runs a script on the account of a constant bandwidth server'
+complete -c y4mserve -n __fish_use_subcommand -a help -d 'Prints the help of the program or of a command'
+complete -c y4mserve -n __fish_use_subcommand -s V -l version -d 'Print the version'
+complete -c y4mserve -s h -l help -d 'Print help'
+complete -c y4mserve -n '__fish_seen_subcommand_from help' -a 'filter replay help'
+complete -c y4mserve -n '__fish_seen_subcommand_from filter' -l band -x -a '2 4 8 16 32 64 128' -d 'Luma rows of a band, even, 2 to 128'
+complete -c y4mserve -n '__fish_seen_subcommand_from filter' -s q -l quiet -d 'Show no progress and no hint on a terminal'
+complete -c y4mserve -n '__fish_seen_subcommand_from filter; and not __fish_seen_subcommand_from help' -a '(__y4mserve_operations)'

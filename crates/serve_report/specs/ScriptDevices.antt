@@ -1,0 +1,27 @@
+-- How a replay counts the failures of its input and of its output.
+use Rattle.std.specs.Prelude.{ℕ, Result, Ok, Err}
+use Rattle.y4m_stream.specs.Failures.{one_more}
+use Rattle.serve_report.specs.declared.script.fault.ReplayFault.{ReplayFault}
+use Rattle.serve_report.specs.declared.script.fault.ReplayFault.TheVariants.{Read, Write, NoMemory}
+
+-- a read failed in the call exactly where this is the fault
+abbrev pub reads_at : ReplayFault → ℕ → ℕ
+reads_at Read n = one_more n
+reads_at Write n = n
+reads_at NoMemory n = n
+
+-- a read failed in the call exactly where it answered that
+abbrev pub reads_told : {T : Type 0} → Result T ReplayFault → ℕ → ℕ
+reads_told (Ok x) n = n
+reads_told (Err fault) n = reads_at fault n
+
+-- a write or a flush failed in the call exactly where this is the fault
+abbrev pub writes_at : ReplayFault → ℕ → ℕ
+writes_at Read n = n
+writes_at Write n = one_more n
+writes_at NoMemory n = n
+
+-- a write or a flush failed in the call exactly where it answered that
+abbrev pub writes_told : {T : Type 0} → Result T ReplayFault → ℕ → ℕ
+writes_told (Ok x) n = n
+writes_told (Err fault) n = writes_at fault n

@@ -1,0 +1,131 @@
+//! The texts of the help.
+
+/// What the program is.
+pub const ABOUT: &str = "Filters YUV4MPEG2 streams (.y4m) frame by frame, in a pipe";
+
+/// More of the program, for the long help.
+pub const PAGE: &str = "Examples:
+  ffmpeg -i film.mkv -f yuv4mpegpipe - | y4mserve filter invert > negative.y4m
+  y4mserve filter crop:16,8,1888,1064+hflip < film.y4m > mirrored.y4m
+  printf 'account 2 10\\nidle 0\\ncharge 2\\n' | y4mserve replay
+
+Status:
+  0  all went well
+  1  a fault of the stream or of the script, or no memory
+  2  wrong words, or a stream that would go to a terminal
+
+Each command has a page of its own, as 'y4mserve help filter'.";
+
+/// What `filter` does.
+pub const FILTER: &str = "Filters a stream from standard input to standard output";
+
+/// The same, for the long help.
+pub const FILTER_LONG: &str = "Reads a YUV4MPEG2 stream (.y4m, 8 bits a sample) from standard input,
+applies the operations of OPS in order to each frame, and writes the stream of
+the images to standard output. The header line stays as it is, but for W and H
+where OPS crops, and each image has its frame's own line.";
+
+/// What the word `OPS` is.
+pub const OPERATIONS: &str = "1 to 8 operations joined by '+', as crop:16,8,1888,1064+hflip+blur:2";
+
+/// What `--band` is.
+pub const BAND: &str = "Luma rows of a band, even, 2 to 128";
+
+/// The same, for the long help.
+pub const BAND_LONG: &str = "Luma rows of a band, the part of a picture that is worked on at a time:
+even, 2 to 128. The images are the same for each B, and the cost of a
+frame (see below) is less for a higher one";
+
+/// What `--quiet` is.
+pub const QUIET: &str = "Show no progress and no hint on a terminal; faults are told";
+
+/// The operations, the limits and the faults of `filter`.
+pub const FILTER_PAGE: &str = "Operations, by form and example (a number is 1 to 9 decimal digits):
+  invert         invert
+      Each sample v of Y, Cb and Cr becomes 255 - v.
+  thresh:T       thresh:128
+      Y becomes 255 where it is at least T, else 0; Cb and Cr become 128.
+      T is 0 to 255.
+  clamp:LO,HI    clamp:16,235
+      Y is moved into LO to HI; Cb and Cr stay. Both are 0 to 255, and LO is
+      at most HI.
+  hflip          hflip
+      Every plane is mirrored left to right.
+  vflip          hflip+vflip (half a turn)
+      Every plane is mirrored top to bottom.
+  crop:X,Y,W,H   crop:16,8,1888,1064
+      The rectangle of W columns and H rows from column X and row Y on, in
+      luma pixels, of every plane. It lies within the picture, and W and H are
+      at least 1. X and W are even for 4:2:0 and 4:2:2, and multiples of 4 for
+      4:1:1; Y and H are even for 4:2:0.
+  blur:R         blur:2
+      Each sample becomes the rounded mean of the square of side 2R+1 round it;
+      the samples at a plane's edge go on beyond it. R is 1 to 8.
+  Alpha is mirrored, cropped and blurred, and left alone by the others.
+
+Limits:
+  width and height     16384 each
+  a frame's samples    67108864 bytes
+  a line               1024 bytes, with its line feed
+  frames               16777216
+  cost of a frame      32768: each band of blur:R costs 1 + R, any other band 1
+  chroma (C)           420, 420jpeg, 420mpeg2, 420paldv, 422, 411, 444, 444alpha,
+                       mono; 420 where there is no C
+
+Faults, each one line on standard error behind 'y4mserve: '; status 2:
+  bad band              B is odd.
+  BadOp                 A part of OPS has none of the forms above.
+  TooManyOps            OPS has more than 8 parts.
+  output is a terminal  The stream would be shown as text: send it to a pipe or a
+                        file.
+Status 1:
+  read Header E         The first line is no header line, by E:
+      NotY4m            It does not begin with the word YUV4MPEG2.
+      BadNumber         W or H is no number of 1 to 9 digits, or it is 0.
+      RepeatedTag       W, H or C stands twice.
+      MissingSize       There is no W, or no H.
+      UnknownChroma     The value of C is none of those above.
+      NotDivisible      The chroma planes would have no whole rows and columns.
+      TooLarge          The width, the height or a frame is over its limit.
+  read LineTooLong      A line is over its limit.
+  read NotFrame         Another line stands where a FRAME line should.
+  read Truncated        The input ends within a line or a frame.
+  read Device           Reading failed.
+  ops BadCrop           The rectangle is empty, leaves the picture or cuts a
+                        chroma sample.
+  ops TooManySteps      A frame costs more than its limit: a higher --band helps.
+  write N               Writing failed, or nobody reads on; N bytes went out.
+  TooManyFrames         One more frame follows the last that is read.
+  NoMemory              No memory was left; also behind 'read ' and 'ops '.
+  At a read fault, an ops fault and TooManyFrames the images of all frames
+  before it have been written.";
+
+/// What `replay` does.
+pub const REPLAY: &str = "Runs a script on the account of a constant bandwidth server";
+
+/// The same, for the long help.
+pub const REPLAY_LONG: &str =
+    "Reads a script from standard input, runs its commands on the account of a
+constant bandwidth server (Abeni and Buttazzo, 1998), and prints one line for
+each.";
+
+/// The commands, the limits and the faults of `replay`.
+pub const REPLAY_PAGE: &str =
+    "Commands, one a line, with single spaces (a number is 1 to 19 digits):
+  account Q T    A new account of maximum budget Q and period T, where
+                 1 <= Q <= T <= 1048576.
+  idle R         A job arrives at the moment R, at most 1152921504606846976, and
+                 finds the server idle.
+  charge K       K units of work were done.
+  Each prints 'budget C deadline D', as the account then stands. An empty line
+  and a line that begins with '#' do nothing. A script has at most 1048576 bytes.
+
+Faults of the script, printed as the last line, 'line N: WORD'; status 1:
+  BadLine        The line has none of these forms, or there is no account yet.
+  BadBandwidth   Q and T are out of range.
+  Range          More units than can be charged.
+  TooLong        The script is over its limit (N is 0).
+  NoMemory       No memory was left. This one is told on standard error too.
+Other faults, each one line on standard error behind 'y4mserve: '; status 1:
+  read           Reading failed. Nothing was run.
+  write          Writing failed, or nobody reads on.";

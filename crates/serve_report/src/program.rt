@@ -1,0 +1,190 @@
+// The program, over any reader and writers.
+ghost use Rattle.std.specs.Prelude.{◌≡◌, ◌≤◌};
+ghost use Rattle.std.specs.Io.KnownBytes.{Keeps};
+
+use crate::script::replay;
+use crate::tell::tell;
+use crate::watch::{Unwatched, Watch};
+use crate::watched::{WatchedSink, WatchedSource};
+use crate::words::{FilterWords, NoRequest, Request, read_words};
+use filters::{FilterError, Op, parse_ops};
+use row_bands::BandHeight;
+use std::alloc::Global;
+use std::io::{Read, Write};
+use thiserror::Error;
+use y4m_stream::{OverRead, OverWrite, filter_stream};
+
+/// What is said where the input is a terminal.
+const AWAITED: &str =
+    "waiting for a stream (.y4m) on standard input, which is a terminal; for help: y4mserve filter --help";
+
+/// Why a stream is not read at all.
+#[derive(Clone, Copy, Debug, PartialEq, Eq, Error)]
+enum WordFault {
+    /// The rows of a band are odd.
+    #[error("bad band")]
+    BadBand,
+    /// The operations, or there was no memory for them.
+    #[error("{0}")]
+    Ops(FilterError),
+    /// The images would be shown as text.
+    #[error("output is a terminal")]
+    Terminal,
+}
+
+impl WordFault {
+    fn status(self) -> u8
+        ensures { result ≤ 2 }
+    {
+        if self == WordFault::Ops(FilterError::NoMemory) {
+            1
+        } else {
+            2
+        }
+    }
+}
+
+/// Runs the program with these words, which follow its name, and answers its status: 0 where all went well, 1 after a
+/// fault of the stream or of the script or for want of memory, 2 for wrong words. A fault is one line on `errors`; that
+/// of a script is the last line on `output`. Help that is asked for is written to `output`. Where the words are wrong,
+/// nothing is.
+pub fn main_on<R: Read + Drop, W: Write, E: Write>(
+    alloc: Global,
+    words: &[String],
+    input: R,
+    output: &mut W,
+    errors: &mut E,
+) -> u8
+    ensures status { result ≤ 2 }
+    ensures untouched { result ≡ 2 → Keeps (W.contents output.old) (W.contents output.new) }
+{
+    run_on(alloc, words, input, output, errors, &Unwatched)
+}
+
+/// The same, under a watch.
+///
+/// `filter` asks it for terminals once the words are right and before anything is read. It takes no terminal as its
+/// output, status 2. Where its input is one it says what it waits for, and it tells the watch of each frame, unless the
+/// words have `--quiet`.
+pub fn run_on<R: Read + Drop, W: Write, E: Write, V: Watch>(
+    alloc: Global,
+    words: &[String],
+    input: R,
+    output: &mut W,
+    errors: &mut E,
+    watch: &V,
+) -> u8
+    ensures status { result ≤ 2 }
+    ensures untouched { result ≡ 2 → Keeps (W.contents output.old) (W.contents output.new) }
+{
+    match read_words(alloc, words) {
+        Ok(Request::Filter(asked)) => run_filter(alloc, asked, input, output, errors, watch),
+        Ok(Request::Replay) => run_replay(alloc, input, output, errors),
+        Err(NoRequest::Help(text)) => write_help(&text, output, errors),
+        Err(NoRequest::Wrong(text)) => {
+            let _ = errors.write_all(text.as_bytes());
+            2
+        }
+        Err(NoRequest::NoMemory) => {
+            tell(errors, &"NoMemory");
+            1
+        }
+    }
+}
+
+/// Writes help that was asked for.
+fn write_help<W: Write, E: Write>(text: &String, output: &mut W, errors: &mut E) -> u8
+    ensures { result ≤ 1 }
+{
+    match output.write_all(text.as_bytes()) {
+        Ok(()) => 0,
+        Err(_) => {
+            tell(errors, &"write");
+            1
+        }
+    }
+}
+
+/// What a stream is filtered by, where its images can be written.
+fn check_words<V: Watch>(
+    alloc: Global,
+    asked: FilterWords<'_>,
+    watch: &V,
+) -> Result<(Vec<Op>, BandHeight), WordFault> {
+    let Some(height) = BandHeight::new(asked.band) else {
+        return Err(WordFault::BadBand);
+    };
+    let ops = match parse_ops(alloc, asked.operations.as_bytes()) {
+        Ok(ops) => ops,
+        Err(error) => return Err(WordFault::Ops(error)),
+    };
+    if watch.output_is_terminal() {
+        return Err(WordFault::Terminal);
+    }
+    Ok((ops, height))
+}
+
+/// Filters the input as the words ask.
+fn run_filter<R: Read + Drop, W: Write, E: Write, V: Watch>(
+    alloc: Global,
+    asked: FilterWords<'_>,
+    input: R,
+    output: &mut W,
+    errors: &mut E,
+    watch: &V,
+) -> u8
+    ensures status { result ≤ 2 }
+    ensures untouched { result ≡ 2 → Keeps (W.contents output.old) (W.contents output.new) }
+{
+    let (ops, height) = match check_words(alloc, asked, watch) {
+        Ok(checked) => checked,
+        Err(fault) => {
+            tell(errors, &fault);
+            return fault.status();
+        }
+    };
+    if !asked.is_quiet && watch.input_is_terminal() {
+        tell(errors, &AWAITED);
+    }
+    let told = if asked.is_quiet || !watch.follows_frames() {
+        None
+    } else {
+        Some(watch)
+    };
+    let input = WatchedSource::new(alloc, OverRead::new(input), told);
+    let output = WatchedSink::new(alloc, OverWrite::new(output), told);
+    let (_, result) = filter_stream(alloc, input, output, ops, height);
+    if told.is_some() {
+        watch.ends();
+    }
+    match result {
+        Ok(_) => 0,
+        Err(fault) => {
+            tell(errors, &fault);
+            1
+        }
+    }
+}
+
+/// Runs the script of the input.
+fn run_replay<R: Read + Drop, W: Write, E: Write>(
+    alloc: Global,
+    input: R,
+    output: &mut W,
+    errors: &mut E,
+) -> u8
+    ensures { result ≤ 1 }
+{
+    let (_, result) = replay(alloc, OverRead::new(input), OverWrite::new(output));
+    match result {
+        Ok(true) => 0,
+        Ok(false) => 1,
+        Err(fault) => {
+            tell(errors, &fault);
+            1
+        }
+    }
+}
+
+#[cfg(test)]
+mod tests;
