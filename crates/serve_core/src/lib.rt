@@ -7,14 +7,12 @@
 
 mod grant;
 pub mod held;
-pub mod job_spec;
 pub mod laws;
 pub mod refusal;
 pub mod setup;
 pub mod spec;
 
 pub use held::Held;
-pub use job_spec::JobSpec;
 pub use refusal::Refusal;
 pub use setup::{Setup, SetupError};
 pub use spec::StreamSpec;

@@ -4,9 +4,9 @@ ghost use Rattle.std.specs.Arc.{arc_value};
 ghost use Rattle.serve_core.specs.Setup as rules;
 ghost use Rattle.serve_core.specs.Setup.{IsWithinLimits};
 
-use crate::job_spec::JobSpec;
 use filters::MOST_COST;
 use frame_view::Geometry;
+use lease::JobSpec;
 use std::marker::Model;
 use std::sync::Arc;
 
