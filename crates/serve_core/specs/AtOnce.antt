@@ -55,8 +55,8 @@ module _ {F G : Type 0} where
   abbrev pub bands_settled : (w k : ℕ) → Reply F G → Transcript F G
   bands_settled w k r = Then (bands w k) (Settle w) r
 
-  -- the state in which worker w has done k bands more of its lease l of stream x, and then settled it with the
-  -- reply r
+  -- the state in which worker w has done k bands more of its lease l of stream x, and then settled it
+  -- with the reply r
   abbrev pub at_once_settled : State F → (w k : ℕ) → Held → StreamState F → Reply F G → State F
   at_once_settled m w k l x r = record m {
     streams = slice_set m.streams l.stream (did_any (worked_at_once k x) (settled r));
