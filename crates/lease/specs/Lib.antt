@@ -1,0 +1,6 @@
+pub mod Canvases
+pub mod Job
+pub mod JobInside
+pub mod Refused
+pub mod Lease
+pub mod LeaseInside

@@ -1,0 +1,216 @@
+// A frame with what was made of it by now.
+use crate::job_spec::JobSpec;
+use crate::refused::{JobRefused, OverRefused};
+use crate::scratch::Scratch;
+use crate::size::is_same_geometry;
+use crate::step::write_step;
+use filters::MOST_COST;
+use frame_view::Frame;
+use row_bands::Canvas;
+use std::alloc::Global;
+use std::marker::Model;
+use std::sync::Arc;
+
+/// A frame that is filtered step by step, and keeps what is done.
+///
+/// It has the canvas of the last operation from the beginning, which becomes the image. Those of the operations before
+/// it come with the scratch when the job starts, and go when the image is taken.
+#[derive(Debug, Drop)]
+pub struct Job {
+    spec: Arc<JobSpec>,
+    source: Arc<Frame>,
+    scratch: Option<Scratch>,
+    canvas: Canvas,
+    done: u32,
+}
+
+impl Model for Job {
+    ghost use Rattle.lease.specs.Job.{JobValue, IsJob};
+
+    ghost Value = { JobValue };
+
+    ghost use Rattle.lease.specs.JobInside.{value_of};
+
+    ghost view = { value_of };
+
+    ghost invariant = { λ a. IsJob (value_of a) };
+}
+
+impl Job {
+    ghost use Rattle.std.specs.Prelude.{◌≡◌, ◌≢◌, ◌<◌, ◌≤◌, ◌↔◌, Some, None, IsSome, IfOk, IfErr, IsErrOf, length, slice_get};
+    ghost use Rattle.std.specs.Arc.{arc_value};
+    ghost use Rattle.frame_view.specs.Frame.{line_of, samples_of};
+    ghost use Rattle.row_bands.specs.Canvas.{frame_of};
+    ghost use Rattle.filters.specs.Chain.{format_of, last_format};
+    ghost use Rattle.filters.specs.ChainImage.{value_of, IsChainImage};
+    ghost use Rattle.filters.specs.Steps.{steps_of};
+    ghost use Rattle.filters.specs.Costs.{step_costs};
+    ghost use Rattle.lease.specs.Canvases.{IsCanvasAfter, IsScratch};
+    ghost use Rattle.lease.specs.Job.{waiting, StepsOn};
+    ghost use Rattle.lease.specs.Refused.{frame_in, frame_beside, image_in};
+
+    /// A job that no step is done of. A refused frame comes back.
+    pub fn new(alloc: Global, spec: Arc<JobSpec>, source: Arc<Frame>) -> Result<Job, JobRefused>
+        ensures ok { IfOk result (λ job. job ≡ waiting (arc_value spec) (arc_value source) job.canvas) }
+        ensures line { IfOk result (λ job. line_of (frame_of job.canvas) ≡ line_of (arc_value source)) }
+        ensures wrong_size { IsErrOf result (JobRefused.WrongSize source) ↔ ((arc_value source).geometry ≢ (arc_value spec).geometry) }
+        ensures back { IfErr result (λ refused. frame_in refused ≡ source) }
+    {
+        if !is_same_geometry(source.geometry(), spec.chain().geometry()) {
+            return Err(JobRefused::WrongSize(source));
+        }
+        let canvas = Canvas::new(
+            alloc,
+            spec.chain().out_geometry(),
+            spec.chain().band_height(),
+            source.line(),
+        );
+        match canvas {
+            Ok(canvas) => Ok(Job::waiting(spec, source, canvas)),
+            Err(_) => Err(JobRefused::NoMemory(source)),
+        }
+    }
+
+    /// A job that no step is done of, in the memory of an image that isn't needed any more. It takes memory only for the
+    /// frame's line, and only where the image has another. A refused frame comes back with the image.
+    pub fn over(
+        alloc: Global,
+        spec: Arc<JobSpec>,
+        source: Arc<Frame>,
+        image: Frame,
+    ) -> Result<Job, OverRefused>
+        requires { format_of image.geometry ≡ last_format (arc_value spec).ops (format_of (arc_value spec).geometry) }
+        ensures ok { IfOk result (λ job. job ≡ waiting (arc_value spec) (arc_value source) job.canvas) }
+        ensures line { IfOk result (λ job. line_of (frame_of job.canvas) ≡ line_of (arc_value source)) }
+        ensures samples { IfOk result (λ job. samples_of (frame_of job.canvas) ≡ samples_of image) }
+        ensures wrong_size { IsErrOf result (OverRefused.WrongSize source image) ↔ ((arc_value source).geometry ≢ (arc_value spec).geometry) }
+        ensures memory { IfErr result (λ refused. (arc_value source).geometry ≡ (arc_value spec).geometry → line_of image ≢ line_of (arc_value source)) }
+        ensures back { IfErr result (λ refused. frame_beside refused ≡ source) }
+        ensures image_back { IfErr result (λ refused. value_of (image_in refused) ≡ value_of image) }
+    {
+        if !is_same_geometry(source.geometry(), spec.chain().geometry()) {
+            return Err(OverRefused::WrongSize(source, image));
+        }
+        let mut image = image;
+        if image.line() != source.line() && image.set_line(alloc, source.line()).is_err() {
+            return Err(OverRefused::NoMemory(source, image));
+        }
+        let canvas = Canvas::over(image, spec.chain().band_height());
+        Ok(Job::waiting(spec, source, canvas))
+    }
+
+    fn waiting(spec: Arc<JobSpec>, source: Arc<Frame>, canvas: Canvas) -> Job
+        requires geometry { (arc_value source).geometry ≡ (arc_value spec).geometry }
+        requires canvas { IsCanvasAfter (arc_value spec) (length (arc_value spec).ops) canvas }
+        requires line { line_of (frame_of canvas) ≡ line_of (arc_value source) }
+        ensures { result ≡ waiting (arc_value spec) (arc_value source) canvas }
+    {
+        Job {
+            spec,
+            source,
+            scratch: None,
+            canvas,
+            done: 0,
+        }
+    }
+
+    /// Gives the job the canvases between its operations, whatever stands in them.
+    pub fn start(&mut self, scratch: Scratch)
+        requires waiting { self.old.scratch ≡ None }
+        requires scratch { IsScratch self.old.chain scratch }
+        ensures { self.new ≡ record self.old { scratch = Some scratch } }
+    {
+        self.scratch = Some(scratch);
+    }
+
+    /// Takes a job that hasn't started apart: its frame, and the memory of its image.
+    pub fn undo(self) -> (Arc<Frame>, Frame)
+        requires { self.scratch ≡ None }
+        ensures source { arc_value result.0 ≡ self.source }
+        ensures image { result.1 ≡ frame_of self.canvas }
+    {
+        let Job { source, canvas, .. } = self;
+        (source, canvas.into_frame())
+    }
+
+    /// All steps of the job.
+    pub fn steps(&self) -> u32
+        ensures value { result ≡ steps_of self.now.chain }
+        ensures some { 1 ≤ result }
+        ensures few { result ≤ MOST_COST }
+    {
+        self.spec.chain().steps()
+    }
+
+    /// The steps that are done.
+    pub fn done(&self) -> u32
+        ensures value { result ≡ self.now.done }
+        ensures within { result ≤ steps_of self.now.chain }
+    {
+        self.done
+    }
+
+    /// The source, its image by the chain, and the scratch, for the next job.
+    pub fn into_image(self) -> (Arc<Frame>, Frame, Scratch)
+        requires { self.done ≡ steps_of self.chain }
+        ensures source { arc_value result.0 ≡ self.source }
+        ensures image { IsChainImage self.chain.ops (value_of self.source) (value_of result.1) }
+        ensures format { format_of result.1.geometry ≡ last_format self.chain.ops (format_of self.chain.geometry) }
+        ensures scratch { self.scratch ≡ Some result.2 }
+        ensures fits { IsScratch self.chain result.2 }
+    {
+        prove!(self.steps() > 0);
+        let Job {
+            source,
+            scratch,
+            canvas,
+            ..
+        } = self;
+        let Some(scratch) = scratch else {
+            unreachable!()
+        };
+        (source, canvas.into_frame(), scratch)
+    }
+
+    pub(crate) fn spec(&self) -> &JobSpec
+        ensures { result.now ≡ self.now.chain }
+    {
+        &self.spec
+    }
+
+    pub(crate) fn source(&self) -> &Frame
+        ensures { result.now ≡ self.now.source }
+    {
+        &self.source
+    }
+
+    /// What the next step costs.
+    pub(crate) fn next_cost(&self) -> u32
+        requires { self.now.done < steps_of self.now.chain }
+        ensures value { slice_get (step_costs self.now.chain) self.now.done ≡ Some result }
+        ensures few { result ≤ 9 }
+    {
+        self.spec.chain().cost_of_step(self.done)
+    }
+
+    /// Does the next step.
+    pub(crate) fn step(&mut self)
+        requires started { IsSome self.old.scratch }
+        requires left { self.old.done < steps_of self.old.chain }
+        ensures step { StepsOn self.old self.new }
+        ensures started { IsSome self.new.scratch }
+    {
+        prove!(self.done < self.steps());
+        let Some(scratch) = &mut self.scratch else {
+            unreachable!()
+        };
+        write_step(
+            self.spec.chain(),
+            self.done,
+            &self.source,
+            &mut scratch.canvases,
+            &mut self.canvas,
+        );
+        self.done += 1;
+    }
+}

@@ -1,0 +1,151 @@
+// The leave to do some steps of a job.
+use crate::job::Job;
+use crate::job_spec::JobSpec;
+use frame_view::Frame;
+use std::marker::Model;
+use thiserror::Error;
+
+/// As many steps as the lease grants are done.
+#[derive(Clone, Copy, Debug, PartialEq, Eq, Error)]
+#[error("GrantSpent")]
+pub struct GrantSpent;
+
+/// The leave to do some steps of a started job, which a worker holds.
+///
+/// A lease can't be dropped: it ends by [`Lease::into_job`] alone, so no job is lost while it is worked on.
+pub struct Lease {
+    job: Job,
+    stream: u32,
+    seq: u64,
+    granted: u32,
+    used: u32,
+    spent: u32,
+}
+
+impl Model for Lease {
+    ghost use Rattle.lease.specs.Lease.{LeaseValue};
+
+    ghost Value = { LeaseValue };
+
+    ghost use Rattle.lease.specs.LeaseInside.{value_of, IsSound};
+
+    ghost view = { value_of };
+
+    ghost invariant = { IsSound };
+}
+
+impl Lease {
+    ghost use Rattle.std.specs.Prelude.{◌≡◌, ◌+◌, ◌≤◌, ◌↔◌, IsSome, IsErr, OnOk, OnErr, slice_index};
+    ghost use Rattle.filters.specs.Steps.{steps_of};
+    ghost use Rattle.filters.specs.Costs.{step_costs};
+    ghost use Rattle.lease.specs.Job.{StepsOn};
+    ghost use Rattle.lease.specs.Lease.{granted_of, spent_of};
+
+    /// A lease of this many steps of a job, which is the `seq`th of its stream.
+    pub fn new(job: Job, stream: u32, seq: u64, grant: u32) -> Lease
+        requires started { IsSome job.scratch }
+        requires some { 1 ≤ grant }
+        requires left { job.done + grant ≤ steps_of job.chain }
+        ensures { result ≡ granted_of job stream seq grant }
+    {
+        Lease {
+            job,
+            stream,
+            seq,
+            granted: grant,
+            used: 0,
+            spent: 0,
+        }
+    }
+
+    /// Does the next step of the job. It takes no memory and waits for nobody.
+    pub fn step(&mut self) -> Result<(), GrantSpent>
+        ensures refused { IsErr result ↔ (self.old.used ≡ self.old.granted) }
+        ensures err { OnErr result (self.new ≡ self.old) }
+        ensures step { OnOk result (StepsOn self.old.job self.new.job) }
+        ensures used { OnOk result (self.new ≡ record self.old { job = self.new.job; used = self.old.used + 1 }) }
+        ensures spent { OnOk result (spent_of self.new ≡ spent_of self.old + slice_index (step_costs self.old.job.chain) self.old.job.done) }
+    {
+        if self.used == self.granted {
+            return Err(GrantSpent);
+        }
+        prove!(self.job.done() < self.job.steps());
+        self.spent += self.job.next_cost();
+        self.used += 1;
+        self.job.step();
+        Ok(())
+    }
+
+    /// What is done to the job's frame.
+    pub fn spec(&self) -> &JobSpec
+        ensures { result.now ≡ self.now.job.chain }
+    {
+        self.job.spec()
+    }
+
+    pub fn stream(&self) -> u32
+        ensures { result ≡ self.now.stream }
+    {
+        self.stream
+    }
+
+    /// The job's number in its stream.
+    pub fn seq(&self) -> u64
+        ensures { result ≡ self.now.seq }
+    {
+        self.seq
+    }
+
+    /// The frame that the job filters.
+    pub fn source(&self) -> &Frame
+        ensures { result.now ≡ self.now.job.source }
+    {
+        self.job.source()
+    }
+
+    /// How many steps may be done under the lease.
+    pub fn granted(&self) -> u32
+        ensures { result ≡ self.now.granted }
+    {
+        self.granted
+    }
+
+    /// How many steps are done under the lease.
+    pub fn used(&self) -> u32
+        ensures value { result ≡ self.now.used }
+        ensures within { result ≤ self.now.granted }
+    {
+        self.used
+    }
+
+    /// What the steps cost that are done under the lease, in units.
+    pub fn spent(&self) -> u32
+        ensures { result ≡ spent_of self.now }
+    {
+        self.spent
+    }
+
+    /// How many steps of the job are done, under this lease and those before it.
+    pub fn done(&self) -> u32
+        ensures value { result ≡ self.now.job.done }
+        ensures within { result ≤ steps_of self.now.job.chain }
+    {
+        self.job.done()
+    }
+
+    /// Ends the lease. The job keeps what is done.
+    pub fn into_job(self) -> Job
+        ensures value { result ≡ self.job }
+        ensures started { IsSome result.scratch }
+    {
+        let Lease {
+            job,
+            stream: _,
+            seq: _,
+            granted: _,
+            used: _,
+            spent: _,
+        } = self;
+        job
+    }
+}

@@ -1,0 +1,81 @@
+// Writing the band of one step.
+ghost use Rattle.std.specs.Prelude.{◌≡◌, ℕ, ◌+◌, ◌<◌, ◌∷◌, length, map, slice_index_or};
+ghost use Rattle.frame_view.specs.Frame.{line_of};
+ghost use Rattle.row_bands.specs.declared.canvas.Canvas.{Canvas};
+ghost use Rattle.row_bands.specs.Canvas.{frame_of};
+ghost use Rattle.filters.specs.Steps.{IsStep, counts_of, steps_of};
+ghost use Rattle.lease.specs.Canvases.{IsCanvasAfter, IsScratch};
+ghost use Rattle.lease.specs.Job.{frames_by, AreDone, WritesBand};
+
+use filters::{Chain, apply_at};
+use frame_view::Frame;
+use row_bands::Canvas;
+
+/// What the operation after these canvases is done on.
+fn reaching<'a>(source: &'a Frame, before: &'a [Canvas]) -> &'a Frame
+    ensures { result.now ≡ slice_index_or (source.now ∷ map frame_of before.now) (length before.now) source.now }
+{
+    match before.last() {
+        None => source,
+        Some(canvas) => canvas.frame(),
+    }
+}
+
+/// Writes a band of the image by an operation that isn't the last.
+fn write_between(chain: &Chain, op: usize, band: usize, source: &Frame, scratch: &mut [Canvas])
+    requires op { op < length scratch.old }
+    requires band { band < slice_index_or (counts_of chain.now) op 0 }
+    requires source { source.now.geometry ≡ chain.now.geometry }
+    requires scratch { IsScratch chain.now scratch.old }
+    ensures scratch { IsScratch chain.now scratch.new }
+    ensures written { (last : Canvas) → WritesBand chain.now op band (frames_by source.now scratch.old last) (frames_by source.now scratch.new last) }
+{
+    let (before, rest) = scratch.split_at_mut(op);
+    apply_at(chain.op(op), reaching(source, before), &mut rest[0], band);
+}
+
+/// Writes a band of the image by the last operation.
+fn write_last(chain: &Chain, band: usize, source: &Frame, scratch: &[Canvas], canvas: &mut Canvas)
+    requires band { band < slice_index_or (counts_of chain.now) (length scratch.now) 0 }
+    requires source { source.now.geometry ≡ chain.now.geometry }
+    requires scratch { IsScratch chain.now scratch.now }
+    requires canvas { IsCanvasAfter chain.now (length chain.now.ops) canvas.old }
+    ensures canvas { IsCanvasAfter chain.now (length chain.now.ops) canvas.new }
+    ensures line { line_of (frame_of canvas.new) ≡ line_of (frame_of canvas.old) }
+    ensures written { WritesBand chain.now (length scratch.now) band (frames_by source.now scratch.now canvas.old) (frames_by source.now scratch.now canvas.new) }
+{
+    apply_at(
+        chain.op(scratch.len()),
+        reaching(source, scratch),
+        canvas,
+        band,
+    );
+}
+
+/// Writes the band of step `k`. It takes no memory.
+pub fn write_step(
+    chain: &Chain,
+    k: u32,
+    source: &Frame,
+    scratch: &mut [Canvas],
+    canvas: &mut Canvas,
+)
+    requires step { k < steps_of chain.now }
+    requires source { source.now.geometry ≡ chain.now.geometry }
+    requires scratch { IsScratch chain.now scratch.old }
+    requires canvas { IsCanvasAfter chain.now (length chain.now.ops) canvas.old }
+    ensures scratch { IsScratch chain.now scratch.new }
+    ensures canvas { IsCanvasAfter chain.now (length chain.now.ops) canvas.new }
+    ensures line { line_of (frame_of canvas.new) ≡ line_of (frame_of canvas.old) }
+    ensures written { (op band : ℕ) → IsStep (counts_of chain.now) k op band
+        → WritesBand chain.now op band (frames_by source.now scratch.old canvas.old) (frames_by source.now scratch.new canvas.new) }
+    ensures done { AreDone chain.now (frames_by source.now scratch.old canvas.old) k
+        → AreDone chain.now (frames_by source.now scratch.new canvas.new) (k + 1) }
+{
+    let (op, band) = chain.op_of_step(k);
+    if op < scratch.len() {
+        write_between(chain, op, band, source, scratch);
+    } else {
+        write_last(chain, band, source, scratch, canvas);
+    }
+}
