@@ -1,0 +1,216 @@
+// Jobs of small frames, step by step.
+ghost use Rattle.std.specs.Prelude.{◌≡◌, IfOk, IsSome};
+ghost use Rattle.std.specs.Arc.{arc_value};
+ghost use Rattle.filters.specs.Chain.{chain_of, ChainValue};
+ghost use Rattle.lease.specs.Canvases.{IsScratch};
+
+use crate::{GrantSpent, Job, JobRefused, JobSpec, Lease, OverRefused, Scratch};
+use filters::{Chain, parse_ops};
+use frame_view::{Frame, Geometry};
+use row_bands::BandHeight;
+use std::alloc::Global;
+use std::process::Abort;
+use std::sync::Arc;
+use std::test::Fail;
+use y4m_header::{Chroma, check_frame_line};
+
+const COLUMN: Geometry = Geometry {
+    width: 1,
+    height: 10,
+    chroma: Chroma::Mono,
+};
+
+const PAIR: Geometry = Geometry {
+    width: 1,
+    height: 2,
+    chroma: Chroma::Mono,
+};
+
+fn spec_of(alloc: Global, ops: &str, geometry: Geometry) -> Result<Arc<JobSpec>, Fail>
+    ensures { IfOk result (λ spec. (arc_value spec).geometry ≡ geometry) }
+{
+    let band_height = BandHeight::new(2).ok_or("no height")?;
+    let ops = parse_ops(alloc, ops.as_bytes())?;
+    let chain = Chain::new(alloc, ops, geometry, band_height)?;
+    Ok(Arc::new(alloc, JobSpec::new(chain))?)
+}
+
+fn frame(alloc: Global, geometry: Geometry, line: &[u8], samples: &[u8]) -> Result<Frame, Fail>
+    ensures { IfOk result (λ frame. frame.geometry ≡ geometry) }
+{
+    check_frame_line(line)?;
+    Ok(Frame::new(geometry, line.to_vec(alloc)?, samples.to_vec(alloc)?)?)
+}
+
+/// A job that no step is done of.
+fn started(alloc: Global, spec: &Arc<JobSpec>, source: Frame, scratch: Scratch) -> Result<Job, Fail>
+    requires { IsScratch (arc_value spec.now) scratch }
+    ensures chain { IfOk result (λ job. job.chain ≡ arc_value spec.now) }
+    ensures started { IfOk result (λ job. IsSome job.scratch) }
+{
+    let source = Arc::new(alloc, source)?;
+    let mut job = Job::new(alloc, spec.clone()?, source)?;
+    job.start(scratch);
+    Ok(job)
+}
+
+/// Does so many steps under one lease, which then grants no more.
+fn stepped(rt: &impl Abort, job: Job, grant: u32) -> Job
+    requires { IsSome job.scratch }
+    ensures chain { result.chain ≡ job.chain }
+    ensures started { IsSome result.scratch }
+{
+    assert!(rt; grant >= 1);
+    assert!(rt; job.done() <= job.steps() && grant <= job.steps() - job.done());
+    let done = job.done();
+    let mut lease = Lease::new(job, 3, 41, grant);
+    for used in 0..grant {
+        assert_eq!(rt; lease.used(), used);
+        assert_eq!(rt; lease.step(), Ok(()));
+    }
+    assert_eq!(rt; lease.step(), Err(GrantSpent));
+    assert_eq!(rt; (lease.granted(), lease.used()), (grant, grant));
+    assert!(rt; lease.done() >= done);
+    assert_eq!(rt; lease.done() - done, grant);
+    lease.into_job()
+}
+
+/// Twice is a lease of a job ended with steps left.
+#[test]
+fn a_job_keeps_what_is_done(rt: HostRuntime) -> Result<(), Fail> {
+    let alloc = rt.alloc();
+    let spec = spec_of(alloc, "invert", COLUMN)?;
+    let samples = [0, 1, 2, 3, 4, 5, 6, 7, 8, 9];
+    let source = frame(alloc, COLUMN, b"FRAME", &samples)?;
+    let scratch = Scratch::new(alloc, &spec)?;
+    let job = started(alloc, &spec, source, scratch)?;
+    assert_eq!(rt; (job.steps(), job.done()), (5, 0));
+    let job = stepped(&rt, job, 2);
+    assert_eq!(rt; job.done(), 2);
+    let job = stepped(&rt, job, 3);
+    assert_eq!(rt; job.done(), 5);
+    assert_eq!(rt; job.done(), job.steps());
+    let (source, image, _) = job.into_image();
+    let inverted = [0xFF, 0xFE, 0xFD, 0xFC, 0xFB, 0xFA, 0xF9, 0xF8, 0xF7, 0xF6];
+    assert_eq!(rt; source.data(), samples.as_slice());
+    assert_eq!(rt; image.data(), inverted.as_slice());
+    assert_eq!(rt; image.line(), b"FRAME".as_slice());
+    Ok(())
+}
+
+/// Two bands a lease: the second lease ends before its first step, and the third has the same steps to do.
+#[test]
+fn a_lease_without_a_step_changes_nothing(rt: HostRuntime) -> Result<(), Fail> {
+    let alloc = rt.alloc();
+    let spec = spec_of(alloc, "invert", COLUMN)?;
+    let source = frame(alloc, COLUMN, b"FRAME", &[0, 1, 2, 3, 4, 5, 6, 7, 8, 9])?;
+    let scratch = Scratch::new(alloc, &spec)?;
+    let job = started(alloc, &spec, source, scratch)?;
+    let job = stepped(&rt, job, 2);
+    assert_eq!(rt; (job.done(), job.steps()), (2, 5));
+    let lease = Lease::new(job, 0, 0, 2);
+    assert_eq!(rt; (lease.used(), lease.spent(), lease.done()), (0, 0, 2));
+    let job = lease.into_job();
+    assert_eq!(rt; job.done(), 2);
+    let job = stepped(&rt, job, 2);
+    assert_eq!(rt; job.done(), 4);
+    Ok(())
+}
+
+#[test]
+fn a_lease_tells_what_it_is(rt: HostRuntime) -> Result<(), Fail> {
+    let alloc = rt.alloc();
+    let spec = spec_of(alloc, "blur:2+hflip", COLUMN)?;
+    let source = frame(alloc, COLUMN, b"FRAME Ip", &[5; 10])?;
+    let scratch = Scratch::new(alloc, &spec)?;
+    let job = started(alloc, &spec, source, scratch)?;
+    assert_eq!(rt; (job.done(), job.steps()), (0, 10));
+    let mut lease = Lease::new(job, 6, 70, 7);
+    assert_eq!(rt; (lease.stream(), lease.seq(), lease.granted()), (6, 70, 7));
+    assert_eq!(rt; lease.source().line(), b"FRAME Ip".as_slice());
+    assert_eq!(rt; lease.source().data(), [5; 10].as_slice());
+    assert_eq!(rt; lease.spec().chain().cost(), 20);
+    assert_eq!(rt; lease.step(), Ok(()));
+    assert_eq!(rt; (lease.used(), lease.spent(), lease.done()), (1, 3, 1));
+    for _ in 0..5 {
+        assert_eq!(rt; lease.step(), Ok(()));
+    }
+    assert_eq!(rt; (lease.used(), lease.spent(), lease.done()), (6, 16, 6));
+    let job = lease.into_job();
+    assert_eq!(rt; job.done(), 6);
+    Ok(())
+}
+
+/// The image of a frame, by as many leases as it has steps, and the scratch.
+fn filtered(
+    rt: &impl Abort,
+    alloc: Global,
+    spec: &Arc<JobSpec>,
+    source: Frame,
+    scratch: Scratch,
+) -> Result<(Frame, Scratch), Fail>
+    requires { IsScratch (arc_value spec.now) scratch }
+    ensures { IfOk result (λ made. IsScratch (arc_value spec.now) made.1) }
+{
+    let mut job = started(alloc, spec, source, scratch)?;
+    for _ in 0..job.steps() {
+        job = stepped(rt, job, 1);
+    }
+    assert_eq!(rt; job.done(), job.steps());
+    let (_, image, scratch) = job.into_image();
+    Ok((image, scratch))
+}
+
+/// The blur of 0 and 90 is 30 and 60, that of 9 and 0 is 6 and 3.
+#[test]
+fn frames_in_turn_have_the_images_that_each_has_alone(rt: HostRuntime) -> Result<(), Fail> {
+    let alloc = rt.alloc();
+    let spec = spec_of(alloc, "blur:1+vflip", PAIR)?;
+    let scratch = Scratch::new(alloc, &spec)?;
+    let first = frame(alloc, PAIR, b"FRAME", &[0, 90])?;
+    let (image, scratch) = filtered(&rt, alloc, &spec, first, scratch)?;
+    assert_eq!(rt; image.data(), [60, 30].as_slice());
+    let second = frame(alloc, PAIR, b"FRAME Ip", &[9, 0])?;
+    let (image, scratch) = filtered(&rt, alloc, &spec, second, scratch)?;
+    assert_eq!(rt; image.data(), [3, 6].as_slice());
+    assert_eq!(rt; image.line(), b"FRAME Ip".as_slice());
+    let third = frame(alloc, PAIR, b"FRAME", &[0, 90])?;
+    let (image, _) = filtered(&rt, alloc, &spec, third, scratch)?;
+    assert_eq!(rt; image.data(), [60, 30].as_slice());
+    assert_eq!(rt; image.line(), b"FRAME".as_slice());
+    Ok(())
+}
+
+/// One step of the first operation and one of the second have their bands of 2 rows each.
+#[test]
+fn each_step_writes_its_own_band(rt: HostRuntime) -> Result<(), Fail> {
+    let alloc = rt.alloc();
+    let spec = spec_of(alloc, "invert+vflip", COLUMN)?;
+    let scratch = Scratch::new(alloc, &spec)?;
+    let source = frame(alloc, COLUMN, b"FRAME", &[0, 1, 2, 3, 4, 5, 6, 7, 8, 9])?;
+    let (image, _) = filtered(&rt, alloc, &spec, source, scratch)?;
+    let wanted = [0xF6, 0xF7, 0xF8, 0xF9, 0xFA, 0xFB, 0xFC, 0xFD, 0xFE, 0xFF];
+    assert_eq!(rt; image.data(), wanted.as_slice());
+    Ok(())
+}
+
+#[test]
+fn a_frame_of_another_size_comes_back(rt: HostRuntime) -> Result<(), Fail> {
+    let alloc = rt.alloc();
+    let wide = Geometry {
+        width: 2,
+        height: 1,
+        chroma: Chroma::Mono,
+    };
+    let spec = spec_of(alloc, "invert", COLUMN)?;
+    let source = Arc::new(alloc, frame(alloc, wide, b"FRAME", &[1, 2])?)?;
+    match Job::new(alloc, spec.clone()?, source) {
+        Err(JobRefused::WrongSize(source)) => {
+            assert_eq!(rt; source.data(), [1, 2].as_slice());
+            assert_eq!(rt; source.line(), b"FRAME".as_slice());
+        }
+        Err(JobRefused::NoMemory(_source)) => assert!(rt; false, "memory before size"),
+        Ok(_job) => assert!(rt; false, "accepted"),
+    }
+    Ok(())
+}
