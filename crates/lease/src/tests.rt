@@ -1,7 +1,7 @@
 // Jobs of small frames, step by step.
 ghost use Rattle.std.specs.Prelude.{◌≡◌, IfOk, IsSome};
 ghost use Rattle.std.specs.Arc.{arc_value};
-ghost use Rattle.filters.specs.Chain.{chain_of, ChainValue};
+ghost use Rattle.filters.specs.Chain.{format_of, last_format};
 ghost use Rattle.lease.specs.Canvases.{IsScratch};
 
 use crate::{GrantSpent, Job, JobRefused, JobSpec, Lease, OverRefused, Scratch};
@@ -26,6 +26,12 @@ const PAIR: Geometry = Geometry {
     chroma: Chroma::Mono,
 };
 
+const WIDE: Geometry = Geometry {
+    width: 2,
+    height: 1,
+    chroma: Chroma::Mono,
+};
+
 fn spec_of(alloc: Global, ops: &str, geometry: Geometry) -> Result<Arc<JobSpec>, Fail>
     ensures { IfOk result (λ spec. (arc_value spec).geometry ≡ geometry) }
 {
@@ -40,6 +46,13 @@ fn frame(alloc: Global, geometry: Geometry, line: &[u8], samples: &[u8]) -> Resu
 {
     check_frame_line(line)?;
     Ok(Frame::new(geometry, line.to_vec(alloc)?, samples.to_vec(alloc)?)?)
+}
+
+/// An image that was written back, of the size of the spec's images.
+fn image_of(alloc: Global, spec: &JobSpec, line: &[u8], samples: &[u8]) -> Result<Frame, Fail>
+    ensures { IfOk result (λ image. format_of image.geometry ≡ last_format spec.now.ops (format_of spec.now.geometry)) }
+{
+    frame(alloc, spec.chain().out_geometry(), line, samples)
 }
 
 /// A job that no step is done of.
@@ -194,23 +207,90 @@ fn each_step_writes_its_own_band(rt: HostRuntime) -> Result<(), Fail> {
     Ok(())
 }
 
+/// With and without want of memory.
 #[test]
-fn a_frame_of_another_size_comes_back(rt: HostRuntime) -> Result<(), Fail> {
+fn a_refused_frame_comes_back(rt: HostRuntime) -> Result<(), Fail> {
     let alloc = rt.alloc();
-    let wide = Geometry {
-        width: 2,
-        height: 1,
-        chroma: Chroma::Mono,
-    };
-    let spec = spec_of(alloc, "invert", COLUMN)?;
-    let source = Arc::new(alloc, frame(alloc, wide, b"FRAME", &[1, 2])?)?;
-    match Job::new(alloc, spec.clone()?, source) {
-        Err(JobRefused::WrongSize(source)) => {
-            assert_eq!(rt; source.data(), [1, 2].as_slice());
-            assert_eq!(rt; source.line(), b"FRAME".as_slice());
-        }
-        Err(JobRefused::NoMemory(_source)) => assert!(rt; false, "memory before size"),
+    let spec = spec_of(alloc, "invert", PAIR)?;
+    let wide = Arc::new(alloc, frame(alloc, WIDE, b"FRAME", &[1, 2])?)?;
+    match Job::new(alloc, spec.clone()?, wide) {
+        Err(JobRefused::WrongSize(source)) => assert_eq!(rt; source.data(), [1, 2].as_slice()),
+        Err(JobRefused::NoMemory(_source)) => assert!(rt; false, "the size comes first"),
         Ok(_job) => assert!(rt; false, "accepted"),
+    }
+    let source = Arc::new(alloc, frame(alloc, PAIR, b"FRAME Ip", &[3, 4])?)?;
+    match Job::new(alloc, spec.clone()?, source) {
+        Err(JobRefused::WrongSize(_source)) => assert!(rt; false, "the size is right"),
+        Err(JobRefused::NoMemory(source)) => {
+            assert_eq!(rt; source.data(), [3, 4].as_slice());
+            assert_eq!(rt; source.line(), b"FRAME Ip".as_slice());
+        }
+        Ok(job) => assert_eq!(rt; (job.steps(), job.done()), (1, 0)),
+    }
+    Ok(())
+}
+
+#[test]
+fn a_refused_image_comes_back(rt: HostRuntime) -> Result<(), Fail> {
+    let alloc = rt.alloc();
+    let spec = spec_of(alloc, "invert", PAIR)?;
+    let wide = Arc::new(alloc, frame(alloc, WIDE, b"FRAME", &[1, 2])?)?;
+    let image = image_of(alloc, &spec, b"FRAME", &[8, 9])?;
+    match Job::over(alloc, spec.clone()?, wide, image) {
+        Err(OverRefused::WrongSize(source, image)) => {
+            assert_eq!(rt; source.data(), [1, 2].as_slice());
+            assert_eq!(rt; image.data(), [8, 9].as_slice());
+        }
+        Err(OverRefused::NoMemory(_source, _image)) => assert!(rt; false, "the size comes first"),
+        Ok(_job) => assert!(rt; false, "accepted"),
+    }
+    let source = Arc::new(alloc, frame(alloc, PAIR, b"FRAME Ip", &[3, 4])?)?;
+    let image = image_of(alloc, &spec, b"FRAME It", &[8, 9])?;
+    match Job::over(alloc, spec.clone()?, source, image) {
+        Err(OverRefused::WrongSize(_source, _image)) => assert!(rt; false, "the size is right"),
+        Err(OverRefused::NoMemory(source, image)) => {
+            assert_eq!(rt; source.data(), [3, 4].as_slice());
+            assert_eq!(rt; image.data(), [8, 9].as_slice());
+            assert_eq!(rt; image.line(), b"FRAME It".as_slice());
+        }
+        Ok(job) => assert_eq!(rt; (job.steps(), job.done()), (1, 0)),
+    }
+    Ok(())
+}
+
+/// The samples of the image that is written over don't matter, but its line is its frame's.
+#[test]
+fn a_job_over_an_image_makes_its_own(rt: HostRuntime) -> Result<(), Fail> {
+    let alloc = rt.alloc();
+    let spec = spec_of(alloc, "blur:1+vflip", PAIR)?;
+    let source = Arc::new(alloc, frame(alloc, PAIR, b"FRAME Ip", &[9, 0])?)?;
+    let image = image_of(alloc, &spec, b"FRAME", &[200, 100])?;
+    let mut job = Job::over(alloc, spec.clone()?, source, image)?;
+    job.start(Scratch::new(alloc, &spec)?);
+    let mut job = stepped(&rt, job, 1);
+    job = stepped(&rt, job, 1);
+    assert_eq!(rt; job.done(), job.steps());
+    let (source, image, _) = job.into_image();
+    assert_eq!(rt; source.data(), [9, 0].as_slice());
+    assert_eq!(rt; image.data(), [3, 6].as_slice());
+    assert_eq!(rt; image.line(), b"FRAME Ip".as_slice());
+    Ok(())
+}
+
+/// It holds with each growth refused from the call on.
+#[test]
+fn an_image_of_an_equal_line_takes_no_memory(rt: HostRuntime) -> Result<(), Fail> {
+    let alloc = rt.alloc();
+    let spec = spec_of(alloc, "invert", PAIR)?;
+    let source = Arc::new(alloc, frame(alloc, PAIR, b"FRAME Ip", &[9, 0])?)?;
+    let image = image_of(alloc, &spec, b"FRAME Ip", &[200, 100])?;
+    match Job::over(alloc, spec, source, image) {
+        Err(_refused) => assert!(rt; false, "a growth was asked for"),
+        Ok(job) => {
+            let (source, image) = job.undo();
+            assert_eq!(rt; source.data(), [9, 0].as_slice());
+            assert_eq!(rt; image.data(), [200, 100].as_slice());
+        }
     }
     Ok(())
 }
