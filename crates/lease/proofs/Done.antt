@@ -1,5 +1,6 @@
 -- The steps that are done stay done.
-use Rattle.std.proofs.Common.{ℕ, ◌≡◌, ◌≢◌, ◌+◌, ◌*◌, ◌<◌, ◌≤◌, List, length, get_or, arith, sym, ap, ◌∙◌, subst, inl, inr}
+use Rattle.std.proofs.Common.{ℕ, ◌≡◌, ◌≢◌, ◌+◌, ◌*◌, ◌<◌, ◌≤◌, List, length, get_or, arith, sym, ap, ◌∙◌}
+use Rattle.std.proofs.Common.{subst, inl, inr}
 use Rattle.std.proofs.Math.Nat.{mul-le-mul_right}
 use Rattle.std.proofs.lemmas.Bool.{cases_order}
 use Rattle.std.proofs.lemmas.List.{get_or-set_same, get_or-set_other}
@@ -20,9 +21,11 @@ use Rattle.lease.specs.Job.{HoldsBand, AreDone, WritesBand, picture_of}
 
 -- the band that was written
 holds_new : (picture : ℕ → ℕ → ℕ → ℕ) (b k : ℕ) (old new : Frame)
-    → HasBand picture (luma_from b k) (luma_to old.geometry b k) (plane_count old.geometry.chroma) old new → HoldsBand picture b k new
+    → HasBand picture (luma_from b k) (luma_to old.geometry b k) (plane_count old.geometry.chroma) old new
+    → HoldsBand picture b k new
 holds_new picture b k old new band =
-    let Q : Geometry → Type 0 = λ g. (p y x : ℕ) → p < plane_count g.chroma → IsInBand g b k p y → x < plane_width g p
+    let Q : Geometry → Type 0 =
+    λ g. (p y x : ℕ) → p < plane_count g.chroma → IsInBand g b k p y → x < plane_width g p
     → sample g (samples_of new) p y x ≡ picture p y x in
     subst Q (sym band.geometry) (λ p y x hp hy hx. band.rows p y x hp hy.0 hy.1 hx)
 
@@ -34,13 +37,16 @@ row_above g b j k p y h at =
 
 -- a band above the one that was written
 holds_still : (picture other : ℕ → ℕ → ℕ → ℕ) (b j k : ℕ) (old new : Frame) → j < k
-    → HasBand picture (luma_from b k) (luma_to old.geometry b k) (plane_count old.geometry.chroma) old new → HoldsBand other b j old → HoldsBand other b j new
+    → HasBand picture (luma_from b k) (luma_to old.geometry b k) (plane_count old.geometry.chroma) old new
+    → HoldsBand other b j old → HoldsBand other b j new
 holds_still picture other b j k old new h band holds =
-    let Q : Geometry → Type 0 = λ g. (p y x : ℕ) → p < plane_count g.chroma → IsInBand g b j p y → x < plane_width g p
+    let Q : Geometry → Type 0 =
+    λ g. (p y x : ℕ) → p < plane_count g.chroma → IsInBand g b j p y → x < plane_width g p
     → sample g (samples_of new) p y x ≡ other p y x in
     subst Q (sym band.geometry)
     (λ p y x hp hy hx.
-    let within : y < plane_height old.geometry p = omega (arith, hy.1, inside old.geometry p (luma_to old.geometry b j) (omega arith)) in
+    let within : y < plane_height old.geometry p =
+    omega (arith, hy.1, inside old.geometry p (luma_to old.geometry b j) (omega arith)) in
     band.others p y x hp within hx (inr (inl (row_above old.geometry b j k p y h hy))) ∙ holds p y x hp hy hx)
 
 -- what stands in a frame that wasn't written, and what it is made of, are as before
@@ -50,30 +56,39 @@ holds_elsewhere : (chain : ChainValue) (frames frames' : List Frame) (i m : ℕ)
     → HoldsBand (picture_of chain frames' i o d) chain.band_height.rows m (get_or frames' (i + 1) d)
 holds_elsewhere chain frames frames' i m o d e f holds = rw (e, f) holds
 
-pub done_more : (chain : ChainValue) (frames frames' : List Frame) (k op band : ℕ) → IsStep (counts_of chain) k op band → op + 1 < length frames
+pub done_more : (chain : ChainValue) (frames frames' : List Frame) (k op band : ℕ)
+    → IsStep (counts_of chain) k op band → op + 1 < length frames
     → WritesBand chain op band frames frames' → AreDone chain frames k → AreDone chain frames' (k + 1)
 done_more chain frames frames' k op band s h written done j i m o d l t =
     let b = chain.band_height.rows in
-    let same_at : (n : ℕ) → n ≢ op + 1 → get_or frames' n d ≡ get_or frames n d = λ n e. ap (λ fs. get_or fs n d) written.others ∙ get_or-set_other frames (op + 1) n written.image d e in
+    let same_at : (n : ℕ) → n ≢ op + 1 → get_or frames' n d ≡ get_or frames n d =
+    λ n e. ap (λ fs. get_or fs n d) written.others ∙ get_or-set_other frames (op + 1) n written.image d e in
     elim (cases_order i op) [
       | inl at ↦
           let image : get_or frames' (i + 1) d ≡ written.image =
-          ap (λ n. get_or frames' (n + 1) d) at ∙ ap (λ fs. get_or fs (op + 1) d) written.others ∙ get_or-set_same frames (op + 1) written.image d h in
-          let source : get_or frames' i d ≡ get_or frames op d = same_at i (omega (arith, at)) ∙ ap (λ n. get_or frames n d) at in
+          ap (λ n. get_or frames' (n + 1) d) at ∙ ap (λ fs. get_or fs (op + 1) d) written.others
+          ∙ get_or-set_same frames (op + 1) written.image d h in
+          let source : get_or frames' i d ≡ get_or frames op d = same_at i (omega (arith, at))
+          ∙ ap (λ n. get_or frames n d) at in
           elim (cases_order m band) [
             | inl one ↦ rw (image, source, at, one) (holds_new _ b band _ written.image (written.rows o d))
             | inr order ↦ elim order [
               | inl above ↦
                   let before : j < k = omega (arith, s.number, rw at at t.number, above) in
-                  let held : HoldsBand (picture_of chain frames op o d) b m (get_or frames (op + 1) d) = rw at at (done j i m o d before t) in
-                  rw (image, source, at) (holds_still _ _ b m band _ written.image above (written.rows o d) held)
+                  let held : HoldsBand (picture_of chain frames op o d) b m (get_or frames (op + 1) d) =
+                  rw at at (done j i m o d before t) in
+                  rw (image, source, at)
+                  (holds_still _ _ b m band _ written.image above (written.rows o d) held)
               | inr below ↦ absurd (omega (arith, s.number, rw at at t.number, below, l))
             ]
           ]
       | inr order ↦ elim order [
         | inl earlier ↦
-            let before : j < k = omega (arith, t.number, step_after (counts_of chain) k op band i m s earlier t.of_op) in
-            holds_elsewhere chain frames frames' i m o d (same_at i (omega (arith, earlier))) (same_at (i + 1) (omega (arith, earlier))) (done j i m o d before t)
-        | inr later ↦ absurd (omega (arith, s.number, step_after (counts_of chain) j i m op band t later s.of_op, l))
+            let before : j < k =
+            omega (arith, t.number, step_after (counts_of chain) k op band i m s earlier t.of_op) in
+            holds_elsewhere chain frames frames' i m o d (same_at i (omega (arith, earlier)))
+            (same_at (i + 1) (omega (arith, earlier))) (done j i m o d before t)
+        | inr later ↦
+            absurd (omega (arith, s.number, step_after (counts_of chain) j i m op band t later s.of_op, l))
       ]
     ]

@@ -1,5 +1,6 @@
 -- A job whose steps are all done has the chain's image.
-use Rattle.std.proofs.Common.{ℕ, ◌≡◌, ◌+◌, ◌<◌, ◌≤◌, zero, suc, List, length, take, sum, get_or, Some, arith, refl, sym, ap, ◌∙◌, subst, add-one, inl, inr}
+use Rattle.std.proofs.Common.{ℕ, ◌≡◌, ◌+◌, ◌<◌, ◌≤◌, zero, suc, List, length, take, sum, get_or, Some, arith}
+use Rattle.std.proofs.Common.{refl, sym, ap, ◌∙◌, subst, add-one, inl, inr}
 use Rattle.std.proofs.lemmas.Bool.{cases_order}
 use Rattle.std.proofs.lemmas.List.{take_all}
 use Rattle.y4m_header.specs.Chroma.{plane_count}
@@ -26,56 +27,74 @@ use Rattle.lease.proofs.Jobs.{frames_started}
 
 -- the frames have the formats of the chain
 record AreShaped (chain : ChainValue) (frames : List Frame) : Type 0 where
-  format : (i : ℕ) (d : Frame) → i ≤ length chain.ops → format_of (get_or frames i d).geometry ≡ format_at chain i
+  format : (i : ℕ) (d : Frame) → i ≤ length chain.ops → format_of (get_or frames i d).geometry
+      ≡ format_at chain i
 
 -- each pixel of an operation's image is in a band of it, and that band's step is done
-all_pixels : (chain : ChainValue) (frames : List Frame) (i : ℕ) (o : Op) (d : Frame) → i < length chain.ops → AreShaped chain frames → AreDone chain frames (steps_of chain)
+all_pixels : (chain : ChainValue) (frames : List Frame) (i : ℕ) (o : Op) (d : Frame) → i < length chain.ops
+    → AreShaped chain frames → AreDone chain frames (steps_of chain)
     → let image = get_or frames (i + 1) d in
-    (p y x : ℕ) → p < plane_count image.geometry.chroma → y < plane_height image.geometry p → x < plane_width image.geometry p
+    (p y x : ℕ) → p < plane_count image.geometry.chroma → y < plane_height image.geometry p
+    → x < plane_width image.geometry p
     → sample image.geometry (samples_of image) p y x ≡ picture_of chain frames i o d p y x
 all_pixels chain frames i o d h shaped done p y x hp hy hx =
     let image = get_or frames (i + 1) d in
     let b = chain.band_height.rows in
     let within : i < length (counts_of chain) = rw length-band_counts h in
-    let count : band_count image.geometry b ≡ get_or (counts_of chain) i 0 = count_of_output chain i image.geometry within (shaped.format (i + 1) d (omega (arith, h))) in
-    let band = each_row_in_one_band image.geometry b chain.band_height.some chain.band_height.even p y hp hy in
+    let count : band_count image.geometry b ≡ get_or (counts_of chain) i 0 =
+    count_of_output chain i image.geometry within (shaped.format (i + 1) d (omega (arith, h))) in
+    let band =
+    each_row_in_one_band image.geometry b chain.band_height.some chain.band_height.even p y hp hy in
     let inside : band.0 < get_or (counts_of chain) i 0 = rw count at band.1 in
-    let step : IsStep (counts_of chain) (sum (take i (counts_of chain)) + band.0) i band.0 = record { of_chain = within; of_op = inside; number = refl } in
-    done (sum (take i (counts_of chain)) + band.0) i band.0 o d (step_within (counts_of chain) i band.0 within inside) step p y x hp band.2 hx
+    let step : IsStep (counts_of chain) (sum (take i (counts_of chain)) + band.0) i band.0 =
+    record { of_chain = within; of_op = inside; number = refl } in
+    done (sum (take i (counts_of chain)) + band.0) i band.0 o d
+    (step_within (counts_of chain) i band.0 within inside) step p y x hp band.2 hx
 
 -- a frame, with another line
 abbrev lined : List ℕ → Frame → FrameValue
 lined line frame = record { geometry = frame.geometry; line = line; samples = samples_of frame }
 
-one_image : (chain : ChainValue) (frames : List Frame) (line : List ℕ) (i : ℕ) (o : Op) (d : Frame) → i < length chain.ops → AreShaped chain frames
-    → AreDone chain frames (steps_of chain) → IsOpImage (get_or chain.ops i o) (lined line (get_or frames i d)) (lined line (get_or frames (i + 1) d))
+one_image : (chain : ChainValue) (frames : List Frame) (line : List ℕ) (i : ℕ) (o : Op) (d : Frame)
+    → i < length chain.ops → AreShaped chain frames
+    → AreDone chain frames (steps_of chain)
+    → IsOpImage (get_or chain.ops i o) (lined line (get_or frames i d)) (lined line (get_or frames (i + 1) d))
 one_image chain frames line i o d h shaped done = record {
-  geometry = image_at chain i o _ _ h (shaped.format i d (omega (arith, h))) (shaped.format (i + 1) d (omega (arith, h)));
+  geometry = image_at chain i o _ _ h (shaped.format i d (omega (arith, h)))
+      (shaped.format (i + 1) d (omega (arith, h)));
   line = refl;
   whole = let image = get_or frames (i + 1) d in omega (arith, image.fits, image.samples.ok);
   pixels = all_pixels chain frames i o d h shaped done;
 }
 
-first_images : (chain : ChainValue) (frames : List Frame) (line : List ℕ) (o : Op) (d : Frame) → AreShaped chain frames → AreDone chain frames (steps_of chain)
-    → (n : ℕ) → n ≤ length chain.ops → IsChainImage (take n chain.ops) (lined line (get_or frames 0 d)) (lined line (get_or frames n d))
+first_images : (chain : ChainValue) (frames : List Frame) (line : List ℕ) (o : Op) (d : Frame)
+    → AreShaped chain frames → AreDone chain frames (steps_of chain)
+    → (n : ℕ) → n ≤ length chain.ops
+    → IsChainImage (take n chain.ops) (lined line (get_or frames 0 d)) (lined line (get_or frames n d))
 first_images chain frames line o d shaped done zero h = refl
 first_images chain frames line o d shaped done (suc i) h =
-    let more : IsChainImage (take (i + 1) chain.ops) (lined line (get_or frames 0 d)) (lined line (get_or frames (i + 1) d)) =
-    image_more chain.ops _ _ _ i o (omega arith) (first_images chain frames line o d shaped done i (omega arith)) (one_image chain frames line i o d (omega arith) shaped done) in
+    let more : IsChainImage (take (i + 1) chain.ops) (lined line (get_or frames 0 d))
+    (lined line (get_or frames (i + 1) d)) =
+    image_more chain.ops _ _ _ i o (omega arith)
+    (first_images chain frames line o d shaped done i (omega arith))
+    (one_image chain frames line i o d (omega arith) shaped done) in
     rw add-one at more
 
-shaped : (job : JobValue) (scratch : List Canvas) → IsJob job → IsScratch job.chain scratch → AreShaped job.chain (frames_by job.source scratch job.canvas)
+shaped : (job : JobValue) (scratch : List Canvas) → IsJob job → IsScratch job.chain scratch
+    → AreShaped job.chain (frames_by job.source scratch job.canvas)
 shaped job scratch is fits = record {
   format = λ i d h. elim (cases_order i (length scratch + 1)) [
     | inl last ↦ rw last (format_last job.chain job.source scratch job.canvas d fits is.canvas)
     | inr order ↦ elim order [
-      | inl below ↦ format_between job.chain job.source scratch job.canvas i d is.geometry fits (omega (arith, below))
+      | inl below ↦
+          format_between job.chain job.source scratch job.canvas i d is.geometry fits (omega (arith, below))
       | inr above ↦ absurd (omega (arith, h, above, fits.count))
     ]
   ];
 }
 
-pub image_of_job : (job : JobValue) (scratch : List Canvas) → IsJob job → job.scratch ≡ Some scratch → job.done ≡ steps_of job.chain
+pub image_of_job : (job : JobValue) (scratch : List Canvas) → IsJob job → job.scratch ≡ Some scratch
+    → job.done ≡ steps_of job.chain
     → IsChainImage job.chain.ops (value_of job.source) (value_of (frame_of job.canvas))
 image_of_job job scratch is e all =
     let chain = job.chain in
@@ -83,11 +102,18 @@ image_of_job job scratch is e all =
     let fits = is.scratch scratch e in
     let P : List Frame → Type 0 = λ fs. AreDone chain fs job.done in
     let Q : ℕ → Type 0 = λ n. AreDone chain frames n in
-    let done : AreDone chain frames (steps_of chain) = subst Q all (subst P (frames_started job scratch e) is.are_done) in
-    let images = first_images chain frames (line_of job.source) HFlip job.source (shaped job scratch is fits) done (length chain.ops) (omega arith) in
+    let done : AreDone chain frames (steps_of chain) =
+    subst Q all (subst P (frames_started job scratch e) is.are_done) in
+    let images =
+    first_images chain frames (line_of job.source) HFlip job.source (shaped job scratch is fits) done
+    (length chain.ops) (omega arith) in
     let last : get_or frames (length chain.ops) job.source ≡ frame_of job.canvas =
-    ap (λ n. get_or frames n job.source) (sym fits.count) ∙ frame_last job.source scratch job.canvas job.source in
-    let R : List Op → Type 0 = λ ops. IsChainImage ops (value_of job.source) (lined (line_of job.source) (get_or frames (length chain.ops) job.source)) in
+    ap (λ n. get_or frames n job.source) (sym fits.count)
+    ∙ frame_last job.source scratch job.canvas job.source in
+    let R : List Op → Type 0 =
+    λ ops. IsChainImage ops (value_of job.source)
+    (lined (line_of job.source) (get_or frames (length chain.ops) job.source)) in
     let S : FrameValue → Type 0 = λ image. IsChainImage chain.ops (value_of job.source) image in
-    subst S (ap (lined (line_of job.source)) last ∙ ap (λ line. lined line (frame_of job.canvas)) (sym is.line))
+    subst S (ap (lined (line_of job.source)) last ∙ ap (λ line. lined line (frame_of job.canvas))
+    (sym is.line))
     (subst R (take_all (length chain.ops) chain.ops (omega arith)) images)

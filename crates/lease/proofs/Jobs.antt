@@ -14,12 +14,16 @@ use Rattle.lease.specs.Job.{JobValue, IsJob, AreDone, WritesBand, StepsOn, frame
 abbrev pub stepped : JobValue → List Canvas → Canvas → JobValue
 stepped job scratch canvas = record job { scratch = Some scratch; canvas = canvas; done = job.done + 1 }
 
-pub frames_started : (job : JobValue) (scratch : List Canvas) → job.scratch ≡ Some scratch → frames_of job ≡ frames_by job.source scratch job.canvas
+pub frames_started : (job : JobValue) (scratch : List Canvas) → job.scratch ≡ Some scratch
+    → frames_of job ≡ frames_by job.source scratch job.canvas
 frames_started job scratch e = ap (λ held. frames_by job.source (unwrap_or held []) job.canvas) e
 
-pub stays_job : (job : JobValue) (scratch scratch' : List Canvas) (canvas : Canvas) → IsJob job → job.scratch ≡ Some scratch → job.done < steps_of job.chain
-    → IsScratch job.chain scratch' → IsCanvasAfter job.chain (length job.chain.ops) canvas → line_of (frame_of canvas) ≡ line_of (frame_of job.canvas)
-    → (AreDone job.chain (frames_by job.source scratch job.canvas) job.done → AreDone job.chain (frames_by job.source scratch' canvas) (job.done + 1))
+pub stays_job : (job : JobValue) (scratch scratch' : List Canvas) (canvas : Canvas) → IsJob job
+    → job.scratch ≡ Some scratch → job.done < steps_of job.chain
+    → IsScratch job.chain scratch' → IsCanvasAfter job.chain (length job.chain.ops) canvas
+    → line_of (frame_of canvas) ≡ line_of (frame_of job.canvas)
+    → (AreDone job.chain (frames_by job.source scratch job.canvas) job.done → AreDone job.chain
+    (frames_by job.source scratch' canvas) (job.done + 1))
     → IsJob (stepped job scratch' canvas)
 stays_job job scratch scratch' canvas is e left fits size line next =
     let P : List Frame → Type 0 = λ frames. AreDone job.chain frames job.done in
@@ -33,12 +37,15 @@ stays_job job scratch scratch' canvas is e left fits size line next =
       are_done = next (subst P (frames_started job scratch e) is.are_done);
     }
 
-pub steps_on : (job : JobValue) (scratch scratch' : List Canvas) (canvas : Canvas) → job.scratch ≡ Some scratch
-    → ((op band : ℕ) → IsStep (counts_of job.chain) job.done op band → WritesBand job.chain op band (frames_by job.source scratch job.canvas) (frames_by job.source scratch' canvas))
+pub steps_on : (job : JobValue) (scratch scratch' : List Canvas) (canvas : Canvas)
+    → job.scratch ≡ Some scratch
+    → ((op band : ℕ) → IsStep (counts_of job.chain) job.done op band → WritesBand job.chain op band
+    (frames_by job.source scratch job.canvas) (frames_by job.source scratch' canvas))
     → StepsOn job (stepped job scratch' canvas)
 steps_on job scratch scratch' canvas e written = record {
   kept = refl;
   written = λ op band is.
-      let P : List Frame → Type 0 = λ frames. WritesBand job.chain op band frames (frames_by job.source scratch' canvas) in
+      let P : List Frame → Type 0 =
+      λ frames. WritesBand job.chain op band frames (frames_by job.source scratch' canvas) in
       subst P (sym (frames_started job scratch e)) (written op band is);
 }

@@ -13,5 +13,7 @@ pub record IsCanvasAfter (chain : ChainValue) (count : ℕ) (canvas : Canvas) : 
 -- a canvas for each operation but the last
 pub record IsScratch (chain : ChainValue) (canvases : List Canvas) : Type 0 where
   pub count : length canvases + 1 ≡ length chain.ops
-  pub each : (i : ℕ) (d : Canvas) → i < length canvases → IsCanvasAfter chain (i + 1) (slice_index_or canvases i d)
-  pub lines : (i : ℕ) (d : Canvas) → i < length canvases → line_of (frame_of (slice_index_or canvases i d)) ≡ codes "FRAME"
+  pub each : (i : ℕ) (d : Canvas) → i < length canvases
+      → IsCanvasAfter chain (i + 1) (slice_index_or canvases i d)
+  pub lines : (i : ℕ) (d : Canvas) → i < length canvases
+      → line_of (frame_of (slice_index_or canvases i d)) ≡ codes "FRAME"

@@ -1,5 +1,6 @@
 -- A job: a frame, and what was made of it by now.
-use Rattle.std.specs.Prelude.{◌≡◌, ℕ, ◌+◌, ◌<◌, ◌≤◌, List, [], ◌∷◌, ◌++◌, length, map, Option, Some, None, slice_index_or, slice_set}
+use Rattle.std.specs.Prelude.{◌≡◌, ℕ, ◌+◌, ◌<◌, ◌≤◌, Option, Some, None}
+use Rattle.std.specs.Prelude.{List, [], ◌∷◌, ◌++◌, length, map, slice_index_or, slice_set}
 use Rattle.std.specs.Option.{unwrap_or}
 use Rattle.y4m_header.specs.Chroma.{plane_count}
 use Rattle.frame_view.specs.declared.frame.Frame.{Frame}
@@ -26,8 +27,8 @@ pub record JobValue : Type 0 where
   -- how many steps are done
   pub done : ℕ
 
--- the source, and then what stands in the canvas of each operation: an operation is done on one of these frames, and
--- the next one becomes its image
+-- the source, and then what stands in the canvas of each operation: an operation is done on one of these
+-- frames, and the next one becomes its image
 abbrev pub frames_by : Frame → List Canvas → Canvas → List Frame
 frames_by source scratch canvas = source ∷ map frame_of (scratch ++ canvas ∷ [])
 
@@ -42,13 +43,15 @@ picture_of chain frames op o d =
 
 -- the rows of band k are the picture's
 abbrev pub HoldsBand : (ℕ → ℕ → ℕ → ℕ) → ℕ → ℕ → Frame → Type 0
-HoldsBand picture b k frame = (p y x : ℕ) → p < plane_count frame.geometry.chroma → IsInBand frame.geometry b k p y → x < plane_width frame.geometry p
+HoldsBand picture b k frame = (p y x : ℕ) → p < plane_count frame.geometry.chroma
+    → IsInBand frame.geometry b k p y → x < plane_width frame.geometry p
     → sample frame.geometry (samples_of frame) p y x ≡ picture p y x
 
 -- the first steps are done: the band of each holds the rows of its operation's image
 abbrev pub AreDone : ChainValue → List Frame → ℕ → Type 0
-AreDone chain frames done = (k op band : ℕ) (o : Op) (d : Frame) → k < done → IsStep (counts_of chain) k op band
-    → HoldsBand (picture_of chain frames op o d) chain.band_height.rows band (slice_index_or frames (op + 1) d)
+AreDone chain frames done = (k op band : ℕ) (o : Op) (d : Frame) → k < done
+    → IsStep (counts_of chain) k op band → HoldsBand (picture_of chain frames op o d)
+    chain.band_height.rows band (slice_index_or frames (op + 1) d)
 
 -- what a job always is
 pub record IsJob (job : JobValue) : Type 0 where
@@ -62,7 +65,13 @@ pub record IsJob (job : JobValue) : Type 0 where
 
 -- a job that no step is done of
 abbrev pub waiting : ChainValue → Frame → Canvas → JobValue
-waiting chain source canvas = record { chain = chain; source = source; scratch = None; canvas = canvas; done = 0 }
+waiting chain source canvas = record {
+  chain = chain;
+  source = source;
+  scratch = None;
+  canvas = canvas;
+  done = 0;
+}
 
 -- this band of this operation's image is written, and all else stays
 pub record WritesBand (chain : ChainValue) (op band : ℕ) (frames frames' : List Frame) : Type 0 where
@@ -70,9 +79,11 @@ pub record WritesBand (chain : ChainValue) (op band : ℕ) (frames frames' : Lis
   pub others : frames' ≡ slice_set frames (op + 1) image
   pub rows : (o : Op) (d : Frame) → let before = slice_index_or frames (op + 1) d in
       let b = chain.band_height.rows in
-      HasBand (picture_of chain frames op o d) (luma_from b band) (luma_to before.geometry b band) (plane_count before.geometry.chroma) before image
+      HasBand (picture_of chain frames op o d) (luma_from b band) (luma_to before.geometry b band)
+      (plane_count before.geometry.chroma) before image
 
 -- one step more is done: its band is written, and all else stays
 pub record StepsOn (old new : JobValue) : Type 0 where
   pub kept : new ≡ record old { scratch = new.scratch; canvas = new.canvas; done = old.done + 1 }
-  pub written : (op band : ℕ) → IsStep (counts_of old.chain) old.done op band → WritesBand old.chain op band (frames_of old) (frames_of new)
+  pub written : (op band : ℕ) → IsStep (counts_of old.chain) old.done op band
+      → WritesBand old.chain op band (frames_of old) (frames_of new)

@@ -13,8 +13,8 @@ use std::sync::Arc;
 
 /// A frame that is filtered step by step, and keeps what is done.
 ///
-/// It has the canvas of the last operation from the beginning, which becomes the image. Those of the operations before
-/// it come with the scratch when the job starts, and go when the image is taken.
+/// It has the canvas of the last operation from the beginning, which becomes the image. Those of the
+/// operations before it come with the scratch when the job starts, and go when the image is taken.
 #[derive(Debug, Drop)]
 pub struct Job {
     spec: Arc<JobSpec>,
@@ -37,7 +37,8 @@ impl Model for Job {
 }
 
 impl Job {
-    ghost use Rattle.std.specs.Prelude.{◌≡◌, ◌≢◌, ◌<◌, ◌≤◌, ◌↔◌, Some, None, IsSome, IfOk, IfErr, IsErrOf, length, slice_get};
+    ghost use Rattle.std.specs.Prelude.{◌≡◌, ◌≢◌, ◌<◌, ◌≤◌, ◌↔◌, length, slice_get};
+    ghost use Rattle.std.specs.Prelude.{Some, None, IsSome, IfOk, IfErr, IsErrOf};
     ghost use Rattle.std.specs.Arc.{arc_value};
     ghost use Rattle.frame_view.specs.Frame.{line_of, samples_of};
     ghost use Rattle.row_bands.specs.Canvas.{frame_of};
@@ -50,10 +51,12 @@ impl Job {
     ghost use Rattle.lease.specs.Refused.{frame_in, frame_beside, image_in};
 
     /// A job that no step is done of. A refused frame comes back.
+    #[tactic(auto, using(filters::proofs::ChainImages::is_frame_line))]
     pub fn new(alloc: Global, spec: Arc<JobSpec>, source: Arc<Frame>) -> Result<Job, JobRefused>
         ensures ok { IfOk result (λ job. job ≡ waiting (arc_value spec) (arc_value source) job.canvas) }
         ensures line { IfOk result (λ job. line_of (frame_of job.canvas) ≡ line_of (arc_value source)) }
-        ensures wrong_size { IsErrOf result (JobRefused.WrongSize source) ↔ ((arc_value source).geometry ≢ (arc_value spec).geometry) }
+        ensures wrong_size { IsErrOf result (JobRefused.WrongSize source)
+            ↔ ((arc_value source).geometry ≢ (arc_value spec).geometry) }
         ensures back { IfErr result (λ refused. frame_in refused ≡ source) }
     {
         if !is_same_geometry(source.geometry(), spec.chain().geometry()) {
@@ -71,20 +74,25 @@ impl Job {
         }
     }
 
-    /// A job that no step is done of, in the memory of an image that isn't needed any more. It takes memory only for the
-    /// frame's line, and only where the image has another. A refused frame comes back with the image.
+    /// A job that no step is done of, in the memory of an image that isn't needed any more. It takes memory
+    /// only for the frame's line, and only where the image has another. A refused frame comes back with the
+    /// image.
+    #[tactic(auto, using(filters::proofs::ChainImages::is_frame_line))]
     pub fn over(
         alloc: Global,
         spec: Arc<JobSpec>,
         source: Arc<Frame>,
         image: Frame,
     ) -> Result<Job, OverRefused>
-        requires { format_of image.geometry ≡ last_format (arc_value spec).ops (format_of (arc_value spec).geometry) }
+        requires { format_of image.geometry
+            ≡ last_format (arc_value spec).ops (format_of (arc_value spec).geometry) }
         ensures ok { IfOk result (λ job. job ≡ waiting (arc_value spec) (arc_value source) job.canvas) }
         ensures line { IfOk result (λ job. line_of (frame_of job.canvas) ≡ line_of (arc_value source)) }
         ensures samples { IfOk result (λ job. samples_of (frame_of job.canvas) ≡ samples_of image) }
-        ensures wrong_size { IsErrOf result (OverRefused.WrongSize source image) ↔ ((arc_value source).geometry ≢ (arc_value spec).geometry) }
-        ensures memory { IfErr result (λ refused. (arc_value source).geometry ≡ (arc_value spec).geometry → line_of image ≢ line_of (arc_value source)) }
+        ensures wrong_size { IsErrOf result (OverRefused.WrongSize source image)
+            ↔ ((arc_value source).geometry ≢ (arc_value spec).geometry) }
+        ensures memory { IfErr result (λ _. (arc_value source).geometry ≡ (arc_value spec).geometry
+            → line_of image ≢ line_of (arc_value source)) }
         ensures back { IfErr result (λ refused. frame_beside refused ≡ source) }
         ensures image_back { IfErr result (λ refused. value_of (image_in refused) ≡ value_of image) }
     {
@@ -155,7 +163,8 @@ impl Job {
         requires { self.done ≡ steps_of self.chain }
         ensures source { arc_value result.0 ≡ self.source }
         ensures image { IsChainImage self.chain.ops (value_of self.source) (value_of result.1) }
-        ensures format { format_of result.1.geometry ≡ last_format self.chain.ops (format_of self.chain.geometry) }
+        ensures format { format_of result.1.geometry
+            ≡ last_format self.chain.ops (format_of self.chain.geometry) }
         ensures scratch { self.scratch ≡ Some result.2 }
         ensures fits { IsScratch self.chain result.2 }
     {

@@ -66,8 +66,10 @@ impl Lease {
         ensures source { self.new.job.source ≡ self.old.job.source }
         ensures done { OnOk result (self.new.job.done ≡ self.old.job.done + 1) }
         ensures step { OnOk result (StepsOn self.old.job self.new.job) }
-        ensures used { OnOk result (self.new ≡ record self.old { job = self.new.job; used = self.old.used + 1 }) }
-        ensures spent { OnOk result (spent_of self.new ≡ spent_of self.old + slice_index (step_costs self.old.job.chain) self.old.job.done) }
+        ensures used { OnOk result (self.new
+            ≡ record self.old { job = self.new.job; used = self.old.used + 1 }) }
+        ensures spent { OnOk result (spent_of self.new
+            ≡ spent_of self.old + slice_index (step_costs self.old.job.chain) self.old.job.done) }
     {
         if self.used == self.granted {
             return Err(GrantSpent);

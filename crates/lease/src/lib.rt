@@ -1,7 +1,7 @@
 //! A frame that is filtered step by step: its job, and the leases under which workers do the steps.
 //!
-//! Contracts see a [`Job`] as the `JobValue` of `specs/Job.antt`, whose frames are the source and what stands in the
-//! canvas of each operation, and a [`Lease`] as the `LeaseValue` of `specs/Lease.antt`.
+//! Contracts see a [`Job`] as the `JobValue` of `specs/Job.antt`, whose frames are the source and what stands
+//! in the canvas of each operation, and a [`Lease`] as the `LeaseValue` of `specs/Lease.antt`.
 #![tactic(auto)]
 
 pub mod job;

@@ -13,7 +13,8 @@ use row_bands::Canvas;
 
 /// What the operation after these canvases is done on.
 fn reaching<'a>(source: &'a Frame, before: &'a [Canvas]) -> &'a Frame
-    ensures { result.now ≡ slice_index_or (source.now ∷ map frame_of before.now) (length before.now) source.now }
+    ensures { result.now
+        ≡ slice_index_or (source.now ∷ map frame_of before.now) (length before.now) source.now }
 {
     match before.last() {
         None => source,
@@ -28,7 +29,8 @@ fn write_between(chain: &Chain, op: usize, band: usize, source: &Frame, scratch:
     requires source { source.now.geometry ≡ chain.now.geometry }
     requires scratch { IsScratch chain.now scratch.old }
     ensures scratch { IsScratch chain.now scratch.new }
-    ensures written { (last : Canvas) → WritesBand chain.now op band (frames_by source.now scratch.old last) (frames_by source.now scratch.new last) }
+    ensures written { (last : Canvas) → WritesBand chain.now op band
+        (frames_by source.now scratch.old last) (frames_by source.now scratch.new last) }
 {
     let (before, rest) = scratch.split_at_mut(op);
     apply_at(chain.op(op), reaching(source, before), &mut rest[0], band);
@@ -42,7 +44,8 @@ fn write_last(chain: &Chain, band: usize, source: &Frame, scratch: &[Canvas], ca
     requires canvas { IsCanvasAfter chain.now (length chain.now.ops) canvas.old }
     ensures canvas { IsCanvasAfter chain.now (length chain.now.ops) canvas.new }
     ensures line { line_of (frame_of canvas.new) ≡ line_of (frame_of canvas.old) }
-    ensures written { WritesBand chain.now (length scratch.now) band (frames_by source.now scratch.now canvas.old) (frames_by source.now scratch.now canvas.new) }
+    ensures written { WritesBand chain.now (length scratch.now) band
+        (frames_by source.now scratch.now canvas.old) (frames_by source.now scratch.now canvas.new) }
 {
     apply_at(
         chain.op(scratch.len()),
@@ -67,8 +70,8 @@ pub fn write_step(
     ensures scratch { IsScratch chain.now scratch.new }
     ensures canvas { IsCanvasAfter chain.now (length chain.now.ops) canvas.new }
     ensures line { line_of (frame_of canvas.new) ≡ line_of (frame_of canvas.old) }
-    ensures written { (op band : ℕ) → IsStep (counts_of chain.now) k op band
-        → WritesBand chain.now op band (frames_by source.now scratch.old canvas.old) (frames_by source.now scratch.new canvas.new) }
+    ensures written { (op band : ℕ) → IsStep (counts_of chain.now) k op band → WritesBand chain.now op band
+        (frames_by source.now scratch.old canvas.old) (frames_by source.now scratch.new canvas.new) }
     ensures done { AreDone chain.now (frames_by source.now scratch.old canvas.old) k
         → AreDone chain.now (frames_by source.now scratch.new canvas.new) (k + 1) }
 {

@@ -50,7 +50,8 @@ fn frame(alloc: Global, geometry: Geometry, line: &[u8], samples: &[u8]) -> Resu
 
 /// An image that was written back, of the size of the spec's images.
 fn image_of(alloc: Global, spec: &JobSpec, line: &[u8], samples: &[u8]) -> Result<Frame, Fail>
-    ensures { IfOk result (λ image. format_of image.geometry ≡ last_format spec.now.ops (format_of spec.now.geometry)) }
+    ensures { IfOk result (λ image.
+        format_of image.geometry ≡ last_format spec.now.ops (format_of spec.now.geometry)) }
 {
     frame(alloc, spec.chain().out_geometry(), line, samples)
 }

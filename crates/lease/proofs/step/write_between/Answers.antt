@@ -8,11 +8,13 @@ use Rattle.lease.proofs.Writing.{writes, band_inside, same_size, scratch_set, re
 use Rattle.lease.proofs.step.write_between.Goals as goal
 
 -- what reaches the operation
-reached_format : (c : goal.After-index-rest-0) → format_of c.reaching.result.now.geometry ≡ format_at c.args.chain.now c.args.op
+reached_format : (c : goal.After-index-rest-0)
+    → format_of c.reaching.result.now.geometry ≡ format_at c.args.chain.now c.args.op
 reached_format c =
     let parts = c.split_at_mut-before.ensures in
     ap (λ frame. format_of frame.geometry) c.reaching.ensures
-    ∙ format_reached _ _ c.args.scratch.now _ _ c.args.op c.index-rest-0.result c.requires.source c.requires.scratch parts.value parts.front_len (omega (arith, c.requires.op))
+    ∙ format_reached _ _ c.args.scratch.now _ _ c.args.op c.index-rest-0.result c.requires.source
+    c.requires.scratch parts.value parts.front_len (omega (arith, c.requires.op))
 
 pub apply_at-requires-clause-doable : goal.apply_at-requires-clause-doable
 apply_at-requires-clause-doable c = c.op.ensures.doable c.reaching.result.now.geometry (reached_format c)
@@ -20,14 +22,19 @@ apply_at-requires-clause-doable c = c.op.ensures.doable c.reaching.result.now.ge
 pub apply_at-requires-clause-image : goal.apply_at-requires-clause-image
 apply_at-requires-clause-image c =
     let parts = c.split_at_mut-before.ensures in
-    let old = rest_is _ _ _ _ c.args.op c.index-rest-0.result c.requires.scratch c.requires.op parts.value parts.front_len in
+    let old =
+    rest_is _ _ _ _ c.args.op c.index-rest-0.result c.requires.scratch c.requires.op parts.value
+    parts.front_len in
     c.op.ensures.image c.reaching.result.now.geometry _ (reached_format c) old.format
 
 pub apply_at-requires-clause-band : goal.apply_at-requires-clause-band
 apply_at-requires-clause-band c =
     let parts = c.split_at_mut-before.ensures in
-    let old = rest_is _ _ _ _ c.args.op c.index-rest-0.result c.requires.scratch c.requires.op parts.value parts.front_len in
-    band_inside c.args.chain.now c.args.op c.args.band _ (omega (arith, c.requires.op, c.requires.scratch.count)) old c.requires.band
+    let old =
+    rest_is _ _ _ _ c.args.op c.index-rest-0.result c.requires.scratch c.requires.op parts.value
+    parts.front_len in
+    band_inside c.args.chain.now c.args.op c.args.band _
+    (omega (arith, c.requires.op, c.requires.scratch.count)) old c.requires.band
 
 pub returns-clause-scratch : goal.returns-clause-scratch
 returns-clause-scratch c =
@@ -35,8 +42,10 @@ returns-clause-scratch c =
     let band = c.apply_at.ensures.rows in
     let op = c.args.op in
     let canvas = c.apply_at.new.canvas in
-    let old = rest_is _ _ _ _ op c.index-rest-0.result c.requires.scratch c.requires.op parts.value parts.front_len in
-    let line = rest_line _ _ _ _ op c.index-rest-0.result c.requires.scratch c.requires.op parts.value parts.front_len in
+    let old =
+    rest_is _ _ _ _ op c.index-rest-0.result c.requires.scratch c.requires.op parts.value parts.front_len in
+    let line =
+    rest_line _ _ _ _ op c.index-rest-0.result c.requires.scratch c.requires.op parts.value parts.front_len in
     rw (painted_rest _ _ c.args.scratch.now op canvas parts.value parts.front_len)
     (scratch_set _ _ op canvas c.requires.scratch c.requires.op
     (same_size _ _ _ canvas old band.geometry c.apply_at.ensures.height) (ap (λ z. z.items) band.line ∙ line))
@@ -48,7 +57,8 @@ returns-clause-written c last =
     let scratch = c.args.scratch.now in
     let op = c.args.op in
     let canvas = c.apply_at.new.canvas in
-    let old = rest_is _ _ _ _ op c.index-rest-0.result c.requires.scratch c.requires.op parts.value parts.front_len in
+    let old =
+    rest_is _ _ _ _ op c.index-rest-0.result c.requires.scratch c.requires.op parts.value parts.front_len in
     let at = canvas_rest _ _ scratch op c.index-rest-0.result parts.value parts.front_len in
     rw (painted_rest _ _ scratch op canvas parts.value parts.front_len)
     (writes c.args.chain.now op c.args.band _ _ c.op.result _ c.reaching.result.now _ (frame_of canvas)

@@ -10,13 +10,16 @@ pub apply_at-requires-clause-image : goal.apply_at-requires-clause-image
 apply_at-requires-clause-image c =
     let scratch = c.args.scratch.now in
     let reached : format_of c.reaching.result.now.geometry ≡ format_at c.args.chain.now (length scratch) =
-    ap (λ frame. format_of frame.geometry) (c.reaching.ensures ∙ sym (last_reached c.args.source.now scratch c.args.canvas.now c.args.source.now))
-    ∙ format_between _ _ scratch c.args.canvas.now (length scratch) c.args.source.now c.requires.source c.requires.scratch (omega arith) in
+    ap (λ frame. format_of frame.geometry)
+    (c.reaching.ensures ∙ sym (last_reached c.args.source.now scratch c.args.canvas.now c.args.source.now))
+    ∙ format_between _ _ scratch c.args.canvas.now
+    (length scratch) c.args.source.now c.requires.source c.requires.scratch (omega arith) in
     c.op.ensures.image _ _ reached (rw c.requires.scratch.count c.requires.canvas.format)
 
 pub apply_at-requires-clause-band : goal.apply_at-requires-clause-band
 apply_at-requires-clause-band c =
-    band_inside c.args.chain.now (length c.args.scratch.now) c.args.band c.args.canvas.now (omega (arith, c.requires.scratch.count))
+    band_inside c.args.chain.now (length c.args.scratch.now) c.args.band c.args.canvas.now
+    (omega (arith, c.requires.scratch.count))
     (rw c.requires.scratch.count c.requires.canvas) c.requires.band
 
 pub returns-clause-written : goal.returns-clause-written
@@ -24,7 +27,8 @@ returns-clause-written c =
     let source = c.args.source.now in
     let scratch = c.args.scratch.now in
     let old = c.args.canvas.now in
-    writes c.args.chain.now (length scratch) c.args.band _ _ c.op.result (height_of old) c.reaching.result.now (frame_of old) (frame_of c.apply_at.new.canvas)
+    writes c.args.chain.now (length scratch) c.args.band _ _ c.op.result (height_of old) c.reaching.result.now
+    (frame_of old) (frame_of c.apply_at.new.canvas)
     (λ d. get_or_from_slice_get c.args.chain.now.ops (length scratch) c.op.result d c.op.ensures.value)
     (λ d. last_reached source scratch old d ∙ sym c.reaching.ensures)
     (λ d. frame_last source scratch old d)

@@ -12,16 +12,24 @@ returns-then-op-scratch-clause-written c op band is =
 pub returns-else-op-scratch-clause-written : goal.returns-else-op-scratch-clause-written
 returns-else-op-scratch-clause-written c op band is =
     let same = one_step _ _ _ _ op band c.op_of_step-op.ensures.step is in
-    let last : c.op_of_step-op.result.0 ≡ length c.args.scratch.now = omega (arith, c.if-op-scratch.false, c.op_of_step-op.ensures.op, c.requires.scratch.count) in
+    let last : c.op_of_step-op.result.0 ≡ length c.args.scratch.now =
+    omega (arith, c.if-op-scratch.false, c.op_of_step-op.ensures.op, c.requires.scratch.count) in
     rw (same.0, same.1, last) c.write_last.ensures.written
 
 pub returns-then-op-scratch-clause-done : goal.returns-then-op-scratch-clause-done
 returns-then-op-scratch-clause-done c before =
     done_more _ _ _ c.args.k _ _ c.op_of_step-op.ensures.step
-    (omega (arith, c.if-op-scratch.true, length-frames c.args.source.now c.args.scratch.now c.args.canvas.now)) (c.write_between.ensures.written c.args.canvas.now) before
+    (omega (
+      arith,
+      c.if-op-scratch.true,
+      length-frames c.args.source.now c.args.scratch.now
+          c.args.canvas.now,
+    )) (c.write_between.ensures.written c.args.canvas.now) before
 
 pub returns-else-op-scratch-clause-done : goal.returns-else-op-scratch-clause-done
 returns-else-op-scratch-clause-done c before =
-    let last : c.op_of_step-op.result.0 ≡ length c.args.scratch.now = omega (arith, c.if-op-scratch.false, c.op_of_step-op.ensures.op, c.requires.scratch.count) in
+    let last : c.op_of_step-op.result.0 ≡ length c.args.scratch.now =
+    omega (arith, c.if-op-scratch.false, c.op_of_step-op.ensures.op, c.requires.scratch.count) in
     done_more _ _ _ c.args.k _ _ (rw last at c.op_of_step-op.ensures.step)
-    (omega (arith, length-frames c.args.source.now c.args.scratch.now c.args.canvas.now)) c.write_last.ensures.written before
+    (omega (arith, length-frames c.args.source.now c.args.scratch.now c.args.canvas.now))
+    c.write_last.ensures.written before

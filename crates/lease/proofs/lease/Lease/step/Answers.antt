@@ -13,9 +13,11 @@ invariant_of-self c =
     let cost = c.next_cost.ensures.value in
     let more : spent_of (used_once lease c.step.new.self) ≡ spent_of lease + c.next_cost.result =
     spent_once lease c.step.new.self is.own (slice_get_within _ _ _ cost) c.step.ensures.step
-    ∙ ap (λ units. spent_of lease + units) (get_or_from_slice_get (step_costs lease.job.chain) lease.job.done c.next_cost.result 0 cost) in
+    ∙ ap (λ units. spent_of lease + units)
+    (get_or_from_slice_get (step_costs lease.job.chain) lease.job.done c.next_cost.result 0 cost) in
     record {
-      lease = stays_lease lease c.step.new.self is (omega (arith, is.within, c.if-self.false)) c.step.ensures.started c.step.ensures.step;
+      lease = stays_lease lease c.step.new.self is
+          (omega (arith, is.within, c.if-self.false)) c.step.ensures.started c.step.ensures.step;
       spent = ap (λ units. units + c.next_cost.result) c.self.invariant.spent ∙ sym more;
       cheap = omega (arith, c.self.invariant.cheap, c.next_cost.ensures.few);
     }
@@ -23,4 +25,5 @@ invariant_of-self c =
 pub returns-clause-spent : goal.returns-clause-spent
 returns-clause-spent c =
     rw (sym c.self.view_is)
-    (spent_once (value_of c.self.inside) c.step.new.self c.self.invariant.lease.own (slice_get_within _ _ _ c.next_cost.ensures.value) c.step.ensures.step)
+    (spent_once (value_of c.self.inside) c.step.new.self c.self.invariant.lease.own
+    (slice_get_within _ _ _ c.next_cost.ensures.value) c.step.ensures.step)

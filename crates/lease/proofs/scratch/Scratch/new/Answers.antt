@@ -16,7 +16,11 @@ loop-i-preserved c =
     } in
     record {
       count = rw (pushed, length-append) (omega (arith, so_far.count));
-      each = each_more (λ k canvas. IsCanvasAfter c.args.spec.now (k + 1) canvas) _ _ _ c.loop-i.i so_far.count pushed so_far.each
+      each = each_more
+          (λ k canvas. IsCanvasAfter c.args.spec.now (k + 1) canvas) _ _ _ c.loop-i.i so_far.count pushed
+          so_far.each
           (rw c.chain-chain.ensures at canvas);
-      lines = each_more (λ _ canvas. line_of (frame_of canvas) ≡ codes "FRAME") _ _ _ c.loop-i.i so_far.count pushed so_far.lines made.line;
+      lines = each_more
+          (λ _ canvas. line_of (frame_of canvas) ≡ codes "FRAME") _ _ _ c.loop-i.i so_far.count pushed
+          so_far.lines made.line;
     }
