@@ -21,7 +21,7 @@ use Rattle.lease.specs.Job.{HoldsBand, AreDone, WritesBand, picture_of}
 
 -- the band that was written
 holds_new : (picture : ℕ → ℕ → ℕ → ℕ) (b k : ℕ) (old new : Frame)
-    → HasBand picture (luma_from b k) (luma_to old.geometry b k) (plane_count old.geometry.chroma) old new
+    → HasBand picture (luma_from b k) (luma_to old.geometry b k) old new
     → HoldsBand picture b k new
 holds_new picture b k old new band =
     let Q : Geometry → Type 0 =
@@ -37,7 +37,7 @@ row_above g b j k p y h at =
 
 -- a band above the one that was written
 holds_still : (picture other : ℕ → ℕ → ℕ → ℕ) (b j k : ℕ) (old new : Frame) → j < k
-    → HasBand picture (luma_from b k) (luma_to old.geometry b k) (plane_count old.geometry.chroma) old new
+    → HasBand picture (luma_from b k) (luma_to old.geometry b k) old new
     → HoldsBand other b j old → HoldsBand other b j new
 holds_still picture other b j k old new h band holds =
     let Q : Geometry → Type 0 =
@@ -47,7 +47,7 @@ holds_still picture other b j k old new h band holds =
     (λ p y x hp hy hx.
     let within : y < plane_height old.geometry p =
     omega (arith, hy.1, inside old.geometry p (luma_to old.geometry b j) (omega arith)) in
-    band.others p y x hp within hx (inr (inl (row_above old.geometry b j k p y h hy))) ∙ holds p y x hp hy hx)
+    band.others p y x hp within hx (inl (row_above old.geometry b j k p y h hy)) ∙ holds p y x hp hy hx)
 
 -- what stands in a frame that wasn't written, and what it is made of, are as before
 holds_elsewhere : (chain : ChainValue) (frames frames' : List Frame) (i m : ℕ) (o : Op) (d : Frame)

@@ -4,12 +4,13 @@ use Rattle.std.proofs.Common.{slice_set, arith, refl, sym, ap, ◌∙◌, add-on
 use Rattle.std.proofs.Math.ListN.{get_or-append}
 use Rattle.std.proofs.Math.Seq.{get_or-append_seam, set-append_seam}
 use Rattle.std.proofs.lemmas.List.{get_or-map, get_or_default, set-append_left, map-set, map-append}
-use Rattle.std.proofs.lemmas.List.{append_assoc, append-nil, length-map}
+use Rattle.std.proofs.lemmas.List.{append_assoc, append-nil, length-map, take_all}
 use Rattle.frame_view.specs.declared.frame.Frame.{Frame}
 use Rattle.row_bands.specs.declared.canvas.Canvas.{Canvas}
 use Rattle.row_bands.specs.Canvas.{frame_of}
-use Rattle.filters.specs.Chain.{ChainValue, format_of, format_at}
-use Rattle.lease.specs.Canvases.{IsCanvasAfter, IsScratch}
+use Rattle.filters.specs.Chain.{ChainValue, format_of, format_at, last_format}
+use Rattle.filters.specs.ChainImage.{IsCanvasAt}
+use Rattle.lease.specs.Canvases.{IsImageCanvas, IsScratch}
 use Rattle.lease.specs.Job.{frames_by}
 
 frame_next : (source : Frame) (frames : List Frame) (i : ℕ) (d : Frame)
@@ -101,11 +102,22 @@ format_between chain source scratch last (suc i) d g fits h =
     rw add-one at (fits.each i last within).format in
     rw at format
 
+-- the canvas for the image is that for the last operation's output
+pub last_at : (chain : ChainValue) (scratch : List Canvas) (last : Canvas) → IsScratch chain scratch
+    → IsImageCanvas chain last → IsCanvasAt chain (length scratch) last
+last_at chain scratch last fits is = record {
+  format = is.format
+      ∙ ap (λ ops. last_format ops (format_of chain.geometry))
+      (sym (take_all (length scratch + 1) chain.ops (omega (arith, fits.count))));
+  height = is.height;
+}
+
 pub format_last : (chain : ChainValue) (source : Frame) (scratch : List Canvas) (last : Canvas) (d : Frame)
-    → IsScratch chain scratch → IsCanvasAfter chain (length chain.ops) last
-    → format_of (get_or (frames_by source scratch last) (length scratch + 1) d).geometry ≡ format_at chain
-    (length scratch + 1)
-format_last chain source scratch last d fits is = rw (frame_last source scratch last d, fits.count) is.format
+    → IsScratch chain scratch → IsImageCanvas chain last
+    → format_of (get_or (frames_by source scratch last) (length scratch + 1) d).geometry
+    ≡ format_at chain (length scratch + 1)
+format_last chain source scratch last d fits is =
+    rw (frame_last source scratch last d) (last_at chain scratch last fits is).format
 
 pub format_reached : (chain : ChainValue) (source : Frame) (scratch before rest : List Canvas) (i : ℕ)
     (d : Canvas) → source.geometry ≡ chain.geometry → IsScratch chain scratch

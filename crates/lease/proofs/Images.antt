@@ -3,11 +3,12 @@ use Rattle.std.proofs.Common.{ℕ, ◌≡◌, ◌+◌, ◌<◌, ◌≤◌, zero,
 use Rattle.std.proofs.Common.{refl, sym, ap, ◌∙◌, subst, add-one, inl, inr}
 use Rattle.std.proofs.lemmas.Bool.{cases_order}
 use Rattle.std.proofs.lemmas.List.{take_all}
+use Rattle.std.proofs.lemmas.List.Sums.{sum_by_more, sum_by-take-le}
 use Rattle.y4m_header.specs.Chroma.{plane_count}
 use Rattle.frame_view.specs.declared.frame.Frame.{Frame}
 use Rattle.frame_view.specs.Frame.{line_of, samples_of}
 use Rattle.frame_view.specs.Places.{plane_width, plane_height}
-use Rattle.frame_view.specs.Rows.{sample}
+use Rattle.frame_view.specs.Rows.{IsPlace, sample}
 use Rattle.row_bands.specs.declared.canvas.Canvas.{Canvas}
 use Rattle.row_bands.specs.Canvas.{frame_of}
 use Rattle.row_bands.specs.Bands.{band_count}
@@ -15,15 +16,21 @@ use Rattle.row_bands.proofs.Bands.{each_row_in_one_band}
 use Rattle.filters.specs.declared.op.Op.{Op}
 use Rattle.filters.specs.declared.op.Op.TheVariants.{HFlip}
 use Rattle.filters.specs.Chain.{ChainValue, format_of, format_at}
-use Rattle.filters.specs.ChainImage.{FrameValue, value_of, IsOpImage, IsChainImage}
+use Rattle.filters.specs.ChainImage.{value_of, IsImage, IsImageByAll, IsChainImage}
 use Rattle.filters.specs.Steps.{IsStep, counts_of, steps_of}
-use Rattle.filters.proofs.ChainDoable.{image_at}
+use Rattle.filters.proofs.ChainDoable.{image_geometry_at}
 use Rattle.filters.proofs.ChainImages.{image_more}
-use Rattle.filters.proofs.ChainSteps.{length-band_counts, count_of_output, step_within}
+use Rattle.filters.proofs.ChainSteps.{length-band_counts, count_of_output}
 use Rattle.lease.specs.Canvases.{IsScratch}
 use Rattle.lease.specs.Job.{JobValue, IsJob, AreDone, frames_by, picture_of}
 use Rattle.lease.proofs.Frames.{format_between, format_last, frame_last}
 use Rattle.lease.proofs.Jobs.{frames_started}
+
+-- each band has a step
+step_within : (counts : List ℕ) (i j : ℕ) → i < length counts → j < get_or counts i 0
+    → sum (take i counts) + j < sum counts
+step_within counts i j h l =
+    omega (arith, l, sum_by_more (λ n. n) counts i 0 h, sum_by-take-le (λ n. n) counts (i + 1))
 
 -- the frames have the formats of the chain
 record AreShaped (chain : ChainValue) (frames : List Frame) : Type 0 where
@@ -34,50 +41,43 @@ record AreShaped (chain : ChainValue) (frames : List Frame) : Type 0 where
 all_pixels : (chain : ChainValue) (frames : List Frame) (i : ℕ) (o : Op) (d : Frame) → i < length chain.ops
     → AreShaped chain frames → AreDone chain frames (steps_of chain)
     → let image = get_or frames (i + 1) d in
-    (p y x : ℕ) → p < plane_count image.geometry.chroma → y < plane_height image.geometry p
-    → x < plane_width image.geometry p
+    (p y x : ℕ) → IsPlace image.geometry p y x
     → sample image.geometry (samples_of image) p y x ≡ picture_of chain frames i o d p y x
-all_pixels chain frames i o d h shaped done p y x hp hy hx =
+all_pixels chain frames i o d h shaped done p y x at =
     let image = get_or frames (i + 1) d in
     let b = chain.band_height.rows in
-    let within : i < length (counts_of chain) = rw length-band_counts h in
-    let count : band_count image.geometry b ≡ get_or (counts_of chain) i 0 =
+    let counts = counts_of chain in
+    let within : i < length counts = rw length-band_counts h in
+    let count : band_count image.geometry b ≡ get_or counts i 0 =
     count_of_output chain i image.geometry within (shaped.format (i + 1) d (omega (arith, h))) in
     let band =
-    each_row_in_one_band image.geometry b chain.band_height.some chain.band_height.even p y hp hy in
-    let inside : band.0 < get_or (counts_of chain) i 0 = rw count at band.1 in
-    let step : IsStep (counts_of chain) (sum (take i (counts_of chain)) + band.0) i band.0 =
+    each_row_in_one_band image.geometry b chain.band_height.some chain.band_height.even p y at.plane at.row in
+    let inside : band.0 < get_or counts i 0 = rw count at band.1 in
+    let step : IsStep counts (sum (take i counts) + band.0) i band.0 =
     record { of_chain = within; of_op = inside; number = refl } in
-    done (sum (take i (counts_of chain)) + band.0) i band.0 o d
-    (step_within (counts_of chain) i band.0 within inside) step p y x hp band.2 hx
+    done (sum (take i counts) + band.0) i band.0 o d
+    (step_within counts i band.0 within inside) step p y x at.plane band.2 at.column
 
--- a frame, with another line
-abbrev lined : List ℕ → Frame → FrameValue
-lined line frame = record { geometry = frame.geometry; line = line; samples = samples_of frame }
-
-one_image : (chain : ChainValue) (frames : List Frame) (line : List ℕ) (i : ℕ) (o : Op) (d : Frame)
-    → i < length chain.ops → AreShaped chain frames
-    → AreDone chain frames (steps_of chain)
-    → IsOpImage (get_or chain.ops i o) (lined line (get_or frames i d)) (lined line (get_or frames (i + 1) d))
-one_image chain frames line i o d h shaped done = record {
-  geometry = image_at chain i o _ _ h (shaped.format i d (omega (arith, h)))
+one_image : (chain : ChainValue) (frames : List Frame) (i : ℕ) (o : Op) (d : Frame)
+    → i < length chain.ops → AreShaped chain frames → AreDone chain frames (steps_of chain)
+    → IsImage (get_or chain.ops i o) (value_of (get_or frames i d)) (value_of (get_or frames (i + 1) d))
+one_image chain frames i o d h shaped done = record {
+  geometry = image_geometry_at chain i o _ _ h (shaped.format i d (omega (arith, h)))
       (shaped.format (i + 1) d (omega (arith, h)));
-  line = refl;
   whole = let image = get_or frames (i + 1) d in omega (arith, image.fits, image.samples.ok);
   pixels = all_pixels chain frames i o d h shaped done;
 }
 
-first_images : (chain : ChainValue) (frames : List Frame) (line : List ℕ) (o : Op) (d : Frame)
-    → AreShaped chain frames → AreDone chain frames (steps_of chain)
-    → (n : ℕ) → n ≤ length chain.ops
-    → IsChainImage (take n chain.ops) (lined line (get_or frames 0 d)) (lined line (get_or frames n d))
-first_images chain frames line o d shaped done zero h = refl
-first_images chain frames line o d shaped done (suc i) h =
-    let more : IsChainImage (take (i + 1) chain.ops) (lined line (get_or frames 0 d))
-    (lined line (get_or frames (i + 1) d)) =
-    image_more chain.ops _ _ _ i o (omega arith)
-    (first_images chain frames line o d shaped done i (omega arith))
-    (one_image chain frames line i o d (omega arith) shaped done) in
+first_images : (chain : ChainValue) (frames : List Frame) (o : Op) (d : Frame)
+    → AreShaped chain frames → AreDone chain frames (steps_of chain) → (n : ℕ) → n ≤ length chain.ops
+    → IsImageByAll (take n chain.ops) (value_of (get_or frames 0 d)) (value_of (get_or frames n d))
+first_images chain frames o d shaped done zero h = refl
+first_images chain frames o d shaped done (suc i) h =
+    let so_far = first_images chain frames o d shaped done i (omega arith) in
+    let one = one_image chain frames i o d (omega arith) shaped done in
+    let more : IsImageByAll (take (i + 1) chain.ops) (value_of (get_or frames 0 d))
+    (value_of (get_or frames (i + 1) d)) =
+    image_more chain.ops _ _ _ i o (omega arith) so_far one in
     rw add-one at more
 
 shaped : (job : JobValue) (scratch : List Canvas) → IsJob job → IsScratch job.chain scratch
@@ -102,18 +102,18 @@ image_of_job job scratch is e all =
     let fits = is.scratch scratch e in
     let P : List Frame → Type 0 = λ fs. AreDone chain fs job.done in
     let Q : ℕ → Type 0 = λ n. AreDone chain frames n in
-    let done : AreDone chain frames (steps_of chain) =
-    subst Q all (subst P (frames_started job scratch e) is.are_done) in
+    let done = subst Q all (subst P (frames_started job scratch e) is.are_done) in
     let images =
-    first_images chain frames (line_of job.source) HFlip job.source (shaped job scratch is fits) done
-    (length chain.ops) (omega arith) in
+    first_images chain frames HFlip job.source (shaped job scratch is fits) done (length chain.ops)
+    (omega arith) in
     let last : get_or frames (length chain.ops) job.source ≡ frame_of job.canvas =
     ap (λ n. get_or frames n job.source) (sym fits.count)
     ∙ frame_last job.source scratch job.canvas job.source in
-    let R : List Op → Type 0 =
-    λ ops. IsChainImage ops (value_of job.source)
-    (lined (line_of job.source) (get_or frames (length chain.ops) job.source)) in
-    let S : FrameValue → Type 0 = λ image. IsChainImage chain.ops (value_of job.source) image in
-    subst S (ap (lined (line_of job.source)) last ∙ ap (λ line. lined line (frame_of job.canvas))
-    (sym is.line))
-    (subst R (take_all (length chain.ops) chain.ops (omega arith)) images)
+    let R : List Op → Frame → Type 0 =
+    λ ops image. IsImageByAll ops (value_of job.source) (value_of image) in
+    record {
+      line = is.line;
+      by_all = subst (R chain.ops) last
+          (subst (λ ops. R ops (get_or frames (length chain.ops) job.source))
+          (take_all (length chain.ops) chain.ops (omega arith)) images);
+    }

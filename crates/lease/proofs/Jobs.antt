@@ -7,7 +7,7 @@ use Rattle.frame_view.specs.Frame.{line_of}
 use Rattle.row_bands.specs.declared.canvas.Canvas.{Canvas}
 use Rattle.row_bands.specs.Canvas.{frame_of}
 use Rattle.filters.specs.Steps.{IsStep, counts_of, steps_of}
-use Rattle.lease.specs.Canvases.{IsCanvasAfter, IsScratch}
+use Rattle.lease.specs.Canvases.{IsImageCanvas, IsScratch}
 use Rattle.lease.specs.Job.{JobValue, IsJob, AreDone, WritesBand, StepsOn, frames_by, frames_of}
 
 -- a job with other canvases and one step more
@@ -20,7 +20,7 @@ frames_started job scratch e = ap (λ held. frames_by job.source (unwrap_or held
 
 pub stays_job : (job : JobValue) (scratch scratch' : List Canvas) (canvas : Canvas) → IsJob job
     → job.scratch ≡ Some scratch → job.done < steps_of job.chain
-    → IsScratch job.chain scratch' → IsCanvasAfter job.chain (length job.chain.ops) canvas
+    → IsScratch job.chain scratch' → IsImageCanvas job.chain canvas
     → line_of (frame_of canvas) ≡ line_of (frame_of job.canvas)
     → (AreDone job.chain (frames_by job.source scratch job.canvas) job.done → AreDone job.chain
     (frames_by job.source scratch' canvas) (job.done + 1))

@@ -1,7 +1,6 @@
 -- What is written by a step.
 use Rattle.std.proofs.Common.{ℕ, ◌≡◌, ◌+◌, ◌<◌, List, ◌++◌, length, get_or, slice_set, codes, sym, ap, ◌∙◌}
 use Rattle.std.proofs.Common.{subst}
-use Rattle.y4m_header.specs.Chroma.{plane_count}
 use Rattle.frame_view.specs.declared.frame.Frame.{Frame}
 use Rattle.frame_view.specs.Frame.{line_of, samples_of}
 use Rattle.row_bands.specs.declared.canvas.Canvas.{Canvas}
@@ -13,7 +12,8 @@ use Rattle.filters.specs.Image.{image_pixel}
 use Rattle.filters.specs.Chain.{ChainValue}
 use Rattle.filters.specs.Steps.{counts_of}
 use Rattle.filters.proofs.ChainSteps.{length-band_counts, count_of_output}
-use Rattle.lease.specs.Canvases.{IsCanvasAfter, IsScratch}
+use Rattle.filters.specs.ChainImage.{IsCanvasAt}
+use Rattle.lease.specs.Canvases.{IsScratch}
 use Rattle.std.proofs.lemmas.List.{length-set}
 use Rattle.filters.proofs.ChainImages.{canvas_rest}
 use Rattle.lease.proofs.Lists.{each_set}
@@ -25,7 +25,7 @@ pub writes : (chain : ChainValue) (op band : ℕ) (frames frames' : List Frame) 
     → ((d : Frame) → get_or frames (op + 1) d ≡ before)
     → b ≡ chain.band_height.rows → frames' ≡ slice_set frames (op + 1) image
     → HasBand (image_pixel o reached.geometry (samples_of reached)) (luma_from b band)
-    (luma_to before.geometry b band) (plane_count before.geometry.chroma) before image
+    (luma_to before.geometry b band) before image
     → WritesBand chain op band frames frames'
 writes chain op band frames frames' o b reached before image is at there height others has = record {
   image = image;
@@ -35,7 +35,7 @@ writes chain op band frames frames' o b reached before image is at there height 
 
 -- a band of an operation is one of its canvas
 pub band_inside : (chain : ChainValue) (i band : ℕ) (canvas : Canvas) → i < length chain.ops
-    → IsCanvasAfter chain (i + 1) canvas
+    → IsCanvasAt chain i canvas
     → band < get_or (counts_of chain) i 0 → band < band_count (frame_of canvas).geometry (height_of canvas)
 band_inside chain i band canvas h is l =
     let within : i < length (counts_of chain) = rw length-band_counts h in
@@ -46,26 +46,26 @@ band_inside chain i band canvas h is l =
     subst P (sym count) l
 
 -- a canvas keeps its size
-pub same_size : (chain : ChainValue) (count : ℕ) (old new : Canvas) → IsCanvasAfter chain count old
+pub same_size : (chain : ChainValue) (i : ℕ) (old new : Canvas) → IsCanvasAt chain i old
     → (frame_of new).geometry ≡ (frame_of old).geometry → height_of new ≡ height_of old
-    → IsCanvasAfter chain count new
-same_size chain count old new is geometry height =
+    → IsCanvasAt chain i new
+same_size chain i old new is geometry height =
     record { format = rw geometry is.format; height = height ∙ is.height }
 
 pub scratch_set : (chain : ChainValue) (scratch : List Canvas) (i : ℕ) (canvas : Canvas)
     → IsScratch chain scratch → i < length scratch
-    → IsCanvasAfter chain (i + 1) canvas → line_of (frame_of canvas) ≡ codes "FRAME"
+    → IsCanvasAt chain i canvas → line_of (frame_of canvas) ≡ codes "FRAME"
     → IsScratch chain (slice_set scratch i canvas)
 scratch_set chain scratch i canvas is h new line = record {
   count = ap (λ n. n + 1) (length-set scratch i canvas) ∙ is.count;
-  each = each_set (λ k held. IsCanvasAfter chain (k + 1) held) scratch i canvas is.each h new;
+  each = each_set (IsCanvasAt chain) scratch i canvas is.each h new;
   lines = each_set (λ _ held. line_of (frame_of held) ≡ codes "FRAME") scratch i canvas is.lines h line;
 }
 
 -- the canvas at the front of the rest
 pub rest_is : (chain : ChainValue) (scratch before rest : List Canvas) (i : ℕ) (d : Canvas)
     → IsScratch chain scratch → i < length scratch
-    → scratch ≡ before ++ rest → length before ≡ i → IsCanvasAfter chain (i + 1) (get_or rest 0 d)
+    → scratch ≡ before ++ rest → length before ≡ i → IsCanvasAt chain i (get_or rest 0 d)
 rest_is chain scratch before rest i d is h e n =
     rw (sym (canvas_rest before rest scratch i d e n)) (is.each i d h)
 

@@ -1,6 +1,6 @@
 -- A job: a frame, and what was made of it by now.
 use Rattle.std.specs.Prelude.{◌≡◌, ℕ, ◌+◌, ◌<◌, ◌≤◌, Option, Some, None}
-use Rattle.std.specs.Prelude.{List, [], ◌∷◌, ◌++◌, length, map, slice_index_or, slice_set}
+use Rattle.std.specs.Prelude.{List, [], ◌∷◌, ◌++◌, map, slice_index_or, slice_set}
 use Rattle.std.specs.Option.{unwrap_or}
 use Rattle.y4m_header.specs.Chroma.{plane_count}
 use Rattle.frame_view.specs.declared.frame.Frame.{Frame}
@@ -15,7 +15,7 @@ use Rattle.filters.specs.declared.op.Op.{Op}
 use Rattle.filters.specs.Image.{image_pixel}
 use Rattle.filters.specs.Chain.{ChainValue}
 use Rattle.filters.specs.Steps.{IsStep, counts_of, steps_of}
-use Rattle.lease.specs.Canvases.{IsCanvasAfter, IsScratch}
+use Rattle.lease.specs.Canvases.{IsImageCanvas, IsScratch}
 
 pub record JobValue : Type 0 where
   pub chain : ChainValue
@@ -56,7 +56,7 @@ AreDone chain frames done = (k op band : ℕ) (o : Op) (d : Frame) → k < done
 -- what a job always is
 pub record IsJob (job : JobValue) : Type 0 where
   pub geometry : job.source.geometry ≡ job.chain.geometry
-  pub canvas : IsCanvasAfter job.chain (length job.chain.ops) job.canvas
+  pub canvas : IsImageCanvas job.chain job.canvas
   pub line : line_of (frame_of job.canvas) ≡ line_of job.source
   pub scratch : (canvases : List Canvas) → job.scratch ≡ Some canvases → IsScratch job.chain canvases
   pub waits : job.scratch ≡ None → job.done ≡ 0
@@ -79,8 +79,7 @@ pub record WritesBand (chain : ChainValue) (op band : ℕ) (frames frames' : Lis
   pub others : frames' ≡ slice_set frames (op + 1) image
   pub rows : (o : Op) (d : Frame) → let before = slice_index_or frames (op + 1) d in
       let b = chain.band_height.rows in
-      HasBand (picture_of chain frames op o d) (luma_from b band) (luma_to before.geometry b band)
-      (plane_count before.geometry.chroma) before image
+      HasBand (picture_of chain frames op o d) (luma_from b band) (luma_to before.geometry b band) before image
 
 -- one step more is done: its band is written, and all else stays
 pub record StepsOn (old new : JobValue) : Type 0 where

@@ -37,7 +37,7 @@ impl Model for Job {
 }
 
 impl Job {
-    ghost use Rattle.std.specs.Prelude.{◌≡◌, ◌≢◌, ◌<◌, ◌≤◌, ◌↔◌, length, slice_get};
+    ghost use Rattle.std.specs.Prelude.{◌≡◌, ◌≢◌, ◌<◌, ◌≤◌, ◌↔◌, slice_get};
     ghost use Rattle.std.specs.Prelude.{Some, None, IsSome, IfOk, IfErr, IsErrOf};
     ghost use Rattle.std.specs.Arc.{arc_value};
     ghost use Rattle.frame_view.specs.Frame.{line_of, samples_of};
@@ -46,7 +46,7 @@ impl Job {
     ghost use Rattle.filters.specs.ChainImage.{value_of, IsChainImage};
     ghost use Rattle.filters.specs.Steps.{steps_of};
     ghost use Rattle.filters.specs.Costs.{step_costs};
-    ghost use Rattle.lease.specs.Canvases.{IsCanvasAfter, IsScratch};
+    ghost use Rattle.lease.specs.Canvases.{IsImageCanvas, IsScratch};
     ghost use Rattle.lease.specs.Job.{waiting, StepsOn};
     ghost use Rattle.lease.specs.Refused.{frame_in, frame_beside, image_in};
 
@@ -109,7 +109,7 @@ impl Job {
 
     fn waiting(spec: Arc<JobSpec>, source: Arc<Frame>, canvas: Canvas) -> Job
         requires geometry { (arc_value source).geometry ≡ (arc_value spec).geometry }
-        requires canvas { IsCanvasAfter (arc_value spec) (length (arc_value spec).ops) canvas }
+        requires canvas { IsImageCanvas (arc_value spec) canvas }
         requires line { line_of (frame_of canvas) ≡ line_of (arc_value source) }
         ensures { result ≡ waiting (arc_value spec) (arc_value source) canvas }
     {

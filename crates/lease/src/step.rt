@@ -4,7 +4,7 @@ ghost use Rattle.frame_view.specs.Frame.{line_of};
 ghost use Rattle.row_bands.specs.declared.canvas.Canvas.{Canvas};
 ghost use Rattle.row_bands.specs.Canvas.{frame_of};
 ghost use Rattle.filters.specs.Steps.{IsStep, counts_of, steps_of};
-ghost use Rattle.lease.specs.Canvases.{IsCanvasAfter, IsScratch};
+ghost use Rattle.lease.specs.Canvases.{IsImageCanvas, IsScratch};
 ghost use Rattle.lease.specs.Job.{frames_by, AreDone, WritesBand};
 
 use filters::{Chain, apply_at};
@@ -41,8 +41,8 @@ fn write_last(chain: &Chain, band: usize, source: &Frame, scratch: &[Canvas], ca
     requires band { band < slice_index_or (counts_of chain.now) (length scratch.now) 0 }
     requires source { source.now.geometry ≡ chain.now.geometry }
     requires scratch { IsScratch chain.now scratch.now }
-    requires canvas { IsCanvasAfter chain.now (length chain.now.ops) canvas.old }
-    ensures canvas { IsCanvasAfter chain.now (length chain.now.ops) canvas.new }
+    requires canvas { IsImageCanvas chain.now canvas.old }
+    ensures canvas { IsImageCanvas chain.now canvas.new }
     ensures line { line_of (frame_of canvas.new) ≡ line_of (frame_of canvas.old) }
     ensures written { WritesBand chain.now (length scratch.now) band
         (frames_by source.now scratch.now canvas.old) (frames_by source.now scratch.now canvas.new) }
@@ -66,9 +66,9 @@ pub fn write_step(
     requires step { k < steps_of chain.now }
     requires source { source.now.geometry ≡ chain.now.geometry }
     requires scratch { IsScratch chain.now scratch.old }
-    requires canvas { IsCanvasAfter chain.now (length chain.now.ops) canvas.old }
+    requires canvas { IsImageCanvas chain.now canvas.old }
     ensures scratch { IsScratch chain.now scratch.new }
-    ensures canvas { IsCanvasAfter chain.now (length chain.now.ops) canvas.new }
+    ensures canvas { IsImageCanvas chain.now canvas.new }
     ensures line { line_of (frame_of canvas.new) ≡ line_of (frame_of canvas.old) }
     ensures written { (op band : ℕ) → IsStep (counts_of chain.now) k op band → WritesBand chain.now op band
         (frames_by source.now scratch.old canvas.old) (frames_by source.now scratch.new canvas.new) }

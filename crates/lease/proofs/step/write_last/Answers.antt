@@ -2,7 +2,7 @@ use Rattle.std.proofs.Common.{◌≡◌, length, arith, ap, sym, ◌∙◌}
 use Rattle.std.proofs.lemmas.Option.{get_or_from_slice_get}
 use Rattle.row_bands.specs.Canvas.{frame_of, height_of}
 use Rattle.filters.specs.Chain.{format_of, format_at}
-use Rattle.lease.proofs.Frames.{frame_last, last_reached, set_last, format_between}
+use Rattle.lease.proofs.Frames.{frame_last, last_at, last_reached, set_last, format_between}
 use Rattle.lease.proofs.Writing.{writes, band_inside}
 use Rattle.lease.proofs.step.write_last.Goals as goal
 
@@ -14,13 +14,13 @@ apply_at-requires-clause-image c =
     (c.reaching.ensures ∙ sym (last_reached c.args.source.now scratch c.args.canvas.now c.args.source.now))
     ∙ format_between _ _ scratch c.args.canvas.now
     (length scratch) c.args.source.now c.requires.source c.requires.scratch (omega arith) in
-    c.op.ensures.image _ _ reached (rw c.requires.scratch.count c.requires.canvas.format)
+    c.op.ensures.image _ _ reached (last_at _ scratch _ c.requires.scratch c.requires.canvas).format
 
 pub apply_at-requires-clause-band : goal.apply_at-requires-clause-band
 apply_at-requires-clause-band c =
     band_inside c.args.chain.now (length c.args.scratch.now) c.args.band c.args.canvas.now
     (omega (arith, c.requires.scratch.count))
-    (rw c.requires.scratch.count c.requires.canvas) c.requires.band
+    (last_at _ c.args.scratch.now _ c.requires.scratch c.requires.canvas) c.requires.band
 
 pub returns-clause-written : goal.returns-clause-written
 returns-clause-written c =
