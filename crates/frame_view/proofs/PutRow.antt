@@ -41,14 +41,14 @@ in_plane g p y before samples after row hp hy r b s =
     ∙ ap (λ z. over (before ++ (samples ++ after)) (z + y * plane_width g p) row) b)
 
 -- the lent planes before a plane end where it starts
-pub blue_start : (g : Geometry) → 1 < plane_count g.chroma → lent_len g 0 ≡ plane_start g 1
-blue_start g h = omega (arith, first_plane g, next_plane g 0, lent_size g 0 (omega arith))
+pub cb_start : (g : Geometry) → 1 < plane_count g.chroma → lent_len g 0 ≡ plane_start g 1
+cb_start g h = omega (arith, first_plane g, next_plane g 0, lent_size g 0 (omega arith))
 
-pub red_start : (g : Geometry) → 2 < plane_count g.chroma → lent_len g 0 + lent_len g 1 ≡ plane_start g 2
-red_start g h = omega (arith, blue_start g (omega arith), next_plane g 1, lent_size g 1 (omega arith))
+pub cr_start : (g : Geometry) → 2 < plane_count g.chroma → lent_len g 0 + lent_len g 1 ≡ plane_start g 2
+cr_start g h = omega (arith, cb_start g (omega arith), next_plane g 1, lent_size g 1 (omega arith))
 
 pub alpha_start : (g : Geometry) → 3 < plane_count g.chroma → lent_len g 0 + (lent_len g 1 + lent_len g 2) ≡ plane_start g 3
-alpha_start g h = omega (arith, red_start g (omega arith), next_plane g 2, lent_size g 2 (omega arith))
+alpha_start g h = omega (arith, cr_start g (omega arith), next_plane g 2, lent_size g 2 (omega arith))
 
 -- the frame has the row, and all else as before
 pub put_back : (p y columns : ℕ) (old : Frame) (before samples after row new : List ℕ) → p < plane_count old.geometry.chroma → y < plane_height old.geometry p

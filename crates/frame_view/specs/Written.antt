@@ -2,7 +2,7 @@
 use Rattle.std.specs.Prelude.{◌≡◌, ℕ, ◌+◌, ◌-◌, ◌*◌, ◌<◌, ◌≤◌, List, length, slice_index}
 use Rattle.frame_view.specs.declared.geometry.Geometry.{Geometry}
 use Rattle.frame_view.specs.declared.frame.Frame.{Frame}
-use Rattle.frame_view.specs.Frame.{samples_of}
+use Rattle.frame_view.specs.Frame.{line_of, samples_of}
 use Rattle.frame_view.specs.Places.{plane_width, row_start}
 use Rattle.frame_view.specs.Rows.{sample}
 
@@ -15,7 +15,7 @@ pub record IsRows (picture : ℕ → ℕ → ℕ → ℕ) (g : Geometry) (p from
 -- those rows of the new frame are the picture's, and every other byte is as before
 pub record HasRows (picture : ℕ → ℕ → ℕ → ℕ) (p from to : ℕ) (old new : Frame) : Type 0 where
   pub geometry : new.geometry ≡ old.geometry
-  pub line : new.line ≡ old.line
+  pub line : line_of new ≡ line_of old
   pub rows : (y x : ℕ) → from ≤ y → y < to → x < plane_width old.geometry p
       → sample old.geometry (samples_of new) p y x ≡ picture p y x
   pub before : (i : ℕ) → i < row_start old.geometry p from

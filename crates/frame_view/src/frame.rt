@@ -128,6 +128,7 @@ impl Frame {
         requires { IsFrameLine line.now }
         ensures geometry { self.new.geometry ≡ self.old.geometry }
         ensures samples { samples_of self.new ≡ samples_of self.old }
+        ensures same { line_of self.old ≡ line.now → IsOk result }
         ensures ok { OnOk result (line_of self.new ≡ line.now) }
         ensures err { OnErr result (line_of self.new ≡ line_of self.old) }
     {

@@ -1,5 +1,5 @@
 -- The rows of the bands.
-use Rattle.std.proofs.Common.{ℕ, ◌≡◌, ◌/◌, ◌%◌, ◌<◌, ◌≤◌, ◌⊎◌, inl, inr, arith, refl, Bool, true, false, eqb, ◌||◌}
+use Rattle.std.proofs.Common.{ℕ, ◌≡◌, ◌+◌, ◌-◌, ◌*◌, ◌/◌, ◌%◌, ◌<◌, ◌≤◌, ◌⊎◌, inl, inr, arith, refl, Bool, true, false, eqb, ◌||◌}
 use Rattle.std.proofs.lemmas.Nat.{le-div}
 use Rattle.std.proofs.Math.Nat.{div-mul-le_self}
 use Rattle.y4m_header.specs.declared.chroma.Chroma.{Chroma}
@@ -7,7 +7,8 @@ use Rattle.y4m_header.specs.declared.chroma.Chroma.TheVariants.{S420, S422, S411
 use Rattle.y4m_header.specs.Chroma.{vertical_divisor}
 use Rattle.frame_view.specs.declared.geometry.Geometry.{Geometry}
 use Rattle.frame_view.specs.Places.{plane_height}
-use Rattle.row_bands.specs.Bands.{band_count, rows_above, luma_from, luma_to, EachRowInOneBand}
+use Rattle.row_bands.specs.Bands.{band_count, rows_above, half_row, luma_from, luma_to, EachRowInOneBand}
+use Rattle.row_bands.specs.Halves.{HalvesPartTheBand}
 use Rattle.row_bands.proofs.Parts.{pick, in_one, some_rows}
 
 one_or_two : (c : Chroma) → (vertical_divisor c ≡ 1) ⊎ (vertical_divisor c ≡ 2)
@@ -49,3 +50,25 @@ band_has_rows g p b k hb e h = some_rows (eqb p 1 || eqb p 2) (vertical_divisor 
 pub each_row_in_one_band : (g : Geometry) (b : ℕ) → 2 ≤ b → b % 2 ≡ 0 → EachRowInOneBand g b
 unfolding plane_height
 each_row_in_one_band g b hb e = λ p y hp hy. in_one (eqb p 1 || eqb p 2) (vertical_divisor g.chroma) g.height b y (one_or_two g.chroma) hb e g.rows_divided hy
+
+pub half_above_middle : (g : Geometry) (from to : ℕ) → half_row g from to ≤ from + (to - from) / 2
+half_above_middle g from to = div-mul-le_self (from + (to - from) / 2) (vertical_divisor g.chroma)
+
+whole : (d n : ℕ) → (d ≡ 1) ⊎ (d ≡ 2) → (n / d * d) % d ≡ 0
+whole d n (inl o) = rw o (omega arith)
+whole d n (inr o) = rw o (omega arith)
+
+-- no chroma row is cut
+pub half_is_whole : (g : Geometry) (from to : ℕ) → half_row g from to % vertical_divisor g.chroma ≡ 0
+half_is_whole g from to = whole (vertical_divisor g.chroma) (from + (to - from) / 2) (one_or_two g.chroma)
+
+pub halves_part : (g : Geometry) (from row to : ℕ) → from ≤ row → row ≤ to → HalvesPartTheBand g from row to
+halves_part g from row to h k = record {
+  within_top = λ p y i. (i.0, omega (arith, i.1, rows_above-le g p row to k));
+  within_bottom = λ p y i. (omega (arith, i.0, rows_above-le g p from row h), i.1);
+  whole = λ p y i. elim (either_side y (rows_above g p row)) [ inl l ↦ inl (i.0, l) | inr l ↦ inr (l, i.1) ];
+  apart = λ p y z i j. omega (arith, i.1, j.0);
+}
+  where
+    either_side : (y f : ℕ) → (y < f) ⊎ (f ≤ y)
+    either_side y f = grind arith

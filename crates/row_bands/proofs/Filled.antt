@@ -20,7 +20,8 @@ use Rattle.frame_view.specs.Written.{IsRows}
 use Rattle.frame_view.proofs.Written.{shown_rows}
 use Rattle.row_bands.specs.Written.{HasBand}
 use Rattle.row_bands.specs.Bands.{rows_above}
-use Rattle.row_bands.specs.Halves.{GivesRows, HasPart, HasParts, part_len}
+use Rattle.row_bands.specs.Halves.{HasPart}
+use Rattle.row_bands.specs.HalvesInside.{GivesRows, HasParts, part_len}
 use Rattle.row_bands.proofs.Bands.{inside}
 use Rattle.row_bands.proofs.PartRows.{part_inside, part_end, parts_meet, each_plane}
 

@@ -11,7 +11,8 @@ use Rattle.frame_view.proofs.Gaps.{gap}
 use Rattle.frame_view.proofs.LentTogether.{lent_size}
 use Rattle.frame_view.proofs.Places.{next_plane, planes_ordered, planes_fill, counts}
 use Rattle.row_bands.specs.Bands.{rows_above}
-use Rattle.row_bands.specs.Halves.{HasPart, HasPlanesOfPart, part_len}
+use Rattle.row_bands.specs.Halves.{HasPart}
+use Rattle.row_bands.specs.HalvesInside.{HasPlanesOfPart, part_len}
 use Rattle.row_bands.proofs.Bands.{inside, rows_above-le}
 
 times_columns : (b : Bool) (w h : ℕ) → (if b then w * h else 0) ≡ h * (if b then w else 0)

@@ -3,7 +3,7 @@ use Rattle.std.proofs.Common.{ℕ, ◌≡◌, ◌+◌, ◌<◌, ◌≤◌, List,
 use Rattle.y4m_header.specs.Chroma.{plane_count}
 use Rattle.frame_view.specs.declared.geometry.Geometry.{Geometry}
 use Rattle.frame_view.specs.declared.frame.Frame.{Frame}
-use Rattle.frame_view.specs.Frame.{samples_of}
+use Rattle.frame_view.specs.Frame.{line_of, samples_of}
 use Rattle.frame_view.specs.Places.{plane_width, plane_height, row_start}
 use Rattle.frame_view.specs.Rows.{sample}
 use Rattle.frame_view.specs.Written.{IsRows, HasRows}
@@ -19,7 +19,7 @@ use Rattle.row_bands.proofs.Bands.{rows_above-le, rows_above-height, inside}
 -- a band of the planes below n alone: the other planes are as before
 pub record HasPlanes (picture : ℕ → ℕ → ℕ → ℕ) (from to n : ℕ) (old new : Frame) : Type 0 where
   pub geometry : new.geometry ≡ old.geometry
-  pub line : new.line ≡ old.line
+  pub line : line_of new ≡ line_of old
   pub rows : (p y x : ℕ) → p < n → rows_above old.geometry p from ≤ y → y < rows_above old.geometry p to → x < plane_width old.geometry p
       → sample old.geometry (samples_of new) p y x ≡ picture p y x
   pub others : (p y x : ℕ) → p < plane_count old.geometry.chroma → y < plane_height old.geometry p → x < plane_width old.geometry p

@@ -20,16 +20,20 @@ luma_from b k = k * b
 abbrev pub luma_to : Geometry → ℕ → ℕ → ℕ
 luma_to g b k = min g.height ((k + 1) * b)
 
+-- row y of plane p goes with the luma rows from one on to another
+abbrev pub IsInPart : Geometry → ℕ → ℕ → ℕ → ℕ → Type 0
+IsInPart g from to p y = (rows_above g p from ≤ y) × (y < rows_above g p to)
+
 -- row y of plane p is in band k
 abbrev pub IsInBand : Geometry → ℕ → ℕ → ℕ → ℕ → Type 0
-IsInBand g b k p y = (rows_above g p (luma_from b k) ≤ y) × (y < rows_above g p (luma_to g b k))
+IsInBand g b k p y = IsInPart g (luma_from b k) (luma_to g b k) p y
 
 -- each row of each plane is in exactly one band
 abbrev pub EachRowInOneBand : Geometry → ℕ → Type 0
 EachRowInOneBand g b = (p y : ℕ) → p < plane_count g.chroma → y < plane_height g p
     → (k : ℕ) × (k < band_count g b) × IsInBand g b k p y × ((j : ℕ) → IsInBand g b j p y → j ≡ k)
 
--- the luma row that halves the luma rows from one on to another: half of them stand above it, rounded down to
--- whole chroma rows
+-- the luma row that halves the luma rows from one on to another: the first one and half of them, rounded down to a
+-- multiple of the vertical divisor
 abbrev pub half_row : Geometry → ℕ → ℕ → ℕ
-half_row g from to = from + (to - from) / 2 / vertical_divisor g.chroma * vertical_divisor g.chroma
+half_row g from to = (from + (to - from) / 2) / vertical_divisor g.chroma * vertical_divisor g.chroma

@@ -4,3 +4,4 @@ pub mod Canvas
 pub mod Lending
 pub mod Written
 pub mod Halves
+pub mod HalvesInside

@@ -19,9 +19,9 @@ pub struct Band<'a> {
 }
 
 impl Band<'_> {
-    ghost use Rattle.std.specs.Prelude.{◌≡◌, ℕ, ◌+◌, ◌*◌, ◌-◌, ◌<◌, ◌≤◌, ◌↔◌, length, IsSome, IfSome};
+    ghost use Rattle.std.specs.Prelude.{◌≡◌, ◌+◌, ◌*◌, ◌-◌, ◌%◌, ◌<◌, ◌≤◌, ◌↔◌, length, IsSome, IfSome};
     ghost use Rattle.std.specs.Borrow.{sem};
-    ghost use Rattle.y4m_header.specs.Chroma.{plane_count};
+    ghost use Rattle.y4m_header.specs.Chroma.{plane_count, vertical_divisor};
     ghost use Rattle.frame_view.specs.Places.{plane_width, plane_height};
     ghost use Rattle.frame_view.specs.Rows.{row_of};
     ghost use Rattle.frame_view.specs.Frame.{samples_of};
@@ -49,17 +49,20 @@ impl Band<'_> {
 
     /// The luma row at which the band is halved, where no chroma row is cut; the lower half may have more rows. None
     /// where the upper one would have no rows.
+    #[tactic(auto, using(crate::proofs::Bands::half_above_middle, crate::proofs::Bands::half_is_whole))]
     pub fn half(&self) -> Option<usize>
         ensures there { IsSome result
             ↔ (self.now.from < half_row (band_geometry self.now) self.now.from self.now.to) }
         ensures value { IfSome result
             (λ row. row ≡ half_row (band_geometry self.now) self.now.from self.now.to) }
+        ensures whole { IfSome result (λ row. row % vertical_divisor (band_geometry self.now).chroma ≡ 0) }
         ensures from { IfSome result (λ row. self.now.from < row) }
         ensures to { IfSome result (λ row. row < self.now.to) }
     {
         let step = self.geometry().chroma.divisors().vertical as usize;
-        let above = (self.to - self.from) / 2 / step * step;
-        (0 < above).then_some(self.from + above)
+        let middle = self.from + (self.to - self.from) / 2;
+        let row = middle / step * step;
+        (self.from < row).then_some(row)
     }
 
     /// The rows of plane `p` in the band: the first one, and the one that follows the last, counted in the plane.

@@ -2,7 +2,6 @@
 ghost use Rattle.std.specs.Prelude.{◌≡◌, ◌<◌, ◌≤◌, ◌+◌, ◌*◌, min};
 ghost use Rattle.y4m_header.specs.Chroma.{plane_count};
 ghost use Rattle.frame_view.specs.Places.{plane_height};
-ghost use Rattle.row_bands.specs.Height.{IsBandHeight};
 ghost use Rattle.row_bands.specs.Bands.{band_count, rows_above, luma_from, luma_to, EachRowInOneBand};
 
 use crate::band_height::BandHeight;

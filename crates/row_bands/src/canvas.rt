@@ -13,7 +13,7 @@ pub struct Canvas {
 }
 
 impl Canvas {
-    ghost use Rattle.std.specs.Prelude.{◌≡◌, ℕ, ◌+◌, ◌*◌, ◌-◌, ◌<◌, ◌≤◌, length, replicate, IfOk, OnOk, OnErr};
+    ghost use Rattle.std.specs.Prelude.{◌≡◌, ◌*◌, ◌-◌, ◌<◌, ◌≤◌, length, replicate, IsOk, IfOk, OnOk, OnErr};
     ghost use Rattle.std.specs.Borrow.{sem};
     ghost use Rattle.y4m_header.specs.Chroma.{plane_count};
     ghost use Rattle.y4m_header.specs.FrameLine.{IsFrameLine};
@@ -24,7 +24,8 @@ impl Canvas {
     ghost use Rattle.row_bands.specs.Canvas.{frame_of, height_of};
     ghost use Rattle.row_bands.specs.Lending.{LendsCanvas, LendsCanvasRows};
 
-    /// A canvas whose samples are all 0.
+    /// A canvas whose samples are all 0, with its own copy of the line. It takes memory for the line and for the data;
+    /// where that is refused, it answers the error and keeps none.
     pub fn new(
         alloc: Global,
         geometry: Geometry,
@@ -65,12 +66,15 @@ impl Canvas {
         &self.frame
     }
 
-    /// Puts this frame line in place of the frame's own; the samples stay.
+    /// Puts a copy of this frame line in place of the frame's own; the samples stay.
+    ///
+    /// A line that the frame has already takes no memory. Where memory is refused, the frame keeps its old line.
     pub fn set_line(&mut self, alloc: Global, line: &[u8]) -> Result<(), AllocError>
         requires { IsFrameLine line.now }
         ensures geometry { (frame_of self.new).geometry ≡ (frame_of self.old).geometry }
         ensures height { height_of self.new ≡ height_of self.old }
         ensures samples { samples_of (frame_of self.new) ≡ samples_of (frame_of self.old) }
+        ensures same { line_of (frame_of self.old) ≡ line.now → IsOk result }
         ensures ok { OnOk result (line_of (frame_of self.new) ≡ line.now) }
         ensures err { OnErr result (line_of (frame_of self.new) ≡ line_of (frame_of self.old)) }
     {

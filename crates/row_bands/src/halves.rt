@@ -1,7 +1,7 @@
 // Writing the two parts of a band at the same time.
 ghost use Rattle.std.specs.Prelude.{◌≡◌, ◌≤◌};
 ghost use Rattle.row_bands.specs.Canvas.{band_geometry};
-ghost use Rattle.row_bands.specs.Halves.{IsHalved};
+ghost use Rattle.row_bands.specs.Halves.{IsHalved, HalvesPartTheBand};
 ghost use Rattle.row_bands.specs.Written.{IsPainted};
 
 use crate::band::Band;
@@ -35,3 +35,11 @@ pub fn paint_halves<R: Threads, P: Painter + Sync, N: Fn(u32) + Sync>(
     let part = Part { geometry, from, to };
     paint_parts(rt, painter, part, row, band.canvas.data_mut(), note);
 }
+
+/// The parts above luma row `row` and from it on part the rows of the band among them, in every plane.
+#[tactic(auto, using(crate::proofs::Bands::halves_part))]
+pub fn halves_part_the_band(band: &Band<'_>, row: usize)
+    requires from { band.now.from ≤ row }
+    requires to { row ≤ band.now.to }
+    ensures { HalvesPartTheBand (band_geometry band.now) band.now.from row band.now.to }
+{}

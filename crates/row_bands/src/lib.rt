@@ -15,5 +15,5 @@ pub use band::Band;
 pub use band_height::BandHeight;
 pub use band_plan::{BandPlan, bands_part_the_rows};
 pub use canvas::Canvas;
-pub use halves::paint_halves;
+pub use halves::{halves_part_the_band, paint_halves};
 pub use painter::{Painter, paint_band};

@@ -2,7 +2,8 @@
 ghost use Rattle.std.specs.Prelude.{◌≡◌, ◌≤◌, ◌-◌, length, take, drop};
 ghost use Rattle.frame_view.specs.LentTogether.{of_plane};
 ghost use Rattle.frame_view.specs.Places.{frame_len};
-ghost use Rattle.row_bands.specs.Halves.{HasPart, HasParts, GivesRows, part_len};
+ghost use Rattle.row_bands.specs.Halves.{HasPart};
+ghost use Rattle.row_bands.specs.HalvesInside.{HasParts, GivesRows, part_len};
 
 use crate::band_plan::rows_above;
 use crate::painter::Painter;
@@ -22,12 +23,12 @@ pub(crate) struct Part {
 }
 
 impl Part {
-    ghost use Rattle.std.specs.Prelude.{◌≡◌, ℕ, ◌<◌, ◌≤◌, ◌+◌, ◌-◌, ◌*◌, length};
+    ghost use Rattle.std.specs.Prelude.{◌≡◌, ◌<◌, ◌≤◌, ◌+◌, ◌-◌, ◌*◌, length};
     ghost use Rattle.y4m_header.specs.Chroma.{plane_count};
     ghost use Rattle.frame_view.specs.LentTogether.{lent_columns, lent_len};
     ghost use Rattle.frame_view.specs.Lent.{IsLent};
     ghost use Rattle.row_bands.specs.Bands.{rows_above};
-    ghost use Rattle.row_bands.specs.Halves.{HasPlanesOfPart, GivesRows, part_len};
+    ghost use Rattle.row_bands.specs.HalvesInside.{HasPlanesOfPart, GivesRows, part_len};
 
     /// Calls `note`, and writes the part's rows of each plane; a plane that the frame hasn't has no samples.
     fn paint<P: Painter, N: Fn(u32)>(

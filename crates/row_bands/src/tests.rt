@@ -3,7 +3,10 @@ ghost use Rattle.std.specs.Prelude.{◌≡◌, ◌<◌, ◌≤◌, IfOk, length}
 ghost use Rattle.frame_view.specs.Frame.{samples_of, IsFrameWith};
 ghost use Rattle.frame_view.specs.Rows.{sample};
 
-use crate::{BandHeight, BandPlan, Canvas, Painter, bands_part_the_rows, paint_band, paint_halves};
+use crate::{
+    BandHeight, BandPlan, Canvas, Painter, bands_part_the_rows, halves_part_the_band, paint_band,
+    paint_halves,
+};
 use frame_view::{Frame, Geometry};
 use std::alloc::Global;
 use std::sync::atomic::{AtomicU32, Ordering};
@@ -117,6 +120,7 @@ fn copy_by_bands(
         let mut band = canvas.band_mut(k);
         let (from, to) = band.luma_rows();
         if from + 2 <= to {
+            halves_part_the_band(&band, from + 2);
             paint_halves(rt, &painter, &mut band, from + 2, &|_| {});
         } else {
             paint_band(&painter, &mut band);

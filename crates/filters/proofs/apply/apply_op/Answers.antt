@@ -19,7 +19,7 @@ loop-k-preserved c =
     ∙ ap (band_count (frame_of old).geometry) (c.plan.ensures.height ∙ sym before.height) in
     record {
       geometry = band.geometry ∙ before.geometry;
-      line = ap (λ z. z.items) band.line ∙ before.line;
+      line = band.line ∙ before.line;
       height = c.apply_at.ensures.height ∙ before.height;
       rows = next_band (image_pixel c.args.op c.args.source.now.geometry (samples_of c.args.source.now))
           (height_of old) (height_of c.apply_at.new.canvas) c.loop-k.k

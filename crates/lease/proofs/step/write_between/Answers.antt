@@ -48,7 +48,7 @@ returns-clause-scratch c =
     rest_line _ _ _ _ op c.index-rest-0.result c.requires.scratch c.requires.op parts.value parts.front_len in
     rw (painted_rest _ _ c.args.scratch.now op canvas parts.value parts.front_len)
     (scratch_set _ _ op canvas c.requires.scratch c.requires.op
-    (same_size _ _ _ canvas old band.geometry c.apply_at.ensures.height) (ap (λ z. z.items) band.line ∙ line))
+    (same_size _ _ _ canvas old band.geometry c.apply_at.ensures.height) (band.line ∙ line))
 
 pub returns-clause-written : goal.returns-clause-written
 returns-clause-written c last =

@@ -1,5 +1,5 @@
 use Rattle.std.proofs.Common.{rules}
-use Rattle.row_bands.specs.Halves.{GivesRows}
+use Rattle.row_bands.specs.HalvesInside.{GivesRows}
 use Rattle.row_bands.proofs.Filled.{has_parts}
 use Rattle.row_bands.proofs.part.paint_parts.Goals as goal
 

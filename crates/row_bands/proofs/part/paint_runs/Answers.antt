@@ -1,5 +1,5 @@
 use Rattle.std.proofs.Common.{ℕ, ◌≡◌, length, rules, arith}
-use Rattle.row_bands.specs.Halves.{GivesRows, part_len}
+use Rattle.row_bands.specs.HalvesInside.{GivesRows, part_len}
 use Rattle.row_bands.proofs.PartRows.{parts_meet, upper_parts, lower_parts}
 use Rattle.row_bands.proofs.part.paint_runs.Goals as goal
 

@@ -1,7 +1,7 @@
 use Rattle.frame_view.proofs.Places.{counts}
 use Rattle.y4m_header.specs.Chroma.{plane_count}
 use Rattle.row_bands.specs.Bands.{rows_above}
-use Rattle.row_bands.specs.Halves.{GivesRows}
+use Rattle.row_bands.specs.HalvesInside.{GivesRows}
 use Rattle.row_bands.proofs.PartRows.{each_plane}
 use Rattle.row_bands.proofs.part.Part.paint.Goals as goal
 
