@@ -14,3 +14,4 @@ pub mod Costs
 pub mod ChainOutputs
 pub mod ChainImages
 pub mod ChainGeometry
+pub mod OneImage

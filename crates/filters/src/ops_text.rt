@@ -44,9 +44,7 @@ fn count_ops(text: &[u8]) -> Result<usize, FilterError>
     let mut rest = Some(text);
     while let Some(text) = rest {
         let (part, more) = cut(b'+', text);
-        if op_of_part(part).is_none() {
-            return Err(FilterError::BadOp);
-        }
+        op_of_part(part).ok_or(FilterError::BadOp)?;
         count += 1;
         rest = more;
     }

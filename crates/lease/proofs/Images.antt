@@ -4,10 +4,8 @@ use Rattle.std.proofs.Common.{refl, sym, ap, ◌∙◌, subst, add-one, inl, inr
 use Rattle.std.proofs.lemmas.Bool.{cases_order}
 use Rattle.std.proofs.lemmas.List.{take_all}
 use Rattle.std.proofs.lemmas.List.Sums.{sum_by_more, sum_by-take-le}
-use Rattle.y4m_header.specs.Chroma.{plane_count}
 use Rattle.frame_view.specs.declared.frame.Frame.{Frame}
-use Rattle.frame_view.specs.Frame.{line_of, samples_of}
-use Rattle.frame_view.specs.Places.{plane_width, plane_height}
+use Rattle.frame_view.specs.Frame.{samples_of}
 use Rattle.frame_view.specs.Rows.{IsPlace, sample}
 use Rattle.row_bands.specs.declared.canvas.Canvas.{Canvas}
 use Rattle.row_bands.specs.Canvas.{frame_of}

@@ -1,5 +1,5 @@
 -- Jobs, one step more at a time.
-use Rattle.std.proofs.Common.{ℕ, ◌≡◌, ◌+◌, ◌<◌, List, length, Some, arith, refl, sym, ap, ◌∙◌, subst, []}
+use Rattle.std.proofs.Common.{ℕ, ◌≡◌, ◌+◌, ◌<◌, List, Some, arith, refl, sym, ap, ◌∙◌, subst, []}
 use Rattle.std.proofs.lemmas.Option.{same_Some, none-some}
 use Rattle.std.specs.Option.{unwrap_or}
 use Rattle.frame_view.specs.declared.frame.Frame.{Frame}

@@ -40,6 +40,7 @@ stays_lease lease job is h started on =
     let steps : steps_of job.chain ≡ steps_of lease.job.chain = ap (λ j. steps_of j.chain) on.kept in
     record {
       started = started;
+      some = is.some;
       within = omega (arith, h);
       own = omega (arith, done, is.own);
       left = omega (arith, h, done, steps, is.left);

@@ -20,6 +20,7 @@ spent_of lease = sum (take lease.used (drop (lease.job.done - lease.used) (step_
 -- what a lease always is
 pub record IsLease (lease : LeaseValue) : Type 0 where
   pub started : IsSome lease.job.scratch
+  pub some : 1 ≤ lease.granted
   pub within : lease.used ≤ lease.granted
   pub own : lease.used ≤ lease.job.done
   pub left : lease.job.done + (lease.granted - lease.used) ≤ steps_of lease.job.chain

@@ -37,7 +37,7 @@ impl Model for Job {
 }
 
 impl Job {
-    ghost use Rattle.std.specs.Prelude.{◌≡◌, ◌≢◌, ◌<◌, ◌≤◌, ◌↔◌, slice_get};
+    ghost use Rattle.std.specs.Prelude.{◌≡◌, ◌≢◌, ◌<◌, ◌≤◌, ◌↔◌, length, slice_get};
     ghost use Rattle.std.specs.Prelude.{Some, None, IsSome, IfOk, IfErr, IsErrOf};
     ghost use Rattle.std.specs.Arc.{arc_value};
     ghost use Rattle.frame_view.specs.Frame.{line_of, samples_of};
@@ -55,6 +55,7 @@ impl Job {
     pub fn new(alloc: Global, spec: Arc<JobSpec>, source: Arc<Frame>) -> Result<Job, JobRefused>
         ensures ok { IfOk result (λ job. job ≡ waiting (arc_value spec) (arc_value source) job.canvas) }
         ensures line { IfOk result (λ job. line_of (frame_of job.canvas) ≡ line_of (arc_value source)) }
+        ensures fits { IfOk result (λ _. (arc_value source).geometry ≡ (arc_value spec).geometry) }
         ensures wrong_size { IsErrOf result (JobRefused.WrongSize source)
             ↔ ((arc_value source).geometry ≢ (arc_value spec).geometry) }
         ensures back { IfErr result (λ refused. frame_in refused ≡ source) }
@@ -88,6 +89,7 @@ impl Job {
             ≡ last_format (arc_value spec).ops (format_of (arc_value spec).geometry) }
         ensures ok { IfOk result (λ job. job ≡ waiting (arc_value spec) (arc_value source) job.canvas) }
         ensures line { IfOk result (λ job. line_of (frame_of job.canvas) ≡ line_of (arc_value source)) }
+        ensures fits { IfOk result (λ _. (arc_value source).geometry ≡ (arc_value spec).geometry) }
         ensures samples { IfOk result (λ job. samples_of (frame_of job.canvas) ≡ samples_of image) }
         ensures wrong_size { IsErrOf result (OverRefused.WrongSize source image)
             ↔ ((arc_value source).geometry ≢ (arc_value spec).geometry) }
@@ -136,6 +138,9 @@ impl Job {
         requires { self.scratch ≡ None }
         ensures source { arc_value result.0 ≡ self.source }
         ensures image { result.1 ≡ frame_of self.canvas }
+        ensures format { format_of result.1.geometry
+            ≡ last_format self.chain.ops (format_of self.chain.geometry) }
+        ensures line { line_of result.1 ≡ line_of self.source }
     {
         let Job { source, canvas, .. } = self;
         (source, canvas.into_frame())
@@ -144,6 +149,7 @@ impl Job {
     /// All steps of the job.
     pub fn steps(&self) -> u32
         ensures value { result ≡ steps_of self.now.chain }
+        ensures costs { length (step_costs self.now.chain) ≡ result }
         ensures some { 1 ≤ result }
         ensures few { result ≤ MOST_COST }
     {

@@ -110,7 +110,8 @@ impl Lease {
 
     /// How many steps may be done under the lease.
     pub fn granted(&self) -> u32
-        ensures { result ≡ self.now.granted }
+        ensures value { result ≡ self.now.granted }
+        ensures some { 1 ≤ result }
     {
         self.granted
     }
@@ -119,6 +120,7 @@ impl Lease {
     pub fn used(&self) -> u32
         ensures value { result ≡ self.now.used }
         ensures within { result ≤ self.now.granted }
+        ensures own { result ≤ self.now.job.done }
     {
         self.used
     }

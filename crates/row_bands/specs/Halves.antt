@@ -21,8 +21,7 @@ HasPart gives from to g rows = (p : ℕ) → p < plane_count g.chroma
 abbrev pub part_of : Geometry → List ℕ → ℕ → ℕ → ℕ → List ℕ
 part_of g samples from to p = run_of g samples p (rows_above g p from) (rows_above g p to)
 
--- the band's rows above a luma row were written by themselves, and so were those from it on: the two parts have no
--- row in common, and are the band
+-- the rows of the band above a luma row were written by themselves, and so were those from it on
 pub record IsHalved (gives : ℕ → ℕ → ℕ → List ℕ → Type 0) (row : ℕ) (old new : Band) : Type 0 where
   pub top : HasPart gives old.from row (band_geometry old)
       (part_of (band_geometry old) (samples_of (band_frame new)) old.from row)
@@ -46,7 +45,8 @@ part_len g p from to = (rows_above g p to - rows_above g p from) * lent_columns 
 -- every sample outside the rows that go with these luma rows is as before
 abbrev pub KeepsOthers : ℕ → ℕ → Geometry → List ℕ → List ℕ → Type 0
 KeepsOthers from to g old new = (p y x : ℕ) → p < plane_count g.chroma → y < plane_height g p
-    → x < plane_width g p → (y < rows_above g p from) ⊎ (rows_above g p to ≤ y) → sample g new p y x ≡ sample g old p y x
+    → x < plane_width g p → (y < rows_above g p from) ⊎ (rows_above g p to ≤ y)
+    → sample g new p y x ≡ sample g old p y x
 
 -- in the samples of a frame two parts, which meet at a luma row, were written, and nothing else
 pub record HasParts (gives : ℕ → ℕ → ℕ → List ℕ → Type 0) (from row to : ℕ) (g : Geometry)

@@ -50,8 +50,10 @@ impl Band<'_> {
     /// The luma row at which the band is halved, where no chroma row is cut; the lower half may have more rows. None
     /// where the upper one would have no rows.
     pub fn half(&self) -> Option<usize>
-        ensures there { IsSome result ↔ (self.now.from < half_row (band_geometry self.now) self.now.from self.now.to) }
-        ensures value { IfSome result (λ row. row ≡ half_row (band_geometry self.now) self.now.from self.now.to) }
+        ensures there { IsSome result
+            ↔ (self.now.from < half_row (band_geometry self.now) self.now.from self.now.to) }
+        ensures value { IfSome result
+            (λ row. row ≡ half_row (band_geometry self.now) self.now.from self.now.to) }
         ensures from { IfSome result (λ row. self.now.from < row) }
         ensures to { IfSome result (λ row. row < self.now.to) }
     {

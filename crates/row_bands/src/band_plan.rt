@@ -6,7 +6,7 @@ ghost use Rattle.row_bands.specs.Height.{IsBandHeight};
 ghost use Rattle.row_bands.specs.Bands.{band_count, rows_above, luma_from, luma_to, EachRowInOneBand};
 
 use crate::band_height::BandHeight;
-use frame_view::Geometry;
+use frame_view::{Geometry, is_chroma_plane};
 
 /// The bands of a frame, from the top: each has the rows of the same part of the picture in every plane.
 #[derive(Clone, Copy, Debug, PartialEq, Eq)]
@@ -57,7 +57,7 @@ impl BandPlan {
 pub(crate) fn rows_above(geometry: Geometry, p: usize, n: usize) -> usize
     ensures { result ≡ rows_above geometry p n }
 {
-    if p == 1 || p == 2 {
+    if is_chroma_plane(p) {
         n / geometry.chroma.divisors().vertical as usize
     } else {
         n

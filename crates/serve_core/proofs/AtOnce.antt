@@ -1,5 +1,5 @@
 -- Bands that are charged at once, where their lease is settled.
-use Rattle.std.proofs.Common.{ℕ, zero, suc, ◌+◌, ◌≡◌, ◌≢◌, ◌≤◌, List, [], ◌∷◌, take, drop, Option, Some, None}
+use Rattle.std.proofs.Common.{ℕ, zero, suc, ◌+◌, ◌≡◌, ◌≢◌, List, [], ◌∷◌, take, drop, Option, Some, None}
 use Rattle.std.proofs.Common.{slice_get, slice_set, refl, sym, ◌∙◌, ap, subst, arith, Bool, false, nat_eq}
 use Rattle.std.proofs.lemmas.Bool.Decides.{nat_tests}
 use Rattle.std.proofs.lemmas.List.{set-set, get_or-drop}
@@ -7,20 +7,18 @@ use Rattle.std.proofs.lemmas.Option.{slice_get_within}
 use Rattle.cbs_account.specs.Balance.{Balance}
 use Rattle.cbs_account.specs.Rules.{after_unit, after_units}
 use Rattle.serve_core.specs.declared.held.Held.{Held}
-use Rattle.serve_core.specs.AtOnce.{AtOnceLaw, at_once, bands_settled, cost_of_next, with_used}
+use Rattle.serve_core.specs.AtOnce.{AtOnceLaw, SettledLaw, at_once, cost_of_next, with_used}
 use Rattle.serve_core.specs.AtOnce.{worked_at_once}
-use Rattle.serve_core.specs.Counts.{Worked, settled}
+use Rattle.serve_core.specs.Counts.{Worked}
 use Rattle.serve_core.specs.Events.{Band, Reply, Settle, Stepped}
 use Rattle.serve_core.specs.Grants.{cost_of_band, cost_of_first}
-use Rattle.serve_core.specs.Leads.{Leads}
 use Rattle.serve_core.specs.Rules.{Allows, settle_reply}
 use Rattle.serve_core.specs.Setup.{StreamSpec, costs}
-use Rattle.serve_core.specs.States.{State, StreamState, after, did, did_any}
+use Rattle.serve_core.specs.States.{State, StreamState, after, did}
 use Rattle.serve_core.proofs.Changes.{after_band, after_settle}
 use Rattle.serve_core.proofs.Costs.{sum_cons}
 use Rattle.serve_core.proofs.Lists.{slice_get_set_same}
 use Rattle.serve_core.proofs.Options.{and_some}
-use Rattle.serve_core.proofs.Steps.{state}
 
 set_same : {X : Type 0} (xs : List X) (i : ℕ) (x : X) → slice_get xs i ≡ Some x → slice_set xs i x ≡ xs
 set_same [] i x e = refl
@@ -99,11 +97,6 @@ module _ {F : Type 0} where
   stream_at_once m w k l x f =
       slice_get_set_same m.streams l.stream (worked_at_once k x) (slice_get_within m.streams l.stream x f)
 
-  -- the state in which worker w's lease l is over and its stream is y
-  abbrev pub after_settled : State F → ℕ → Held → StreamState F → State F
-  after_settled m w l y =
-      state m.clock m.quantum (slice_set m.streams l.stream y) (slice_set m.workers w None)
-
 module _ {F : Type 0} (G : Type 0) where
   -- one band more, from there
   at_once_more : (m : State F) (w k : ℕ) (l : Held) (x : StreamState F)
@@ -143,22 +136,18 @@ module _ {F G : Type 0} (measures : StreamSpec → F → Bool → Type 0)
             ∙ at_once_more G m w k l x e f,
       )
 
-  -- and the settlement after them
-  pub settled_at_once : (m : State F) (w k : ℕ) (l : Held) (x : StreamState F) (r : Reply F G)
-      → slice_get m.workers w ≡ Some (Some l) → slice_get m.streams l.stream ≡ Some x → l.used + k ≤ l.grant
-      → r ≡ settle_reply (worked_at_once k x)
-      → Leads measures is_image m (bands_settled w k r)
-      (after_settled m w l (did_any (worked_at_once k x) (settled r)))
-  settled_at_once m w k l x r e f u s =
+  pub settled_is : SettledLaw measures is_image
+  settled_is m w k l x e f u =
       let before = at_once_is m w k l x e f u in
       let n : State F = at_once m w k l x in
+      let r : Reply F G = settle_reply (worked_at_once k x) in
       let mine = lease_at_once m w k l x e in
       let here = stream_at_once m w k l x f in
       let allowed : Allows measures is_image n (Settle w) r =
-      rw mine (and_some (slice_get n.streams l.stream) _ (worked_at_once k x) here s) in (
+      rw mine (and_some (slice_get n.streams l.stream) _ (worked_at_once k x) here refl) in (
         (before.0, subst (λ (n : State F). Allows measures is_image n (Settle w) r) (sym before.1) allowed),
         ap (λ (n : State F). after n (Settle w) r) before.1
-            ∙ sym (after_settle G n w (with_used k l) (worked_at_once k x) r s mine here)
+            ∙ sym (after_settle G n w (with_used k l) (worked_at_once k x) r refl mine here)
             ∙ same_state m _ _ _ _ (set-set m.streams l.stream (worked_at_once k x) _)
             (set-set m.workers w (Some (with_used k l)) None),
       )

@@ -9,14 +9,15 @@ use Rattle.edf_pool.specs.Earliest.{IsEarliest, NoneReady}
 use Rattle.serve_core.specs.declared.refusal.Refusal.{Refusal}
 use Rattle.serve_core.specs.declared.refusal.Refusal.TheVariants as refusals
 use Rattle.serve_core.specs.declared.held.Held.{Held}
-use Rattle.serve_core.specs.Bare.{BareLaw, Blank, bare, blank, bare_event, bare_reply, bare_state}
-use Rattle.serve_core.specs.Bare.{bare_stream, is_any_image, measures_any}
+use Rattle.serve_core.specs.Bare.{BareFromLaw, BareLaw, Blank, bare, blank, bare_event, bare_reply}
+use Rattle.serve_core.specs.Bare.{bare_state, bare_stream, is_any_image, measures_any}
 use Rattle.serve_core.specs.Counts.{Back, Came, Deed, Ended, Lent, Shut, Taken, Worked, came, clock_after}
 use Rattle.serve_core.specs.Counts.{deed, has_stream, held_after, held_after_band, held_after_lease}
 use Rattle.serve_core.specs.Counts.{held_after_settle, lent, settled, shut, taken, worked}
 use Rattle.serve_core.specs.Events.{Accepted, Arrive, Band, Close, Closing, Collect, Event, Finished}
 use Rattle.serve_core.specs.Events.{GivenBack, Image, Lease, Leased, Refused, Reply, Returned, Settle, Start}
 use Rattle.serve_core.specs.Events.{Stepped, Then, Tick, Ticked, Transcript}
+use Rattle.serve_core.specs.Leads.{IsLegalFrom, state_from}
 use Rattle.serve_core.specs.Rules.{Allows, AllowsCollect, AllowsLease, arrival_refusal, lack_reply}
 use Rattle.serve_core.specs.Rules.{settle_reply}
 use Rattle.serve_core.specs.Setup.{Setup, StreamSpec, steps}
@@ -198,6 +199,13 @@ module _ {F G : Type 0} where
       ∙ after_bare (state_of setup p) e r
       ∙ ap bare_state (sym (summary_more F G setup p e r))
 
+  from_bare : (m : State F) (p : Transcript F G)
+      → state_from (bare_state m) (bare p) ≡ bare_state (state_from m p)
+  from_bare m Start = refl
+  from_bare m (Then p e r) =
+      ap (λ (n : State Blank). after n (bare_event e) (bare_reply r)) (from_bare m p)
+      ∙ after_bare (state_from m p) e r
+
   if_bare : (b : Bool) (r x y : Reply F G) → r ≡ (if b then x else y)
       → bare_reply r ≡ (if b then bare_reply x else bare_reply y)
   if_bare true r x y e = ap bare_reply e
@@ -307,3 +315,15 @@ module _ {F G : Type 0} (measures : StreamSpec → F → Bool → Type 0)
         summary_bare setup
             (Then p e r),
       )
+
+  legal_bare : (m : State F) (p : Transcript F G) → IsLegalFrom measures is_image m p
+      → IsLegalFrom measures_any is_any_image (bare_state m) (bare p)
+  legal_bare m Start l = tt
+  legal_bare m (Then p e r) l = (
+    legal_bare m p l.0,
+    subst (λ (n : State Blank). Allows measures_any is_any_image n (bare_event e) (bare_reply r))
+        (sym (from_bare m p)) (allowed_bare (state_from m p) e r l.1),
+  )
+
+  pub bare_from : BareFromLaw measures is_image
+  bare_from m n p l = (legal_bare m p l.0, from_bare m p ∙ ap bare_state l.1)

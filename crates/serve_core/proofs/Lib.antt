@@ -19,6 +19,7 @@ pub mod Demands
 pub mod Choices
 pub mod Images
 pub mod Replies
+pub mod Sizes
 pub mod Bares
 pub mod Openings
 pub mod AtOnce

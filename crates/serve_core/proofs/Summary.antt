@@ -4,11 +4,12 @@ use Rattle.std.proofs.Common.{None, Bool, true, false, nat_eq, nat_lt, replicate
 use Rattle.std.proofs.Common.{add-zero, zero-add, ◌⊎◌, inl, inr, subst, if◌then◌else◌}
 use Rattle.serve_core.specs.declared.held.Held.{Held}
 use Rattle.cbs_account.specs.Balance.{Balance, opened}
+use Rattle.cbs_account.specs.Laws.{unit_count}
 use Rattle.cbs_account.specs.Rules.{OwnEvent, Idle, UnitOfWork, after_unit, after_units, after_idle}
 use Rattle.cbs_account.specs.Rules.{after_all, cbs}
 use Rattle.std.proofs.lemmas.List.{length-replicate}
 use Rattle.std.proofs.lemmas.Bool.Decides.{nat_tests}
-use Rattle.serve_core.specs.Counts.{Back, Came, Deed, Ended, Lent, Shut, Taken, Worked, accepted, charged}
+use Rattle.serve_core.specs.Counts.{Back, Came, Deed, Ended, Lent, Shut, Taken, Worked, accepted}
 use Rattle.serve_core.specs.Counts.{clock_after, deed, done, finished, has_stream, held, held_after}
 use Rattle.serve_core.specs.Counts.{held_below, history, now, own_events, settled, with_deed, worked}
 use Rattle.serve_core.specs.Events.{Arrive, Band, Close, Collect, Event, Lease, Reply, Settle, Then, Tick}
@@ -18,10 +19,10 @@ use Rattle.serve_core.specs.Setup.{Setup, StreamSpec, costs}
 use Rattle.serve_core.specs.States.{StreamState, after, did_any, held_at, map_at, state_of, stream_of}
 use Rattle.serve_core.proofs.Steps.{state_is}
 
-with_arrival : {F : Type 0} (x : StreamState F) (n : ℕ) (a b : Balance) (xs ys : List F) → a ≡ b → xs ≡ ys
-    → let v : StreamState F = record x { accepted = n; account = a; frames = xs } in
-    let w : StreamState F = record x { accepted = n; account = b; frames = ys } in v ≡ w
-with_arrival x n a b xs ys e f = cc
+with_arrival : {F : Type 0} (x : StreamState F) (n c d : ℕ) (a b : Balance) (xs : List F) → c ≡ d → a ≡ b
+    → let v : StreamState F = record x { accepted = n; charged = c; account = a; frames = xs } in
+    let w : StreamState F = record x { accepted = n; charged = d; account = b; frames = xs } in v ≡ w
+with_arrival x n c d a b xs e f = cc
 
 -- k units after other events
 units_after : (k : ℕ) (b : Balance) (es : List OwnEvent)
@@ -29,10 +30,21 @@ units_after : (k : ℕ) (b : Balance) (es : List OwnEvent)
 units_after zero b es = refl
 units_after (suc k) b es = ap after_unit (units_after k b es)
 
-with_units : {F : Type 0} (x : StreamState F) (c d : ℕ) (a b : Balance) → a ≡ b
+with_units : {F : Type 0} (x : StreamState F) (c e d : ℕ) (a b : Balance) → c ≡ e → a ≡ b
     → let v : StreamState F = record x { charged = c; done = d; account = a } in
-    let w : StreamState F = record x { charged = c; done = d; account = b } in v ≡ w
-with_units x c d a b e = cc
+    let w : StreamState F = record x { charged = e; done = d; account = b } in v ≡ w
+with_units x c e d a b f g = cc
+
+-- k units more, and an arrival that is no unit
+units_counted : (k : ℕ) (es : List OwnEvent)
+    → unit_count (replicate k UnitOfWork ++ es) ≡ unit_count es + k
+units_counted zero es = omega arith
+units_counted (suc k) es = let before = units_counted k es in omega (arith, before)
+
+none_counted : (b : Bool) (t : ℕ) (es : List OwnEvent)
+    → unit_count (if b then Idle t ∷ es else es) ≡ unit_count es
+none_counted true t es = refl
+none_counted false t es = refl
 
 cbs_if : (q d : ℕ) (b : Bool) (t : ℕ) (es : List OwnEvent)
     → cbs q d (if b then Idle t ∷ es else es) ≡ (if b then after_idle t (cbs q d es) else cbs q d es)
@@ -44,12 +56,13 @@ pub serving_more : {F : Type 0} (spec : StreamSpec) (h : List (Deed F)) (o : Opt
     → stream_of spec (with_deed o h) ≡ did_any (stream_of spec h) o
 serving_more spec h None = refl
 serving_more spec h (Some (Came t f)) =
-    with_arrival (stream_of spec h) (accepted h + 1) _ _ _ _
-    (cbs_if spec.maximum spec.period (nat_eq (accepted h) (finished h)) t (own_events (costs spec) h))
-    refl
+    let found_none = nat_eq (accepted h) (finished h) in
+    with_arrival (stream_of spec h) (accepted h + 1) _ _ _ _ _
+    (none_counted found_none t (own_events (costs spec) h))
+    (cbs_if spec.maximum spec.period found_none t (own_events (costs spec) h))
 serving_more spec h (Some Worked) =
     let k : ℕ = cost_of_band (done h) (costs spec) in
-    with_units (stream_of spec h) (charged (costs spec) h + k) (done h + 1) _ _
+    with_units (stream_of spec h) _ _ (done h + 1) _ _ (units_counted k (own_events (costs spec) h))
     (units_after k (opened spec.maximum spec.period) (own_events (costs spec) h))
 serving_more spec h (Some (Lent w)) = refl
 serving_more spec h (Some Back) = refl

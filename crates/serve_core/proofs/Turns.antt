@@ -36,6 +36,11 @@ first_none false true true l h = absurd (cc)
 first_none false true false true h = absurd (cc)
 first_none false true false false h = (refl, refl, refl)
 
+pub first_sized : (c d e l : Bool) → first_of c d e l ≡ None → d ≡ true
+first_sized true d e l h = absurd (cc)
+first_sized false false e l h = absurd (cc)
+first_sized false true e l h = refl
+
 pub tested_ne : (a b : ℕ) → nat_eq a b ≡ false → a ≢ b
 tested_ne a b h = grind (arith, nat_tests)
 
@@ -58,7 +63,7 @@ IsEnd Ended = Unit {0}
 IsEnd d = ⊥
 
 module _ (F G : Type 0) where
-  accepted_none : (o : Option Refusal) (n a : ℕ) (f : F) → let A : Reply F G = Accepted n in
+  pub accepted_none : (o : Option Refusal) (n a : ℕ) (f : F) → let A : Reply F G = Accepted n in
       MatchOption o ((A ≡ Accepted a) ⊎ (A ≡ GivenBack refusals.NoMemory f)) (λ k. A ≡ GivenBack k f)
       → o ≡ None
   accepted_none None n a f h = refl

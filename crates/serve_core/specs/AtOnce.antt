@@ -1,16 +1,18 @@
 -- Bands that are charged at once, where their lease is settled.
-use Rattle.std.specs.Prelude.{ℕ, zero, suc, ◌+◌, ◌≡◌, ◌≤◌, drop, slice_get, slice_set, Some, IsSomeAnd}
+use Rattle.std.specs.Prelude.{ℕ, zero, suc, ◌+◌, ◌≡◌, ◌≤◌, drop, slice_get, slice_set, Some, None}
+use Rattle.std.specs.Prelude.{IsSomeAnd}
 use Rattle.cbs_account.specs.Rules.{after_units}
 use Rattle.serve_core.specs.declared.held.Held.{Held}
+use Rattle.serve_core.specs.Counts.{settled}
 use Rattle.serve_core.specs.Events.{Event, Lease, Band, Settle, Reply, Leased, Stepped, Transcript, Start}
 use Rattle.serve_core.specs.Events.{Then}
 use Rattle.serve_core.specs.Grants.{cost_of_first}
 use Rattle.serve_core.specs.Leads.{Leads}
-use Rattle.serve_core.specs.Rules.{Allows}
+use Rattle.serve_core.specs.Rules.{Allows, settle_reply}
 use Rattle.serve_core.specs.Setup.{costs}
 use Rattle.serve_core.specs.Sound.{Sound}
 use Rattle.serve_core.specs.Setup.{ImageRelation, SizeTest}
-use Rattle.serve_core.specs.States.{StreamState, State, after}
+use Rattle.serve_core.specs.States.{StreamState, State, after, did_any}
 
 -- a lease with k bands more
 abbrev pub with_used : ℕ → Held → Held
@@ -53,6 +55,14 @@ module _ {F G : Type 0} where
   abbrev pub bands_settled : (w k : ℕ) → Reply F G → Transcript F G
   bands_settled w k r = Then (bands w k) (Settle w) r
 
+  -- the state in which worker w has done k bands more of its lease l of stream x, and then settled it
+  -- with the reply r
+  abbrev pub at_once_settled : State F → (w k : ℕ) → Held → StreamState F → Reply F G → State F
+  at_once_settled m w k l x r = record m {
+    streams = slice_set m.streams l.stream (did_any (worked_at_once k x) (settled r));
+    workers = slice_set m.workers w None;
+  }
+
 module _ {F G : Type 0} (measures : SizeTest F) (is_image : ImageRelation F G) where
   -- bands that are charged one by one lead to where their sum leads at once
   abbrev pub AtOnceLaw : Type 0
@@ -60,6 +70,14 @@ module _ {F G : Type 0} (measures : SizeTest F) (is_image : ImageRelation F G) w
       (m : State F) (w k : ℕ) (l : Held) (x : StreamState F) → slice_get m.workers w ≡ Some (Some l)
       → slice_get m.streams l.stream ≡ Some x → l.used + k ≤ l.grant
       → Leads measures is_image m (bands w k) (at_once m w k l x)
+
+  -- and so do they with their settlement
+  abbrev pub SettledLaw : Type 0
+  SettledLaw =
+      (m : State F) (w k : ℕ) (l : Held) (x : StreamState F) → slice_get m.workers w ≡ Some (Some l)
+      → slice_get m.streams l.stream ≡ Some x → l.used + k ≤ l.grant
+      → let r : Reply F G = settle_reply (worked_at_once k x) in
+      Leads measures is_image m (bands_settled w k r) (at_once_settled m w k l x r)
 
   -- a lease can be settled with any number of its bands from the time that it is given
   abbrev pub LentLaw : Type 0

@@ -3,6 +3,7 @@ use Rattle.std.specs.Prelude.{◌≡◌, ⊤, map}
 use Rattle.serve_core.specs.Events.{Event, Arrive, Lease, Band, Settle, Tick, Close, Collect, Transcript}
 use Rattle.serve_core.specs.Events.{Start, Then, Reply, Accepted, Leased, Stepped, Returned, Finished, Ticked}
 use Rattle.serve_core.specs.Events.{Closing, Image, Refused, GivenBack}
+use Rattle.serve_core.specs.Leads.{Leads}
 use Rattle.serve_core.specs.Rules.{IsLegal}
 use Rattle.serve_core.specs.Setup.{Setup, ImageRelation, SizeTest}
 use Rattle.serve_core.specs.States.{StreamState, State, state_of}
@@ -79,3 +80,9 @@ module _ {F G : Type 0} (measures : SizeTest F) (is_image : ImageRelation F G) w
       (setup : Setup) (p : Transcript F G) → IsLegal measures is_image setup p
       → IsLegal measures_any is_any_image setup (bare p)
       × (state_of setup (bare p) ≡ bare_state (state_of setup p))
+
+  -- and so it is from any opening state
+  abbrev pub BareFromLaw : Type 0
+  BareFromLaw =
+      (m n : State F) (p : Transcript F G) → Leads measures is_image m p n
+      → Leads measures_any is_any_image (bare_state m) (bare p) (bare_state n)

@@ -1,6 +1,7 @@
 -- What is counted in a transcript: the clock, what each worker holds, and what happened to each stream.
 use Rattle.std.specs.Prelude.{ℕ, ◌+◌, Bool, true, false, nat_eq, nat_lt, List, [], ◌∷◌, ◌++◌, drop, replicate}
 use Rattle.std.specs.Prelude.{Option, Some, None, if◌then◌else◌}
+use Rattle.cbs_account.specs.Laws.{unit_count}
 use Rattle.cbs_account.specs.Rules.{OwnEvent, UnitOfWork, Idle}
 use Rattle.serve_core.specs.declared.held.Held.{Held}
 use Rattle.serve_core.specs.Events.{Event, Arrive, Lease, Band, Settle, Tick, Close, Collect, Transcript}
@@ -148,12 +149,6 @@ module _ {F : Type 0} where
   done (Ended ∷ h) = 0
   done (d ∷ h) = done h
 
-  -- the units of all bands, by what each band of a frame costs
-  abbrev pub charged : List ℕ → List (Deed F) → ℕ
-  charged costs [] = 0
-  charged costs (Worked ∷ h) = charged costs h + cost_of_band (done h) costs
-  charged costs (d ∷ h) = charged costs h
-
   -- the worker that has the stream's frame, if it is out
   abbrev pub holder : List (Deed F) → Option ℕ
   holder [] = None
@@ -183,3 +178,7 @@ module _ {F : Type 0} where
       if nat_eq (accepted h) (finished h) then Idle t ∷ own_events costs h else own_events costs h
   own_events costs (Worked ∷ h) = replicate (cost_of_band (done h) costs) UnitOfWork ++ own_events costs h
   own_events costs (d ∷ h) = own_events costs h
+
+  -- how many units there are among them
+  abbrev pub charged : List ℕ → List (Deed F) → ℕ
+  charged costs h = unit_count (own_events costs h)

@@ -36,7 +36,7 @@ module _ {F G : Type 0} where
   joined p Start = p
   joined p (Then q e r) = Then (joined p q) e r
 
-  -- a transcript, then these events with these replies, in order
+  -- a transcript, then these events with these replies, in order; there are as many of both
   abbrev pub told : Transcript F G → List (Event F) → List (Reply F G) → Transcript F G
   told p (e ∷ events) (r ∷ replies) = told (Then p e r) events replies
   told p events replies = p

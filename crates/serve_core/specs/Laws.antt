@@ -1,6 +1,6 @@
 -- Laws of legal transcripts: soundness, what is right to answer, charges, delay and demand.
-use Rattle.std.specs.Prelude.{ℕ, ◌+◌, ◌*◌, ◌≡◌, ◌≤◌, ◌↔◌, ◌⊎◌, Bool, IsTrue, nat_le, List, ◌∷◌, ◌++◌, filter}
-use Rattle.std.specs.Prelude.{sum_by, slice_get, Some}
+use Rattle.std.specs.Prelude.{ℕ, ◌+◌, ◌*◌, ◌≡◌, ◌≤◌, ◌↔◌, ◌⊎◌, Bool, true, IsTrue, nat_le, List, ◌∷◌, ◌++◌}
+use Rattle.std.specs.Prelude.{filter, sum_by, slice_get, Some}
 use Rattle.cbs_account.specs.Laws.{unit_count}
 use Rattle.cbs_account.specs.Rules.{OwnEvent, Idle}
 use Rattle.serve_core.specs.declared.held.Held.{Held}
@@ -66,6 +66,24 @@ module _ {F G : Type 0} (measures : SizeTest F) (is_image : ImageRelation F G) w
       → ((s : ℕ) (x : StreamState F) (f : F) → slice_get m.streams s ≡ Some x → slice_get x.frames 0 ≡ Some f
       → (g : G) × is_image x.spec f g)
       → (r : Reply F G) × Allows measures is_image m e r
+
+  -- each frame that a stream keeps after a legal transcript has the stream's size
+  abbrev pub SizedLaw : Type 0
+  SizedLaw =
+      (setup : Setup) (p : Transcript F G) (s k : ℕ) (x : StreamState F) (f : F)
+      → IsLegal measures is_image setup p → slice_get (state_of setup p).streams s ≡ Some x
+      → slice_get x.frames k ≡ Some f → measures x.spec f true
+
+  -- so after a legal transcript each event has a right reply, where each frame has a size, and an image for a
+  -- stream if it has the stream's size
+  abbrev pub AnswerAfterLaw : Type 0
+  AnswerAfterLaw =
+      ((spec : StreamSpec) (f : F) → (is_sized : Bool) × measures spec f is_sized)
+      → (setup : Setup) (p : Transcript F G) (e : Event F) → IsWithin setup
+      → IsLegal measures is_image setup p
+      → ((s : ℕ) (spec : StreamSpec) (f : F) → slice_get setup.streams s ≡ Some spec → measures spec f true
+      → (g : G) × is_image spec f g)
+      → (r : Reply F G) × Allows measures is_image (state_of setup p) e r
 
   -- what a stream was charged is what its finished frames cost, and the bands of the next one
   abbrev pub ChargeLaw : Type 0

@@ -1,5 +1,6 @@
 //! What streams are charged, and what that keeps of the workers' time.
-ghost use Rattle.serve_core.specs.AtOnce.{AtOnceLaw, LentLaw, StillLaw};
+ghost use Rattle.serve_core.specs.AtOnce.{AtOnceLaw, LentLaw, SettledLaw, StillLaw};
+ghost use Rattle.serve_core.specs.Bare.{measures_any, is_any_image};
 ghost use Rattle.serve_core.specs.Frames.{measures, is_image};
 ghost use Rattle.serve_core.specs.Grants.{GrantLaw};
 ghost use Rattle.serve_core.specs.Laws.{ChargeLaw, DelayLaw, DemandLaw};
@@ -31,15 +32,25 @@ pub fn demand_law()
 
 /// Bands that are charged one by one lead to where their sum leads at once.
 pub fn at_once_law()
-    ensures { AtOnceLaw measures is_image }
+    ensures of_frames { AtOnceLaw measures is_image }
+    ensures bare { AtOnceLaw measures_any is_any_image }
+{}
+
+/// Bands that are charged one by one, and the settlement behind them, lead to where the sum of their units and
+/// the returned or finished stream lead at once.
+pub fn settled_law()
+    ensures of_frames { SettledLaw measures is_image }
+    ensures bare { SettledLaw measures_any is_any_image }
 {}
 
 /// A lease can be settled, with any number of its bands, from the time that it is given.
 pub fn lent_law()
-    ensures { LentLaw measures is_image }
+    ensures of_frames { LentLaw measures is_image }
+    ensures bare { LentLaw measures_any is_any_image }
 {}
 
 /// A lease can be settled as long as it is the same, whatever else happens.
 pub fn still_law()
-    ensures { StillLaw measures is_image }
+    ensures of_frames { StillLaw measures is_image }
+    ensures bare { StillLaw measures_any is_any_image }
 {}

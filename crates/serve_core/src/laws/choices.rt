@@ -1,6 +1,6 @@
 //! Which replies are right.
 ghost use Rattle.serve_core.specs.Frames.{measures, is_image};
-ghost use Rattle.serve_core.specs.Laws.{AnswerLaw, AreDetermined, OneChoiceLaw};
+ghost use Rattle.serve_core.specs.Laws.{AnswerAfterLaw, AnswerLaw, AreDetermined, OneChoiceLaw, SizedLaw};
 
 /// The rules leave one choice: whether a frame that can be accepted is refused for want of memory. All other
 /// replies are determined, since a frame has one size and one image.
@@ -9,7 +9,14 @@ pub fn one_choice_law()
     ensures one_choice { OneChoiceLaw measures is_image }
 {}
 
-/// Every event has a right reply, where each frame that is there has an image.
+/// Every event has a right reply, in a sound state where each frame that is there has an image, and after a
+/// legal transcript where each frame of a stream's size has one.
 pub fn answer_law()
-    ensures { AnswerLaw measures is_image }
+    ensures in_state { AnswerLaw measures is_image }
+    ensures after { AnswerAfterLaw measures is_image }
+{}
+
+/// Each frame that a stream keeps has the stream's size.
+pub fn sized_law()
+    ensures { SizedLaw measures is_image }
 {}

@@ -1,33 +1,38 @@
 //! How transcripts lead from one state to another.
-ghost use Rattle.serve_core.specs.Bare.{BareLaw};
+ghost use Rattle.serve_core.specs.Bare.{BareFromLaw, BareLaw, measures_any, is_any_image};
 ghost use Rattle.serve_core.specs.Frames.{measures, is_image};
 ghost use Rattle.serve_core.specs.Leads.{GoingOnLaw, JoinLaw, OpeningLaw, StepLaw};
 
 /// One more event with a right reply leads a legal transcript on to another, whose state is what the event
 /// makes of the state before.
 pub fn step_law()
-    ensures { StepLaw measures is_image }
+    ensures of_frames { StepLaw measures is_image }
+    ensures bare { StepLaw measures_any is_any_image }
 {}
 
 /// The legal transcripts of a setup are those from its opening state, the state before any event, and they
 /// lead from there to where the setup says.
 pub fn opening_law()
-    ensures { OpeningLaw measures is_image }
+    ensures of_frames { OpeningLaw measures is_image }
+    ensures bare { OpeningLaw measures_any is_any_image }
 {}
 
 /// What leads on from the state of a legal transcript gives, behind it, a legal transcript again.
 pub fn going_on_law()
-    ensures { GoingOnLaw measures is_image }
+    ensures of_frames { GoingOnLaw measures is_image }
+    ensures bare { GoingOnLaw measures_any is_any_image }
 {}
 
 /// Where one transcript leads from a state to a second, and another from there to a third, one after the
 /// other leads from the first to the third.
 pub fn join_law()
-    ensures { JoinLaw measures is_image }
+    ensures of_frames { JoinLaw measures is_image }
+    ensures bare { JoinLaw measures_any is_any_image }
 {}
 
 /// A legal transcript without its frames is a legal bare transcript, which leads to the state without its
-/// frames.
+/// frames, from the setup or from any opening state.
 pub fn bare_law()
-    ensures { BareLaw measures is_image }
+    ensures of_setup { BareLaw measures is_image }
+    ensures from { BareFromLaw measures is_image }
 {}

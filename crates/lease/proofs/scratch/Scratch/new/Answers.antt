@@ -1,4 +1,4 @@
-use Rattle.std.proofs.Common.{◌≡◌, ◌+◌, arith, ap, ◌∙◌, length-append, codes}
+use Rattle.std.proofs.Common.{◌≡◌, arith, ap, ◌∙◌, length-append, codes}
 use Rattle.frame_view.specs.Frame.{line_of}
 use Rattle.row_bands.specs.Canvas.{frame_of}
 use Rattle.filters.specs.ChainImage.{IsCanvasAt}

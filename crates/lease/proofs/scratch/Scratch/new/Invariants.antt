@@ -1,4 +1,4 @@
-use Rattle.std.proofs.Common.{◌≡◌, ◌+◌, ◌<◌, ℕ, length, get_or, codes}
+use Rattle.std.proofs.Common.{◌≡◌, ◌<◌, ℕ, length, get_or, codes}
 use Rattle.frame_view.specs.Frame.{line_of}
 use Rattle.row_bands.specs.declared.canvas.Canvas.{Canvas}
 use Rattle.row_bands.specs.Canvas.{frame_of}
