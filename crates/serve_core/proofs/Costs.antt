@@ -1,6 +1,9 @@
 -- What bands cost together.
 use Rattle.std.proofs.Common.{ℕ, ◌+◌, ◌^◌, ◌≡◌, ◌≤◌, ◌<◌, ap, arith, List, ◌∷◌, length, sum, take_all}
 use Rattle.std.proofs.lemmas.List.Sums.{sum_by-cons, sum_by_more, sum_by-take-le}
+use Rattle.filters.specs.Chain.{ChainValue}
+use Rattle.filters.specs.Costs.{step_costs}
+use Rattle.filters.specs.Steps.{steps_of}
 use Rattle.filters.proofs.Costs.{length-costs_by, steps_within}
 use Rattle.serve_core.specs.Grants.{cost_of_band, cost_of_first}
 use Rattle.serve_core.specs.Setup.{IsWithinLimits, StreamSpec, steps}
@@ -27,3 +30,7 @@ few_steps spec v =
     let height = spec.chain.geometry.height in
     let rows = spec.chain.band_height.rows in
     omega (arith, length-costs_by ops height rows, steps_within ops height rows, v.cost)
+
+-- each step has a cost
+pub steps_are : (chain : ChainValue) → length (step_costs chain) ≡ steps_of chain
+steps_are chain = length-costs_by chain.ops chain.geometry.height chain.band_height.rows

@@ -25,3 +25,4 @@ pub mod Openings
 pub mod AtOnce
 pub mod Leased
 pub mod Admissions
+pub mod Lanes

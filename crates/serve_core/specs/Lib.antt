@@ -13,3 +13,5 @@ pub mod Laws
 pub mod Delivered
 pub mod Headline
 pub mod Frames
+pub mod Lanes
+pub mod LaneInside

@@ -5,13 +5,16 @@
 //! of every run. [`laws`] has each law of the definitions as a function.
 #![tactic(auto)]
 
+mod collected;
 mod grant;
 pub mod held;
 pub mod laws;
 pub mod refusal;
 pub mod setup;
 pub mod spec;
+mod stream;
 
+pub use collected::Collected;
 pub use held::Held;
 pub use refusal::Refusal;
 pub use setup::{Setup, SetupError};

@@ -1,0 +1,96 @@
+-- The jobs of a stream, one more, and the blanks that stand for its frames.
+use Rattle.std.proofs.Common.{ℕ, zero, suc, ◌+◌, ◌-◌, ◌≡◌, ◌≤◌, Bool, true, false, List, [], ◌∷◌, ◌++◌}
+use Rattle.std.proofs.Common.{Option, Some, None, replicate, drop, slice_get, IsSome, refl, sym, ◌∙◌, ap}
+use Rattle.std.proofs.Common.{subst, arith}
+use Rattle.std.specs.Arc.{arc_value}
+use Rattle.std.specs.List.{AllByRecursion}
+use Rattle.row_bands.specs.declared.canvas.Canvas.{Canvas}
+use Rattle.filters.specs.Chain.{ChainValue}
+use Rattle.filters.specs.Steps.{steps_of}
+use Rattle.lease.specs.Canvases.{IsScratch}
+use Rattle.lease.specs.Job.{JobValue}
+use Rattle.serve_core.specs.declared.collected.Collected.{Collected}
+use Rattle.serve_core.specs.Bare.{Blank}
+use Rattle.serve_core.specs.Lanes.{AreHere, AreWaiting, GainsImage, IsFresh, IsOwn, IsWithOne}
+use Rattle.serve_core.specs.Setup.{steps}
+use Rattle.serve_core.specs.Sound.{out_count}
+use Rattle.serve_core.specs.States.{StreamState}
+use Rattle.serve_core.proofs.Costs.{steps_are}
+
+pub one_more : {X : Type 0} (P : X → Type 0) (xs : List X) (x : X) → AllByRecursion P xs → P x
+    → AllByRecursion P (xs ++ x ∷ [])
+one_more P [] x h new = (new, tt)
+one_more P (y ∷ xs) x h new = (h.0, one_more P xs x h.1 new)
+
+pub fewer : {X : Type 0} (P : X → Type 0) (xs : List X) → AllByRecursion P xs → AllByRecursion P (drop 1 xs)
+fewer P [] h = tt
+fewer P (x ∷ xs) h = h.1
+
+pub first_of : {X : Type 0} (P : X → Type 0) (xs : List X) (x : X) → AllByRecursion P xs
+    → slice_get xs 0 ≡ Some x
+    → P x
+first_of P [] x h e = absurd (cc)
+first_of P (y ∷ xs) x h e = subst P (let same : y ≡ x = cc in same) h.0
+
+-- one fresh job more
+pub here_more : (out : Bool) (chain : ChainValue) (done : ℕ) (scratch : Option (List Canvas)) (job : JobValue)
+    (jobs : List JobValue) → AreHere out chain done scratch jobs → IsFresh chain job
+    → AreHere out chain done scratch (jobs ++ job ∷ [])
+here_more true chain done scratch job jobs h new = (h.0, one_more (IsFresh chain) jobs job h.1 new)
+here_more false chain done scratch job [] h new =
+    (new.of_chain, new.done ∙ sym h.0, subst (IsWithOne chain scratch) (sym new.waits) h.1, tt)
+here_more false chain done scratch job (first ∷ jobs) h new =
+    (h.0, h.1, h.2, one_more (IsFresh chain) jobs job h.3 new)
+
+-- who has the scratch
+pub own_waits : (chain : ChainValue) (canvases : List Canvas) (o : Option (List Canvas))
+    → IsWithOne chain (Some canvases) o → o ≡ None
+own_waits chain canvases None h = refl
+own_waits chain canvases (Some other) h = absurd h
+
+pub own_fits : (chain : ChainValue) (canvases : List Canvas) (o : Option (List Canvas))
+    → IsWithOne chain (Some canvases) o → IsScratch chain canvases
+own_fits chain canvases None h = h
+own_fits chain canvases (Some other) h = absurd h
+
+pub own_started : (chain : ChainValue) (o : Option (List Canvas)) → IsWithOne chain None o → IsSome o
+own_started chain None h = absurd h
+own_started chain (Some canvases) h = refl
+
+-- the front job, where none is out
+pub front_here : (out : Bool) (chain : ChainValue) (done : ℕ) (scratch : Option (List Canvas))
+    (job : JobValue)
+    (jobs rest : List JobValue) → AreHere out chain done scratch jobs → out ≡ false → jobs ≡ job ∷ rest
+    → AreWaiting chain done scratch (job ∷ rest)
+front_here true chain done scratch job jobs rest h o e = absurd (cc)
+front_here false chain done scratch job jobs rest h o e = subst (AreWaiting chain done scratch) e h
+
+blanks_push : (n : ℕ) → let b : Blank = tt in replicate (suc n) b ≡ replicate n b ++ b ∷ []
+blanks_push zero = refl
+blanks_push (suc n) = ap (λ (bs : List Blank). let b : Blank = tt in b ∷ bs) (blanks_push n)
+
+pub blanks_more : (a c : ℕ) → c ≤ a → let b : Blank = tt in
+    replicate (a + 1 - c) b ≡ replicate (a - c) b ++ b ∷ []
+blanks_more a c l = rw (let e : a + 1 - c ≡ suc (a - c) = omega arith in e) (blanks_push (a - c))
+
+blanks_drop : (n : ℕ) → let b : Blank = tt in replicate (n - 1) b ≡ drop 1 (replicate n b)
+blanks_drop zero = refl
+blanks_drop (suc n) = rw (let e : suc n - 1 ≡ n = omega arith in e) refl
+
+pub blanks_fewer : (a c : ℕ) → let b : Blank = tt in replicate (a - (c + 1)) b ≡ drop 1 (replicate (a - c) b)
+blanks_fewer a c = rw (let e : a - (c + 1) ≡ a - c - 1 = omega arith in e) (blanks_drop (a - c))
+
+pub one_out : (o : Option ℕ) → IsSome o → out_count o ≡ 1
+one_out None h = absurd (cc)
+one_out (Some w) h = refl
+
+-- a job whose steps are all done
+pub all_done : (x : StreamState Blank) (job : JobValue) → IsOwn x job → x.done ≡ steps x.spec
+    → job.done ≡ steps_of job.chain
+all_done x job own e =
+    own.done ∙ e ∙ steps_are x.spec.chain ∙ ap (λ (chain : ChainValue). steps_of chain) (sym own.of_chain)
+
+pub gains : (job : JobValue) (old new : List Collected) (pair : Collected)
+    → arc_value pair.source ≡ job.source
+    → new ≡ old ++ pair ∷ [] → GainsImage job old new
+gains job old new pair s e = record { pair = pair; source = s; behind = e }

@@ -1,0 +1,272 @@
+//! One stream of the schedule.
+ghost use Rattle.std.specs.Prelude.{◌≡◌, ◌≤◌, ◌<◌, ◌+◌, ◌-◌, ◌^◌, [], ◌∷◌, ◌++◌, Some, None, drop, slice_get};
+ghost use Rattle.std.specs.Prelude.{IsTrue, IsFalse, IsSome, IsSomeAnd, IfOk, IfErr, IfSome, IfNone, OnOk, OnSome};
+ghost use Rattle.std.specs.Arc.{arc_value};
+ghost use Rattle.frame_view.specs.declared.geometry.Geometry.{Geometry};
+ghost use Rattle.cbs_account.specs.Rules.{CanCharge};
+ghost use Rattle.lease.specs.Job.{JobValue};
+ghost use Rattle.serve_core.specs.AtOnce.{cost_of_next, worked_at_once};
+ghost use Rattle.serve_core.specs.Counts.{Came, Ended, Back, Lent, Shut, Taken};
+ghost use Rattle.serve_core.specs.declared.collected.Collected.{Collected};
+ghost use Rattle.serve_core.specs.Lanes.{GainsImage, HasPlace, IsFresh, IsOwn, IsPair, IsWithOne, opened};
+ghost use Rattle.serve_core.specs.Rules as rules;
+ghost use Rattle.serve_core.specs.Setup.{HasBandwidth, IsWithinLimits, steps};
+ghost use Rattle.serve_core.specs.States as states;
+ghost use Rattle.serve_core.specs.States.{did};
+
+use crate::collected::Collected;
+use crate::grant::grant_of;
+use crate::refusal::Refusal;
+use crate::spec::StreamSpec;
+use cbs_account::Account;
+use circular_buffer::HeapCircularBuffer;
+use frame_view::Geometry;
+use lease::{Job, Scratch};
+use std::alloc::{AllocError, Global};
+use std::marker::Model;
+use stream_queue::FrameQueue;
+
+/// A stream's account, its jobs and its images. The scratch is with its front job once that has started, and
+/// goes out with it. Contracts see the `Lane` of `specs/Lanes.antt`.
+#[derive(Drop)]
+pub(crate) struct Stream {
+    spec: StreamSpec,
+    account: Account,
+    queue: FrameQueue<Job>,
+    outbox: HeapCircularBuffer<Collected>,
+    scratch: Option<Scratch>,
+    holder: Option<u32>,
+    collected: u64,
+    charged: u64,
+    done: u32,
+}
+
+impl Model for Stream {
+    ghost use Rattle.serve_core.specs.declared.collected.Collected.{Collected};
+    ghost use Rattle.serve_core.specs.Lanes.{Lane};
+
+    ghost Value = { Lane };
+
+    ghost use Rattle.serve_core.specs.LaneInside.{IsLane, lane};
+
+    ghost view = { lane };
+
+    ghost invariant = { IsLane };
+}
+
+impl Stream {
+    /// A stream that has had no frame.
+    pub(crate) fn new(alloc: Global, spec: StreamSpec) -> Result<Stream, AllocError>
+        requires limits { IsWithinLimits spec }
+        requires bandwidth { HasBandwidth spec }
+        ensures { IfOk result (λ x. x ≡ opened spec) }
+    {
+        let account = match Account::new(spec.maximum, spec.period) {
+            Ok(account) => account,
+            Err(_) => unreachable!(),
+        };
+        let queue = FrameQueue::new(alloc, spec.queue as usize)?;
+        let outbox = HeapCircularBuffer::with_capacity(alloc, spec.outbox as usize)?;
+        let scratch = Scratch::new(alloc, &spec.spec)?;
+        Ok(Stream {
+            spec,
+            account,
+            queue,
+            outbox,
+            scratch: Some(scratch),
+            holder: None,
+            collected: 0,
+            charged: 0,
+            done: 0,
+        })
+    }
+
+    /// The deadline, if the front frame can be leased.
+    pub(crate) fn ready_deadline(&self) -> Option<u64>
+        ensures { result ≡ states.ready_deadline self.now.state }
+    {
+        let unfinished = self.queue.finished() < self.queue.accepted();
+        let fits = self.queue.finished() - self.collected < self.spec.outbox;
+        if unfinished && self.holder.is_none() && fits {
+            Some(self.account.deadline())
+        } else {
+            None
+        }
+    }
+
+    /// Why a frame is refused, if it is. `is_sized` tells whether it has the stream's size.
+    pub(crate) fn arrival_refusal(&self, is_sized: bool) -> Option<Refusal>
+        ensures refusal { result ≡ rules.arrival_refusal is_sized self.now.state }
+        ensures place { IfNone result (IsTrue is_sized × HasPlace self.now.state) }
+    {
+        if self.queue.is_closed() {
+            return Some(Refusal::Closed);
+        }
+        if !is_sized {
+            return Some(Refusal::WrongSize);
+        }
+        if self.queue.accepted() == self.spec.frames {
+            return Some(Refusal::TooManyFrames);
+        }
+        if self.queue.accepted() - self.queue.finished() >= self.spec.queue {
+            return Some(Refusal::Full);
+        }
+        None
+    }
+
+    /// Takes a job behind all others.
+    #[tactic(auto, using(crate::proofs::Lanes::here_more, crate::proofs::Lanes::blanks_more))]
+    pub(crate) fn accept(&mut self, now: u64, job: Job) -> u64
+        requires clock { now ≤ 2 ^ 60 }
+        requires place { HasPlace self.old.state }
+        requires fresh { IsFresh self.old.state.spec.chain job }
+        ensures number { result ≡ self.old.state.accepted }
+        ensures accepted { self.new ≡ record self.old {
+          state = did self.old.state (Came now tt);
+          jobs = self.old.jobs ++ job ∷ [];
+        } }
+    {
+        let idle = self.queue.accepted() == self.queue.finished();
+        let number = match self.queue.offer(job) {
+            Ok(number) => number,
+            Err(_) => unreachable!(),
+        };
+        if idle {
+            self.account.arrive_idle(now);
+        }
+        number
+    }
+
+    /// Lends the front job to a worker, started, with its number and how many bands are granted.
+    pub(crate) fn lend(&mut self, worker: u32, quantum: u64) -> (Job, u64, u64)
+        requires unfinished { self.old.state.finished < self.old.state.accepted }
+        requires here { self.old.state.holder ≡ None }
+        requires room { self.old.state.finished - self.old.state.collected < self.old.state.spec.outbox }
+        ensures job { IsSomeAnd (slice_get self.old.jobs 0) (λ job.
+            result.0 ≡ record job { scratch = result.0.scratch }) }
+        ensures own { IsOwn self.old.state result.0 }
+        ensures number { result.1 ≡ self.old.state.finished }
+        ensures grant { result.2 ≡ rules.grant quantum self.old.state }
+        ensures lent { self.new ≡ record self.old {
+          state = did self.old.state (Lent worker);
+          jobs = drop 1 self.old.jobs;
+        } }
+    {
+        match self.queue.take() {
+            None => unreachable!(),
+            Some((number, job)) => {
+                let job = started(job, self.scratch.take());
+                self.holder = Some(worker);
+                let budget = self.account.budget();
+                let grant = grant_of(self.spec.spec.chain(), quantum, budget, self.done);
+                (job, number, grant)
+            }
+        }
+    }
+
+    /// Charges bands of the job that is out, with the units that they cost together.
+    #[tactic(auto, using(crate::proofs::Costs::few_steps))]
+    pub(crate) fn charge(&mut self, bands: u32, units: u64)
+        requires out { IsSome self.old.state.holder }
+        requires left { self.old.state.done + bands ≤ steps self.old.state.spec }
+        requires units { units ≡ cost_of_next bands self.old.state }
+        requires charge { CanCharge units self.old.state.account }
+        requires few { self.old.state.charged + units < 2 ^ 64 }
+        ensures { self.new ≡ record self.old { state = worked_at_once bands self.old.state } }
+    {
+        self.account.charge(units);
+        self.charged += units;
+        self.done += bands;
+    }
+
+    /// Takes the job back that is out, to the front.
+    pub(crate) fn put_back(&mut self, job: Job)
+        requires out { IsSome self.old.state.holder }
+        requires own { IsOwn self.old.state job }
+        requires left { self.old.state.done < steps self.old.state.spec }
+        ensures { self.new ≡ record self.old {
+          state = did self.old.state Back;
+          jobs = job ∷ self.old.jobs;
+        } }
+    {
+        self.holder = None;
+        self.queue.put_back(job);
+    }
+
+    /// Takes the job back that is out and whose steps are all done, and answers its number. Its image waits
+    /// for collection.
+    #[tactic(auto, using(crate::proofs::Lanes::one_out, crate::proofs::Lanes::all_done, crate::proofs::Lanes::one_more))]
+    pub(crate) fn finish(&mut self, job: Job) -> u64
+        requires out { IsSome self.old.state.holder }
+        requires own { IsOwn self.old.state job }
+        requires all { self.old.state.done ≡ steps self.old.state.spec }
+        ensures number { result ≡ self.old.state.finished }
+        ensures finished { self.new ≡ record self.old {
+          state = did self.old.state Ended;
+          images = self.new.images;
+        } }
+        ensures image { GainsImage job self.old.images self.new.images }
+    {
+        self.holder = None;
+        self.done = 0;
+        let number = self.queue.finish();
+        let (source, image, scratch) = job.into_image();
+        self.scratch = Some(scratch);
+        match self.outbox.try_push_back(Collected { source, image }) {
+            Ok(()) => number,
+            Err(_) => unreachable!(),
+        }
+    }
+
+    /// Accepts no more frames.
+    pub(crate) fn close(&mut self) -> Result<(), Refusal>
+        ensures ok { OnOk result (IsFalse self.old.state.is_closed
+            × (self.new ≡ record self.old { state = did self.old.state Shut })) }
+        ensures err { IfErr result (λ e. (e ≡ Refusal.AlreadyClosed) × IsTrue self.old.state.is_closed
+            × (self.new ≡ self.old)) }
+    {
+        match self.queue.close() {
+            Ok(()) => Ok(()),
+            Err(_) => Err(Refusal::AlreadyClosed),
+        }
+    }
+
+    /// Gives the oldest image away, with its source.
+    #[tactic(auto, using(crate::proofs::Lanes::blanks_fewer, crate::proofs::Lanes::fewer, crate::proofs::Lanes::first_of))]
+    pub(crate) fn collect(&mut self) -> Option<Collected>
+        ensures first { IfSome result (λ pair. slice_get self.old.images 0 ≡ Some pair) }
+        ensures pair { IfSome result (IsPair self.old.state.spec.chain) }
+        ensures less { OnSome result (self.old.state.collected < self.old.state.finished) }
+        ensures some { OnSome result (self.new ≡ record self.old {
+          state = did self.old.state Taken;
+          images = drop 1 self.old.images;
+        }) }
+        ensures none { IfNone result (self.old.state.finished ≤ self.old.state.collected) }
+        ensures same { IfNone result (self.new ≡ self.old) }
+    {
+        match self.outbox.pop_front() {
+            None => None,
+            Some(pair) => {
+                self.collected += 1;
+                Some(pair)
+            }
+        }
+    }
+}
+
+/// The job, started with the scratch where it has none.
+#[tactic(auto, using(crate::proofs::Lanes::own_waits, crate::proofs::Lanes::own_fits, crate::proofs::Lanes::own_started))]
+fn started(job: Job, scratch: Option<Scratch>) -> Job
+    requires { IsWithOne job.chain scratch job.scratch }
+    ensures same { result ≡ record job { scratch = result.scratch } }
+    ensures started { IsSome result.scratch }
+{
+    match scratch {
+        None => job,
+        Some(scratch) => {
+            let mut job = job;
+            job.start(scratch);
+            job
+        }
+    }
+}
