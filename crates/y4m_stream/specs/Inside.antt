@@ -22,7 +22,7 @@ use Rattle.y4m_stream.specs.declared.fault.ReadFault.TheVariants.{Truncated, NoM
 use Rattle.y4m_stream.specs.declared.reader.Phase.{Phase}
 use Rattle.y4m_stream.specs.declared.reader.Phase.TheVariants.{Open, Failed as HasFailed}
 use Rattle.y4m_stream.specs.declared.fault.WriteFault.{WriteFault}
-use Rattle.y4m_stream.specs.declared.fault.WriteFault.TheVariants.{Device as NotWritten}
+use Rattle.y4m_stream.specs.declared.fault.WriteFault.TheVariants.{Device as NotWritten, Failed as HasFailedBefore}
 use Rattle.y4m_stream.specs.declared.fault.FilterFault.{FilterFault}
 use Rattle.y4m_stream.specs.declared.fault.FilterFault.TheVariants.{Read, Ops, Write, TooManyFrames}
 use Rattle.y4m_stream.specs.declared.filter.Filter.{Filter}
@@ -216,12 +216,13 @@ abbrev pub filter_writes_told : {T : Type 0} → Result T FilterFault → ℕ �
 filter_writes_told (Ok x) n = n
 filter_writes_told (Err fault) n = filter_writes_at fault n
 
--- after a fault of the writer it has failed
+-- the writer has failed exactly where this is its fault
 abbrev pub HasFailedAt : FilterFault → WriterState → Type 0
-HasFailedAt (Read fault) writer = ⊤
-HasFailedAt (Ops e) writer = ⊤
-HasFailedAt (Write fault) writer = writer.failed ≡ true
-HasFailedAt TooManyFrames writer = ⊤
+HasFailedAt (Read fault) writer = writer.failed ≡ false
+HasFailedAt (Ops e) writer = writer.failed ≡ false
+HasFailedAt (Write (NotWritten bytes)) writer = writer.failed ≡ true
+HasFailedAt (Write HasFailedBefore) writer = ⊥
+HasFailedAt TooManyFrames writer = writer.failed ≡ false
 
 -- a fault stays, and a number of frames stays where the flush succeeds
 abbrev pub Closes : Result ℕ FilterFault → WriterState → Result ℕ FilterFault → Type 0

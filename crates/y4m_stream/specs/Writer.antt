@@ -1,5 +1,5 @@
 -- What callers see of a stream's writer, and what its calls do.
-use Rattle.std.specs.Prelude.{◌≡◌, ℕ, ◌+◌, ◌<◌, ◌^◌, List, [], ◌∷◌, ◌++◌, length, take, Option, Result, Ok}
+use Rattle.std.specs.Prelude.{◌≡◌, ℕ, ◌+◌, ◌<◌, ◌^◌, ◌⊎◌, List, [], ◌∷◌, ◌++◌, length, take, Option, Result, Ok}
 use Rattle.std.specs.Prelude.{Err, MatchResult, Bool, true, false}
 use Rattle.std.specs.Io.KnownBytes.{Appends}
 use Rattle.frame_view.specs.declared.geometry.Geometry.{Geometry}
@@ -31,6 +31,10 @@ write_failures_at Failed n = n
 abbrev pub write_failures_told : {T : Type 0} → Result T WriteFault → ℕ → ℕ
 write_failures_told (Ok x) n = n
 write_failures_told (Err fault) n = write_failures_at fault n
+
+-- all that a sink took is flushed, or a write or a flush of it failed
+abbrev pub FlushesOrFails : Bool → ℕ → ℕ → Type 0
+FlushesOrFails is_flushed old new = (is_flushed ≡ true) ⊎ (new ≡ one_more old)
 
 -- a stream has at most this many frames
 abbrev pub most_frames : ℕ

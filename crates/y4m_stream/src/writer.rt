@@ -3,7 +3,7 @@ ghost use Rattle.std.specs.Prelude.{◌≡◌, ◌<◌, ◌^◌, ◌↔◌, [], 
 ghost use Rattle.std.specs.Io.KnownBytes.{Keeps};
 ghost use Rattle.y4m_stream.specs.Failures.{one_more};
 ghost use Rattle.y4m_stream.specs.Reader.{frame_text_of};
-ghost use Rattle.y4m_stream.specs.Writer.{CutsShort, IsOfSize, IsOpenedFor, Puts, most_frames};
+ghost use Rattle.y4m_stream.specs.Writer.{CutsShort, FlushesOrFails, IsOfSize, IsOpenedFor, Puts, most_frames};
 ghost use Rattle.y4m_stream.specs.Writer.{write_failures_told};
 
 use crate::device::Sink;
@@ -111,6 +111,8 @@ impl<W: Sink> StreamWriter<W> {
     pub fn finish(self) -> (W, Result<(), WriteFault>)
         ensures kept { Keeps self.contents (W.contents result.0) }
         ensures flushed { OnOk result.1 (W.is_flushed result.0 ≡ true) }
+        ensures closed { self.failed ≡ false
+            → FlushesOrFails (W.is_flushed result.0) self.failures (W.failures result.0) }
         ensures failed { (result.1 ≡ Err WriteFault.Failed) ↔ (self.failed ≡ true) }
         ensures fault { self.failed ≡ false → IfErr result.1 (λ fault. fault ≡ WriteFault.Device self.bytes) }
         ensures told { W.failures result.0 ≡ write_failures_told result.1 self.failures }
