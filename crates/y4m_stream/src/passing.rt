@@ -1,5 +1,5 @@
 // The frames of a stream, each read, filtered and written before the next.
-ghost use Rattle.std.specs.Prelude.{◌≡◌, ◌+◌, ◌<◌, ◌^◌, Ok, true, false, IfOk, IfErr};
+ghost use Rattle.std.specs.Prelude.{◌≡◌, ◌+◌, ◌<◌, Ok, true, false, IfOk, IfErr};
 ghost use Rattle.y4m_header.specs.StreamText.{FrameText};
 ghost use Rattle.y4m_stream.specs.Filtered.{filter_reads_told};
 ghost use Rattle.filters.specs.ChainImage.{AreCanvases};
