@@ -29,7 +29,8 @@ use Rattle.y4m_stream.specs.declared.filter.Filter.{Filter}
 use Rattle.y4m_stream.specs.Failures.{one_more}
 use Rattle.y4m_stream.specs.Front.{IsCutLine, IsLongLine, HasOtherLine, HasGiven, StandsAtFrame}
 use Rattle.y4m_stream.specs.Reader.{ReaderState, IsOfHeader, TakesFrame, Answers, data_len_of}
-use Rattle.y4m_stream.specs.Writer.{WriterState, CutsShort, PutsFrame, most_frames, write_failures_at}
+use Rattle.y4m_stream.specs.Writer.{WriterState, CutsShort, PutsFrame, write_failures_at}
+use Rattle.y4m_stream.specs.declared.passing.TheConstants.{MOST_FRAMES}
 use Rattle.y4m_stream.specs.Served.{IsAskedFor, IsImageText, AreImages, served_header}
 use Rattle.y4m_stream.specs.Filtered.{Progress, HasNext, StopsAt}
 
@@ -172,7 +173,7 @@ pub record Passage (chain : ChainValue) (reader : ReaderState) : Type 0 where
   pub rest : Option (List ℕ)
   pub each : All (IsFrameOf (data_len_of reader.header)) frames
   pub made : AreImages chain frames images
-  pub few : length frames ≤ most_frames
+  pub few : length frames ≤ MOST_FRAMES
   pub taken : Consumes reader.rest rest (frames_text frames)
 
 abbrev pub progress_on : {chain : ChainValue} {reader : ReaderState} → Passage chain reader → Progress

@@ -6,7 +6,7 @@ ghost use Rattle.filters.specs.ChainImage.{AreCanvases};
 ghost use Rattle.y4m_stream.specs.Inside.{FailsToPass, HasFailedAt, IsWriterFor, PassesAll, PassesFrame};
 ghost use Rattle.y4m_stream.specs.Inside.{Stops, filter_writes_told};
 ghost use Rattle.y4m_stream.specs.Reader.{IsOfHeader, MeetsEnd, frame_text_of};
-ghost use Rattle.y4m_stream.specs.Writer.{most_frames};
+ghost use Rattle.y4m_stream.specs.declared.passing.TheConstants.{MOST_FRAMES};
 
 use crate::device::{Sink, Source};
 use crate::fault::FilterFault;
@@ -31,7 +31,7 @@ fn pass_frame<R: Source + Drop, W: Sink>(
     requires chain { frame.old.geometry ≡ images.old.chain.geometry }
     requires canvases { AreCanvases images.old.chain images.old.canvases.items }
     requires size { IsWriterFor images.old.chain writer.old }
-    requires few { writer.old.frames < most_frames }
+    requires few { writer.old.frames < MOST_FRAMES }
     requires writing { writer.old.failed ≡ false }
     requires open { reader.old.phase ≡ Phase.Open }
     ensures frame { frame.new.geometry ≡ frame.old.geometry }
