@@ -21,7 +21,7 @@ use row_bands::BandHeight;
 use std::alloc::Global;
 use y4m_header::Header;
 
-/// What a stream is filtered with: the chain with its pictures, a frame, and the header of the images where their size
+/// What a stream is filtered with: the chain with its canvases, a frame, and the header of the images where their size
 /// is another than the frames'.
 #[derive(Drop)]
 pub struct Filter {
@@ -56,7 +56,7 @@ fn resized_header(
 impl Filter {
     ghost use Rattle.y4m_stream.specs.Inside.{IsFilterFor};
 
-    /// Takes the memory of a frame and of all pictures.
+    /// Takes the memory of a frame and of all canvases.
     fn new(
         alloc: Global,
         ops: Vec<Op>,
@@ -153,9 +153,9 @@ fn filter_frames<R: Source + Drop, W: Sink>(
 /// Reads a stream to its end and writes it with the image of each of its frames in the frame's place, on the caller's
 /// thread; answers the number of frames, and gives the sink back.
 ///
-/// The operations are applied in order, each to the whole picture, in bands of this height. The reader is opened
+/// The operations are applied in order, each to the whole frame, in bands of this height. The reader is opened
 /// first, then the chain is made for the header's frames, and then the header line is written. A frame and its
-/// pictures have the same memory for the whole stream; memory is taken anew only for a frame line that is another than
+/// canvases have the same memory for the whole stream; memory is taken anew only for a frame line that is another than
 /// the one before. At most 16,777,216 images are written. No call on the source or the sink that failed is tried again.
 /// The sink is flushed at the end, and after a fault behind the header line too, where it has not failed. Want of memory
 /// is told as `Read(NoMemory)` where it was for the header or a frame's line, and as `Ops(NoMemory)` where it was for the

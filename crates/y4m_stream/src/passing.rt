@@ -56,7 +56,7 @@ fn pass_frame<R: Source + Drop, W: Sink>(
     Ok(true)
 }
 
-/// Reads frames to the end and writes their images. A frame and its pictures have the same memory for all of
+/// Reads frames to the end and writes their images. A frame and its canvases have the same memory for all of
 /// them.
 pub fn pass_frames<R: Source + Drop, W: Sink>(
     alloc: Global,
