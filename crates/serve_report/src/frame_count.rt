@@ -5,9 +5,7 @@ use frame_view::Geometry;
 use std::alloc::Global;
 use y4m_header::Header;
 use y4m_header::text::cut;
-
-/// The longest header line.
-const LINE_LIMIT: usize = 1024;
+use y4m_stream::LINE_LIMIT;
 
 /// Where in the text the next byte stands.
 #[derive(Clone, Copy, Debug, PartialEq, Eq)]
