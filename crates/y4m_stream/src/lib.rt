@@ -18,7 +18,6 @@ pub mod writer;
 pub use device::{OverRead, OverWrite, Sink, Source};
 pub use fault::{FilterFault, ReadFault, WriteFault};
 pub use filter::{filter_between, filter_bytes, filter_stream};
-pub use lookahead::LINE_LIMIT;
 pub use passing::MOST_FRAMES;
 pub use put::put_all;
 pub use reader::StreamReader;

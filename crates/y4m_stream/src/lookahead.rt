@@ -11,9 +11,10 @@ use crate::device::Source;
 use crate::fault::ReadFault;
 use std::io;
 use std::marker::Model;
+use y4m_header::LONGEST_LINE;
 
 /// The longest line, with its line feed.
-pub const LINE_LIMIT: usize = 1024;
+pub const LINE_LIMIT: usize = LONGEST_LINE + 1;
 
 /// A source, with at most 1,024 bytes that were read from it beyond what was asked for, in order: a line, however it
 /// came, is whole in them.
