@@ -32,7 +32,7 @@ abbrev pub last_format : List Op → Format → Format
 last_format [] format = format
 last_format (op ∷ ops) format = last_format ops (format_after op format)
 
--- each operation can be done on the picture that reaches it
+-- each operation can be done on the frame that reaches it
 abbrev pub AreDoable : List Op → Geometry → Type 0
 AreDoable [] g = ⊤
 AreDoable (op ∷ ops) g =

@@ -1,4 +1,4 @@
--- The pixels of the image of one operation, its size, and when an operation fits a picture.
+-- The pixels of the image of one operation, its size, and when an operation fits a frame.
 use Rattle.std.specs.Prelude.{◌≡◌, ℕ, ◌+◌, ◌%◌, ◌≤◌, List, ⊤}
 use Rattle.y4m_header.specs.Chroma.{horizontal_divisor, vertical_divisor}
 use Rattle.frame_view.specs.declared.geometry.Geometry.{Geometry}
@@ -17,7 +17,7 @@ plane_of g samples p = record { columns = plane_width g p; rows = plane_height g
 abbrev pub image_pixel : Op → Geometry → List ℕ → ℕ → ℕ → ℕ → ℕ
 image_pixel op g samples p y x = pixel op g.chroma p (plane_of g samples p) y x
 
--- some pixels, within the picture, with whole samples of every plane
+-- some pixels, within the frame, with whole samples of every plane
 pub record IsRectangleOf (crop : Rectangle) (g : Geometry) : Type 0 where
   pub some_columns : 1 ≤ crop.width
   pub some_rows : 1 ≤ crop.height

@@ -24,7 +24,7 @@ use std::marker::Model;
 
 /// One to eight operations, for frames of one geometry, in bands of one height.
 ///
-/// They are applied in order, each to the whole picture that the one before it made. A step is one band of
+/// They are applied in order, each to the whole image that the one before it made. A step is one band of
 /// one operation's output; the steps of a frame are numbered from 0, operation by operation and from the top
 /// down.
 #[derive(Debug, Drop)]
@@ -82,7 +82,7 @@ impl Chain {
     ghost use Rattle.filters.specs.Chain.{IsImageGeometry, format_of, format_at, last_format, is_crop};
 
     /// The chain of these operations. `NoMemory` is answered where they make a chain, and the memory for the
-    /// sizes of its pictures is refused; the operations are let go with each refusal.
+    /// sizes of its images is refused; the operations are let go with each refusal.
     pub fn new(
         alloc: Global,
         ops: Vec<Op>,
@@ -131,7 +131,7 @@ impl Chain {
         self.geometry_after(self.ops.len())
     }
 
-    /// That of the picture after so many operations: it is the output of the last of these, and reaches the
+    /// That of the image after so many operations: it is the output of the last of these, and reaches the
     /// operation after them.
     pub fn geometry_after(&self, count: usize) -> Geometry
         requires { count ≤ length self.now.ops }

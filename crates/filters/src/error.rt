@@ -14,7 +14,7 @@ pub enum FilterError {
     /// There are more than 8 operations, or none.
     #[error("TooManyOps")]
     TooManyOps,
-    /// A rectangle is empty, leaves the picture that reaches it, or cuts a sample of a chroma plane.
+    /// A rectangle is empty, leaves the frame that reaches it, or cuts a sample of a chroma plane.
     #[error("BadCrop")]
     BadCrop,
     /// The steps of a frame cost more than 32,768 units.

@@ -1,6 +1,6 @@
 // The operations of a chain.
 
-/// One operation on a whole picture.
+/// One operation on a whole frame.
 #[derive(Clone, Copy, Debug, PartialEq, Eq)]
 pub enum Op {
     /// Each sample becomes what a table has for it.
@@ -26,7 +26,7 @@ pub enum Table {
     Clamp { low: u8, high: u8 },
 }
 
-/// A rectangle of the picture, in pixels: its left upper corner and its size.
+/// A rectangle of the frame, in pixels: its left upper corner and its size.
 #[derive(Clone, Copy, Debug, PartialEq, Eq)]
 pub struct Crop {
     pub x: u32,

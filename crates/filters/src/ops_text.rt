@@ -16,7 +16,7 @@ use y4m_header::text::cut;
 /// A text is 1 to 8 parts joined by `+`. A part is `invert`, `hflip`, `vflip`, `thresh:t`, `clamp:low,high`,
 /// `crop:x,y,width,height` or `blur:radius`; a number is 1 to 9 decimal digits, leading zeros included.
 /// Samples are 0 to 255, `low` is at most `high`, and a radius is 1 to 8; whether a rectangle lies in a
-/// picture is seen when the chain is made. `NoMemory` is answered where the text says at most 8 operations
+/// frame is seen when the chain is made. `NoMemory` is answered where the text says at most 8 operations
 /// and the memory of their list is refused; no other answer needs memory.
 pub fn parse_ops(alloc: Global, text: &[u8]) -> Result<Vec<Op>, FilterError>
     ensures ops { IfOk result (λ ops. ops_of text.now ≡ Some ops.items) }

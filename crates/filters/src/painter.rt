@@ -1,5 +1,4 @@
 // An operation as a painter of its image.
-ghost use Rattle.std.specs.Prelude.{◌≡◌};
 ghost use Rattle.frame_view.specs.Frame.{samples_of};
 ghost use Rattle.filters.specs.Image.{IsDoable, image_pixel};
 ghost use Rattle.filters.specs.Chain.{IsImageGeometry};

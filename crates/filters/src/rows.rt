@@ -1,5 +1,5 @@
 // Rows of the image of a frame.
-ghost use Rattle.std.specs.Prelude.{◌≡◌, ◌+◌, ◌-◌, ◌*◌, ◌<◌, ◌≤◌, ℕ, length, slice_index};
+ghost use Rattle.std.specs.Prelude.{◌≡◌, ◌+◌, ◌-◌, ◌*◌, ◌<◌, ◌≤◌, length};
 ghost use Rattle.y4m_header.specs.Chroma.{plane_count, horizontal_divisor, vertical_divisor};
 ghost use Rattle.frame_view.specs.Places.{plane_width, plane_height};
 ghost use Rattle.frame_view.specs.Frame.{samples_of};

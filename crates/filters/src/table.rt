@@ -1,5 +1,5 @@
 // Rows through a table.
-ghost use Rattle.std.specs.Prelude.{◌≡◌, ◌-◌, ◌≤◌, length, map, nat_le, min, max, if◌then◌else◌};
+ghost use Rattle.std.specs.Prelude.{◌≡◌, ◌-◌, length, map, nat_le, min, max, if◌then◌else◌};
 ghost use Rattle.filters.specs.Pixel.{entry, luma_entry, chroma_entry};
 
 use crate::op::Table;

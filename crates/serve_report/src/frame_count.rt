@@ -3,11 +3,8 @@ ghost use Rattle.std.specs.Prelude.{◌<◌, length};
 
 use frame_view::Geometry;
 use std::alloc::Global;
-use y4m_header::Header;
 use y4m_header::text::cut;
-
-/// The longest header line.
-const LINE_LIMIT: usize = 1024;
+use y4m_header::{Header, LONGEST_LINE};
 
 /// Where in the text the next byte stands.
 #[derive(Clone, Copy, Debug, PartialEq, Eq)]
@@ -73,7 +70,7 @@ impl FrameCount {
         ensures { length result.now < length text.now }
     {
         let (line, rest) = cut(b'\n', text);
-        let kept = line.len() <= LINE_LIMIT.saturating_sub(self.header.len())
+        let kept = line.len() <= LONGEST_LINE.saturating_sub(self.header.len())
             && self.header.extend_from_slice(line).is_ok();
         let Some(rest) = rest else {
             if !kept {

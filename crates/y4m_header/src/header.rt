@@ -104,7 +104,7 @@ impl Header {
         &self.line
     }
 
-    /// The header of a picture cut out of this one: the values of W and H are replaced in place, without
+    /// The header of frames cut out of this one's: the values of W and H are replaced in place, without
     /// leading zeros, and all else of the line stays byte for byte. `NoMemory` is answered where the memory
     /// for the new line is refused.
     pub fn resized(&self, alloc: Global, width: u32, height: u32) -> Result<Header, HeaderError>

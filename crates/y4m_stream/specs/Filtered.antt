@@ -20,7 +20,8 @@ use Rattle.y4m_stream.specs.Failures.{one_more}
 use Rattle.y4m_stream.specs.Front.{IsReadAhead, StandsAtHeader, StandsAtFrame}
 use Rattle.y4m_stream.specs.Reader.{failures_at}
 use Rattle.y4m_stream.specs.Served.{IsAskedFor, Serves}
-use Rattle.y4m_stream.specs.Writer.{most_frames, write_failures_at}
+use Rattle.y4m_stream.specs.Writer.{write_failures_at}
+use Rattle.y4m_stream.specs.declared.passing.TheConstants.{MOST_FRAMES}
 
 -- what the source had to give and what it has left, and what the sink held before and holds after, where
 -- these are known
@@ -63,7 +64,7 @@ pub record Passed (ops : List Op) (height : BandHeight) (input : Option (List �
   pub rest : Option (List ℕ)
   pub served : List ℕ
   pub serves : Serves ops height text frames served
-  pub few : length frames ≤ most_frames
+  pub few : length frames ≤ MOST_FRAMES
   pub taken : Consumes input rest text
 
 -- how far a stream was read: the bytes of a frame's data, how many frames were read, and what stands behind
@@ -104,11 +105,11 @@ pub record CutsOff (before after : Option (List ℕ)) (text : List ℕ) (earlier
 abbrev pub StopsAt : FilterFault → Progress → ℕ → Ends → Type 0
 StopsAt (Read fault) at earlier ends =
     StandsAtFrame at.len fault at.rest ends.left × Appends ends.before ends.after at.due
-StopsAt (Ops e) at earlier ends = (e ≡ NoMemory) × (at.count < most_frames)
+StopsAt (Ops e) at earlier ends = (e ≡ NoMemory) × (at.count < MOST_FRAMES)
     × HasNext at.len at.rest ends.left × Appends ends.before ends.after at.due
 StopsAt (Write fault) at earlier ends =
     IsReadAhead at.rest ends.left × CutsOff ends.before ends.after at.due earlier fault
-StopsAt TooManyFrames at earlier ends = (at.count ≡ most_frames)
+StopsAt TooManyFrames at earlier ends = (at.count ≡ MOST_FRAMES)
     × HasNext at.len at.rest ends.left × Appends ends.before ends.after at.due
 
 -- the whole input was read, it is a stream text of n frames, and what it is served as was written

@@ -1,5 +1,5 @@
 -- What contracts inside the crate speak of.
-use Rattle.std.specs.Prelude.{◌≡◌, ℕ, ◌+◌, ◌<◌, ◌≤◌, ◌⊎◌, ⊤, List, ◌∷◌, ◌++◌, length, take, drop}
+use Rattle.std.specs.Prelude.{◌≡◌, ℕ, ◌+◌, ◌<◌, ◌≤◌, ◌⊎◌, List, ◌∷◌, ◌++◌, length, take, drop}
 use Rattle.std.specs.Prelude.{Option, Some, None}
 use Rattle.std.specs.Prelude.{IfSome, IsSomeAnd, unwrap_or, All, true, false, Result, Ok, Err}
 use Rattle.std.specs.Io.KnownBytes.{Appends, Consumes, IsAtEnd, Keeps, prepend_known}
@@ -22,14 +22,15 @@ use Rattle.y4m_stream.specs.declared.fault.ReadFault.TheVariants.{Truncated, NoM
 use Rattle.y4m_stream.specs.declared.reader.Phase.{Phase}
 use Rattle.y4m_stream.specs.declared.reader.Phase.TheVariants.{Open, Failed as HasFailed}
 use Rattle.y4m_stream.specs.declared.fault.WriteFault.{WriteFault}
-use Rattle.y4m_stream.specs.declared.fault.WriteFault.TheVariants.{Device as NotWritten}
+use Rattle.y4m_stream.specs.declared.fault.WriteFault.TheVariants.{Device as NotWritten, Failed as HasFailedBefore}
 use Rattle.y4m_stream.specs.declared.fault.FilterFault.{FilterFault}
 use Rattle.y4m_stream.specs.declared.fault.FilterFault.TheVariants.{Read, Ops, Write, TooManyFrames}
 use Rattle.y4m_stream.specs.declared.filter.Filter.{Filter}
 use Rattle.y4m_stream.specs.Failures.{one_more}
 use Rattle.y4m_stream.specs.Front.{IsCutLine, IsLongLine, HasOtherLine, HasGiven, StandsAtFrame}
 use Rattle.y4m_stream.specs.Reader.{ReaderState, IsOfHeader, TakesFrame, Answers, data_len_of}
-use Rattle.y4m_stream.specs.Writer.{WriterState, CutsShort, PutsFrame, most_frames, write_failures_at}
+use Rattle.y4m_stream.specs.Writer.{WriterState, CutsShort, PutsFrame, write_failures_at}
+use Rattle.y4m_stream.specs.declared.passing.TheConstants.{MOST_FRAMES}
 use Rattle.y4m_stream.specs.Served.{IsAskedFor, IsImageText, AreImages, served_header}
 use Rattle.y4m_stream.specs.Filtered.{Progress, HasNext, StopsAt}
 
@@ -172,7 +173,7 @@ pub record Passage (chain : ChainValue) (reader : ReaderState) : Type 0 where
   pub rest : Option (List ℕ)
   pub each : All (IsFrameOf (data_len_of reader.header)) frames
   pub made : AreImages chain frames images
-  pub few : length frames ≤ most_frames
+  pub few : length frames ≤ MOST_FRAMES
   pub taken : Consumes reader.rest rest (frames_text frames)
 
 abbrev pub progress_on : {chain : ChainValue} {reader : ReaderState} → Passage chain reader → Progress
@@ -216,12 +217,13 @@ abbrev pub filter_writes_told : {T : Type 0} → Result T FilterFault → ℕ �
 filter_writes_told (Ok x) n = n
 filter_writes_told (Err fault) n = filter_writes_at fault n
 
--- after a fault of the writer it has failed
+-- the writer has failed exactly where this is its fault
 abbrev pub HasFailedAt : FilterFault → WriterState → Type 0
-HasFailedAt (Read fault) writer = ⊤
-HasFailedAt (Ops e) writer = ⊤
-HasFailedAt (Write fault) writer = writer.failed ≡ true
-HasFailedAt TooManyFrames writer = ⊤
+HasFailedAt (Read fault) writer = writer.failed ≡ false
+HasFailedAt (Ops e) writer = writer.failed ≡ false
+HasFailedAt (Write (NotWritten bytes)) writer = writer.failed ≡ true
+HasFailedAt (Write HasFailedBefore) writer = ⊥
+HasFailedAt TooManyFrames writer = writer.failed ≡ false
 
 -- a fault stays, and a number of frames stays where the flush succeeds
 abbrev pub Closes : Result ℕ FilterFault → WriterState → Result ℕ FilterFault → Type 0

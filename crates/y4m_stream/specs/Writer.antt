@@ -1,5 +1,5 @@
 -- What callers see of a stream's writer, and what its calls do.
-use Rattle.std.specs.Prelude.{◌≡◌, ℕ, ◌+◌, ◌<◌, ◌^◌, List, [], ◌∷◌, ◌++◌, length, take, Option, Result, Ok}
+use Rattle.std.specs.Prelude.{◌≡◌, ℕ, ◌+◌, ◌<◌, ◌⊎◌, List, [], ◌∷◌, ◌++◌, length, take, Option, Result, Ok}
 use Rattle.std.specs.Prelude.{Err, MatchResult, Bool, true, false}
 use Rattle.std.specs.Io.KnownBytes.{Appends}
 use Rattle.frame_view.specs.declared.geometry.Geometry.{Geometry}
@@ -32,9 +32,9 @@ abbrev pub write_failures_told : {T : Type 0} → Result T WriteFault → ℕ �
 write_failures_told (Ok x) n = n
 write_failures_told (Err fault) n = write_failures_at fault n
 
--- a stream has at most this many frames
-abbrev pub most_frames : ℕ
-most_frames = 2 ^ 24
+-- all that a sink took is flushed, or a write or a flush of it failed
+abbrev pub FlushesOrFails : Bool → ℕ → ℕ → Type 0
+FlushesOrFails is_flushed old new = (is_flushed ≡ true) ⊎ (new ≡ one_more old)
 
 -- all of the text went out, or n bytes of it, from its front, and not all
 abbrev pub PutsText : {T : Type 0} → Option (List ℕ) → Option (List ℕ) → List ℕ → Result T ℕ → Type 0

@@ -1,5 +1,5 @@
 // The data of a frame, read straight into the frame's memory.
-ghost use Rattle.std.specs.Prelude.{◌≡◌, ◌+◌, ◌-◌, ◌<◌, ◌≤◌, length, take, drop, IfErr, OnOk};
+ghost use Rattle.std.specs.Prelude.{◌≡◌, ◌+◌, ◌-◌, ◌<◌, length, IfErr, OnOk};
 ghost use Rattle.std.specs.Io.KnownBytes.{Consumes};
 ghost use Rattle.y4m_stream.specs.Inside.{LacksBytes};
 ghost use Rattle.y4m_stream.specs.Reader.{failures_told};

@@ -1,11 +1,13 @@
 // A stream, filtered from end to end.
-ghost use Rattle.std.specs.Prelude.{◌≡◌, ◌≢◌, ℕ, List, Option, IfOk, IfErr, OnOk, Some, true, unwrap_or};
+ghost use Rattle.std.specs.Prelude.{◌≡◌, ◌≢◌, ◌⊎◌, ℕ, List, Option, IfOk, IfErr, OnOk, Some, true, false};
+ghost use Rattle.std.specs.Prelude.{unwrap_or};
 ghost use Rattle.std.specs.Io.KnownBytes.{Keeps};
 ghost use Rattle.filters.specs.Chain.{format_of};
 ghost use Rattle.filters.specs.Refusal.{IsChain};
 ghost use Rattle.y4m_stream.specs.Filtered.{CountsWrites, IsFiltered, LacksChain, filter_reads_told};
 ghost use Rattle.y4m_stream.specs.Inside.{Closes, CountsClosing, IsHeaderOfImages};
 ghost use Rattle.y4m_stream.specs.Reader.{IsOpened};
+ghost use Rattle.y4m_stream.specs.Writer.{FlushesOrFails};
 
 use crate::device::{Sink, Source};
 use crate::fault::{FilterFault, ReadFault};
@@ -19,7 +21,7 @@ use row_bands::BandHeight;
 use std::alloc::Global;
 use y4m_header::Header;
 
-/// What a stream is filtered with: the chain with its pictures, a frame, and the header of the images where their size
+/// What a stream is filtered with: the chain with its canvases, a frame, and the header of the images where their size
 /// is another than the frames'.
 #[derive(Drop)]
 pub struct Filter {
@@ -54,7 +56,7 @@ fn resized_header(
 impl Filter {
     ghost use Rattle.y4m_stream.specs.Inside.{IsFilterFor};
 
-    /// Takes the memory of a frame and of all pictures.
+    /// Takes the memory of a frame and of all canvases.
     fn new(
         alloc: Global,
         ops: Vec<Op>,
@@ -97,6 +99,8 @@ fn close<W: Sink>(
     ensures answer { Closes passed writer result.1 }
     ensures counted { CountsClosing passed writer result.1 (W.failures result.0) }
     ensures flushed { OnOk result.1 (W.is_flushed result.0 ≡ true) }
+    ensures closed { writer.failed ≡ false
+        → FlushesOrFails (W.is_flushed result.0) writer.failures (W.failures result.0) }
 {
     let (output, finished) = writer.finish();
     match (passed, finished) {
@@ -124,6 +128,8 @@ fn filter_frames<R: Source + Drop, W: Sink>(
     ensures reads { reader.new.failures ≡ filter_reads_told result.1 reader.old.failures }
     ensures writes { CountsWrites result.1 (W.failures output) (W.failures result.0) }
     ensures flushed { OnOk result.1 (W.is_flushed result.0 ≡ true) }
+    ensures closed { (result.0 ≡ output)
+        ⊎ FlushesOrFails (W.is_flushed result.0) (W.failures output) (W.failures result.0) }
 {
     let mut filter = match Filter::new(alloc, ops, reader.header(), height) {
         Ok(filter) => filter,
@@ -147,11 +153,13 @@ fn filter_frames<R: Source + Drop, W: Sink>(
 /// Reads a stream to its end and writes it with the image of each of its frames in the frame's place, on the caller's
 /// thread; answers the number of frames, and gives the sink back.
 ///
-/// The operations are applied in order, each to the whole picture, in bands of this height. The reader is opened
+/// The operations are applied in order, each to the whole frame, in bands of this height. The reader is opened
 /// first, then the chain is made for the header's frames, and then the header line is written. A frame and its
-/// pictures have the same memory for the whole stream; memory is taken anew only for a frame line that is another than
+/// canvases have the same memory for the whole stream; memory is taken anew only for a frame line that is another than
 /// the one before. At most 16,777,216 images are written. No call on the source or the sink that failed is tried again.
-/// The sink is flushed at the end, and after a fault behind the header line too, where it has not failed.
+/// The sink is flushed at the end, and after a fault behind the header line too, where it has not failed. Want of memory
+/// is told as `Read(NoMemory)` where it was for the header or a frame's line, and as `Ops(NoMemory)` where it was for the
+/// chain, its frame and its canvases, the header of the images or an image's line.
 pub fn filter_stream<R: Source + Drop, W: Sink>(
     alloc: Global,
     input: R,
@@ -169,6 +177,8 @@ pub fn filter_stream<R: Source + Drop, W: Sink>(
         }) }
     ensures writes { CountsWrites result.1 (W.failures output) (W.failures result.0) }
     ensures flushed { OnOk result.1 (W.is_flushed result.0 ≡ true) }
+    ensures closed { (result.0 ≡ output)
+        ⊎ FlushesOrFails (W.is_flushed result.0) (W.failures output) (W.failures result.0) }
 {
     let (_, output, answer) = filter_between(alloc, input, output, ops, height);
     (output, answer)
@@ -191,6 +201,8 @@ pub fn filter_between<R: Source + Drop, W: Sink>(
     ensures reads { R.failures result.0 ≡ filter_reads_told result.2 (R.failures input) }
     ensures writes { CountsWrites result.2 (W.failures output) (W.failures result.1) }
     ensures flushed { OnOk result.2 (W.is_flushed result.1 ≡ true) }
+    ensures closed { (result.1 ≡ output)
+        ⊎ FlushesOrFails (W.is_flushed result.1) (W.failures output) (W.failures result.1) }
 {
     let mut reader = match StreamReader::open_or_return(alloc, input) {
         Ok(reader) => reader,
@@ -217,6 +229,8 @@ pub fn filter_bytes<W: Sink>(
     }) }
     ensures writes { CountsWrites result.1 (W.failures output) (W.failures result.0) }
     ensures flushed { OnOk result.1 (W.is_flushed result.0 ≡ true) }
+    ensures closed { (result.0 ≡ output)
+        ⊎ FlushesOrFails (W.is_flushed result.0) (W.failures output) (W.failures result.0) }
 {
     filter_stream(alloc, input, output, ops, height)
 }

@@ -1,5 +1,5 @@
 // A source, and the bytes that were read from it and not yet taken.
-ghost use Rattle.std.specs.Prelude.{◌≡◌, ◌+◌, ◌-◌, ◌<◌, ◌≤◌, [], ◌++◌, length, take, drop, min, IfOk, IfErr};
+ghost use Rattle.std.specs.Prelude.{◌≡◌, ◌+◌, ◌-◌, ◌<◌, ◌≤◌, [], length, take, drop, min, IfOk, IfErr};
 ghost use Rattle.std.specs.Prelude.{OnOk, OnErr};
 ghost use Rattle.std.specs.Io.KnownBytes.{Consumes, IsAtEnd, Keeps};
 ghost use Rattle.y4m_stream.specs.Failures.{failures_after};
@@ -11,9 +11,10 @@ use crate::device::Source;
 use crate::fault::ReadFault;
 use std::io;
 use std::marker::Model;
+use y4m_header::LONGEST_LINE;
 
 /// The longest line, with its line feed.
-pub const LINE_LIMIT: usize = 1024;
+pub const LINE_LIMIT: usize = LONGEST_LINE + 1;
 
 /// A source, with at most 1,024 bytes that were read from it beyond what was asked for, in order: a line, however it
 /// came, is whole in them.

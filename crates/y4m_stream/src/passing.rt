@@ -1,12 +1,12 @@
 // The frames of a stream, each read, filtered and written before the next.
-ghost use Rattle.std.specs.Prelude.{◌≡◌, ◌+◌, ◌<◌, ◌^◌, Ok, true, false, IfOk, IfErr};
+ghost use Rattle.std.specs.Prelude.{◌≡◌, ◌+◌, ◌<◌, Ok, true, false, IfOk, IfErr};
 ghost use Rattle.y4m_header.specs.StreamText.{FrameText};
 ghost use Rattle.y4m_stream.specs.Filtered.{filter_reads_told};
 ghost use Rattle.filters.specs.ChainImage.{AreCanvases};
 ghost use Rattle.y4m_stream.specs.Inside.{FailsToPass, HasFailedAt, IsWriterFor, PassesAll, PassesFrame};
 ghost use Rattle.y4m_stream.specs.Inside.{Stops, filter_writes_told};
 ghost use Rattle.y4m_stream.specs.Reader.{IsOfHeader, MeetsEnd, frame_text_of};
-ghost use Rattle.y4m_stream.specs.Writer.{most_frames};
+ghost use Rattle.y4m_stream.specs.declared.passing.TheConstants.{MOST_FRAMES};
 
 use crate::device::{Sink, Source};
 use crate::fault::FilterFault;
@@ -31,7 +31,7 @@ fn pass_frame<R: Source + Drop, W: Sink>(
     requires chain { frame.old.geometry ≡ images.old.chain.geometry }
     requires canvases { AreCanvases images.old.chain images.old.canvases.items }
     requires size { IsWriterFor images.old.chain writer.old }
-    requires few { writer.old.frames < most_frames }
+    requires few { writer.old.frames < MOST_FRAMES }
     requires writing { writer.old.failed ≡ false }
     requires open { reader.old.phase ≡ Phase.Open }
     ensures frame { frame.new.geometry ≡ frame.old.geometry }
@@ -56,7 +56,7 @@ fn pass_frame<R: Source + Drop, W: Sink>(
     Ok(true)
 }
 
-/// Reads frames to the end and writes their images. A frame and its pictures have the same memory for all of
+/// Reads frames to the end and writes their images. A frame and its canvases have the same memory for all of
 /// them.
 pub fn pass_frames<R: Source + Drop, W: Sink>(
     alloc: Global,

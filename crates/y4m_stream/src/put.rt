@@ -1,9 +1,11 @@
 // Writing all bytes, or telling how many went out.
-ghost use Rattle.std.specs.Prelude.{◌≡◌, ◌+◌, ◌-◌, ◌^◌, ◌<◌, ◌≤◌, [], ◌∷◌, ◌++◌, length, take};
+ghost use Rattle.std.specs.Prelude.{◌≡◌, ◌+◌, ◌-◌, ◌^◌, ◌<◌, [], ◌∷◌, ◌++◌, length, take};
+ghost use Rattle.y4m_stream.specs.declared.lookahead.TheConstants.{LINE_LIMIT};
 ghost use Rattle.y4m_stream.specs.Failures.{failures_after};
 ghost use Rattle.y4m_stream.specs.Writer.{PutsText};
 
 use crate::device::Sink;
+use crate::lookahead::LINE_LIMIT;
 
 /// Writes all of the bytes, or answers how many went out: fewer than all, from the front.
 ///
@@ -24,11 +26,11 @@ pub fn put_all<W: Sink>(writer: &mut W, bytes: &[u8]) -> Result<(), usize>
 }
 
 /// A line and its line feed, at the front of a buffer.
-fn with_line_feed(line: &[u8]) -> [u8; 1024]
-    requires { length line.now ≤ 1023 }
+fn with_line_feed(line: &[u8]) -> [u8; LINE_LIMIT]
+    requires { length line.now < LINE_LIMIT }
     ensures { take (length line.now + 1) result ≡ line.now ++ 10 ∷ [] }
 {
-    let mut text = [0; 1024];
+    let mut text = [0; LINE_LIMIT];
     text[..line.len()].copy_from_slice(line);
     text[line.len()] = b'\n';
     text
@@ -36,7 +38,7 @@ fn with_line_feed(line: &[u8]) -> [u8; 1024]
 
 /// Writes a line and its line feed, in one piece, or answers how many bytes went out.
 pub fn put_line<W: Sink>(writer: &mut W, line: &[u8]) -> Result<(), usize>
-    requires { length line.now ≤ 1023 }
+    requires { length line.now < LINE_LIMIT }
     ensures text { PutsText (W.contents writer.old) (W.contents writer.new) (line.now ++ 10 ∷ []) result }
     ensures failures { W.failures writer.new ≡ failures_after result (W.failures writer.old) }
 {
@@ -47,7 +49,7 @@ pub fn put_line<W: Sink>(writer: &mut W, line: &[u8]) -> Result<(), usize>
 /// Writes a frame's line, a line feed and its data, or answers how many bytes went out.
 #[tactic(auto, using(crate::proofs::Puts::put_rules))]
 pub fn put_frame<W: Sink>(writer: &mut W, line: &[u8], bytes: &[u8]) -> Result<(), usize>
-    requires line { length line.now ≤ 1023 }
+    requires line { length line.now < LINE_LIMIT }
     requires bytes { length bytes.now < 2 ^ 62 }
     ensures text { PutsText (W.contents writer.old) (W.contents writer.new)
         (line.now ++ 10 ∷ bytes.now) result }

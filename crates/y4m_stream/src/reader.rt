@@ -1,8 +1,7 @@
 // A reader of frames, which fails for good at its first fault.
-ghost use Rattle.std.specs.Prelude.{◌≡◌, ◌≤◌, ◌∷◌, ◌++◌, [], ℕ, List, Option, length, take, IfOk, IfErr};
+ghost use Rattle.std.specs.Prelude.{◌≡◌, ◌≤◌, ◌∷◌, ◌++◌, [], Option, length, IfOk, IfErr};
 ghost use Rattle.std.specs.Prelude.{IfSome, OnOk};
 ghost use Rattle.std.specs.Io.KnownBytes.{Consumes};
-ghost use Rattle.y4m_header.specs.FrameLine.{IsFrameLine};
 ghost use Rattle.y4m_header.specs.HeaderLine.{IsHeaderLine};
 ghost use Rattle.y4m_stream.specs.Front.{StandsAtHeader};
 ghost use Rattle.y4m_stream.specs.Inside.{BeginsFrame, rest_of};
@@ -161,8 +160,9 @@ impl<R: Source + Drop> StreamReader<R> {
 
     /// Reads the next frame into the memory of this one, or answers `false` at the end.
     ///
-    /// Memory is taken only where the frame's line is another than this one's. After a fault, and at the end, the frame
-    /// has its geometry still, and no line or samples to rely on.
+    /// An input that ends within a frame is `Truncated`. Memory is taken only where the frame's line is another than
+    /// this one's: `NoMemory` is answered where that line came whole and could not be kept. After a fault, and at the
+    /// end, the frame has its geometry still, and no line or samples to rely on.
     pub fn read_frame(&mut self, alloc: Global, frame: &mut Frame) -> Result<bool, ReadFault>
         requires { IsOfHeader self.old.header frame.old.geometry }
         ensures answer { Answers self.old self.new (answer_into frame.new result) }

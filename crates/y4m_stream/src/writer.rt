@@ -3,7 +3,8 @@ ghost use Rattle.std.specs.Prelude.{◌≡◌, ◌<◌, ◌^◌, ◌↔◌, [], 
 ghost use Rattle.std.specs.Io.KnownBytes.{Keeps};
 ghost use Rattle.y4m_stream.specs.Failures.{one_more};
 ghost use Rattle.y4m_stream.specs.Reader.{frame_text_of};
-ghost use Rattle.y4m_stream.specs.Writer.{CutsShort, IsOfSize, IsOpenedFor, Puts, most_frames};
+ghost use Rattle.y4m_stream.specs.Writer.{CutsShort, FlushesOrFails, IsOfSize, IsOpenedFor, Puts};
+ghost use Rattle.y4m_stream.specs.declared.passing.TheConstants.{MOST_FRAMES};
 ghost use Rattle.y4m_stream.specs.Writer.{write_failures_told};
 
 use crate::device::Sink;
@@ -30,7 +31,8 @@ pub struct StreamWriter<W: Sink> {
 impl<W: Sink> Model for StreamWriter<W> {
     ghost use Rattle.std.specs.Prelude.{◌≡◌, ◌+◌, ◌*◌, ◌≤◌, ◌^◌, false};
     ghost use Rattle.y4m_stream.specs.declared.lookahead.TheConstants.{LINE_LIMIT};
-    ghost use Rattle.y4m_stream.specs.Writer.{WriterState, most_frames};
+    ghost use Rattle.y4m_stream.specs.declared.passing.TheConstants.{MOST_FRAMES};
+    ghost use Rattle.y4m_stream.specs.Writer.{WriterState};
 
     ghost Value = { WriterState };
 
@@ -46,7 +48,7 @@ impl<W: Sink> Model for StreamWriter<W> {
     } };
 
     ghost invariant = { λ a. (a.failed ≡ false → a.bytes ≤ LINE_LIMIT + 2 ^ 27 * a.frames)
-        × (a.frames ≤ most_frames) };
+        × (a.frames ≤ MOST_FRAMES) };
 }
 
 impl<W: Sink> StreamWriter<W> {
@@ -72,7 +74,7 @@ impl<W: Sink> StreamWriter<W> {
     /// Writes a frame: its line, a line feed and its samples.
     pub fn put(&mut self, frame: &Frame) -> Result<(), WriteFault>
         requires size { IsOfSize self.old frame.now.geometry }
-        requires few { self.old.frames < most_frames }
+        requires few { self.old.frames < MOST_FRAMES }
         ensures { Puts self.old self.new (frame_text_of frame.now) result }
     {
         if self.failed {
@@ -111,6 +113,8 @@ impl<W: Sink> StreamWriter<W> {
     pub fn finish(self) -> (W, Result<(), WriteFault>)
         ensures kept { Keeps self.contents (W.contents result.0) }
         ensures flushed { OnOk result.1 (W.is_flushed result.0 ≡ true) }
+        ensures closed { self.failed ≡ false
+            → FlushesOrFails (W.is_flushed result.0) self.failures (W.failures result.0) }
         ensures failed { (result.1 ≡ Err WriteFault.Failed) ↔ (self.failed ≡ true) }
         ensures fault { self.failed ≡ false → IfErr result.1 (λ fault. fault ≡ WriteFault.Device self.bytes) }
         ensures told { W.failures result.0 ≡ write_failures_told result.1 self.failures }

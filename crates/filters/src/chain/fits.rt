@@ -1,4 +1,4 @@
-// Which operations a picture can take, and what they make of its geometry.
+// Which operations a frame can take, and what they make of its geometry.
 ghost use Rattle.std.specs.Prelude.{◌≡◌, ◌≤◌, ◌<◌, ◌+◌, ◌%◌, ◌↔◌, IsTrue};
 ghost use Rattle.filters.specs.Image.{HasGoodRadius, IsRectangleOf, IsDoable};
 ghost use Rattle.filters.specs.Chain.{IsImageGeometry, is_crop};
@@ -60,7 +60,7 @@ fn cropped(crop: Crop, geometry: Geometry) -> Geometry
     }
 }
 
-/// The geometry of what an operation makes of a picture.
+/// The geometry of what an operation makes of a frame.
 pub fn output_of(op: Op, geometry: Geometry) -> Geometry
     requires { IsDoable op geometry }
     ensures { IsImageGeometry op geometry result }

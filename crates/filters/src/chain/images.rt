@@ -1,5 +1,5 @@
 // The images of frames by a chain.
-ghost use Rattle.std.specs.Prelude.{◌≡◌, ◌+◌, ◌-◌, ◌<◌, ◌≤◌, ℕ, All, length, slice_index_or};
+ghost use Rattle.std.specs.Prelude.{◌≡◌, ◌+◌, ◌-◌, ◌<◌, ◌≤◌, All, length, slice_index_or};
 ghost use Rattle.std.specs.Prelude.{IfOk, IfErr, IsSomeAnd};
 ghost use Rattle.y4m_header.specs.FrameLine.{IsFrameLine};
 ghost use Rattle.frame_view.specs.Frame.{line_of};

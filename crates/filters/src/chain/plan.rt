@@ -18,7 +18,7 @@ pub struct Totals {
     pub cost: u32,
 }
 
-/// The totals of a frame, if each operation can be done on the picture that reaches it.
+/// The totals of a frame, if each operation can be done on the frame that reaches it.
 pub fn totals_of(ops: &[Op], geometry: Geometry, band_height: BandHeight) -> Option<Totals>
     requires { length ops.now ≤ 8 }
     ensures doable { IsSome result ↔ AreDoable ops.now geometry }
