@@ -22,7 +22,8 @@ use Rattle.y4m_stream.specs.declared.fault.ReadFault.TheVariants.{Truncated, NoM
 use Rattle.y4m_stream.specs.declared.reader.Phase.{Phase}
 use Rattle.y4m_stream.specs.declared.reader.Phase.TheVariants.{Open, Failed as HasFailed}
 use Rattle.y4m_stream.specs.declared.fault.WriteFault.{WriteFault}
-use Rattle.y4m_stream.specs.declared.fault.WriteFault.TheVariants.{Device as NotWritten, Failed as HasFailedBefore}
+use Rattle.y4m_stream.specs.declared.fault.WriteFault.TheVariants.{Device as NotWritten}
+use Rattle.y4m_stream.specs.declared.fault.WriteFault.TheVariants.{Failed as HasFailedBefore}
 use Rattle.y4m_stream.specs.declared.fault.FilterFault.{FilterFault}
 use Rattle.y4m_stream.specs.declared.fault.FilterFault.TheVariants.{Read, Ops, Write, TooManyFrames}
 use Rattle.y4m_stream.specs.declared.filter.Filter.{Filter}

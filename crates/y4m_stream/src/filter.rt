@@ -157,9 +157,10 @@ fn filter_frames<R: Source + Drop, W: Sink>(
 /// first, then the chain is made for the header's frames, and then the header line is written. A frame and its
 /// canvases have the same memory for the whole stream; memory is taken anew only for a frame line that is another than
 /// the one before. At most 16,777,216 images are written. No call on the source or the sink that failed is tried again.
-/// The sink is flushed at the end, and after a fault behind the header line too, where it has not failed. Want of memory
-/// is told as `Read(NoMemory)` where it was for the header or a frame's line, and as `Ops(NoMemory)` where it was for the
-/// chain, its frame and its canvases, the header of the images or an image's line.
+/// The sink is flushed at the end, and after a fault behind the header line too, where it has not failed.
+///
+/// Want of memory is told as `Read(NoMemory)` where it was for the header or a frame's line, and as `Ops(NoMemory)`
+/// where it was for the chain, its frame and its canvases, the header of the images or an image's line.
 pub fn filter_stream<R: Source + Drop, W: Sink>(
     alloc: Global,
     input: R,
