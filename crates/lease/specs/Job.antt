@@ -77,9 +77,10 @@ waiting chain source canvas = record {
 pub record WritesBand (chain : ChainValue) (op band : ℕ) (frames frames' : List Frame) : Type 0 where
   pub image : Frame
   pub others : frames' ≡ slice_set frames (op + 1) image
-  pub rows : (o : Op) (d : Frame) → let before = slice_index_or frames (op + 1) d in
-      let b = chain.band_height.rows in
-      HasBand (picture_of chain frames op o d) (luma_from b band) (luma_to before.geometry b band) before image
+  pub rows : (o : Op) (d : Frame) → let b = chain.band_height.rows in
+      let before = slice_index_or frames (op + 1) d in
+      HasBand (picture_of chain frames op o d) (luma_from b band) (luma_to before.geometry b band)
+      before image
 
 -- one step more is done: its band is written, and all else stays
 pub record StepsOn (old new : JobValue) : Type 0 where

@@ -1,4 +1,5 @@
 // A frame with what was made of it by now.
+use crate::halves::halve_step;
 use crate::job_spec::JobSpec;
 use crate::refused::{JobRefused, OverRefused};
 use crate::scratch::Scratch;
@@ -10,6 +11,7 @@ use row_bands::Canvas;
 use std::alloc::Global;
 use std::marker::Model;
 use std::sync::Arc;
+use std::thread::Threads;
 
 /// A frame that is filtered step by step, and keeps what is done.
 ///
@@ -225,6 +227,30 @@ impl Job {
             &self.source,
             &mut scratch.canvases,
             &mut self.canvas,
+        );
+        self.done += 1;
+    }
+
+    /// Does the next step, by two threads where its band can be halved.
+    pub(crate) fn step_halves<R: Threads, N: Fn(u32) + Sync>(&mut self, rt: &R, note: &N)
+        requires callable { N.pre note.now 0 × N.pre note.now 1 }
+        requires started { IsSome self.old.scratch }
+        requires left { self.old.done < steps_of self.old.chain }
+        ensures step { StepsOn self.old self.new }
+        ensures started { IsSome self.new.scratch }
+    {
+        prove!(self.done < self.steps());
+        let Some(scratch) = &mut self.scratch else {
+            unreachable!()
+        };
+        halve_step(
+            rt,
+            self.spec.chain(),
+            self.done,
+            &self.source,
+            &mut scratch.canvases,
+            &mut self.canvas,
+            note,
         );
         self.done += 1;
     }

@@ -3,6 +3,7 @@ use crate::job::Job;
 use crate::job_spec::JobSpec;
 use frame_view::Frame;
 use std::marker::Model;
+use std::thread::Threads;
 use thiserror::Error;
 
 /// As many steps as the lease grants are done.
@@ -78,6 +79,37 @@ impl Lease {
         self.spent += self.job.next_cost();
         self.used += 1;
         self.job.step();
+        Ok(())
+    }
+
+    /// Does what [`Lease::step`] does, by two threads where the band can be halved. Each of them calls
+    /// `note`, with 0 or 1, before it writes its part of the band. Memory is taken for the other thread alone;
+    /// where it isn't granted, the caller's own writes both parts.
+    pub fn step_halves<R: Threads, N: Fn(u32) + Sync>(
+        &mut self,
+        rt: &R,
+        note: &N,
+    ) -> Result<(), GrantSpent>
+        requires { N.pre note.now 0 × N.pre note.now 1 }
+        ensures refused { IsErr result ↔ (self.old.used ≡ self.old.granted) }
+        ensures err { OnErr result (self.new ≡ self.old) }
+        ensures chain { self.new.job.chain ≡ self.old.job.chain }
+        ensures source { self.new.job.source ≡ self.old.job.source }
+        ensures done { OnOk result (self.new.job.done ≡ self.old.job.done + 1) }
+        ensures step { OnOk result (StepsOn self.old.job self.new.job) }
+        ensures used { OnOk result (self.new
+            ≡ record self.old { job = self.new.job; used = self.old.used + 1 }) }
+        ensures spent { OnOk result (spent_of self.new
+            ≡ spent_of self.old + slice_index (step_costs self.old.job.chain) self.old.job.done) }
+    {
+        if self.used >= self.granted {
+            return Err(GrantSpent);
+        }
+        prove!(self.job.done() < self.job.steps());
+        let cost = self.job.next_cost();
+        self.job.step_halves(rt, note);
+        self.used += 1;
+        self.spent += cost;
         Ok(())
     }
 

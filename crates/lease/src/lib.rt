@@ -4,6 +4,7 @@
 //! in the canvas of each operation, and a [`Lease`] as the `LeaseValue` of `specs/Lease.antt`.
 #![tactic(auto)]
 
+mod halves;
 pub mod job;
 pub mod job_spec;
 pub mod lease;

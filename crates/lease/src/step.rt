@@ -12,7 +12,7 @@ use frame_view::Frame;
 use row_bands::Canvas;
 
 /// What the operation after these canvases is done on.
-fn reaching<'a>(source: &'a Frame, before: &'a [Canvas]) -> &'a Frame
+pub fn reaching<'a>(source: &'a Frame, before: &'a [Canvas]) -> &'a Frame
     ensures { result.now
         ≡ slice_index_or (source.now ∷ map frame_of before.now) (length before.now) source.now }
 {

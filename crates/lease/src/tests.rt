@@ -1,5 +1,5 @@
 // Jobs of small frames, step by step.
-ghost use Rattle.std.specs.Prelude.{◌≡◌, IfOk, IsSome};
+ghost use Rattle.std.specs.Prelude.{◌≡◌, ◌<◌, IfOk, IsSome};
 ghost use Rattle.std.specs.Arc.{arc_value};
 ghost use Rattle.filters.specs.Chain.{format_of, last_format};
 ghost use Rattle.lease.specs.Canvases.{IsScratch};
@@ -11,6 +11,7 @@ use row_bands::BandHeight;
 use std::alloc::Global;
 use std::process::Abort;
 use std::sync::Arc;
+use std::sync::atomic::{AtomicU32, Ordering};
 use std::test::Fail;
 use y4m_header::{Chroma, check_frame_line};
 
@@ -32,13 +33,24 @@ const WIDE: Geometry = Geometry {
     chroma: Chroma::Mono,
 };
 
-fn spec_of(alloc: Global, ops: &str, geometry: Geometry) -> Result<Arc<JobSpec>, Fail>
+fn spec_in_bands(
+    alloc: Global,
+    ops: &str,
+    geometry: Geometry,
+    rows: u32,
+) -> Result<Arc<JobSpec>, Fail>
     ensures { IfOk result (λ spec. (arc_value spec).geometry ≡ geometry) }
 {
-    let band_height = BandHeight::new(2).ok_or("no height")?;
+    let band_height = BandHeight::new(rows).ok_or("no height")?;
     let ops = parse_ops(alloc, ops.as_bytes())?;
     let chain = Chain::new(alloc, ops, geometry, band_height)?;
     Ok(Arc::new(alloc, JobSpec::new(chain))?)
+}
+
+fn spec_of(alloc: Global, ops: &str, geometry: Geometry) -> Result<Arc<JobSpec>, Fail>
+    ensures { IfOk result (λ spec. (arc_value spec).geometry ≡ geometry) }
+{
+    spec_in_bands(alloc, ops, geometry, 2)
 }
 
 fn frame(alloc: Global, geometry: Geometry, line: &[u8], samples: &[u8]) -> Result<Frame, Fail>
@@ -293,5 +305,80 @@ fn an_image_of_an_equal_line_takes_no_memory(rt: HostRuntime) -> Result<(), Fail
             assert_eq!(rt; image.data(), [200, 100].as_slice());
         }
     }
+    Ok(())
+}
+
+/// The band of two rows is halved and the one of a single row isn't, also where no thread is granted.
+#[test]
+fn a_halved_band_is_noted_twice(rt: HostRuntime) -> Result<(), Fail> {
+    let alloc = rt.alloc();
+    let geometry = Geometry {
+        width: 1,
+        height: 3,
+        chroma: Chroma::Mono,
+    };
+    let spec = spec_of(alloc, "invert", geometry)?;
+    let source = frame(alloc, geometry, b"FRAME", &[0, 1, 2])?;
+    let job = started(alloc, &spec, source, Scratch::new(alloc, &spec)?)?;
+    let notes = [AtomicU32::new(0), AtomicU32::new(0)];
+    let note = |half: u32|
+        requires { half < 2 }
+    {
+        notes[half as usize].fetch_add(1, Ordering::SeqCst);
+    };
+    assert_eq!(rt; (job.done(), job.steps()), (0, 2));
+    let mut lease = Lease::new(job, 0, 0, 2);
+    for used in 0..2 {
+        assert_eq!(rt; lease.used(), used);
+        assert_eq!(rt; lease.step_halves(&rt, &note), Ok(()));
+        assert_eq!(rt; notes[0].load(Ordering::SeqCst), 1);
+        assert_eq!(rt; notes[1].load(Ordering::SeqCst), 1);
+    }
+    assert_eq!(rt; lease.step_halves(&rt, &note), Err(GrantSpent));
+    assert_eq!(rt; (lease.used(), lease.spent()), (2, 2));
+    let job = lease.into_job();
+    assert_eq!(rt; job.done(), job.steps());
+    let (_, image, _) = job.into_image();
+    assert_eq!(rt; image.data(), [0xFF, 0xFE, 0xFD].as_slice());
+    Ok(())
+}
+
+/// Waits until the other part is noted too, or gives up after many looks.
+fn meet(noted: &[AtomicU32; 2], met: &AtomicU32, half: u32)
+    requires { half < 2 }
+{
+    noted[half as usize].store(1, Ordering::SeqCst);
+    for _ in 0..400_000_000u32 {
+        if noted[1 - half as usize].load(Ordering::SeqCst) == 1 {
+            met.fetch_add(1, Ordering::SeqCst);
+            return;
+        }
+    }
+}
+
+/// Neither part is written before both are noted, so one thread alone would meet the other at one part only.
+#[test]
+fn two_threads_write_the_parts_of_a_step(rt: HostRuntime) -> Result<(), Fail> {
+    let alloc = rt.alloc();
+    let geometry = Geometry {
+        width: 1,
+        height: 4,
+        chroma: Chroma::Mono,
+    };
+    let spec = spec_in_bands(alloc, "invert", geometry, 4)?;
+    let source = frame(alloc, geometry, b"FRAME", &[1, 2, 3, 4])?;
+    let job = started(alloc, &spec, source, Scratch::new(alloc, &spec)?)?;
+    let noted = [AtomicU32::new(0), AtomicU32::new(0)];
+    let met = AtomicU32::new(0);
+    assert_eq!(rt; (job.done(), job.steps()), (0, 1));
+    let mut lease = Lease::new(job, 0, 0, 1);
+    let stepped = lease.step_halves(&rt, &|half| meet(&noted, &met, half));
+    assert_eq!(rt; stepped, Ok(()));
+    let met = met.load(Ordering::SeqCst);
+    assert_eq!(rt; met, 2, "was the memory of a thread refused?");
+    let job = lease.into_job();
+    assert_eq!(rt; job.done(), job.steps());
+    let (_, image, _) = job.into_image();
+    assert_eq!(rt; image.data(), [254, 253, 252, 251].as_slice());
     Ok(())
 }
