@@ -51,7 +51,7 @@ returns-clause-scratch g c =
     rw (painted_rest _ _ c.args.scratch.now op canvas parts.value parts.front_len)
     (scratch_set _ _ op canvas c.requires.scratch c.requires.op
     (same_size _ _ _ canvas old band.geometry c.apply_halves.ensures.height)
-    (ap (λ z. z.items) band.line ∙ line))
+    (band.line ∙ line))
 
 pub returns-clause-written : goal.returns-clause-written
 returns-clause-written g c last =
