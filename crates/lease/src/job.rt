@@ -186,7 +186,8 @@ impl Job {
         let Some(scratch) = scratch else {
             unreachable!()
         };
-        (source, canvas.into_frame(), scratch)
+        let image = canvas.into_frame();
+        (source, image, scratch)
     }
 
     pub(crate) fn spec(&self) -> &JobSpec

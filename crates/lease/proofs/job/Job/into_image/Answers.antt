@@ -15,5 +15,5 @@ pub returns-clause-image : goal.returns-clause-image
 returns-clause-image c =
     let all : c.self.inside.done ≡ steps_of (value_of c.self.inside).chain =
     rw (sym c.self.view_is) at c.requires in
-    rw (sym c.self.view_is, c.into_frame.ensures)
+    rw (sym c.self.view_is, c.into_frame-image.ensures)
     (image_of_job (value_of c.self.inside) _ c.self.invariant c.in-Some.is all)
