@@ -1,7 +1,8 @@
 -- The jobs of a stream, one more, and the blanks that stand for its frames.
-use Rattle.std.proofs.Common.{ℕ, ◌≡◌, Bool, true, false, List, [], ◌∷◌, ◌++◌}
+use Rattle.std.proofs.Common.{ℕ, ◌≡◌, ◌<◌, arith, Bool, true, false, List, [], ◌∷◌, ◌++◌}
 use Rattle.std.proofs.Common.{Option, Some, None, drop, slice_get, IsSome, refl, sym, ◌∙◌, ap}
 use Rattle.std.proofs.Common.{subst}
+use Rattle.std.proofs.lemmas.Option.{get_or_from_slice_get}
 use Rattle.std.specs.Arc.{arc_value}
 use Rattle.std.specs.List.{AllByRecursion}
 use Rattle.row_bands.specs.declared.canvas.Canvas.{Canvas}
@@ -10,6 +11,7 @@ use Rattle.filters.specs.Steps.{steps_of}
 use Rattle.lease.specs.Canvases.{IsScratch}
 use Rattle.lease.specs.Job.{JobValue}
 use Rattle.serve_core.specs.declared.collected.Collected.{Collected}
+use Rattle.serve_core.specs.Grants.{cost_of_band}
 use Rattle.serve_core.specs.Lanes.{AreHere, AreWaiting, GainsImage, IsFresh, IsLent, IsStarted, IsWithOne}
 use Rattle.serve_core.specs.Setup.{StreamSpec, steps}
 use Rattle.serve_core.specs.Sound.{out_count}
@@ -84,3 +86,22 @@ pub none_lent : (out : Bool) (chain : ChainValue) (done : ℕ) (leased : Option 
     → IsLent out chain done leased → out ≡ false → leased ≡ None
 none_lent out chain done None h e = refl
 none_lent out chain done (Some job) h e = absurd (let no : true ≡ false = sym h.0 ∙ e in cc)
+
+-- a job that lacks a step
+own_left : (spec : StreamSpec) (done : ℕ) (job : JobValue) → IsStarted spec.chain done job → done < steps spec
+    → job.done < steps_of job.chain
+own_left spec done job own l =
+    let all : steps_of job.chain ≡ steps spec =
+    ap (λ (chain : ChainValue). steps_of chain) own.of_chain ∙ sym (steps_are spec.chain) in
+    omega (arith, all, own.steps)
+
+pub lent_left : (out : Bool) (spec : StreamSpec) (done : ℕ) (leased : Option JobValue) (job : JobValue)
+    → IsLent out spec.chain done leased → leased ≡ Some job → done < steps spec → job.done < steps_of job.chain
+lent_left out spec done None job h e l = absurd (cc)
+lent_left out spec done (Some lent) job h e l =
+    let same : lent ≡ job = cc in
+    own_left spec done job (subst (IsStarted spec.chain done) same h.1) l
+
+-- what the next band costs
+pub band_cost : (costs : List ℕ) (k c : ℕ) → slice_get costs k ≡ Some c → c ≡ cost_of_band k costs
+band_cost costs k c e = sym (get_or_from_slice_get costs k c 0 e)

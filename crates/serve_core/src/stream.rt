@@ -2,14 +2,16 @@
 ghost use Rattle.std.specs.Prelude.{◌≡◌, ◌≤◌, ◌<◌, ◌+◌, ◌-◌, ◌^◌, [], ◌∷◌, ◌++◌, Some, None, drop, slice_get};
 ghost use Rattle.std.specs.Prelude.{IsTrue, IsFalse, IsSome, IsSomeAnd, IfOk, IfErr, IfSome, IfNone, OnOk, OnSome};
 ghost use Rattle.cbs_account.specs.Rules.{CanCharge};
+ghost use Rattle.filters.specs.Steps.{steps_of};
+ghost use Rattle.lease.specs.Job.{StepsOn};
 ghost use Rattle.serve_core.specs.AtOnce.{cost_of_next, worked_at_once};
-ghost use Rattle.serve_core.specs.Counts.{Came, Ended, Back, Lent, Shut, Taken};
+ghost use Rattle.serve_core.specs.Counts.{Came, Worked, Ended, Back, Lent, Shut, Taken};
 ghost use Rattle.serve_core.specs.Lanes.{GainsImage, HasPlace, IsFresh, IsPair, IsStarted, IsWithOne, listed, opened};
 ghost use Rattle.serve_core.specs.Lanes.{source_of, with_leased};
 ghost use Rattle.serve_core.specs.Rules as rules;
 ghost use Rattle.serve_core.specs.Setup.{HasBandwidth, IsWithinLimits, steps};
 ghost use Rattle.serve_core.specs.States as states;
-ghost use Rattle.serve_core.specs.States.{did};
+ghost use Rattle.serve_core.specs.States.{did, next_cost};
 
 use crate::collected::Collected;
 use crate::grant::grant_of;
@@ -17,7 +19,7 @@ use crate::refusal::Refusal;
 use crate::spec::StreamSpec;
 use cbs_account::Account;
 use circular_buffer::HeapCircularBuffer;
-use lease::{Job, Scratch};
+use lease::{Job, Lease, Scratch};
 use std::alloc::{AllocError, Global};
 use std::marker::Model;
 use stream_queue::FrameQueue;
@@ -185,6 +187,28 @@ impl Stream {
         self.leased = Some(job);
     }
 
+    /// Does the next band of the job that is out, and charges the units that it costs.
+    #[tactic(auto, using(crate::proofs::Costs::few_steps))]
+    pub(crate) fn step(&mut self)
+        requires leased { IsSome self.old.leased }
+        requires left { self.old.state.done < steps self.old.state.spec }
+        requires charge { CanCharge (next_cost self.old.state) self.old.state.account }
+        requires few { self.old.state.charged + next_cost self.old.state < 2 ^ 64 }
+        ensures worked { self.new ≡ record self.old { state = did self.old.state Worked; leased = self.new.leased } }
+        ensures leased { IsSome self.new.leased }
+    {
+        let cost = self.spec.cost_of_band(self.done);
+        match self.leased.take() {
+            None => unreachable!(),
+            Some(job) => {
+                self.leased = Some(stepped(job));
+                self.account.charge(cost);
+                self.charged += cost;
+                self.done += 1;
+            }
+        }
+    }
+
     /// Charges bands of the job that was handed over, with the units that they cost together.
     #[tactic(auto, using(crate::proofs::Costs::few_steps))]
     pub(crate) fn charge(&mut self, bands: u32, units: u64)
@@ -299,4 +323,19 @@ fn started(job: Job, scratch: Option<Scratch>) -> Job
             job
         }
     }
+}
+
+/// The job with one step more.
+fn stepped(job: Job) -> Job
+    requires started { IsSome job.scratch }
+    requires left { job.done < steps_of job.chain }
+    ensures step { StepsOn job result }
+    ensures started { IsSome result.scratch }
+{
+    let mut lease = Lease::new(job, 0, 0, 1);
+    match lease.step() {
+        Ok(()) => {}
+        Err(_) => unreachable!(),
+    }
+    lease.into_job()
 }
