@@ -1,7 +1,8 @@
 -- The jobs of a stream, one more, and the blanks that stand for its frames.
-use Rattle.std.proofs.Common.{ℕ, zero, suc, ◌+◌, ◌-◌, ◌≡◌, ◌≤◌, Bool, true, false, List, [], ◌∷◌, ◌++◌}
-use Rattle.std.proofs.Common.{Option, Some, None, replicate, drop, slice_get, IsSome, refl, sym, ◌∙◌, ap}
-use Rattle.std.proofs.Common.{subst, arith}
+use Rattle.std.proofs.Common.{ℕ, ◌≡◌, ◌<◌, arith, Bool, true, false, List, [], ◌∷◌, ◌++◌}
+use Rattle.std.proofs.Common.{Option, Some, None, drop, slice_get, IsSome, refl, sym, ◌∙◌, ap}
+use Rattle.std.proofs.Common.{subst}
+use Rattle.std.proofs.lemmas.Option.{get_or_from_slice_get}
 use Rattle.std.specs.Arc.{arc_value}
 use Rattle.std.specs.List.{AllByRecursion}
 use Rattle.row_bands.specs.declared.canvas.Canvas.{Canvas}
@@ -10,11 +11,10 @@ use Rattle.filters.specs.Steps.{steps_of}
 use Rattle.lease.specs.Canvases.{IsScratch}
 use Rattle.lease.specs.Job.{JobValue}
 use Rattle.serve_core.specs.declared.collected.Collected.{Collected}
-use Rattle.serve_core.specs.Bare.{Blank}
-use Rattle.serve_core.specs.Lanes.{AreHere, AreWaiting, GainsImage, IsFresh, IsOwn, IsWithOne}
-use Rattle.serve_core.specs.Setup.{steps}
+use Rattle.serve_core.specs.Grants.{cost_of_band}
+use Rattle.serve_core.specs.Lanes.{AreHere, AreWaiting, GainsImage, IsFresh, IsLent, IsStarted, IsWithOne}
+use Rattle.serve_core.specs.Setup.{StreamSpec, steps}
 use Rattle.serve_core.specs.Sound.{out_count}
-use Rattle.serve_core.specs.States.{StreamState}
 use Rattle.serve_core.proofs.Costs.{steps_are}
 
 pub one_more : {X : Type 0} (P : X → Type 0) (xs : List X) (x : X) → AllByRecursion P xs → P x
@@ -65,32 +65,43 @@ pub front_here : (out : Bool) (chain : ChainValue) (done : ℕ) (scratch : Optio
 front_here true chain done scratch job jobs rest h o e = absurd (cc)
 front_here false chain done scratch job jobs rest h o e = subst (AreWaiting chain done scratch) e h
 
-blanks_push : (n : ℕ) → let b : Blank = tt in replicate (suc n) b ≡ replicate n b ++ b ∷ []
-blanks_push zero = refl
-blanks_push (suc n) = ap (λ (bs : List Blank). let b : Blank = tt in b ∷ bs) (blanks_push n)
-
-pub blanks_more : (a c : ℕ) → c ≤ a → let b : Blank = tt in
-    replicate (a + 1 - c) b ≡ replicate (a - c) b ++ b ∷ []
-blanks_more a c l = rw (let e : a + 1 - c ≡ suc (a - c) = omega arith in e) (blanks_push (a - c))
-
-blanks_drop : (n : ℕ) → let b : Blank = tt in replicate (n - 1) b ≡ drop 1 (replicate n b)
-blanks_drop zero = refl
-blanks_drop (suc n) = rw (let e : suc n - 1 ≡ n = omega arith in e) refl
-
-pub blanks_fewer : (a c : ℕ) → let b : Blank = tt in replicate (a - (c + 1)) b ≡ drop 1 (replicate (a - c) b)
-blanks_fewer a c = rw (let e : a - (c + 1) ≡ a - c - 1 = omega arith in e) (blanks_drop (a - c))
-
 pub one_out : (o : Option ℕ) → IsSome o → out_count o ≡ 1
 one_out None h = absurd (cc)
 one_out (Some w) h = refl
 
 -- a job whose steps are all done
-pub all_done : (x : StreamState Blank) (job : JobValue) → IsOwn x job → x.done ≡ steps x.spec
+pub all_done : (spec : StreamSpec) (done : ℕ) (job : JobValue) → IsStarted spec.chain done job
+    → done ≡ steps spec
     → job.done ≡ steps_of job.chain
-all_done x job own e =
-    own.done ∙ e ∙ steps_are x.spec.chain ∙ ap (λ (chain : ChainValue). steps_of chain) (sym own.of_chain)
+all_done spec done job own e =
+    own.steps ∙ e ∙ steps_are spec.chain ∙ ap (λ (chain : ChainValue). steps_of chain) (sym own.of_chain)
 
 pub gains : (job : JobValue) (old new : List Collected) (pair : Collected)
     → arc_value pair.source ≡ job.source
     → new ≡ old ++ pair ∷ [] → GainsImage job old new
 gains job old new pair s e = record { pair = pair; source = s; behind = e }
+
+-- nothing is lent where no job is out
+pub none_lent : (out : Bool) (chain : ChainValue) (done : ℕ) (leased : Option JobValue)
+    → IsLent out chain done leased → out ≡ false → leased ≡ None
+none_lent out chain done None h e = refl
+none_lent out chain done (Some job) h e = absurd (let no : true ≡ false = sym h.0 ∙ e in cc)
+
+-- a job that lacks a step
+own_left : (spec : StreamSpec) (done : ℕ) (job : JobValue) → IsStarted spec.chain done job → done < steps spec
+    → job.done < steps_of job.chain
+own_left spec done job own l =
+    let all : steps_of job.chain ≡ steps spec =
+    ap (λ (chain : ChainValue). steps_of chain) own.of_chain ∙ sym (steps_are spec.chain) in
+    omega (arith, all, own.steps)
+
+pub lent_left : (out : Bool) (spec : StreamSpec) (done : ℕ) (leased : Option JobValue) (job : JobValue)
+    → IsLent out spec.chain done leased → leased ≡ Some job → done < steps spec → job.done < steps_of job.chain
+lent_left out spec done None job h e l = absurd (cc)
+lent_left out spec done (Some lent) job h e l =
+    let same : lent ≡ job = cc in
+    own_left spec done job (subst (IsStarted spec.chain done) same h.1) l
+
+-- what the next band costs
+pub band_cost : (costs : List ℕ) (k c : ℕ) → slice_get costs k ≡ Some c → c ≡ cost_of_band k costs
+band_cost costs k c e = sym (get_or_from_slice_get costs k c 0 e)

@@ -1,9 +1,9 @@
 -- What a stream keeps, and what it stands for.
-use Rattle.std.specs.Prelude.{◌≡◌, ◌+◌, ◌-◌, ◌≤◌, length, replicate, is_some}
+use Rattle.std.specs.Prelude.{◌≡◌, ◌+◌, ◌≤◌, length, is_some}
 use Rattle.std.specs.List.{AllByRecursion}
 use Rattle.stream_queue.specs.Queue.{IsSound}
 use Rattle.serve_core.specs.declared.stream.Stream.TheInside.{Inside}
-use Rattle.serve_core.specs.Lanes.{AreHere, IsPair, Lane}
+use Rattle.serve_core.specs.Lanes.{AreHere, IsLent, IsPair, Lane, frames_here}
 use Rattle.serve_core.specs.Setup.{HasBandwidth, IsWithinLimits, steps}
 use Rattle.serve_core.specs.Sound.{out_count}
 
@@ -19,8 +19,9 @@ lane a = record {
     done = a.done;
     holder = a.holder;
     account = a.account;
-    frames = replicate (a.queue.accepted - a.collected) tt;
+    frames = frames_here a.outbox.items a.leased a.queue.waiting;
   };
+  leased = a.leased;
   jobs = a.queue.waiting;
   images = a.outbox.items;
 }
@@ -37,5 +38,6 @@ pub record IsLane (a : Inside) : Type 0 where
   pub fits : length a.outbox.items + out_count a.holder ≤ a.outbox.capacity
   pub frames : a.queue.accepted ≤ a.spec.frames
   pub done : a.done ≤ steps a.spec
+  pub leased : IsLent a.queue.is_out a.spec.chain a.done a.leased
   pub jobs : AreHere a.queue.is_out a.spec.chain a.done a.scratch a.queue.waiting
   pub images : AllByRecursion (IsPair a.spec.chain) a.outbox.items

@@ -1,8 +1,9 @@
 //! What a stream is served with.
-ghost use Rattle.std.specs.Prelude.{◌≡◌, ◌≤◌, ◌↔◌, IsTrue};
+ghost use Rattle.std.specs.Prelude.{◌≡◌, ◌<◌, ◌≤◌, ◌↔◌, IsTrue};
 ghost use Rattle.std.specs.Arc.{arc_value};
 ghost use Rattle.serve_core.specs.Setup as rules;
-ghost use Rattle.serve_core.specs.Setup.{IsWithinLimits};
+ghost use Rattle.serve_core.specs.Grants.{cost_of_band};
+ghost use Rattle.serve_core.specs.Setup.{IsWithinLimits, costs, steps};
 
 use filters::MOST_COST;
 use frame_view::Geometry;
@@ -80,6 +81,17 @@ impl StreamSpec {
             outbox,
             frames,
         }
+    }
+
+    /// What band `k` of a frame costs.
+    #[tactic(auto, using(crate::proofs::Lanes::band_cost))]
+    pub(crate) fn cost_of_band(&self, k: u32) -> u64
+        requires { k < steps self.now }
+        ensures { result ≡ cost_of_band k (costs self.now) }
+    {
+        let chain = self.spec.chain();
+        prove!(k < chain.steps());
+        chain.cost_of_step(k) as u64
     }
 
     /// Whether each number but those of the account is within its limits, and the chain was made for the

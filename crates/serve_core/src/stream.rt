@@ -1,18 +1,17 @@
 //! One stream of the schedule.
 ghost use Rattle.std.specs.Prelude.{◌≡◌, ◌≤◌, ◌<◌, ◌+◌, ◌-◌, ◌^◌, [], ◌∷◌, ◌++◌, Some, None, drop, slice_get};
 ghost use Rattle.std.specs.Prelude.{IsTrue, IsFalse, IsSome, IsSomeAnd, IfOk, IfErr, IfSome, IfNone, OnOk, OnSome};
-ghost use Rattle.std.specs.Arc.{arc_value};
-ghost use Rattle.frame_view.specs.declared.geometry.Geometry.{Geometry};
 ghost use Rattle.cbs_account.specs.Rules.{CanCharge};
-ghost use Rattle.lease.specs.Job.{JobValue};
+ghost use Rattle.filters.specs.Steps.{steps_of};
+ghost use Rattle.lease.specs.Job.{StepsOn};
 ghost use Rattle.serve_core.specs.AtOnce.{cost_of_next, worked_at_once};
-ghost use Rattle.serve_core.specs.Counts.{Came, Ended, Back, Lent, Shut, Taken};
-ghost use Rattle.serve_core.specs.declared.collected.Collected.{Collected};
-ghost use Rattle.serve_core.specs.Lanes.{GainsImage, HasPlace, IsFresh, IsOwn, IsPair, IsWithOne, opened};
+ghost use Rattle.serve_core.specs.Counts.{Came, Worked, Ended, Back, Lent, Shut, Taken};
+ghost use Rattle.serve_core.specs.Lanes.{GainsImage, HasPlace, IsFresh, IsPair, IsStarted, IsWithOne, listed, opened};
+ghost use Rattle.serve_core.specs.Lanes.{source_of, with_leased};
 ghost use Rattle.serve_core.specs.Rules as rules;
 ghost use Rattle.serve_core.specs.Setup.{HasBandwidth, IsWithinLimits, steps};
 ghost use Rattle.serve_core.specs.States as states;
-ghost use Rattle.serve_core.specs.States.{did};
+ghost use Rattle.serve_core.specs.States.{did, next_cost};
 
 use crate::collected::Collected;
 use crate::grant::grant_of;
@@ -20,14 +19,13 @@ use crate::refusal::Refusal;
 use crate::spec::StreamSpec;
 use cbs_account::Account;
 use circular_buffer::HeapCircularBuffer;
-use frame_view::Geometry;
-use lease::{Job, Scratch};
+use lease::{Job, Lease, Scratch};
 use std::alloc::{AllocError, Global};
 use std::marker::Model;
 use stream_queue::FrameQueue;
 
-/// A stream's account, its jobs and its images. The scratch is with its front job once that has started, and
-/// goes out with it. Contracts see the `Lane` of `specs/Lanes.antt`.
+/// A stream's account, its jobs and its images. The scratch is with its front job once that has started. The
+/// job that is out stays here unless it is handed over. Contracts see the `Lane` of `specs/Lanes.antt`.
 #[derive(Drop)]
 pub(crate) struct Stream {
     spec: StreamSpec,
@@ -35,6 +33,7 @@ pub(crate) struct Stream {
     queue: FrameQueue<Job>,
     outbox: HeapCircularBuffer<Collected>,
     scratch: Option<Scratch>,
+    leased: Option<Job>,
     holder: Option<u32>,
     collected: u64,
     charged: u64,
@@ -42,7 +41,6 @@ pub(crate) struct Stream {
 }
 
 impl Model for Stream {
-    ghost use Rattle.serve_core.specs.declared.collected.Collected.{Collected};
     ghost use Rattle.serve_core.specs.Lanes.{Lane};
 
     ghost Value = { Lane };
@@ -74,6 +72,7 @@ impl Stream {
             queue,
             outbox,
             scratch: Some(scratch),
+            leased: None,
             holder: None,
             collected: 0,
             charged: 0,
@@ -115,14 +114,14 @@ impl Stream {
     }
 
     /// Takes a job behind all others.
-    #[tactic(auto, using(crate::proofs::Lanes::here_more, crate::proofs::Lanes::blanks_more))]
+    #[tactic(auto, using(crate::proofs::Lanes::here_more))]
     pub(crate) fn accept(&mut self, now: u64, job: Job) -> u64
         requires clock { now ≤ 2 ^ 60 }
         requires place { HasPlace self.old.state }
         requires fresh { IsFresh self.old.state.spec.chain job }
         ensures number { result ≡ self.old.state.accepted }
         ensures accepted { self.new ≡ record self.old {
-          state = did self.old.state (Came now tt);
+          state = did self.old.state (Came now (source_of job));
           jobs = self.old.jobs ++ job ∷ [];
         } }
     {
@@ -137,37 +136,84 @@ impl Stream {
         number
     }
 
-    /// Lends the front job to a worker, started, with its number and how many bands are granted.
-    pub(crate) fn lend(&mut self, worker: u32, quantum: u64) -> (Job, u64, u64)
+    /// Lends the front job to a worker, started, and answers its number and how many bands are granted.
+    #[tactic(auto, using(crate::proofs::Lanes::none_lent))]
+    pub(crate) fn lend(&mut self, worker: u32, quantum: u64) -> (u64, u64)
         requires unfinished { self.old.state.finished < self.old.state.accepted }
         requires here { self.old.state.holder ≡ None }
         requires room { self.old.state.finished - self.old.state.collected < self.old.state.spec.outbox }
-        ensures job { IsSomeAnd (slice_get self.old.jobs 0) (λ job.
-            result.0 ≡ record job { scratch = result.0.scratch }) }
-        ensures own { IsOwn self.old.state result.0 }
-        ensures number { result.1 ≡ self.old.state.finished }
-        ensures grant { result.2 ≡ rules.grant quantum self.old.state }
+        ensures number { result.0 ≡ self.old.state.finished }
+        ensures grant { result.1 ≡ rules.grant quantum self.old.state }
         ensures lent { self.new ≡ record self.old {
           state = did self.old.state (Lent worker);
+          leased = self.new.leased;
           jobs = drop 1 self.old.jobs;
         } }
+        ensures job { IsSomeAnd self.new.leased (λ job. IsSomeAnd (slice_get self.old.jobs 0) (λ first.
+            job ≡ record first { scratch = job.scratch })) }
+        ensures started { IsSomeAnd self.new.leased (IsStarted self.old.state.spec.chain self.old.state.done) }
     {
         match self.queue.take() {
             None => unreachable!(),
             Some((number, job)) => {
-                let job = started(job, self.scratch.take());
+                self.leased = Some(started(job, self.scratch.take()));
                 self.holder = Some(worker);
                 let budget = self.account.budget();
                 let grant = grant_of(self.spec.spec.chain(), quantum, budget, self.done);
-                (job, number, grant)
+                (number, grant)
             }
         }
     }
 
-    /// Charges bands of the job that is out, with the units that they cost together.
+    /// Hands the job over that is out.
+    pub(crate) fn hand_over(&mut self) -> Job
+        requires { IsSome self.old.leased }
+        ensures job { self.old.leased ≡ Some result }
+        ensures gone { self.new ≡ with_leased None self.old }
+    {
+        match self.leased.take() {
+            Some(job) => job,
+            None => unreachable!(),
+        }
+    }
+
+    /// Takes the job that was handed over.
+    pub(crate) fn hand_back(&mut self, job: Job)
+        requires out { IsSome self.old.state.holder }
+        requires gone { self.old.leased ≡ None }
+        requires started { IsStarted self.old.state.spec.chain self.old.state.done job }
+        ensures { self.new ≡ with_leased (Some job) self.old }
+    {
+        self.leased = Some(job);
+    }
+
+    /// Does the next band of the job that is out, and charges the units that it costs.
+    #[tactic(auto, using(crate::proofs::Costs::few_steps))]
+    pub(crate) fn step(&mut self)
+        requires leased { IsSome self.old.leased }
+        requires left { self.old.state.done < steps self.old.state.spec }
+        requires charge { CanCharge (next_cost self.old.state) self.old.state.account }
+        requires few { self.old.state.charged + next_cost self.old.state < 2 ^ 64 }
+        ensures worked { self.new ≡ record self.old { state = did self.old.state Worked; leased = self.new.leased } }
+        ensures leased { IsSome self.new.leased }
+    {
+        let cost = self.spec.cost_of_band(self.done);
+        match self.leased.take() {
+            None => unreachable!(),
+            Some(job) => {
+                self.leased = Some(stepped(job));
+                self.account.charge(cost);
+                self.charged += cost;
+                self.done += 1;
+            }
+        }
+    }
+
+    /// Charges bands of the job that was handed over, with the units that they cost together.
     #[tactic(auto, using(crate::proofs::Costs::few_steps))]
     pub(crate) fn charge(&mut self, bands: u32, units: u64)
         requires out { IsSome self.old.state.holder }
+        requires gone { self.old.leased ≡ None }
         requires left { self.old.state.done + bands ≤ steps self.old.state.spec }
         requires units { units ≡ cost_of_next bands self.old.state }
         requires charge { CanCharge units self.old.state.account }
@@ -180,41 +226,49 @@ impl Stream {
     }
 
     /// Takes the job back that is out, to the front.
-    pub(crate) fn put_back(&mut self, job: Job)
-        requires out { IsSome self.old.state.holder }
-        requires own { IsOwn self.old.state job }
+    pub(crate) fn put_back(&mut self)
+        requires leased { IsSome self.old.leased }
         requires left { self.old.state.done < steps self.old.state.spec }
         ensures { self.new ≡ record self.old {
           state = did self.old.state Back;
-          jobs = job ∷ self.old.jobs;
+          leased = None;
+          jobs = listed self.old.leased ++ self.old.jobs;
         } }
     {
         self.holder = None;
-        self.queue.put_back(job);
+        match self.leased.take() {
+            Some(job) => self.queue.put_back(job),
+            None => unreachable!(),
+        }
     }
 
     /// Takes the job back that is out and whose steps are all done, and answers its number. Its image waits
     /// for collection.
     #[tactic(auto, using(crate::proofs::Lanes::one_out, crate::proofs::Lanes::all_done, crate::proofs::Lanes::one_more))]
-    pub(crate) fn finish(&mut self, job: Job) -> u64
-        requires out { IsSome self.old.state.holder }
-        requires own { IsOwn self.old.state job }
+    pub(crate) fn finish(&mut self) -> u64
+        requires leased { IsSome self.old.leased }
         requires all { self.old.state.done ≡ steps self.old.state.spec }
         ensures number { result ≡ self.old.state.finished }
         ensures finished { self.new ≡ record self.old {
           state = did self.old.state Ended;
+          leased = None;
           images = self.new.images;
         } }
-        ensures image { GainsImage job self.old.images self.new.images }
+        ensures image { IsSomeAnd self.old.leased (λ job. GainsImage job self.old.images self.new.images) }
     {
-        self.holder = None;
-        self.done = 0;
-        let number = self.queue.finish();
-        let (source, image, scratch) = job.into_image();
-        self.scratch = Some(scratch);
-        match self.outbox.try_push_back(Collected { source, image }) {
-            Ok(()) => number,
-            Err(_) => unreachable!(),
+        match self.leased.take() {
+            None => unreachable!(),
+            Some(job) => {
+                let number = self.queue.finish();
+                let (source, image, scratch) = job.into_image();
+                self.holder = None;
+                self.scratch = Some(scratch);
+                self.done = 0;
+                match self.outbox.try_push_back(Collected { source, image }) {
+                    Ok(()) => number,
+                    Err(_) => unreachable!(),
+                }
+            }
         }
     }
 
@@ -232,7 +286,7 @@ impl Stream {
     }
 
     /// Gives the oldest image away, with its source.
-    #[tactic(auto, using(crate::proofs::Lanes::blanks_fewer, crate::proofs::Lanes::fewer, crate::proofs::Lanes::first_of))]
+    #[tactic(auto, using(crate::proofs::Lanes::fewer, crate::proofs::Lanes::first_of))]
     pub(crate) fn collect(&mut self) -> Option<Collected>
         ensures first { IfSome result (λ pair. slice_get self.old.images 0 ≡ Some pair) }
         ensures pair { IfSome result (IsPair self.old.state.spec.chain) }
@@ -269,4 +323,19 @@ fn started(job: Job, scratch: Option<Scratch>) -> Job
             job
         }
     }
+}
+
+/// The job with one step more.
+fn stepped(job: Job) -> Job
+    requires started { IsSome job.scratch }
+    requires left { job.done < steps_of job.chain }
+    ensures step { StepsOn job result }
+    ensures started { IsSome result.scratch }
+{
+    let mut lease = Lease::new(job, 0, 0, 1);
+    match lease.step() {
+        Ok(()) => {}
+        Err(_) => unreachable!(),
+    }
+    lease.into_job()
 }
