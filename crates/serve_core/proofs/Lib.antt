@@ -26,3 +26,4 @@ pub mod AtOnce
 pub mod Leased
 pub mod Admissions
 pub mod Lanes
+pub mod Lifts

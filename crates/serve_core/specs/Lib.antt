@@ -15,3 +15,7 @@ pub mod Headline
 pub mod Frames
 pub mod Lanes
 pub mod LaneInside
+pub mod Schedule
+pub mod ScheduleInside
+pub mod Seen
+pub mod MachineInside

@@ -22,6 +22,10 @@ module _ {F : Type 0} where
       else if nat_le x.spec.queue (x.accepted - x.finished) then Some refusals.Full
       else None
 
+  -- why a stream without an image gives none
+  abbrev pub lack : StreamState F → Refusal
+  lack x = if x.is_closed && nat_eq x.accepted x.finished then refusals.Drained else refusals.Empty
+
   -- what a lease of stream x grants
   abbrev pub grant : ℕ → StreamState F → ℕ
   grant quantum x = grant_of quantum x.account.budget (drop x.done (costs x.spec))
@@ -59,8 +63,7 @@ module _ {F G : Type 0} where
 
   -- what is answered where no image is there
   abbrev pub lack_reply : StreamState F → Reply F G
-  lack_reply x =
-      Refused (if x.is_closed && nat_eq x.accepted x.finished then refusals.Drained else refusals.Empty)
+  lack_reply x = Refused (lack x)
 
 module _ {F G : Type 0} (measures : SizeTest F) (is_image : ImageRelation F G) where
   -- an image of the first frame that isn't collected, where that is finished

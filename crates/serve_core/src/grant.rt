@@ -8,11 +8,13 @@ use filters::Chain;
 
 /// The bands that a lease grants where `done` are done: as many as the quantum allows and the budget pays
 /// for, but at least one.
-pub(crate) fn grant_of(chain: &Chain, quantum: u64, budget: u64, done: u32) -> u64
+#[tactic(auto, using(crate::proofs::Grants::paid_left))]
+pub(crate) fn grant_of(chain: &Chain, quantum: u64, budget: u64, done: u32) -> u32
     requires { done ≤ steps_of chain.now }
     ensures { result ≡ rules.grant_of quantum budget (drop done (step_costs chain.now)) }
 {
-    paid_count(chain, quantum, budget, done).max(1)
+    let _steps = chain.steps();
+    paid_count(chain, quantum, budget, done).max(1) as u32
 }
 
 /// How many of the steps from `done` on, at most `most`, the budget pays for. The steps of one operation cost

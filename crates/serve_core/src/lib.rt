@@ -6,16 +6,23 @@
 #![tactic(auto)]
 
 mod collected;
+pub mod counts;
+pub mod event;
 mod grant;
 pub mod held;
 pub mod laws;
+pub mod machine;
 pub mod refusal;
+mod schedule;
 pub mod setup;
 pub mod spec;
 mod stream;
 
 pub use collected::Collected;
+pub use counts::Counts;
+pub use event::{Event, Reply};
 pub use held::Held;
+pub use machine::{CoreError, Machine, run};
 pub use refusal::Refusal;
 pub use setup::{Setup, SetupError};
 pub use spec::StreamSpec;

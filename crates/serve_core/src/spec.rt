@@ -115,7 +115,8 @@ impl StreamSpec {
     }
 }
 
-fn is_same(one: Geometry, other: Geometry) -> bool
+/// Whether two geometries are the same.
+pub(crate) fn is_same(one: Geometry, other: Geometry) -> bool
     ensures { IsTrue result ↔ (one ≡ other) }
 {
     one.width == other.width && one.height == other.height && one.chroma == other.chroma

@@ -1,6 +1,6 @@
 //! One stream of the schedule.
 ghost use Rattle.std.specs.Prelude.{◌≡◌, ◌≤◌, ◌<◌, ◌+◌, ◌-◌, ◌^◌, [], ◌∷◌, ◌++◌, Some, None, drop, slice_get};
-ghost use Rattle.std.specs.Prelude.{IsTrue, IsFalse, IsSome, IsSomeAnd, IfOk, IfErr, IfSome, IfNone, OnOk, OnSome};
+ghost use Rattle.std.specs.Prelude.{◌↔◌, ◌≢◌, IsTrue, IsFalse, IsSome, IsSomeAnd, IfOk, IfErr, IfSome, IfNone, OnOk, OnSome};
 ghost use Rattle.cbs_account.specs.Rules.{CanCharge};
 ghost use Rattle.filters.specs.Steps.{steps_of};
 ghost use Rattle.lease.specs.Job.{StepsOn};
@@ -9,19 +9,25 @@ ghost use Rattle.serve_core.specs.Counts.{Came, Worked, Ended, Back, Lent, Shut,
 ghost use Rattle.serve_core.specs.Lanes.{GainsImage, HasPlace, IsFresh, IsPair, IsStarted, IsWithOne, listed, opened};
 ghost use Rattle.serve_core.specs.Lanes.{source_of, with_leased};
 ghost use Rattle.serve_core.specs.Rules as rules;
+ghost use Rattle.serve_core.specs.Schedule.{counts_of, finished, returned};
+ghost use Rattle.std.specs.Arc.{arc_value};
+ghost use Rattle.serve_core.specs.Lanes.{source_in};
 ghost use Rattle.serve_core.specs.Setup.{HasBandwidth, IsWithinLimits, steps};
 ghost use Rattle.serve_core.specs.States as states;
 ghost use Rattle.serve_core.specs.States.{did, next_cost};
 
 use crate::collected::Collected;
+use crate::counts::Counts;
 use crate::grant::grant_of;
 use crate::refusal::Refusal;
-use crate::spec::StreamSpec;
+use crate::spec::{StreamSpec, is_same};
 use cbs_account::Account;
 use circular_buffer::HeapCircularBuffer;
-use lease::{Job, Lease, Scratch};
+use frame_view::{Frame, Geometry};
+use lease::{Job, JobRefused, Lease, Scratch};
 use std::alloc::{AllocError, Global};
 use std::marker::Model;
+use std::sync::Arc;
 use stream_queue::FrameQueue;
 
 /// A stream's account, its jobs and its images. The scratch is with its front job once that has started. The
@@ -93,6 +99,30 @@ impl Stream {
         }
     }
 
+    /// Whether a frame of this geometry has the stream's size.
+    pub(crate) fn is_sized(&self, geometry: Geometry) -> bool
+        ensures { IsTrue result ↔ (geometry ≡ self.now.state.spec.geometry) }
+    {
+        is_same(geometry, self.spec.geometry)
+    }
+
+    /// A job for a frame of the stream's size. The frame comes back where its memory is refused.
+    pub(crate) fn job(&self, alloc: Global, frame: Arc<Frame>) -> Result<Job, Arc<Frame>>
+        requires { (arc_value frame).geometry ≡ self.now.state.spec.geometry }
+        ensures fresh { IfOk result (IsFresh self.now.state.spec.chain) }
+        ensures source { IfOk result (λ job. job.source ≡ arc_value frame) }
+        ensures back { IfErr result (λ back. back ≡ frame) }
+    {
+        let spec = match self.spec.spec.clone() {
+            Ok(spec) => spec,
+            Err(_) => return Err(frame),
+        };
+        match Job::new(alloc, spec, frame) {
+            Ok(job) => Ok(job),
+            Err(JobRefused::NoMemory(frame) | JobRefused::WrongSize(frame)) => Err(frame),
+        }
+    }
+
     /// Why a frame is refused, if it is. `is_sized` tells whether it has the stream's size.
     pub(crate) fn arrival_refusal(&self, is_sized: bool) -> Option<Refusal>
         ensures refusal { result ≡ rules.arrival_refusal is_sized self.now.state }
@@ -138,7 +168,7 @@ impl Stream {
 
     /// Lends the front job to a worker, started, and answers its number and how many bands are granted.
     #[tactic(auto, using(crate::proofs::Lanes::none_lent))]
-    pub(crate) fn lend(&mut self, worker: u32, quantum: u64) -> (u64, u64)
+    pub(crate) fn lend(&mut self, worker: u32, quantum: u64) -> (u64, u32)
         requires unfinished { self.old.state.finished < self.old.state.accepted }
         requires here { self.old.state.holder ≡ None }
         requires room { self.old.state.finished - self.old.state.collected < self.old.state.spec.outbox }
@@ -272,6 +302,25 @@ impl Stream {
         }
     }
 
+    /// Takes the job back that is out: to the front, or to the outbox if its steps are all done, and answers
+    /// its number then.
+    pub(crate) fn settle(&mut self) -> Option<u64>
+        requires { IsSome self.old.leased }
+        ensures back { IfNone result ((self.old.state.done ≢ steps self.old.state.spec)
+            × (self.new ≡ returned self.old)) }
+        ensures finished { IfSome result (λ number. (self.old.state.done ≡ steps self.old.state.spec)
+            × (number ≡ self.old.state.finished)
+            × (self.new ≡ finished self.new.images self.old)
+            × IsSomeAnd self.old.leased (λ job. GainsImage job self.old.images self.new.images)) }
+    {
+        if self.done == self.spec.spec.chain().steps() {
+            Some(self.finish())
+        } else {
+            self.put_back();
+            None
+        }
+    }
+
     /// Accepts no more frames.
     pub(crate) fn close(&mut self) -> Result<(), Refusal>
         ensures ok { OnOk result (IsFalse self.old.state.is_closed
@@ -289,6 +338,7 @@ impl Stream {
     #[tactic(auto, using(crate::proofs::Lanes::fewer, crate::proofs::Lanes::first_of))]
     pub(crate) fn collect(&mut self) -> Option<Collected>
         ensures first { IfSome result (λ pair. slice_get self.old.images 0 ≡ Some pair) }
+        ensures source { IfSome result (λ pair. slice_get self.old.state.frames 0 ≡ Some (source_in pair)) }
         ensures pair { IfSome result (IsPair self.old.state.spec.chain) }
         ensures less { OnSome result (self.old.state.collected < self.old.state.finished) }
         ensures some { OnSome result (self.new ≡ record self.old {
@@ -304,6 +354,40 @@ impl Stream {
                 self.collected += 1;
                 Some(pair)
             }
+        }
+    }
+
+    /// Why the stream gives no image, if it gives none.
+    pub(crate) fn collect_refusal(&self) -> Option<Refusal>
+        ensures some { IfSome result (λ e. (self.now.state.finished ≤ self.now.state.collected)
+            × (e ≡ rules.lack self.now.state)) }
+        ensures none { IfNone result (self.now.state.collected < self.now.state.finished) }
+    {
+        if self.collected < self.queue.finished() {
+            None
+        } else if self.queue.is_closed() && self.queue.accepted() == self.queue.finished() {
+            Some(Refusal::Drained)
+        } else {
+            Some(Refusal::Empty)
+        }
+    }
+
+    /// The budget and the deadline.
+    pub(crate) fn account(&self) -> (u64, u64)
+        ensures { result ≡ (self.now.state.account.budget, self.now.state.account.deadline) }
+    {
+        (self.account.budget(), self.account.deadline())
+    }
+
+    /// What was counted.
+    pub(crate) fn counts(&self) -> Counts
+        ensures { result ≡ counts_of self.now.state }
+    {
+        Counts {
+            accepted: self.queue.accepted(),
+            finished: self.queue.finished(),
+            collected: self.collected,
+            charged: self.charged,
         }
     }
 }

@@ -1,0 +1,100 @@
+-- What a change of one lane makes of the state that is seen of a schedule.
+use Rattle.std.proofs.Common.{ℕ, ◌^◌, ◌≡◌, ◌≤◌, Bool, true, false, nat_eq, nat_lt, List, [], ◌∷◌, ◌++◌, drop, map}
+use Rattle.std.proofs.Common.{Option, Some, None, slice_get, slice_set, if◌then◌else◌, refl, sym, ◌∙◌, ap}
+use Rattle.std.proofs.Common.{subst}
+use Rattle.std.proofs.lemmas.List.{map-set}
+use Rattle.std.proofs.lemmas.Option.{slice_get-map}
+use Rattle.serve_core.specs.declared.held.Held.{Held}
+use Rattle.serve_core.specs.Counts.{Came, Deed, Ended, Back, Lent, Shut, Taken, Worked}
+use Rattle.serve_core.specs.Events.{Accepted, Arrive, Band, Close, Closing, Collect, Event, Finished, Image}
+use Rattle.serve_core.specs.Events.{Lease, Leased, Reply, Returned, Settle, Stepped}
+use Rattle.serve_core.specs.Lanes.{Lane}
+use Rattle.serve_core.specs.Schedule.{ScheduleValue, state_by, stream_by, with_held, with_lane}
+use Rattle.serve_core.specs.AtOnce.{with_used}
+use Rattle.serve_core.specs.Counts.{settled}
+use Rattle.serve_core.specs.Rules.{settle_reply}
+use Rattle.serve_core.specs.States.{State, StreamState, after, did, did_any}
+use Rattle.serve_core.proofs.Changes.{after_arrive, after_band, after_close, after_collect, after_lease}
+use Rattle.serve_core.proofs.Changes.{after_settle}
+use Rattle.serve_core.proofs.Steps.{new_lease, state, state_is}
+
+module _ {F : Type 0} (frames : Lane → List F) where
+  -- the stream of a lane that is there
+  pub stream_here : (x : ScheduleValue) (s : ℕ) (lane : Lane) → slice_get x.lanes s ≡ Some lane
+      → slice_get (state_by frames x).streams s ≡ Some (stream_by frames lane)
+  stream_here x s lane e = slice_get-map (stream_by frames) x.lanes s ∙ rw e refl
+
+  -- one lane changes, and perhaps one lease
+  one_lane : (x : ScheduleValue) (s : ℕ) (lane : Lane) (y : StreamState F) → stream_by frames lane ≡ y
+      → state_by frames (with_lane s lane x)
+      ≡ state x.clock x.quantum (slice_set (state_by frames x).streams s y) x.workers
+  one_lane x s lane y e =
+      state_is x.clock x.quantum _ _ x.workers x.workers
+      (map-set (stream_by frames) x.lanes s lane
+      ∙ ap (slice_set (state_by frames x).streams s) e) refl
+
+  one_lease : (x : ScheduleValue) (w s : ℕ) (h : Option Held) (lane : Lane) (y : StreamState F)
+      → stream_by frames lane ≡ y
+      → state_by frames (with_held w h (with_lane s lane x))
+      ≡ state x.clock x.quantum (slice_set (state_by frames x).streams s y) (slice_set x.workers w h)
+  one_lease x w s h lane y e =
+      state_is x.clock x.quantum _ _ (slice_set x.workers w h) (slice_set x.workers w h)
+      (map-set (stream_by frames) x.lanes s lane
+      ∙ ap (slice_set (state_by frames x).streams s) e) refl
+
+module _ {F : Type 0} (G : Type 0) (frames : Lane → List F) where
+  pub led_arrive : (x : ScheduleValue) (s n : ℕ) (f : F) (old new : Lane)
+      → slice_get x.lanes s ≡ Some old
+      → stream_by frames new ≡ did (stream_by frames old) (Came x.clock f)
+      → let r : Reply F G = Accepted n in
+      state_by frames (with_lane s new x) ≡ after (state_by frames x) (Arrive s f) r
+  led_arrive x s n f old new e d =
+      one_lane frames x s new _ d
+      ∙ after_arrive G (state_by frames x) s f (Accepted n) (stream_by frames old)
+      (stream_here frames x s old e)
+
+  pub led_close : (x : ScheduleValue) (s : ℕ) (old new : Lane) → slice_get x.lanes s ≡ Some old
+      → stream_by frames new ≡ did (stream_by frames old) Shut
+      → let r : Reply F G = Closing in
+      state_by frames (with_lane s new x) ≡ after (state_by frames x) (Close s) r
+  led_close x s old new e d =
+      one_lane frames x s new _ d
+      ∙ after_close G (state_by frames x) s Closing (stream_by frames old) (stream_here frames x s old e)
+
+  pub led_collect : (x : ScheduleValue) (s : ℕ) (g : G) (old new : Lane) → slice_get x.lanes s ≡ Some old
+      → stream_by frames new ≡ did (stream_by frames old) Taken
+      → let r : Reply F G = Image g in
+      state_by frames (with_lane s new x) ≡ after (state_by frames x) (Collect s) r
+  led_collect x s g old new e d =
+      one_lane frames x s new _ d
+      ∙ after_collect G (state_by frames x) s (Image g) (stream_by frames old) (stream_here frames x s old e)
+
+  pub led_lease : (x : ScheduleValue) (w s n g : ℕ) (old new : Lane) → slice_get x.workers w ≡ Some None
+      → slice_get x.lanes s ≡ Some old → stream_by frames new ≡ did (stream_by frames old) (Lent w)
+      → let r : Reply F G = Leased s n g in
+      state_by frames (with_held w (Some (new_lease s n g)) (with_lane s new x))
+      ≡ after (state_by frames x) (Lease w) r
+  led_lease x w s n g old new free e d =
+      one_lease frames x w s _ new _ d
+      ∙ after_lease G (state_by frames x) w s n g (stream_by frames old) free (stream_here frames x s old e)
+
+  pub led_band : (x : ScheduleValue) (w : ℕ) (held : Held) (old new : Lane)
+      → slice_get x.workers w ≡ Some (Some held) → slice_get x.lanes held.stream ≡ Some old
+      → stream_by frames new ≡ did (stream_by frames old) Worked
+      → let r : Reply F G = Stepped in
+      state_by frames (with_held w (Some (with_used 1 held)) (with_lane held.stream new x))
+      ≡ after (state_by frames x) (Band w) r
+  led_band x w held old new mine e d =
+      one_lease frames x w held.stream _ new _ d
+      ∙ after_band G (state_by frames x) w held (with_used 1 held) (stream_by frames old) mine
+      (stream_here frames x held.stream old e) refl
+
+  pub led_settle : (x : ScheduleValue) (w : ℕ) (held : Held) (old new : Lane) (r : Reply F G)
+      → slice_get x.workers w ≡ Some (Some held) → slice_get x.lanes held.stream ≡ Some old
+      → r ≡ settle_reply (stream_by frames old)
+      → stream_by frames new ≡ did_any (stream_by frames old) (settled r)
+      → state_by frames (with_held w None (with_lane held.stream new x)) ≡ after (state_by frames x) (Settle w) r
+  led_settle x w held old new r mine e s d =
+      one_lease frames x w held.stream None new _ d
+      ∙ after_settle G (state_by frames x) w held (stream_by frames old) r s mine
+      (stream_here frames x held.stream old e)

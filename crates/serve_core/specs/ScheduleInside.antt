@@ -1,0 +1,17 @@
+-- What a schedule keeps, and what it stands for.
+use Rattle.std.specs.Prelude.{◌≡◌, ◌≤◌, ◌^◌, length}
+use Rattle.serve_core.specs.declared.schedule.Schedule.TheInside.{Inside}
+use Rattle.serve_core.specs.Schedule.{ScheduleValue, deadlines}
+
+abbrev pub schedule : Inside → ScheduleValue
+schedule a = record {
+  clock = a.clock;
+  quantum = a.quantum;
+  lanes = a.streams.items;
+  workers = a.workers.items;
+}
+
+pub record IsSchedule (a : Inside) : Type 0 where
+  pub clock : a.clock ≤ 2 ^ 60
+  -- the pool shows the streams that are ready, with their deadlines
+  pub pool : a.pool ≡ deadlines a.streams.items

@@ -1,0 +1,31 @@
+-- Events and replies of the machine as transcripts have them.
+use Rattle.std.specs.Arc.{arc_value}
+use Rattle.filters.specs.ChainImage.{FrameValue, value_of}
+use Rattle.serve_core.specs.declared.event.Event as code
+use Rattle.serve_core.specs.declared.event.Event.TheVariants as events
+use Rattle.serve_core.specs.declared.event.Reply as answer
+use Rattle.serve_core.specs.declared.event.Reply.TheVariants as replies
+use Rattle.serve_core.specs.Events.{Event, Arrive, Lease, Band, Settle, Tick, Close, Collect}
+use Rattle.serve_core.specs.Events.{Reply, Accepted, Leased, Stepped, Returned, Finished, Ticked, Closing}
+use Rattle.serve_core.specs.Events.{Image, Refused, GivenBack}
+
+abbrev pub seen : code.Event → Event FrameValue
+seen (events.Arrive s frame) = Arrive s (value_of (arc_value frame))
+seen (events.Lease w) = Lease w
+seen (events.Band w) = Band w
+seen (events.Settle w) = Settle w
+seen (events.Tick to) = Tick to
+seen (events.Close s) = Close s
+seen (events.Collect s) = Collect s
+
+abbrev pub heard : answer.Reply → Reply FrameValue FrameValue
+heard (replies.Accepted n) = Accepted n
+heard (replies.Leased s n g) = Leased s n g
+heard replies.Stepped = Stepped
+heard replies.Returned = Returned
+heard (replies.Finished n) = Finished n
+heard replies.Ticked = Ticked
+heard replies.Closing = Closing
+heard (replies.Image image) = Image (value_of image)
+heard (replies.Refused k) = Refused k
+heard (replies.GivenBack k frame) = GivenBack k (value_of (arc_value frame))

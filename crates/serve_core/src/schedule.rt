@@ -1,0 +1,315 @@
+//! The streams, what each worker holds, and the pool of the streams that are ready.
+ghost use Rattle.std.specs.Prelude.{◌≡◌, ◌≢◌, ◌≤◌, ◌<◌, ◌^◌, ◌↔◌, Bool, Some, None, length, slice_get, slice_set};
+ghost use Rattle.std.specs.Prelude.{IsTrue, IsFalse, IsSome, IsSomeAnd, MatchOption, IfOk, IfErr, IfSome, IfNone};
+ghost use Rattle.std.specs.Prelude.{OnOk};
+ghost use Rattle.std.specs.Arc.{arc_value};
+ghost use Rattle.std.specs.Option.{option_map};
+ghost use Rattle.edf_pool.specs.Earliest.{IsEarliest};
+ghost use Rattle.serve_core.specs.declared.refusal.Refusal.TheVariants as refusals;
+ghost use Rattle.serve_core.specs.AtOnce.{with_used};
+ghost use Rattle.serve_core.specs.Lanes.{HasPlace, IsFresh, GainsImage};
+ghost use Rattle.serve_core.specs.Schedule as rules;
+ghost use Rattle.serve_core.specs.Schedule.{HasLane, HasLease, account_of, counts_of, with_held, with_lane};
+ghost use Rattle.serve_core.specs.Rules.{arrival_refusal};
+ghost use Rattle.serve_core.specs.Setup.{steps};
+ghost use Rattle.serve_core.specs.States.{ready_deadline};
+
+use crate::collected::Collected;
+use crate::counts::Counts;
+use crate::held::Held;
+use crate::refusal::Refusal;
+use crate::setup::Setup;
+use crate::stream::Stream;
+use edf_pool::{Compares, Pool};
+use frame_view::{Frame, Geometry};
+use lease::Job;
+use std::alloc::{AllocError, Global};
+use std::marker::Model;
+use std::sync::Arc;
+
+/// The end of the clock.
+const LAST_MOMENT: u64 = 1 << 60;
+
+/// The streams with their jobs and images, what each worker holds, and the deadlines of the streams that are
+/// ready. Machine and desk stand on it. Contracts see the `ScheduleValue` of `specs/Schedule.antt`.
+#[derive(Drop)]
+pub(crate) struct Schedule {
+    clock: u64,
+    quantum: u64,
+    streams: Vec<Stream>,
+    workers: Vec<Option<Held>>,
+    pool: Pool,
+}
+
+impl Model for Schedule {
+    ghost use Rattle.serve_core.specs.Schedule.{ScheduleValue};
+
+    ghost Value = { ScheduleValue };
+
+    ghost use Rattle.serve_core.specs.ScheduleInside.{IsSchedule, schedule};
+
+    ghost view = { schedule };
+
+    ghost invariant = { IsSchedule };
+}
+
+impl Schedule {
+    /// The schedule of a setup before any event.
+    pub(crate) fn new(alloc: Global, setup: Setup) -> Result<Schedule, AllocError>
+        ensures { IfOk result (λ x. x ≡ rules.opened_schedule setup) }
+    {
+        let count = setup.streams.len();
+        let mut streams = Vec::with_capacity(alloc, count)?;
+        for spec in setup.streams {
+            let stream = Stream::new(alloc, spec)?;
+            streams.push(stream)?;
+        }
+        let workers = vec![in alloc; None; setup.workers as usize]?;
+        let pool = Pool::new(alloc, count as u32)?;
+        Ok(Schedule {
+            clock: 0,
+            quantum: setup.quantum,
+            streams,
+            workers,
+            pool,
+        })
+    }
+
+    /// The present moment.
+    pub(crate) fn clock(&self) -> u64
+        ensures { result ≡ self.now.clock }
+    {
+        self.clock
+    }
+
+    /// Why the clock can't go on to a moment, if it can't.
+    pub(crate) fn tick_refusal(&self, to: u64) -> Option<Refusal>
+        ensures { result ≡ rules.tick_refusal self.now.clock to }
+    {
+        if to < self.clock {
+            return Some(Refusal::Past);
+        }
+        if to > LAST_MOMENT {
+            return Some(Refusal::ClockEnd);
+        }
+        None
+    }
+
+    /// Lets the clock go on to a moment.
+    pub(crate) fn tick(&mut self, to: u64)
+        requires { to ≤ 2 ^ 60 }
+        ensures { self.new ≡ record self.old { clock = to } }
+    {
+        self.clock = to;
+    }
+
+    /// Why a frame of this geometry is refused by stream `s`, if it is, want of memory aside.
+    pub(crate) fn arrival_refusal(&self, s: u32, geometry: Geometry) -> Option<Refusal>
+        ensures refusal { MatchOption (slice_get self.now.lanes s) (result ≡ Some refusals.NoStream) (λ lane.
+            (is_sized : Bool) × (IsTrue is_sized ↔ (geometry ≡ lane.state.spec.geometry))
+            × (result ≡ arrival_refusal is_sized lane.state)) }
+        ensures place { IfNone result (HasLane self.now s (λ lane. (geometry ≡ lane.state.spec.geometry)
+            × HasPlace lane.state)) }
+    {
+        match self.streams.get(s as usize) {
+            None => Some(Refusal::NoStream),
+            Some(stream) => stream.arrival_refusal(stream.is_sized(geometry)),
+        }
+    }
+
+    /// A job for a frame of stream `s`. The frame comes back where the memory for it is refused.
+    pub(crate) fn job(&self, alloc: Global, s: u32, frame: Arc<Frame>) -> Result<Job, Arc<Frame>>
+        requires { HasLane self.now s (λ lane. (arc_value frame).geometry ≡ lane.state.spec.geometry) }
+        ensures ok { IfOk result (λ job. HasLane self.now s (λ lane. IsFresh lane.state.spec.chain job)) }
+        ensures source { IfOk result (λ job. job.source ≡ arc_value frame) }
+        ensures back { IfErr result (λ back. back ≡ frame) }
+    {
+        self.streams[s as usize].job(alloc, frame)
+    }
+
+    /// Takes a job behind all others of stream `s`, and answers its number.
+    pub(crate) fn accept(&mut self, s: u32, job: Job) -> u64
+        requires { HasLane self.old s (λ lane. HasPlace lane.state × IsFresh lane.state.spec.chain job) }
+        ensures { HasLane self.old s (λ lane. (result ≡ lane.state.accepted)
+            × (self.new ≡ with_lane s (rules.came self.old.clock job lane) self.old)) }
+    {
+        let stream = &mut self.streams[s as usize];
+        let number = stream.accept(self.clock, job);
+        show(&mut self.pool, s, stream);
+        number
+    }
+
+    /// Why worker `w` gets no lease, if it gets none.
+    pub(crate) fn lease_refusal(&self, w: u32) -> Option<Refusal>
+        ensures some { IfSome result (λ e. rules.RefusesLease self.now w e) }
+        ensures none { IfNone result (slice_get self.now.workers w ≡ Some None) }
+    {
+        match self.workers.get(w as usize) {
+            None => Some(Refusal::NoWorker),
+            Some(Some(_)) => Some(Refusal::Busy),
+            Some(None) => match self.pool.earliest() {
+                None => Some(Refusal::NoneReady),
+                Some(_) => None,
+            },
+        }
+    }
+
+    /// Lends worker `w` the front job of the ready stream that has the earliest deadline.
+    pub(crate) fn lease(&mut self, w: u32) -> Result<Held, Refusal>
+        ensures ok { IfOk result (λ held. (slice_get self.old.workers w ≡ Some None)
+            × rules.IsLending w held self.old self.new) }
+        ensures err { IfErr result (λ e. rules.RefusesLease self.old w e × (self.new ≡ self.old)) }
+    {
+        match self.workers.get(w as usize) {
+            None => return Err(Refusal::NoWorker),
+            Some(Some(_)) => return Err(Refusal::Busy),
+            Some(None) => {}
+        }
+        match self.pool.earliest() {
+            None => Err(Refusal::NoneReady),
+            Some(s) => Ok(self.lend(w, s)),
+        }
+    }
+
+    /// Lends worker `w` the front job of stream `s`.
+    fn lend(&mut self, w: u32, s: u32) -> Held
+        requires worker { w < length self.old.workers }
+        requires earliest { IsEarliest (rules.deadlines self.old.lanes) s }
+        ensures { rules.IsLending w result self.old self.new }
+    {
+        let stream = &mut self.streams[s as usize];
+        let (number, grant) = stream.lend(w, self.quantum);
+        show(&mut self.pool, s, stream);
+        let held = Held {
+            stream: s,
+            number,
+            grant,
+            used: 0,
+        };
+        self.workers[w as usize] = Some(held);
+        held
+    }
+
+    /// What worker `w` holds, or why it holds nothing.
+    pub(crate) fn held(&self, w: u32) -> Result<Held, Refusal>
+        ensures ok { IfOk result (λ held. HasLease self.now w held) }
+        ensures err { IfErr result (λ e. MatchOption (slice_get self.now.workers w) (e ≡ refusals.NoWorker)
+            (λ held. (held ≡ None) × (e ≡ refusals.NoLease))) }
+    {
+        match self.workers.get(w as usize) {
+            None => Err(Refusal::NoWorker),
+            Some(None) => Err(Refusal::NoLease),
+            Some(Some(held)) => Ok(*held),
+        }
+    }
+
+    /// Does the next band of the lease of worker `w`.
+    pub(crate) fn step(&mut self, w: u32, held: Held)
+        requires lease { HasLease self.old w held }
+        requires left { held.used < held.grant }
+        requires lane { HasLane self.old held.stream rules.CanStep }
+        ensures { HasLane self.old held.stream (λ lane. HasLane self.new held.stream (λ after.
+            IsSome after.leased
+            × (self.new ≡ with_held w (Some (with_used 1 held)) (with_lane held.stream
+            (rules.worked after.leased lane) self.old)))) }
+    {
+        let stream = &mut self.streams[held.stream as usize];
+        stream.step();
+        show(&mut self.pool, held.stream, stream);
+        self.workers[w as usize] = Some(Held {
+            used: held.used + 1,
+            ..held
+        });
+    }
+
+    /// Takes the job of worker `w` back: to the front of its queue, or to its outbox if all steps are done,
+    /// and answers its number then.
+    pub(crate) fn settle(&mut self, w: u32, held: Held) -> Option<u64>
+        requires lease { HasLease self.old w held }
+        requires lane { HasLane self.old held.stream (λ lane. IsSome lane.leased) }
+        ensures back { IfNone result (HasLane self.old held.stream (λ lane.
+            (lane.state.done ≢ steps lane.state.spec)
+            × (self.new ≡ with_held w None (with_lane held.stream (rules.returned lane) self.old)))) }
+        ensures finished { IfSome result (λ number. HasLane self.old held.stream (λ lane.
+            HasLane self.new held.stream (λ after.
+            (lane.state.done ≡ steps lane.state.spec) × (number ≡ lane.state.finished)
+            × IsSomeAnd lane.leased (λ job. GainsImage job lane.images after.images)
+            × (self.new ≡ with_held w None (with_lane held.stream
+            (rules.finished after.images lane) self.old))))) }
+    {
+        let stream = &mut self.streams[held.stream as usize];
+        let number = stream.settle();
+        show(&mut self.pool, held.stream, stream);
+        self.workers[w as usize] = None;
+        number
+    }
+
+    /// Closes stream `s`.
+    pub(crate) fn close(&mut self, s: u32) -> Result<(), Refusal>
+        ensures ok { OnOk result (HasLane self.old s (λ lane. IsFalse lane.state.is_closed
+            × (self.new ≡ with_lane s (rules.shut lane) self.old))) }
+        ensures err { IfErr result (λ e. (self.new ≡ self.old) × MatchOption (slice_get self.old.lanes s)
+            (e ≡ refusals.NoStream)
+            (λ lane. IsTrue lane.state.is_closed × (e ≡ refusals.AlreadyClosed))) }
+    {
+        if s as usize >= self.streams.len() {
+            return Err(Refusal::NoStream);
+        }
+        let stream = &mut self.streams[s as usize];
+        stream.close()?;
+        show(&mut self.pool, s, stream);
+        Ok(())
+    }
+
+    /// Why stream `s` gives no image, if it gives none.
+    pub(crate) fn collect_refusal(&self, s: u32) -> Option<Refusal>
+        ensures some { IfSome result (λ e. rules.RefusesCollect self.now s e) }
+        ensures none { IfNone result (HasLane self.now s (λ lane. lane.state.collected < lane.state.finished)) }
+    {
+        match self.streams.get(s as usize) {
+            None => Some(Refusal::NoStream),
+            Some(stream) => stream.collect_refusal(),
+        }
+    }
+
+    /// Gives the oldest image of stream `s` away, with its source.
+    pub(crate) fn collect(&mut self, s: u32) -> Result<Collected, Refusal>
+        ensures ok { IfOk result (λ pair. HasLane self.old s (λ lane.
+            rules.IsFirst pair lane × (self.new ≡ with_lane s (rules.taken lane) self.old))) }
+        ensures err { IfErr result (λ e. rules.RefusesCollect self.old s e × (self.new ≡ self.old)) }
+    {
+        if let Some(refusal) = self.collect_refusal(s) {
+            return Err(refusal);
+        }
+        let stream = &mut self.streams[s as usize];
+        match stream.collect() {
+            None => unreachable!(),
+            Some(pair) => {
+                show(&mut self.pool, s, stream);
+                Ok(pair)
+            }
+        }
+    }
+
+    /// What stream `s` may still use, and its deadline.
+    pub(crate) fn account(&self, s: u32) -> Option<(u64, u64)>
+        ensures { result ≡ option_map (λ lane. account_of lane.state) (slice_get self.now.lanes s) }
+    {
+        self.streams.get(s as usize).map(|stream| stream.account())
+    }
+
+    /// How many frames of stream `s` were accepted, finished and collected, and what it was charged.
+    pub(crate) fn counts(&self, s: u32) -> Option<Counts>
+        ensures { result ≡ option_map (λ lane. counts_of lane.state) (slice_get self.now.lanes s) }
+    {
+        self.streams.get(s as usize).map(|stream| stream.counts())
+    }
+}
+
+/// Tells the pool whether stream `s` is ready.
+fn show(pool: &mut Pool, s: u32, stream: &Stream)
+    requires { s < length pool.old }
+    ensures { pool.new ≡ slice_set pool.old s (ready_deadline stream.now.state) }
+{
+    pool.set_ready(s, stream.ready_deadline(), &mut Compares::new());
+}
