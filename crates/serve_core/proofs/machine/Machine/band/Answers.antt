@@ -1,0 +1,1 @@
+use Rattle.serve_core.proofs.machine.Machine.band.Goals as goal

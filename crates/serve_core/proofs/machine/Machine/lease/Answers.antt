@@ -1,0 +1,1 @@
+use Rattle.serve_core.proofs.machine.Machine.lease.Goals as goal
