@@ -21,15 +21,17 @@ use Rattle.serve_core.specs.Lanes.{GainsImage, Lane, source_in, source_of}
 use Rattle.serve_core.specs.MachineInside.{AreWhole, IsMachine, machine}
 use Rattle.serve_core.specs.Rules.{Allows, arrival_refusal, settle_reply}
 use Rattle.serve_core.specs.Schedule as rules
-use Rattle.serve_core.specs.Schedule.{CanStep, HasLane, HasLease, IsFirst, IsLending}
+use Rattle.serve_core.specs.Schedule.{CanStep, HasLane, HasLease, IsFirst, IsLending, RefusesCollect}
+use Rattle.serve_core.specs.Schedule.{RefusesLease}
 use Rattle.serve_core.specs.Schedule.{ScheduleValue, tick_refusal, with_held, with_lane}
 use Rattle.serve_core.specs.Setup.{steps}
 use Rattle.serve_core.specs.Sound.{Sound}
 use Rattle.serve_core.specs.States.{State, StreamState, after, did}
-use Rattle.serve_core.proofs.Allowing.{arrive_chosen, arrive_refused, close_allowed, collect_allowed}
-use Rattle.serve_core.proofs.Allowing.{lease_allowed, settle_allowed, ticked}
+use Rattle.serve_core.proofs.Allowing.{arrive_chosen, arrive_refused, close_allowed, close_refused}
+use Rattle.serve_core.proofs.Allowing.{collect_allowed, collect_refused, lease_allowed, lease_refused}
+use Rattle.serve_core.proofs.Allowing.{settle_allowed, ticked}
 use Rattle.serve_core.proofs.AtOnce.{band_allowed, test_no, test_yes, used_more}
-use Rattle.serve_core.proofs.Changes.{after_tick}
+use Rattle.serve_core.proofs.Changes.{after_refused, after_tick}
 use Rattle.serve_core.proofs.Facts.{band_left, lease_of}
 use Rattle.serve_core.proofs.Kept.{step_sound}
 use Rattle.serve_core.proofs.Lifts.{led_arrive, led_band, led_close, led_collect, led_lease, led_settle}
@@ -286,3 +288,26 @@ arrive_goes old new s n f job geometry found h q e k source p =
     (λ lane here. inl (number lane here)))
     (led_arrive FrameValue frames old s n f l.0 (rules.came old.clock job l.0) l.1
     (ap (λ (g : FrameValue). did (rules.stream_by frames l.0) (Came old.clock g)) source))
+
+-- what is refused leaves all as it is
+refused_goes : (old new : ScheduleValue) (e : Event FrameValue) (k : Refusal) → IsMachine old
+    → Allows measures is_image (machine old) e (Refused k) → new ≡ old → Goes old new e (Refused k)
+refused_goes old new e k h a same =
+    goes old new e (Refused k) h a (ap machine same ∙ after_refused FrameValue (machine old) e k)
+    (subst (λ (x : ScheduleValue). AreWhole x.lanes) (sym same) h.whole)
+
+pub close_not : (old new : ScheduleValue) (s : ℕ) (k : Refusal) → IsMachine old
+    → (new ≡ old) × MatchOption (slice_get old.lanes s) (k ≡ refusals.NoStream)
+    (λ lane. IsTrue lane.state.is_closed × (k ≡ refusals.AlreadyClosed)) → Goes old new (Close s) (Refused k)
+close_not old new s k h p =
+    refused_goes old new (Close s) k h (close_refused measures is_image frames old s k p.1) p.0
+
+pub collect_not : (old new : ScheduleValue) (s : ℕ) (k : Refusal) → IsMachine old
+    → RefusesCollect old s k × (new ≡ old) → Goes old new (Collect s) (Refused k)
+collect_not old new s k h p =
+    refused_goes old new (Collect s) k h (collect_refused measures is_image frames old s k p.0) p.1
+
+pub lease_not : (old new : ScheduleValue) (w : ℕ) (k : Refusal) → IsMachine old
+    → RefusesLease old w k × (new ≡ old) → Goes old new (Lease w) (Refused k)
+lease_not old new w k h p =
+    refused_goes old new (Lease w) k h (lease_refused measures is_image frames old w k p.0) p.1
