@@ -30,3 +30,5 @@ pub mod Lifts
 pub mod Facts
 pub mod Allowing
 pub mod Machines
+pub mod Schedules
+pub mod Settling
