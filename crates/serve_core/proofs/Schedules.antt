@@ -1,10 +1,12 @@
 -- One lane of a schedule after another, and the pool that shows them.
-use Rattle.std.proofs.Common.{ℕ, zero, suc, ◌≡◌, ◌<◌, IsSomeAnd, List, [], ◌∷◌, Option, Some, slice_get}
+use Rattle.std.proofs.Common.{ℕ, zero, suc, ◌≡◌, ◌<◌, IsSomeAnd, List, [], ◌∷◌, Option, Some, None, slice_get}
+use Rattle.std.proofs.Common.{replicate}
 use Rattle.std.proofs.Common.{slice_set, get_or, length, map, refl, sym, ◌∙◌, ap, subst, arith}
 use Rattle.std.proofs.lemmas.List.{length-map, map-set}
 use Rattle.std.proofs.lemmas.Option.{slice_get_within}
-use Rattle.serve_core.specs.Lanes.{Lane}
+use Rattle.serve_core.specs.Lanes.{Lane, opened}
 use Rattle.serve_core.specs.Schedule.{deadlines}
+use Rattle.serve_core.specs.Setup.{StreamSpec}
 use Rattle.serve_core.specs.States.{ready_deadline}
 
 -- the item that is read at a place is the one that is there
@@ -27,3 +29,13 @@ pub shown_again : (pool : List (Option ℕ)) (lanes : List Lane) (s : ℕ) (lane
 shown_again pool lanes s lane shown =
     ap (λ (shown : List (Option ℕ)). slice_set shown s (ready_deadline lane.state)) shown
     ∙ sym (map-set (λ (lane : Lane). ready_deadline lane.state) lanes s lane)
+
+-- no stream is ready before any event
+pub none_ready : (specs : List StreamSpec) → deadlines (map opened specs) ≡ replicate (length specs) None
+none_ready [] = refl
+none_ready (spec ∷ specs) = ap (λ (ds : List (Option ℕ)). None ∷ ds) (none_ready specs)
+
+pub ready_within : (lanes : List Lane) (s : ℕ) (d : Option ℕ) → slice_get (deadlines lanes) s ≡ Some d
+    → s < length lanes
+ready_within lanes s d e =
+    omega (arith, slice_get_within (deadlines lanes) s d e, length-map lanes (λ (lane : Lane). ready_deadline lane.state))
