@@ -26,4 +26,5 @@ pub mod AtOnce
 pub mod Leased
 pub mod Admissions
 pub mod Lanes
+pub mod Schedules
 pub mod Lifts
