@@ -17,6 +17,6 @@ invariant_of-result c =
     let count : c.len-count.result ≡ length specs = omega (arith, c.len-count.ensures) in
     record {
       clock = omega arith;
-      pool = c.in_ok-pool.ensures ∙ ap (λ (n : ℕ). replicate n None) count ∙ sym (none_ready specs)
+      pool = c.in_ok-pool.ensures ∙ ap (λ (n : ℕ). replicate n None) count ∙ none_ready specs
           ∙ sym (ap deadlines lanes);
     }
