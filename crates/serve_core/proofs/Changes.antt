@@ -7,6 +7,7 @@ use Rattle.serve_core.specs.Counts.{Deed, Lent, Worked, came, has_stream, held_a
 use Rattle.serve_core.specs.Counts.{held_after_settle, one_more_used, settled, shut, taken}
 use Rattle.serve_core.specs.Events.{Arrive, Band, Close, Collect, Event, Finished, GivenBack, Lease, Leased}
 use Rattle.serve_core.specs.Events.{Refused, Reply, Returned, Settle, Stepped, Tick, Ticked}
+use Rattle.serve_core.specs.Laws.{RefusedLaw}
 use Rattle.serve_core.specs.Rules.{settle_reply}
 use Rattle.serve_core.specs.Setup.{steps}
 use Rattle.serve_core.specs.States.{State, StreamState, after, did, did_any, held_at, map_at}
@@ -121,3 +122,6 @@ module _ {F : Type 0} (G : Type 0) where
       let lease = one_lease (λ h. held_after_settle h r) w m.workers (Some l) e
       ∙ ap (slice_set m.workers w) gone in
       state_is m.clock m.quantum _ _ _ _ (leased_stream (settled r) w l m x e f) (sym lease)
+
+  pub refusals_leave : RefusedLaw F G
+  refusals_leave m e s f k = (sym (after_refused m e k), sym (after_given_back m s k f))

@@ -1,7 +1,7 @@
 -- Transcripts from any opening state.
 use Rattle.std.proofs.Common.{◌≡◌, Bool, refl, sym, ◌∙◌, ap, subst}
-use Rattle.serve_core.specs.Events.{Start, Then, Transcript, joined}
-use Rattle.serve_core.specs.Leads.{GoingOnLaw, IsLegalFrom, JoinLaw, Leads, OpeningLaw, SoundFromLaw, StepLaw}
+use Rattle.serve_core.specs.Events.{Event, Reply, Start, Then, Transcript, joined}
+use Rattle.serve_core.specs.Leads.{GoingOnLaw, IsLegalFrom, JoinLaw, Leads, LeadsOn, OpeningLaw, SoundFromLaw, StepLaw}
 use Rattle.serve_core.specs.Leads.{opening_state, state_from}
 use Rattle.serve_core.specs.Rules.{Allows, IsLegal}
 use Rattle.serve_core.specs.Setup.{Setup, StreamSpec}
@@ -26,6 +26,12 @@ module _ {F G : Type 0} (measures : StreamSpec → F → Bool → Type 0)
     (is_image : StreamSpec → F → G → Type 0) where
   pub step_is : StepLaw measures is_image
   step_is setup p e r l a = ((l, a), summary_more F G setup p e r)
+
+  pub leads_on : (m n : State F) (e : Event F) (r : Reply F G) → Allows measures is_image m e r → n ≡ after m e r
+      → LeadsOn measures is_image m e r n
+  leads_on m n e r a same setup p l at =
+      let here = subst (λ (m : State F). Allows measures is_image m e r) (sym at) a in
+      ((l, here), summary_more F G setup p e r ∙ ap (λ (m : State F). after m e r) at ∙ sym same)
 
   legal_opening : (setup : Setup) (p : Transcript F G) → IsLegal measures is_image setup p
       → IsLegalFrom measures is_image (opening_state F G setup) p

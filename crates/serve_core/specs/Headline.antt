@@ -55,8 +55,8 @@ module _ {F G : Type 0} (measures : SizeTest F) (is_image : ImageRelation F G) w
   pub record IsAsPromised (setup : Setup) (p : Transcript F G) : Type 0 where
     pub streams : (s : ℕ) (spec : StreamSpec) → slice_get setup.streams s ≡ Some spec
         → IsServed setup p s spec
-    -- every lease goes to an earliest deadline and grants what the budget pays for; both are the rules' for
-    -- the streams' own arrivals and charges
+    -- every lease goes to an earliest deadline and grants the bands that the budget pays for, or a single
+    -- one; budget and deadlines are the rules' for the streams' own arrivals and charges
     pub leases :
         (q : Transcript F G) (w s number grant : ℕ) → BeginsWith p (Then q (Lease w) (Leased s number grant))
         → IsDue setup q s number grant

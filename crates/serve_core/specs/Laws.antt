@@ -4,9 +4,10 @@ use Rattle.std.specs.Prelude.{filter, sum_by, slice_get, Some}
 use Rattle.cbs_account.specs.Laws.{unit_count}
 use Rattle.cbs_account.specs.Rules.{OwnEvent, Idle}
 use Rattle.serve_core.specs.declared.held.Held.{Held}
+use Rattle.serve_core.specs.declared.refusal.Refusal.{Refusal}
 use Rattle.serve_core.specs.declared.refusal.Refusal.TheVariants as refusals
 use Rattle.serve_core.specs.Counts.{own_events}
-use Rattle.serve_core.specs.Events.{Event, Arrive, Lease, Reply, Accepted, Leased, GivenBack, Transcript}
+use Rattle.serve_core.specs.Events.{Event, Arrive, Lease, Reply, Accepted, Leased, GivenBack, Refused, Transcript}
 use Rattle.serve_core.specs.Events.{Then}
 use Rattle.serve_core.specs.Grants.{cost_of_first}
 use Rattle.serve_core.specs.Rules.{IsLegal, Allows}
@@ -24,6 +25,14 @@ module _ {F G : Type 0} where
   abbrev pub IsMemoryChoice : Event F → Reply F G → Reply F G → Type 0
   IsMemoryChoice e r q =
       (s n : ℕ) × (f : F) × (e ≡ Arrive s f) × (r ≡ Accepted n) × (q ≡ GivenBack refusals.NoMemory f)
+
+-- a refusal leaves everything as it was
+abbrev pub RefusedLaw : (F G : Type 0) → Type 0
+RefusedLaw F G =
+    (m : State F) (e : Event F) (s : ℕ) (f : F) (k : Refusal)
+    → let refused : Reply F G = Refused k in
+    let given_back : Reply F G = GivenBack k f in
+    (after m e refused ≡ m) × (after m (Arrive s f) given_back ≡ m)
 
 module _ {F G : Type 0} (measures : SizeTest F) (is_image : ImageRelation F G) where
   -- each right reply keeps a state sound

@@ -27,6 +27,12 @@ module _ {F G : Type 0} (measures : SizeTest F) (is_image : ImageRelation F G) w
   abbrev pub Leads : State F → Transcript F G → State F → Type 0
   Leads m p n = IsLegalFrom m p × (state_from m p ≡ n)
 
+  -- behind each legal transcript that leads to the state m, the event and its reply are legal, and lead to n
+  abbrev pub LeadsOn : State F → Event F → Reply F G → State F → Type 0
+  LeadsOn m e r n =
+      (setup : Setup) (p : Transcript F G) → IsLegal measures is_image setup p → state_of setup p ≡ m
+      → IsLegal measures is_image setup (Then p e r) × (state_of setup (Then p e r) ≡ n)
+
   -- one more event and its right reply lead a setup's transcript on
   abbrev pub StepLaw : Type 0
   StepLaw =

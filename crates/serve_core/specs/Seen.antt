@@ -1,5 +1,9 @@
 -- Events and replies of the machine as transcripts have them.
+use Rattle.std.specs.Prelude.{◌≡◌, ⊤}
+use Rattle.std.specs.Global.{Global}
 use Rattle.std.specs.Arc.{arc_value}
+use Rattle.std.specs.declared.sync.Arc.{Arc}
+use Rattle.frame_view.specs.declared.frame.Frame.{Frame}
 use Rattle.filters.specs.ChainImage.{FrameValue, value_of}
 use Rattle.serve_core.specs.declared.event.Event as code
 use Rattle.serve_core.specs.declared.event.Event.TheVariants as events
@@ -29,3 +33,12 @@ heard replies.Closing = Closing
 heard (replies.Image image) = Image (value_of image)
 heard (replies.Refused k) = Refused k
 heard (replies.GivenBack k frame) = GivenBack k (value_of (arc_value frame))
+
+-- a frame that comes back is the one that was handed over
+abbrev pub IsGivenBack : Arc Frame Global → answer.Reply → Type 0
+IsGivenBack frame (replies.GivenBack k back) = back ≡ frame
+IsGivenBack frame r = ⊤
+
+abbrev pub GivesBack : code.Event → answer.Reply → Type 0
+GivesBack (events.Arrive s frame) r = IsGivenBack frame r
+GivesBack e r = ⊤

@@ -1,6 +1,7 @@
 //! What a worker holds.
 
-/// A lease: the stream, the number of its frame, how many bands were granted, and how many of these are done.
+/// A lease: the stream, the number of its frame, how many bands were granted, and how many of these the
+/// schedule was told of as done.
 #[derive(Clone, Copy, Debug, PartialEq, Eq)]
 pub struct Held {
     pub stream: u32,

@@ -9,7 +9,7 @@ pub mod sound;
 pub use charges::{
     at_once_law, charge_law, delay_law, demand_law, grant_law, lent_law, settled_law, still_law,
 };
-pub use choices::{answer_law, one_choice_law, sized_law};
+pub use choices::{answer_law, one_choice_law, refused_law, sized_law};
 pub use delivered::{close_law, delivered_law, drained_law, headline, waiting_law};
 pub use leads::{bare_law, going_on_law, join_law, opening_law, step_law};
 pub use sound::{holder_law, sound_from_law, sound_law, sound_step_law};

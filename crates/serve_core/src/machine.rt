@@ -7,9 +7,9 @@ ghost use Rattle.serve_core.specs.Events as rules;
 ghost use Rattle.serve_core.specs.Events.{Start, told};
 ghost use Rattle.serve_core.specs.Frames.{measures, is_image};
 ghost use Rattle.serve_core.specs.Headline.{IsRun};
-ghost use Rattle.serve_core.specs.Leads.{Leads, opening_state};
+ghost use Rattle.serve_core.specs.Leads.{Leads, LeadsOn, opening_state};
 ghost use Rattle.serve_core.specs.Rules.{Allows};
-ghost use Rattle.serve_core.specs.Seen.{heard, seen};
+ghost use Rattle.serve_core.specs.Seen.{GivesBack, IsGivenBack, heard, seen};
 ghost use Rattle.serve_core.specs.Schedule.{account_of, counts_of};
 ghost use Rattle.serve_core.specs.States.{after};
 
@@ -32,7 +32,7 @@ pub enum CoreError {
 }
 
 /// The machine. It keeps the jobs that are out, so it can be dropped with leases out. Contracts see the
-/// `State` of `specs/States.antt`, which is always one that a legal transcript can lead to.
+/// `State` of `specs/States.antt`, which is always sound as `specs/Sound.antt` says.
 #[derive(Drop)]
 pub struct Machine {
     schedule: Schedule,
@@ -61,10 +61,22 @@ impl Machine {
         Ok(Machine { schedule })
     }
 
-    /// One event. Only an arrival takes memory; where it is refused the frame comes back.
+    /// One event. Only an arrival takes memory; where it is refused the frame comes back. Behind each legal
+    /// transcript that led to the machine's state, event and reply are legal again, and lead to the new state.
     pub fn step(&mut self, alloc: Global, event: Event) -> Reply
         ensures allowed { Allows measures is_image self.old (seen event) (heard result) }
         ensures state { self.new ≡ after self.old (seen event) (heard result) }
+        ensures transcript { LeadsOn measures is_image self.old (seen event) (heard result) self.new }
+        ensures back { GivesBack event result }
+    {
+        self.answer(alloc, event)
+    }
+
+    /// The right reply to an event.
+    fn answer(&mut self, alloc: Global, event: Event) -> Reply
+        ensures allowed { Allows measures is_image self.old (seen event) (heard result) }
+        ensures state { self.new ≡ after self.old (seen event) (heard result) }
+        ensures back { GivesBack event result }
     {
         match event {
             Event::Arrive(s, frame) => self.arrive(alloc, s, frame),
@@ -119,6 +131,7 @@ impl Machine {
             Allows measures is_image self.old arrival (heard result) }
         ensures state { let arrival = rules.Arrive s (value_of (arc_value frame)) in
             self.new ≡ after self.old arrival (heard result) }
+        ensures back { IsGivenBack frame result }
     {
         let geometry = frame.geometry();
         if let Some(refusal) = self.schedule.arrival_refusal(s, geometry) {

@@ -2,8 +2,8 @@
 
 use thiserror::Error;
 
-/// Why an event is refused. Each event has some of these, and is refused by the first that holds, in this
-/// order.
+/// Why an event is refused. Each event has some of these, in an order of its own, and is refused by the first
+/// that holds.
 #[derive(Clone, Copy, Debug, PartialEq, Eq, Error)]
 pub enum Refusal {
     /// No stream has this number.

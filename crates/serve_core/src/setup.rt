@@ -66,6 +66,20 @@ impl Setup {
         })
     }
 
+    /// How many workers there are.
+    pub fn workers(&self) -> u64
+        ensures { result ≡ self.now.workers }
+    {
+        self.workers
+    }
+
+    /// The streams, by number.
+    pub fn streams(&self) -> &[StreamSpec]
+        ensures { result.now ≡ self.now.streams }
+    {
+        &self.streams
+    }
+
     /// What every setup keeps. It does nothing: the laws on transcripts of a setup ask for this.
     pub fn limits_law(&self)
         ensures { IsSetup self.now }

@@ -83,6 +83,13 @@ impl StreamSpec {
         }
     }
 
+    /// What is done to each frame.
+    pub fn spec(&self) -> &Arc<JobSpec>
+        ensures { arc_value result.now ≡ self.now.chain }
+    {
+        &self.spec
+    }
+
     /// What band `k` of a frame costs.
     #[tactic(auto, using(crate::proofs::Lanes::band_cost))]
     pub(crate) fn cost_of_band(&self, k: u32) -> u64

@@ -14,20 +14,23 @@ pub fn grant_law()
 
 /// What a stream was charged is what its finished frames cost, and the bands that are done of the next one.
 pub fn charge_law()
-    ensures { ChargeLaw measures is_image }
+    ensures of_frames { ChargeLaw measures is_image }
+    ensures bare { ChargeLaw measures_any is_any_image }
 {}
 
 /// No lease goes to a stream that had more than its bandwidth, up to the deadline of any other stream that is
 /// ready.
 pub fn delay_law()
-    ensures { DelayLaw measures is_image }
+    ensures of_frames { DelayLaw measures is_image }
+    ensures bare { DelayLaw measures_any is_any_image }
 {
     bandwidth();
 }
 
-/// What is due by a moment is no more than the workers can do by then.
+/// What the streams were charged whose deadline is at most a moment is no more than the workers can do by then.
 pub fn demand_law()
-    ensures { DemandLaw measures is_image }
+    ensures of_frames { DemandLaw measures is_image }
+    ensures bare { DemandLaw measures_any is_any_image }
 {}
 
 /// Bands that are charged one by one lead to where their sum leads at once.

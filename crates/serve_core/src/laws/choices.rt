@@ -1,6 +1,9 @@
 //! Which replies are right.
 ghost use Rattle.serve_core.specs.Frames.{measures, is_image};
-ghost use Rattle.serve_core.specs.Laws.{AnswerAfterLaw, AnswerLaw, AreDetermined, OneChoiceLaw, SizedLaw};
+ghost use Rattle.filters.specs.ChainImage.{FrameValue};
+ghost use Rattle.serve_core.specs.Bare.{Blank};
+ghost use Rattle.serve_core.specs.Laws.{AnswerAfterLaw, AnswerLaw, AreDetermined, OneChoiceLaw, RefusedLaw};
+ghost use Rattle.serve_core.specs.Laws.{SizedLaw};
 
 /// The rules leave one choice: whether a frame that can be accepted is refused for want of memory. All other
 /// replies are determined, since a frame has one size and one image.
@@ -19,4 +22,10 @@ pub fn answer_law()
 /// Each frame that a stream keeps has the stream's size.
 pub fn sized_law()
     ensures { SizedLaw measures is_image }
+{}
+
+/// A refusal leaves everything as it was.
+pub fn refused_law()
+    ensures of_frames { RefusedLaw FrameValue FrameValue }
+    ensures bare { RefusedLaw Blank Blank }
 {}
