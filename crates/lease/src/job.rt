@@ -104,7 +104,7 @@ impl Job {
             return Err(OverRefused::WrongSize(source, image));
         }
         let mut image = image;
-        if image.line() != source.line() && image.set_line(alloc, source.line()).is_err() {
+        if image.set_line(alloc, source.line()).is_err() {
             return Err(OverRefused::NoMemory(source, image));
         }
         let canvas = Canvas::over(image, spec.chain().band_height());

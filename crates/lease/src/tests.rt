@@ -308,7 +308,8 @@ fn an_image_of_an_equal_line_takes_no_memory(rt: HostRuntime) -> Result<(), Fail
     Ok(())
 }
 
-/// The band of two rows is halved and the one of a single row isn't, also where no thread is granted.
+/// The band of two rows is halved and the one of a single row isn't, also where no thread is granted:
+/// `bench/threads` refuses it.
 #[test]
 fn a_halved_band_is_noted_twice(rt: HostRuntime) -> Result<(), Fail> {
     let alloc = rt.alloc();
@@ -375,7 +376,7 @@ fn two_threads_write_the_parts_of_a_step(rt: HostRuntime) -> Result<(), Fail> {
     let stepped = lease.step_halves(&rt, &|half| meet(&noted, &met, half));
     assert_eq!(rt; stepped, Ok(()));
     let met = met.load(Ordering::SeqCst);
-    assert_eq!(rt; met, 2, "was the memory of a thread refused?");
+    assert_eq!(rt; met, 2, "was a thread or its memory refused?");
     let job = lease.into_job();
     assert_eq!(rt; job.done(), job.steps());
     let (_, image, _) = job.into_image();

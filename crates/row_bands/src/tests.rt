@@ -439,7 +439,8 @@ fn two_threads_write_the_parts_of_a_band(rt: HostRuntime) -> Result<(), Fail> {
         2,
         &|half| meet(&noted, &met, half),
     );
-    assert_eq!(rt; met.load(Ordering::SeqCst), 2);
+    let met = met.load(Ordering::SeqCst);
+    assert_eq!(rt; met, 2, "was a thread or its memory refused?");
     assert_eq!(rt; canvas.frame().data(), source.data());
     Ok(())
 }
