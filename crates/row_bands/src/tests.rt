@@ -1,5 +1,6 @@
 // Bands of small frames.
 ghost use Rattle.std.specs.Prelude.{◌≡◌, ◌<◌, ◌≤◌, IfOk, length};
+ghost use Rattle.y4m_header.specs.declared.limits.TheConstants.{LONGEST_SIDE};
 ghost use Rattle.frame_view.specs.Frame.{samples_of, IsFrameWith};
 ghost use Rattle.frame_view.specs.Rows.{sample};
 
@@ -269,7 +270,7 @@ impl Asked {
 
     fn add(&self, from: usize, to: usize)
         requires order { from ≤ to }
-        requires few { to ≤ 16384 }
+        requires few { to ≤ LONGEST_SIDE }
     {
         let rows = (to - from) as u32;
         self.calls.fetch_add(1, Ordering::SeqCst);
