@@ -28,9 +28,9 @@ impl Model for Lease {
 
     ghost Value = { LeaseValue };
 
-    ghost use Rattle.lease.specs.LeaseInside.{value_of, IsSound};
+    ghost use Rattle.lease.specs.LeaseInside.{lease_of, IsSound};
 
-    ghost view = { value_of };
+    ghost view = { lease_of };
 
     ghost invariant = { IsSound };
 }
