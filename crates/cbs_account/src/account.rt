@@ -27,8 +27,8 @@ pub(crate) fn is_bandwidth(q: u64, t: u64) -> bool
     1 <= q && q <= t && t <= LONGEST_PERIOD
 }
 
-/// A server's account. Contracts see it as a `Balance`: the maximum budget `Q`, the period `T`, the budget `c` that is
-/// left, which is 1 to `Q` between calls, and the deadline `d`.
+/// A server's account. Contracts see it as a `Balance`: the maximum budget `Q`, the period `T`, the budget
+/// `c` that is left, which is 1 to `Q` between calls, and the deadline `d`.
 ///
 /// The unit of time is the caller's choice; one unit of work costs one unit of budget. No call takes memory.
 #[derive(Debug, Drop)]
@@ -83,9 +83,9 @@ impl Account {
         self.deadline
     }
 
-    /// A job arrives at the moment `now` and finds the server idle. Where the budget that is left is too much for the
-    /// time up to the deadline, equality included, the server is recharged and its deadline is one period from `now`;
-    /// otherwise budget and deadline are kept.
+    /// A job arrives at the moment `now` and finds the server idle. Where the budget that is left is too much
+    /// for the time up to the deadline, equality included, the server is recharged and its deadline is one
+    /// period from `now`; otherwise budget and deadline are kept.
     pub fn arrive_idle(&mut self, now: u64)
         requires { now ≤ 2 ^ 60 }
         ensures { self.new ≡ after_idle now self.old }
@@ -113,8 +113,8 @@ impl Account {
         self.deadline + self.period * recharges < DEADLINE_END
     }
 
-    /// Charges `k` units of work that were done, in one step: the budget is recharged as often as it ends on the way,
-    /// and each time the deadline is put off by one period.
+    /// Charges `k` units of work that were done, in one step: the budget is recharged as often as it ends on
+    /// the way, and each time the deadline is put off by one period.
     pub fn charge(&mut self, k: u64)
         requires { CanCharge k self.old }
         ensures { self.new ≡ after_units k self.old }

@@ -21,10 +21,11 @@ pub enum AdmissionError {
     Overload,
 }
 
-/// The servers that some workers take on. Contracts see it as a `Load`: the number of workers, and the sum of the shares
-/// that were admitted.
+/// The servers that some workers take on. Contracts see it as a `Load`: the number of workers, and the sum of
+/// the shares that were admitted.
 ///
-/// A server's share is its bandwidth, `Q / T` of one worker, in millionths and rounded up. No call takes memory.
+/// A server's share is its bandwidth, `Q / T` of one worker, in millionths and rounded up. No call takes
+/// memory.
 #[derive(Debug, Drop)]
 pub struct Admission {
     workers: u64,
@@ -52,8 +53,8 @@ impl Admission {
         Admission { workers, shares: 0 }
     }
 
-    /// Admits a server of maximum budget `q` and period `t`, where its share is left. A bandwidth that no server may have
-    /// is refused as such, also where nothing is left.
+    /// Admits a server of maximum budget `q` and period `t`, where its share is left. A bandwidth that no
+    /// server may have is refused as such, also where nothing is left.
     pub fn admit(&mut self, q: u64, t: u64) -> Result<(), AdmissionError>
         ensures accepted { IsOk result ↔ (IsBandwidth q t × Fits (with_share q t self.old)) }
         ensures ok { OnOk result (self.new ≡ with_share q t self.old) }

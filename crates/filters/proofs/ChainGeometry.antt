@@ -1,6 +1,7 @@
 -- A geometry is its format.
 use Rattle.std.proofs.Common.{◌≡◌, ◌≤◌, ◌%◌, ap, subst}
 use Rattle.std.proofs.Props.{props}
+use Rattle.y4m_header.specs.declared.limits.TheConstants.{LONGEST_SIDE, LARGEST_DATA}
 use Rattle.y4m_header.specs.Chroma.{horizontal_divisor, vertical_divisor, data_len}
 use Rattle.frame_view.specs.declared.geometry.Geometry.{Geometry}
 use Rattle.filters.specs.Chain.{Format, format_of}
@@ -8,11 +9,11 @@ use Rattle.filters.specs.Chain.{Format, format_of}
 record IsStated (p : Format) : Type 0 where
   some_columns : 1 ≤ p.width
   some_rows : 1 ≤ p.height
-  narrow : p.width ≤ 16384
-  low : p.height ≤ 16384
+  narrow : p.width ≤ LONGEST_SIDE
+  low : p.height ≤ LONGEST_SIDE
   columns_divided : p.width % horizontal_divisor p.chroma ≡ 0
   rows_divided : p.height % vertical_divisor p.chroma ≡ 0
-  small : data_len p.width p.height p.chroma ≤ 67108864
+  small : data_len p.width p.height p.chroma ≤ LARGEST_DATA
 
 one_stated : (p : Format) → IsProp (IsStated p)
 one_stated p = hlevel props

@@ -3,6 +3,7 @@ use Rattle.std.proofs.Common.{ℕ, ◌≡◌, ◌+◌, ◌*◌, ◌/◌, ◌%◌
 use Rattle.std.proofs.Math.Nat.{mul-le-mul_right}
 use Rattle.std.proofs.lemmas.Grind.{common_steps}
 use Rattle.y4m_header.specs.declared.chroma.Chroma.{Chroma}
+use Rattle.y4m_header.specs.declared.limits.TheConstants.{LONGEST_SIDE}
 use Rattle.y4m_header.specs.declared.chroma.Chroma.TheVariants.{S420, S422, S411, S444, S444Alpha, Mono}
 use Rattle.y4m_header.specs.Chroma.{horizontal_divisor, vertical_divisor, plane_count, data_len}
 use Rattle.frame_view.specs.declared.geometry.Geometry.{Geometry}
@@ -114,9 +115,9 @@ low_down S444 h = omega arith
 low_down S444Alpha h = omega arith
 low_down Mono h = omega arith
 
-pub few_rows : (g : Geometry) (p : ℕ) → plane_height g p ≤ 16384
+pub few_rows : (g : Geometry) (p : ℕ) → plane_height g p ≤ LONGEST_SIDE
 unfolding plane_height
-few_rows g p = low_by_plane p g.height (g.height / vertical_divisor g.chroma) 16384 g.low (omega (arith, low_down g.chroma g.height, g.low))
+few_rows g p = low_by_plane p g.height (g.height / vertical_divisor g.chroma) LONGEST_SIDE g.low (omega (arith, low_down g.chroma g.height, g.low))
 
 lent_by_count : (n a b c d : ℕ) → (n ≡ 1) ⊎ ((n ≡ 3) ⊎ (n ≡ 4)) → (start : ℕ → ℕ) → start 1 ≡ a → start 3 ≡ a + (b + c) → start 4 ≡ a + (b + (c + d))
     → (if nat_lt 0 n then a else 0) + ((if nat_lt 1 n then b else 0) + ((if nat_lt 2 n then c else 0) + (if nat_lt 3 n then d else 0))) ≡ start n

@@ -28,6 +28,12 @@ one_row g p y row e = record {
   samples = λ z x a b l. ap (slice_index row) (let d : z - y ≡ 0 = omega arith in rw d (omega arith));
 }
 
+pub row_inside : (g : Geometry) (p y columns n : ℕ) → p < plane_count g.chroma → y < plane_height g p → columns ≡ lent_columns g p → n ≡ lent_len g p
+    → (y + 1) * columns ≤ n
+row_inside g p y columns n hp hy k e =
+    let w : lent_columns g p ≡ plane_width g p = there (plane_count g.chroma) p (plane_width g p) hp in
+    rw (k, w) (omega (arith, e, lent_size g p hp, row_in_plane g p (y + 1) (omega arith), next_plane g p))
+
 -- a plane between what stands before it and after it
 in_plane : (g : Geometry) (p y : ℕ) (before samples after row : List ℕ) → p < plane_count g.chroma → y < plane_height g p → length row ≡ plane_width g p
     → length before ≡ plane_start g p → length samples ≡ lent_len g p

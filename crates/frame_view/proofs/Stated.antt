@@ -3,6 +3,7 @@ use Rattle.std.proofs.Common.{ℕ, ◌≡◌, ◌≤◌, ◌%◌, List}
 use Rattle.std.proofs.Math.Logic.{∥∥₁_elim}
 use Rattle.std.proofs.Props.{props}
 use Rattle.y4m_header.specs.declared.chroma.Chroma.{Chroma}
+use Rattle.y4m_header.specs.declared.limits.TheConstants.{LONGEST_SIDE, LARGEST_DATA}
 use Rattle.y4m_header.specs.Chroma.{horizontal_divisor, vertical_divisor, data_len}
 use Rattle.y4m_header.specs.HeaderLine.{IsHeaderLine, widths, heights}
 use Rattle.y4m_header.proofs.HeaderFacts.{size_positive}
@@ -11,11 +12,11 @@ use Rattle.y4m_header.proofs.HeaderFacts.{size_positive}
 pub record IsPicture (w h : ℕ) (chroma : Chroma) : Type 0 where
   pub some_columns : 1 ≤ w
   pub some_rows : 1 ≤ h
-  pub narrow : w ≤ 16384
-  pub low : h ≤ 16384
+  pub narrow : w ≤ LONGEST_SIDE
+  pub low : h ≤ LONGEST_SIDE
   pub columns_divided : w % horizontal_divisor chroma ≡ 0
   pub rows_divided : h % vertical_divisor chroma ≡ 0
-  pub small : data_len w h chroma ≤ 67108864
+  pub small : data_len w h chroma ≤ LARGEST_DATA
 
 format_of : (line : List ℕ) (w h : ℕ) (chroma : Chroma) → IsHeaderLine line w h chroma → IsPicture w h chroma
 format_of line w h chroma s = record {

@@ -31,7 +31,7 @@ pub struct WrongLength {
 }
 
 impl Frame {
-    ghost use Rattle.std.specs.Prelude.{◌≡◌, ℕ, ◌*◌, ◌-◌, ◌<◌, ◌≤◌, ◌↔◌, length, replicate, slice_index};
+    ghost use Rattle.std.specs.Prelude.{◌≡◌, ℕ, ◌+◌, ◌*◌, ◌-◌, ◌<◌, ◌≤◌, ◌↔◌, length, replicate, slice_index};
     ghost use Rattle.std.specs.Prelude.{IsOk, IfOk, IfErr, OnOk, OnErr};
     ghost use Rattle.std.specs.Borrow.{sem};
     ghost use Rattle.y4m_header.specs.Chroma.{plane_count};
@@ -39,6 +39,7 @@ impl Frame {
     ghost use Rattle.frame_view.specs.Rows.{IsPlace, sample, row_of, run_of, rows_of, plane_rows, plane_run};
     ghost use Rattle.frame_view.specs.Frame.{line_of, samples_of, IsFrameWith};
     ghost use Rattle.frame_view.specs.Lending.{LendsSamples, LendsRows};
+    ghost use Rattle.frame_view.specs.Written.{HasRows};
 
     /// A frame of this line and data; the line has no line feed. It takes both over, copies nothing and takes
     /// no memory.
@@ -86,6 +87,22 @@ impl Frame {
         cb.samples.fill(samples[1]);
         cr.samples.fill(samples[2]);
         alpha.samples.fill(samples[3]);
+    }
+
+    /// Writes a copy of `row` over row `y` of plane `p`, the top one being 0; every other byte stays.
+    pub fn put_row(&mut self, p: usize, y: usize, row: &[u8])
+        requires plane { p < plane_count self.old.geometry.chroma }
+        requires row { y < plane_height self.old.geometry p }
+        requires columns { length row.now ≡ plane_width self.old.geometry p }
+        ensures { HasRows (λ _ _ x. slice_index row.now x) p y (y + 1) self.old self.new }
+    {
+        lend_planes!(&mut *self => luma, cb, cr, alpha);
+        match p {
+            0 => luma.put_row(y, row),
+            1 => cb.put_row(y, row),
+            2 => cr.put_row(y, row),
+            _ => alpha.put_row(y, row),
+        }
     }
 
     /// Its size and the sampling of its chroma planes; they never change.

@@ -1,6 +1,7 @@
 // The geometry of a frame.
 ghost use Rattle.std.specs.Prelude.{◌≡◌, ◌≤◌, ◌%◌};
 ghost use Rattle.y4m_header.specs.Chroma.{horizontal_divisor, vertical_divisor, data_len};
+ghost use Rattle.y4m_header.specs.declared.limits.TheConstants.{LONGEST_SIDE, LARGEST_DATA};
 
 use crate::chroma_plane::is_chroma_plane;
 use std::ops::Range;
@@ -17,11 +18,11 @@ pub struct Geometry {
     pub chroma: Chroma,
     pub ghost some_columns: { 1 ≤ width },
     pub ghost some_rows: { 1 ≤ height },
-    pub ghost narrow: { width ≤ 16384 },
-    pub ghost low: { height ≤ 16384 },
+    pub ghost narrow: { width ≤ LONGEST_SIDE },
+    pub ghost low: { height ≤ LONGEST_SIDE },
     pub ghost columns_divided: { width % horizontal_divisor chroma ≡ 0 },
     pub ghost rows_divided: { height % vertical_divisor chroma ≡ 0 },
-    pub ghost small: { data_len width height chroma ≤ 67108864 },
+    pub ghost small: { data_len width height chroma ≤ LARGEST_DATA },
 }
 
 /// The size of one plane, in samples: how many stand in a row, and how many rows there are.
@@ -82,8 +83,8 @@ impl Geometry {
         ensures rows { result.rows ≡ plane_height self p }
         ensures some_columns { 1 ≤ result.columns }
         ensures some_rows { 1 ≤ result.rows }
-        ensures narrow { result.columns ≤ 16384 }
-        ensures low { result.rows ≤ 16384 }
+        ensures narrow { result.columns ≤ LONGEST_SIDE }
+        ensures low { result.rows ≤ LONGEST_SIDE }
     {
         PlaneSize {
             columns: self.columns(p),
@@ -96,7 +97,7 @@ impl Geometry {
     pub fn bytes(self) -> usize
         ensures value { result ≡ frame_len self }
         ensures planes_fill { plane_start self (plane_count self.chroma) ≡ result }
-        ensures limit { result ≤ 67108864 }
+        ensures limit { result ≤ LARGEST_DATA }
     {
         self.plane_start(self.planes())
     }
@@ -136,7 +137,7 @@ impl Geometry {
     #[tactic(auto, unfolding(crate::specs::Places::plane_width))]
     fn columns(self, p: usize) -> usize
         ensures value { result ≡ plane_width self p }
-        ensures narrow { result ≤ 16384 }
+        ensures narrow { result ≤ LONGEST_SIDE }
     {
         if is_chroma_plane(p) {
             (self.width / self.chroma.divisors().horizontal) as usize
@@ -148,7 +149,7 @@ impl Geometry {
     #[tactic(auto, unfolding(crate::specs::Places::plane_height))]
     fn rows(self, p: usize) -> usize
         ensures value { result ≡ plane_height self p }
-        ensures low { result ≤ 16384 }
+        ensures low { result ≤ LONGEST_SIDE }
     {
         if is_chroma_plane(p) {
             (self.height / self.chroma.divisors().vertical) as usize
@@ -161,7 +162,7 @@ impl Geometry {
     pub(crate) fn plane_start(self, p: usize) -> usize
         requires { p ≤ 4 }
         ensures value { result ≡ plane_start self p }
-        ensures bound { result ≤ 4 * 268435456 }
+        ensures bound { result ≤ 4 * (LONGEST_SIDE * LONGEST_SIDE) }
     {
         let full = self.columns(0) * self.rows(0);
         let divided = self.columns(1) * self.rows(1);

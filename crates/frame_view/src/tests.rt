@@ -1,11 +1,8 @@
 // Frames of given sizes, with the bytes that the manual page's order of planes and rows gives.
-ghost use Rattle.std.specs.Prelude.{◌≡◌, ◌<◌, ◌≤◌, ◌+◌, ◌-◌, ◌*◌, ◌++◌};
-ghost use Rattle.std.specs.Prelude.{IfOk, length, take, drop, replicate, slice_index};
-ghost use Rattle.y4m_header.specs.Chroma.{plane_count};
+ghost use Rattle.std.specs.Prelude.{◌≡◌, ◌≤◌, ◌-◌, ◌*◌, ◌++◌};
+ghost use Rattle.std.specs.Prelude.{IfOk, length, take, drop, replicate};
 ghost use Rattle.frame_view.specs.Frame.{samples_of, IsFrameWith};
 ghost use Rattle.frame_view.specs.LentTogether.{lent_len};
-ghost use Rattle.frame_view.specs.Places.{plane_width, plane_height};
-ghost use Rattle.frame_view.specs.Written.{HasRows};
 
 use crate::{
     Frame, Geometry, PlaneMut, PlaneSize, lend_planes, lent_planes_stand_in_their_rows,
@@ -235,39 +232,6 @@ fn fill_cr(frame: &mut Frame, value: u8)
     cr.samples.fill(value);
 }
 
-/// Row `y` of Cb is written; every other byte stays.
-fn put_cb_row(frame: &mut Frame, y: usize, row: &[u8])
-    requires plane { 1 < plane_count frame.old.geometry.chroma }
-    requires row { y < plane_height frame.old.geometry 1 }
-    requires columns { length row.now ≡ plane_width frame.old.geometry 1 }
-    ensures { HasRows (λ _ _ x. slice_index row.now x) 1 y (y + 1) frame.old frame.new }
-{
-    lend_planes!(&mut *frame => _luma, cb, _cr, _alpha);
-    cb.put_row(y, row);
-}
-
-/// Row `y` of Cr is written; every other byte stays.
-fn put_cr_row(frame: &mut Frame, y: usize, row: &[u8])
-    requires plane { 2 < plane_count frame.old.geometry.chroma }
-    requires row { y < plane_height frame.old.geometry 2 }
-    requires columns { length row.now ≡ plane_width frame.old.geometry 2 }
-    ensures { HasRows (λ _ _ x. slice_index row.now x) 2 y (y + 1) frame.old frame.new }
-{
-    lend_planes!(&mut *frame => _luma, _cb, cr, _alpha);
-    cr.put_row(y, row);
-}
-
-/// Row `y` of the alpha plane is written; every other byte stays.
-fn put_alpha_row(frame: &mut Frame, y: usize, row: &[u8])
-    requires plane { 3 < plane_count frame.old.geometry.chroma }
-    requires row { y < plane_height frame.old.geometry 3 }
-    requires columns { length row.now ≡ plane_width frame.old.geometry 3 }
-    ensures { HasRows (λ _ _ x. slice_index row.now x) 3 y (y + 1) frame.old frame.new }
-{
-    lend_planes!(&mut *frame => _luma, _cb, _cr, alpha);
-    alpha.put_row(y, row);
-}
-
 /// The rows of a plane, lent in two parts.
 fn fill_parts(samples: &mut [u8], columns: usize, y: usize, above: u8, below: u8)
     requires { y * columns ≤ length samples.old }
@@ -345,8 +309,8 @@ fn rows_are_put_into_planes_of_divided_columns(rt: HostRuntime) -> Result<(), Fa
         chroma: Chroma::S420,
     };
     let mut frame = frame(rt.alloc(), geometry, b"FRAME", &[9; 36])?;
-    put_cb_row(&mut frame, 1, &[1, 2, 3]);
-    put_cr_row(&mut frame, 0, &[4, 5, 6]);
+    frame.put_row(1, 1, &[1, 2, 3]);
+    frame.put_row(2, 0, &[4, 5, 6]);
     assert_eq!(rt;
         frame.data(),
         [
@@ -367,12 +331,13 @@ fn rows_are_put_into_full_planes(rt: HostRuntime) -> Result<(), Fail> {
         chroma: Chroma::S444Alpha,
     };
     let mut frame = frame(rt.alloc(), geometry, b"FRAME", &[9; 16])?;
-    put_cb_row(&mut frame, 1, &[1, 2]);
-    put_cr_row(&mut frame, 0, &[3, 4]);
-    put_alpha_row(&mut frame, 1, &[5, 6]);
+    frame.put_row(0, 0, &[7, 8]);
+    frame.put_row(1, 1, &[1, 2]);
+    frame.put_row(2, 0, &[3, 4]);
+    frame.put_row(3, 1, &[5, 6]);
     assert_eq!(rt;
         frame.data(),
-        [9, 9, 9, 9, 9, 9, 1, 2, 3, 4, 9, 9, 9, 9, 5, 6].as_slice()
+        [7, 8, 9, 9, 9, 9, 1, 2, 3, 4, 9, 9, 9, 9, 5, 6].as_slice()
     );
     Ok(())
 }

@@ -3,8 +3,8 @@ use Rattle.std.specs.Arc.{arc_value}
 use Rattle.lease.specs.declared.job.Job.TheInside.{Inside}
 use Rattle.lease.specs.Job.{JobValue}
 
-abbrev pub value_of : Inside → JobValue
-value_of a = record {
+abbrev pub job_of : Inside → JobValue
+job_of a = record {
   chain = arc_value a.spec;
   source = arc_value a.source;
   scratch = a.scratch;

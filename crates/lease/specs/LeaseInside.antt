@@ -3,11 +3,11 @@ use Rattle.std.specs.Prelude.{◌≡◌, ◌*◌, ◌≤◌}
 use Rattle.lease.specs.declared.lease.Lease.TheInside.{Inside}
 use Rattle.lease.specs.Lease.{LeaseValue, IsLease, spent_of}
 
-abbrev pub value_of : Inside → LeaseValue
-value_of a = record { job = a.job; stream = a.stream; seq = a.seq; granted = a.granted; used = a.used }
+abbrev pub lease_of : Inside → LeaseValue
+lease_of a = record { job = a.job; stream = a.stream; seq = a.seq; granted = a.granted; used = a.used }
 
 -- the units are counted, at most 9 for each step
 pub record IsSound (a : Inside) : Type 0 where
-  pub lease : IsLease (value_of a)
-  pub spent : a.spent ≡ spent_of (value_of a)
+  pub lease : IsLease (lease_of a)
+  pub spent : a.spent ≡ spent_of (lease_of a)
   pub cheap : a.spent ≤ 9 * a.used

@@ -31,11 +31,11 @@ impl Model for Job {
 
     ghost Value = { JobValue };
 
-    ghost use Rattle.lease.specs.JobInside.{value_of};
+    ghost use Rattle.lease.specs.JobInside.{job_of};
 
-    ghost view = { value_of };
+    ghost view = { job_of };
 
-    ghost invariant = { λ a. IsJob (value_of a) };
+    ghost invariant = { λ a. IsJob (job_of a) };
 }
 
 impl Job {

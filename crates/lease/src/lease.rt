@@ -28,9 +28,9 @@ impl Model for Lease {
 
     ghost Value = { LeaseValue };
 
-    ghost use Rattle.lease.specs.LeaseInside.{value_of, IsSound};
+    ghost use Rattle.lease.specs.LeaseInside.{lease_of, IsSound};
 
-    ghost view = { value_of };
+    ghost view = { lease_of };
 
     ghost invariant = { IsSound };
 }
@@ -83,8 +83,8 @@ impl Lease {
     }
 
     /// Does what [`Lease::step`] does, by two threads where the band can be halved. Each of them calls
-    /// `note`, with 0 or 1, before it writes its part of the band. Memory is taken for the other thread alone;
-    /// where it isn't granted, the caller's own writes both parts.
+    /// `note`, with 0 or 1, before it writes its part of the band. Memory is taken for the other thread
+    /// alone; where it isn't granted, the caller's own writes both parts.
     pub fn step_halves<R: Threads, N: Fn(u32) + Sync>(
         &mut self,
         rt: &R,

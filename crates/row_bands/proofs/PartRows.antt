@@ -3,6 +3,7 @@ use Rattle.std.proofs.Common.{ℕ, ◌≡◌, ◌+◌, ◌-◌, ◌*◌, ◌<◌
 use Rattle.std.proofs.Math.Nat.{mul-le-mul_right}
 use Rattle.std.proofs.lemmas.Bool.Decides.{nat_tests}
 use Rattle.std.proofs.lemmas.List.{take_at, drop_at}
+use Rattle.y4m_header.specs.declared.limits.TheConstants.{LARGEST_DATA}
 use Rattle.y4m_header.specs.Chroma.{plane_count}
 use Rattle.frame_view.specs.declared.geometry.Geometry.{Geometry}
 use Rattle.frame_view.specs.LentTogether.{lent_columns, lent_len, of_plane}
@@ -32,7 +33,7 @@ either_side a b = grind arith
 not_there : (n p a : ℕ) → n ≤ p → (if nat_lt p n then a else 0) ≡ 0
 not_there n p a h = grind (arith, nat_tests)
 
-pub small_plane : (g : Geometry) (p : ℕ) → lent_len g p ≤ 67108864
+pub small_plane : (g : Geometry) (p : ℕ) → lent_len g p ≤ LARGEST_DATA
 small_plane g p = elim (either_side p (plane_count g.chroma)) [
   | inl l ↦ omega (arith, lent_size g p l, next_plane g p, planes_ordered g (p + 1) (plane_count g.chroma) (omega arith), planes_fill g, g.small)
   | inr r ↦ omega (arith, not_there (plane_count g.chroma) p (plane_width g p * plane_height g p) r)

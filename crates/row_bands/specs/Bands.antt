@@ -33,7 +33,7 @@ abbrev pub EachRowInOneBand : Geometry → ℕ → Type 0
 EachRowInOneBand g b = (p y : ℕ) → p < plane_count g.chroma → y < plane_height g p
     → (k : ℕ) × (k < band_count g b) × IsInBand g b k p y × ((j : ℕ) → IsInBand g b j p y → j ≡ k)
 
--- the luma row that halves the luma rows from one on to another: the first one and half of them, rounded down to a
--- multiple of the vertical divisor
+-- the luma row that halves the luma rows from one on to another: the first one and half of them, rounded down
+-- to a multiple of the vertical divisor
 abbrev pub half_row : Geometry → ℕ → ℕ → ℕ
 half_row g from to = (from + (to - from) / 2) / vertical_divisor g.chroma * vertical_divisor g.chroma

@@ -25,8 +25,8 @@ pub record IsHalved (gives : ℕ → ℕ → ℕ → List ℕ → Type 0) (row :
   pub bottom : HasPart gives row old.to (band_geometry old)
       (part_of (band_geometry old) (samples_of (band_frame new)) row old.to)
 
--- the parts that meet at a luma row have the rows of the band, each of them in one part alone: those of the upper
--- part stand above those of the lower one
+-- the parts that meet at a luma row have the rows of the band, each of them in one part alone: those of the
+-- upper part stand above those of the lower one
 pub record HalvesPartTheBand (g : Geometry) (from row to : ℕ) : Type 0 where
   pub within_top : (p y : ℕ) → IsInPart g from row p y → IsInPart g from to p y
   pub within_bottom : (p y : ℕ) → IsInPart g row to p y → IsInPart g from to p y

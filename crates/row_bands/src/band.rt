@@ -5,8 +5,8 @@ use crate::band_plan::rows_above;
 use crate::canvas::Canvas;
 use frame_view::Geometry;
 
-/// One band of a canvas, lent for writing: the luma rows from `from` on to `to`, which is left out, and the rows of
-/// the other planes that go with them.
+/// One band of a canvas, lent for writing: the luma rows from `from` on to `to`, which is left out, and the
+/// rows of the other planes that go with them.
 ///
 /// What is written stands in the canvas; every row outside the band stays.
 #[derive(Drop)]
@@ -47,8 +47,8 @@ impl Band<'_> {
         (self.from, self.to)
     }
 
-    /// The luma row at which the band is halved, where no chroma row is cut; the lower half may have more rows. None
-    /// where the upper one would have no rows.
+    /// The luma row at which the band is halved, where no chroma row is cut; the lower half may have more
+    /// rows. None where the upper one would have no rows.
     #[tactic(auto, using(crate::proofs::Bands::half_above_middle, crate::proofs::Bands::half_is_whole))]
     pub fn half(&self) -> Option<usize>
         ensures there { IsSome result
@@ -65,7 +65,8 @@ impl Band<'_> {
         (self.from < row).then_some(row)
     }
 
-    /// The rows of plane `p` in the band: the first one, and the one that follows the last, counted in the plane.
+    /// The rows of plane `p` in the band: the first one, and the one that follows the last, counted in the
+    /// plane.
     #[tactic(auto, using(crate::proofs::Bands::inside))]
     pub fn rows(&self, p: usize) -> (usize, usize)
         requires { p < plane_count (band_geometry self.now).chroma }
@@ -81,8 +82,8 @@ impl Band<'_> {
         )
     }
 
-    /// All rows of plane `p` in the band, one after another: as many samples as it has rows there, times the columns
-    /// of the plane.
+    /// All rows of plane `p` in the band, one after another: as many samples as it has rows there, times the
+    /// columns of the plane.
     pub fn rows_mut(&mut self, p: usize) -> &mut [u8]
         requires { p < plane_count (band_geometry self.old).chroma }
         ensures* writes_back { sem 𝓛 (LendsPlane self.entry p result) }
@@ -96,7 +97,8 @@ impl Band<'_> {
         self.canvas.rows_mut(p, from, to)
     }
 
-    /// Row `y` of plane `p`, as many samples as the plane has columns; `y` is counted in the plane, not in the band.
+    /// Row `y` of plane `p`, as many samples as the plane has columns; `y` is counted in the plane, not in
+    /// the band.
     #[tactic(auto, using(crate::proofs::Bands::inside))]
     pub fn row_mut(&mut self, p: usize, y: usize) -> &mut [u8]
         requires plane { p < plane_count (band_geometry self.old).chroma }

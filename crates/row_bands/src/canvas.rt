@@ -24,8 +24,8 @@ impl Canvas {
     ghost use Rattle.row_bands.specs.Canvas.{frame_of, height_of};
     ghost use Rattle.row_bands.specs.Lending.{LendsCanvas, LendsCanvasRows};
 
-    /// A canvas whose samples are all 0, with its own copy of the line. It takes memory for the line and for the data;
-    /// where that is refused, it answers the error and keeps none.
+    /// A canvas whose samples are all 0, with its own copy of the line. It takes memory for the line and for
+    /// the data; where that is refused, it answers the error and keeps none.
     pub fn new(
         alloc: Global,
         geometry: Geometry,
@@ -68,7 +68,8 @@ impl Canvas {
 
     /// Puts a copy of this frame line in place of the frame's own; the samples stay.
     ///
-    /// A line that the frame has already takes no memory. Where memory is refused, the frame keeps its old line.
+    /// A line that the frame has already takes no memory. Where memory is refused, the frame keeps its old
+    /// line.
     pub fn set_line(&mut self, alloc: Global, line: &[u8]) -> Result<(), AllocError>
         requires { IsFrameLine line.now }
         ensures geometry { (frame_of self.new).geometry ≡ (frame_of self.old).geometry }

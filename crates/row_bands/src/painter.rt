@@ -20,8 +20,8 @@ pub trait Painter {
     /// What one call may leave as the rows of a plane from one on to another.
     ghost paint_gives: { Self → ℕ → ℕ → ℕ → List ℕ → Type 0 } = { λ _ _ _ _ _. ⊤ };
 
-    /// Writes the rows of plane `p` from `from` on to `to`, which is left out, one after another; they are all of
-    /// `rows`, so its length is their number times the columns of the plane.
+    /// Writes the rows of plane `p` from `from` on to `to`, which is left out, one after another; they are
+    /// all of `rows`, so its length is their number times the columns of the plane.
     fn paint(&self, p: usize, from: usize, to: usize, rows: &mut [u8])
         requires plane { p < plane_count (geometry self.now).chroma }
         requires order { from ≤ to }

@@ -99,7 +99,8 @@ impl Part {
     }
 }
 
-/// Writes the part's rows above luma row `row` and those from it on into the samples of a frame, each by a thread.
+/// Writes the part's rows above luma row `row` and those from it on into the samples of a frame, each by a
+/// thread.
 pub(crate) fn paint_parts<R: Threads, P: Painter + Sync, N: Fn(u32) + Sync>(
     rt: &R,
     painter: &P,

@@ -1,5 +1,6 @@
 // Bands of small frames.
 ghost use Rattle.std.specs.Prelude.{◌≡◌, ◌<◌, ◌≤◌, IfOk, length};
+ghost use Rattle.y4m_header.specs.declared.limits.TheConstants.{LONGEST_SIDE};
 ghost use Rattle.frame_view.specs.Frame.{samples_of, IsFrameWith};
 ghost use Rattle.frame_view.specs.Rows.{sample};
 
@@ -249,8 +250,8 @@ fn each_part_of_a_band_is_noted_once(rt: HostRuntime) -> Result<(), Fail> {
     Ok(())
 }
 
-/// The rows that a painter was asked for: how many calls, and over the calls the sum of the first rows and the sum of
-/// the squares of the numbers of rows.
+/// The rows that a painter was asked for: how many calls, and over the calls the sum of the first rows and
+/// the sum of the squares of the numbers of rows.
 #[derive(Drop)]
 struct Asked {
     calls: AtomicU32,
@@ -269,7 +270,7 @@ impl Asked {
 
     fn add(&self, from: usize, to: usize)
         requires order { from ≤ to }
-        requires few { to ≤ 16384 }
+        requires few { to ≤ LONGEST_SIDE }
     {
         let rows = (to - from) as u32;
         self.calls.fetch_add(1, Ordering::SeqCst);
@@ -339,7 +340,8 @@ fn the_parts_meet_at_the_row(rt: HostRuntime) -> Result<(), Fail> {
     Ok(())
 }
 
-/// Paints 7 everywhere, and counts the calls for a part that isn't noted yet: that above row 2, or that from it on.
+/// Paints 7 everywhere, and counts the calls for a part that isn't noted yet: that above row 2, or that from
+/// it on.
 #[derive(Drop)]
 struct Watching<'a> {
     geometry: Geometry,

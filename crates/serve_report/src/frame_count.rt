@@ -37,8 +37,8 @@ impl FrameCount {
         }
     }
 
-    /// Passes the next piece of the text, and answers how many frames end in it. Behind a header line that is refused,
-    /// or was too much for the memory, it counts none.
+    /// Passes the next piece of the text, and answers how many frames end in it. Behind a header line that is
+    /// refused, or was too much for the memory, it counts none.
     pub fn pass(&mut self, piece: &[u8]) -> u64 {
         let mut ended = 0u64;
         let mut rest = piece;

@@ -44,10 +44,10 @@ impl WordFault {
     }
 }
 
-/// Runs the program with these words, which follow its name, and answers its status: 0 where all went well, 1 after a
-/// fault of the stream or of the script or for want of memory, 2 for wrong words. A fault is one line on `errors`; that
-/// of a script is the last line on `output`. Help that is asked for is written to `output`. Where the words are wrong,
-/// nothing is.
+/// Runs the program with these words, which follow its name, and answers its status: 0 where all went well, 1
+/// after a fault of the stream or of the script or for want of memory, 2 for wrong words. A fault is one line
+/// on `errors`; that of a script is the last line on `output`. Help that is asked for is written to `output`.
+/// Where the words are wrong, nothing is.
 pub fn main_on<R: Read + Drop, W: Write, E: Write>(
     alloc: Global,
     words: &[String],
@@ -63,9 +63,9 @@ pub fn main_on<R: Read + Drop, W: Write, E: Write>(
 
 /// The same, under a watch.
 ///
-/// `filter` asks it for terminals once the words are right and before anything is read. It takes no terminal as its
-/// output, status 2. Where its input is one it says what it waits for, and it tells the watch of each frame, unless the
-/// words have `--quiet`.
+/// `filter` asks it for terminals once the words are right and before anything is read. It takes no terminal
+/// as its output, status 2. Where its input is one it says what it waits for, and it tells the watch of each
+/// frame, unless the words have `--quiet`.
 pub fn run_on<R: Read + Drop, W: Write, E: Write, V: Watch>(
     alloc: Global,
     words: &[String],

@@ -44,7 +44,8 @@ impl Progress {
         }
     }
 
-    /// Whether a line may be shown at this time: at least a tenth of a second after the one before and the start.
+    /// Whether a line may be shown at this time: at least a tenth of a second after the one before and the
+    /// start.
     pub fn is_due(self, time: u64) -> bool
         ensures { IsTrue result ↔ (self.shown + 100 ≤ time) }
     {

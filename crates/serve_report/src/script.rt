@@ -1,8 +1,8 @@
 //! Scripts that are replayed: their commands are run on an account, and each prints one line.
 //!
-//! A script is bytes, at most 1,048,576 of them, in lines that are ended by a line feed, which the last one may lack.
-//! Lines are numbered from 1. An empty line and a line that begins with `#` do nothing. Any other line is a command:
-//! words between single spaces. A number is 1 to 19 decimal digits.
+//! A script is bytes, at most 1,048,576 of them, in lines that are ended by a line feed, which the last one
+//! may lack. Lines are numbered from 1. An empty line and a line that begins with `#` do nothing. Any other
+//! line is a command: words between single spaces. A number is 1 to 19 decimal digits.
 //!
 //! | Command | What happens to the account |
 //! |---|---|
@@ -10,8 +10,8 @@
 //! | `idle R`, `R` at most 2^60 | a job arrives at the moment `R` and finds the server idle |
 //! | `charge K` | `K` units of work were done |
 //!
-//! Each prints `budget C deadline D`, as the account then stands. The first fault prints `line N: WORD`, and nothing
-//! after it is run.
+//! Each prints `budget C deadline D`, as the account then stands. The first fault prints `line N: WORD`, and
+//! nothing after it is run.
 ghost use Rattle.std.specs.Prelude.{◌≡◌, IfErr, IfOk, IfSome, IsErrOf, OnOk, true};
 ghost use Rattle.std.specs.Io.KnownBytes.{Keeps};
 ghost use Rattle.std.specs.Result.{result_err};
@@ -41,8 +41,8 @@ pub use self::fault::ReplayFault;
 /// The longest script, in bytes.
 pub const SCRIPT_LIMIT: usize = 1_048_576;
 
-/// Runs a script and writes the lines that it prints. It answers whether every line was run: `false` where the script
-/// has a fault, whose line is then the last one.
+/// Runs a script and writes the lines that it prints. It answers whether every line was run: `false` where
+/// the script has a fault, whose line is then the last one.
 ///
 /// A script that is too long is not read past the byte that makes it so. `input` is dropped.
 pub fn replay<R: Source + Drop, W: Sink>(

@@ -14,7 +14,8 @@ pub trait Watch {
     /// So many frames more have been read whole.
     fn frames_read(&self, frames: u64);
 
-    /// So many frames more have been written whole. The bytes are all that were written since it was last told.
+    /// So many frames more have been written whole. The bytes are all that were written since it was last
+    /// told.
     fn frames_written(&self, frames: u64, bytes: u64);
 
     /// Nothing more is read or written.

@@ -28,8 +28,8 @@ pub struct AlreadyClosed;
 /// A queue of items that are numbered from 0 as they are accepted, and go out and finish in that order.
 ///
 /// At most one item is out at a time. It keeps its number and its place, and comes back to the front by
-/// [`FrameQueue::put_back`] or frees its place by [`FrameQueue::finish`]. Items that can't be dropped are taken
-/// and finished one by one before [`FrameQueue::destroy_empty`]. Only [`FrameQueue::new`] takes memory.
+/// [`FrameQueue::put_back`] or frees its place by [`FrameQueue::finish`]. Items that can't be dropped are
+/// taken and finished one by one before [`FrameQueue::destroy_empty`]. Only [`FrameQueue::new`] takes memory.
 #[derive(Drop)]
 pub struct FrameQueue<T> {
     ring: HeapCircularBuffer<T>,

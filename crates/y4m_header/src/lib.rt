@@ -18,6 +18,7 @@ pub use chroma::{Chroma, Divisors};
 pub use error::HeaderError;
 pub use frame_line::check_frame_line;
 pub use header::Header;
+pub use limits::{LARGEST_DATA, LONGEST_SIDE};
 pub use line::LONGEST_LINE;
 
 #[cfg(test)]

@@ -10,3 +10,4 @@ pub mod OneAnswer
 pub mod OneCall
 pub mod WholeFrames
 pub mod Told
+pub mod LineFeeds

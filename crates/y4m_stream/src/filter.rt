@@ -21,8 +21,8 @@ use row_bands::BandHeight;
 use std::alloc::Global;
 use y4m_header::Header;
 
-/// What a stream is filtered with: the chain with its canvases, a frame, and the header of the images where their size
-/// is another than the frames'.
+/// What a stream is filtered with: the chain with its canvases, a frame, and the header of the images where
+/// their size is another than the frames'.
 #[derive(Drop)]
 pub struct Filter {
     images: Images,
@@ -150,17 +150,19 @@ fn filter_frames<R: Source + Drop, W: Sink>(
     close(writer, passed)
 }
 
-/// Reads a stream to its end and writes it with the image of each of its frames in the frame's place, on the caller's
-/// thread; answers the number of frames, and gives the sink back.
+/// Reads a stream to its end and writes it with the image of each of its frames in the frame's place, on the
+/// caller's thread; answers the number of frames, and gives the sink back.
 ///
-/// The operations are applied in order, each to the whole frame, in bands of this height. The reader is opened
-/// first, then the chain is made for the header's frames, and then the header line is written. A frame and its
-/// canvases have the same memory for the whole stream; memory is taken anew only for a frame line that is another than
-/// the one before. At most 16,777,216 images are written. No call on the source or the sink that failed is tried again.
-/// The sink is flushed at the end, and after a fault behind the header line too, where it has not failed.
+/// The operations are applied in order, each to the whole frame, in bands of this height. The reader is
+/// opened first, then the chain is made for the header's frames, and then the header line is written. A frame
+/// and its canvases have the same memory for the whole stream; memory is taken anew only for a frame line
+/// that is another than the one before. At most 16,777,216 images are written. No call on the source or the
+/// sink that failed is tried again. The sink is flushed at the end, and after a fault behind the header line
+/// too, where it has not failed.
 ///
-/// Want of memory is told as `Read(NoMemory)` where it was for the header or a frame's line, and as `Ops(NoMemory)`
-/// where it was for the chain, its frame and its canvases, the header of the images or an image's line.
+/// Want of memory is told as `Read(NoMemory)` where it was for the header or a frame's line, and as
+/// `Ops(NoMemory)` where it was for the chain, its frame and its canvases, the header of the images or an
+/// image's line.
 pub fn filter_stream<R: Source + Drop, W: Sink>(
     alloc: Global,
     input: R,

@@ -33,8 +33,8 @@ fn is_at_end<R: Source>(input: &mut Lookahead<R>) -> Result<bool, ReadFault>
     }
 }
 
-/// Reads until a whole frame line is held at the front, and answers the line's length without its line feed, or none
-/// at the end.
+/// Reads until a whole frame line is held at the front, and answers the line's length without its line feed,
+/// or none at the end.
 pub fn find_frame_line<R: Source>(input: &mut Lookahead<R>) -> Result<Option<usize>, ReadFault>
     ensures rest { Keeps (rest_of input.old) (rest_of input.new) }
     ensures line { IfOk result (λ next. IfSome next (BeginsWithLine input.new.held)) }

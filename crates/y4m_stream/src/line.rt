@@ -1,24 +1,13 @@
 // A line at the front of what is left.
-ghost use Rattle.std.specs.Prelude.{◌≡◌, ◌+◌, ◌-◌, ◌<◌, ◌∷◌, ◌++◌, length, take, drop, IfOk, IfErr};
-ghost use Rattle.std.specs.Prelude.{IfSome, IfNone};
+ghost use Rattle.std.specs.Prelude.{◌≡◌, ◌-◌, length, IfOk, IfErr};
 ghost use Rattle.std.specs.Io.KnownBytes.{Keeps};
-ghost use Rattle.y4m_stream.specs.Front.{HasNoLineFeed};
 ghost use Rattle.y4m_stream.specs.Inside.{BeginsWithLine, LacksLine, rest_of};
 ghost use Rattle.y4m_stream.specs.Reader.{failures_told};
 
 use crate::device::Source;
 use crate::fault::ReadFault;
 use crate::lookahead::{LINE_LIMIT, Lookahead};
-
-/// Where the first line feed stands.
-fn line_feed_in(bytes: &[u8]) -> Option<usize>
-    ensures found { IfSome result (λ n. bytes.now ≡ take n bytes.now ++ 10 ∷ drop (n + 1) bytes.now) }
-    ensures within { IfSome result (λ n. n < length bytes.now) }
-    ensures first { IfSome result (λ n. HasNoLineFeed (take n bytes.now)) }
-    ensures none { IfNone result (HasNoLineFeed bytes.now) }
-{
-    bytes.iter().position(|b| *b == b'\n')
-}
+use y4m_header::text::place_of;
 
 /// Reads until a whole line is held at the front, and answers the line's length without its line feed.
 ///
@@ -30,7 +19,7 @@ pub fn find_line<R: Source>(input: &mut Lookahead<R>) -> Result<usize, ReadFault
     ensures told { input.new.failures ≡ failures_told result input.old.failures }
 {
     loop {
-        if let Some(end) = line_feed_in(input.held()) {
+        if let Some(end) = place_of(b'\n', input.held()) {
             return Ok(end);
         }
         if input.held().len() == LINE_LIMIT {

@@ -16,8 +16,8 @@ use y4m_header::LONGEST_LINE;
 /// The longest line, with its line feed.
 pub const LINE_LIMIT: usize = LONGEST_LINE + 1;
 
-/// A source, with at most 1,024 bytes that were read from it beyond what was asked for, in order: a line, however it
-/// came, is whole in them.
+/// A source, with at most 1,024 bytes that were read from it beyond what was asked for, in order: a line,
+/// however it came, is whole in them.
 #[derive(Debug, Drop)]
 pub struct Lookahead<R: Source> {
     source: R,

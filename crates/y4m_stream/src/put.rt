@@ -9,8 +9,8 @@ use crate::lookahead::LINE_LIMIT;
 
 /// Writes all of the bytes, or answers how many went out: fewer than all, from the front.
 ///
-/// It stops at the first write that fails or takes no byte, an interrupted one too, and flushes nothing. No memory is
-/// taken.
+/// It stops at the first write that fails or takes no byte, an interrupted one too, and flushes nothing. No
+/// memory is taken.
 pub fn put_all<W: Sink>(writer: &mut W, bytes: &[u8]) -> Result<(), usize>
     ensures text { PutsText (W.contents writer.old) (W.contents writer.new) bytes.now result }
     ensures failures { W.failures writer.new ≡ failures_after result (W.failures writer.old) }

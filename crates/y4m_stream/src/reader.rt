@@ -49,8 +49,8 @@ fn take_header<R: Source>(alloc: Global, input: &mut Lookahead<R>) -> Result<Hea
     Ok(header)
 }
 
-/// Looks for the next frame, and answers the length of its line, without the line feed, or none at the end. The reader
-/// has then failed, until the frame is taken.
+/// Looks for the next frame, and answers the length of its line, without the line feed, or none at the end.
+/// The reader has then failed, until the frame is taken.
 fn begin_frame<R: Source>(
     input: &mut Lookahead<R>,
     phase: &mut Phase,
@@ -72,9 +72,10 @@ fn begin_frame<R: Source>(
 
 /// The frames of a stream, read one after another.
 ///
-/// It reads again only while it lacks bytes for what it is asked, and keeps what came beyond that, at most 1,024 bytes,
-/// for the next call. No read that failed is tried again, an interrupted one neither: after its first fault every call
-/// answers `Failed`. The frames that were read before stay whole; `into_source` gives the source back.
+/// It reads again only while it lacks bytes for what it is asked, and keeps what came beyond that, at most
+/// 1,024 bytes, for the next call. No read that failed is tried again, an interrupted one neither: after its
+/// first fault every call answers `Failed`. The frames that were read before stay whole; `into_source` gives
+/// the source back.
 #[derive(Debug, Drop)]
 pub struct StreamReader<R: Source> {
     input: Lookahead<R>,
@@ -94,8 +95,8 @@ impl<R: Source> Model for StreamReader<R> {
 impl<R: Source + Drop> StreamReader<R> {
     /// Reads the header line and its line feed. Where that fails the source is given up.
     ///
-    /// An input that ends before its first line feed is `Truncated`. `NoMemory` is answered where the header line came
-    /// whole and could not be kept.
+    /// An input that ends before its first line feed is `Truncated`. `NoMemory` is answered where the header
+    /// line came whole and could not be kept.
     pub fn open(alloc: Global, source: R) -> Result<StreamReader<R>, ReadFault>
         // The last is the source as it was given up.
         ensures { (last : R)
@@ -141,8 +142,8 @@ impl<R: Source + Drop> StreamReader<R> {
 
     /// Reads the next frame, or answers none at the end.
     ///
-    /// An input that ends within a frame is `Truncated`. `NoMemory` is answered where the frame's line came whole and
-    /// there was no memory for the frame.
+    /// An input that ends within a frame is `Truncated`. `NoMemory` is answered where the frame's line came
+    /// whole and there was no memory for the frame.
     pub fn next_frame(&mut self, alloc: Global) -> Result<Option<Frame>, ReadFault>
         ensures answer { Answers self.old self.new (answer_of result) }
         ensures geometry { IfOk result (λ next. IfSome next (λ frame.
@@ -160,9 +161,9 @@ impl<R: Source + Drop> StreamReader<R> {
 
     /// Reads the next frame into the memory of this one, or answers `false` at the end.
     ///
-    /// An input that ends within a frame is `Truncated`. Memory is taken only where the frame's line is another than
-    /// this one's: `NoMemory` is answered where that line came whole and could not be kept. After a fault, and at the
-    /// end, the frame has its geometry still, and no line or samples to rely on.
+    /// An input that ends within a frame is `Truncated`. Memory is taken only where the frame's line is
+    /// another than this one's: `NoMemory` is answered where that line came whole and could not be kept.
+    /// After a fault, and at the end, the frame has its geometry still, and no line or samples to rely on.
     pub fn read_frame(&mut self, alloc: Global, frame: &mut Frame) -> Result<bool, ReadFault>
         requires { IsOfHeader self.old.header frame.old.geometry }
         ensures answer { Answers self.old self.new (answer_into frame.new result) }

@@ -16,9 +16,10 @@ use y4m_header::Header;
 
 /// The frames of a stream, written one after another.
 ///
-/// Each call writes all of its text, one piece for a line and one for a frame's data: nothing is kept back between
-/// calls, and no memory is taken. No write or flush that failed is tried again: after its first fault every call answers
-/// `Failed`, and `finish` gives the sink back. It counts the frames and the bytes that went out.
+/// Each call writes all of its text, one piece for a line and one for a frame's data: nothing is kept back
+/// between calls, and no memory is taken. No write or flush that failed is tried again: after its first fault
+/// every call answers `Failed`, and `finish` gives the sink back. It counts the frames and the bytes that
+/// went out.
 #[derive(Debug, Drop)]
 pub struct StreamWriter<W: Sink> {
     sink: W,
@@ -101,8 +102,8 @@ impl<W: Sink> StreamWriter<W> {
         self.frames
     }
 
-    /// How many bytes went out since the writer was opened, those of the header line and of a frame that was cut off
-    /// included.
+    /// How many bytes went out since the writer was opened, those of the header line and of a frame that was
+    /// cut off included.
     pub fn bytes(&self) -> u64
         ensures { result ≡ self.now.bytes }
     {

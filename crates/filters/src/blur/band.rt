@@ -1,6 +1,7 @@
 //! The blur of a band of rows, by sums of columns that are kept down the band.
 
 ghost use Rattle.std.specs.Prelude.{◌≡◌, ◌+◌, ◌-◌, ◌*◌, ◌/◌, ◌≤◌, ◌<◌, ℕ, length, slice_index};
+ghost use Rattle.y4m_header.specs.declared.limits.TheConstants.{LONGEST_SIDE};
 ghost use Rattle.filters.specs.Blur.{blurred, clamped, pixel_of, side, sum_below};
 
 use super::columns::{first_columns, next_columns, repeat_ends};
@@ -64,7 +65,7 @@ fn blur_band_in<const ROOM: usize>(
     target: &mut [u8],
 )
     requires room { plane.now.width + 2 * radius ≤ ROOM }
-    requires most { ROOM ≤ 16400 }
+    requires most { ROOM ≤ LONGEST_SIDE + 2 * 8 }
     requires reach { 1 ≤ radius }
     requires small { radius ≤ 8 }
     requires some { from < to }
@@ -96,8 +97,8 @@ pub fn blur_rows(
 )
     requires whole { length source.now ≡ height * width }
     requires some_width { 0 < width }
-    requires wide { width ≤ 16384 }
-    requires high { height ≤ 16384 }
+    requires wide { width ≤ LONGEST_SIDE }
+    requires high { height ≤ LONGEST_SIDE }
     requires reach { 1 ≤ radius }
     requires small { radius ≤ 8 }
     requires rows { to ≤ height }

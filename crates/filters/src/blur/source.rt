@@ -1,6 +1,7 @@
 //! The plane that a blur reads.
 
 ghost use Rattle.std.specs.Prelude.{◌≡◌, ◌+◌, ◌*◌, ◌≤◌, ◌<◌, ℕ, length, slice_index};
+ghost use Rattle.y4m_header.specs.declared.limits.TheConstants.{LONGEST_SIDE};
 ghost use Rattle.filters.specs.Blur.{clamped, pixel_of};
 
 /// A plane of at most 16,384 columns and rows, its rows one after another.
@@ -10,8 +11,8 @@ pub struct SourcePlane<'a> {
     pub height: usize,
     pub samples: &'a [u8],
     ghost sized: { length samples.now ≡ height * width },
-    ghost wide: { width ≤ 16384 },
-    ghost high: { height ≤ 16384 },
+    ghost wide: { width ≤ LONGEST_SIDE },
+    ghost high: { height ≤ LONGEST_SIDE },
     ghost some_width: { 0 < width },
     ghost some_height: { 0 < height },
     ghost bytes: { (k : ℕ) → slice_index samples.now k ≤ 255 },
@@ -32,7 +33,7 @@ impl SourcePlane<'_> {
 
 /// The place `at + k - radius`, or where a line of `count` places has none there, the nearest that it has.
 pub fn clamped_place(count: usize, radius: usize, at: usize, k: usize) -> usize
-    requires short { count ≤ 16384 }
+    requires short { count ≤ LONGEST_SIDE }
     requires inside { at < count }
     requires few { k ≤ 17 }
     ensures place { result ≡ clamped count radius at k }

@@ -20,8 +20,8 @@ fn written(room: &[u8], left: usize) -> &[u8] {
     &room[..room.len() - left.min(room.len())]
 }
 
-/// Runs the program with these words, compares what it says of faults and its status, and answers how much is left of
-/// the room for its output.
+/// Runs the program with these words, compares what it says of faults and its status, and answers how much is
+/// left of the room for its output.
 fn says<R: Read + Drop>(
     rt: &impl Abort,
     alloc: Global,

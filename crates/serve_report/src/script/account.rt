@@ -12,9 +12,9 @@ use super::lines::{first_line, is_silent};
 use super::print::push_balance;
 use cbs_account::Account;
 
-/// Runs the lines of an account script in order, up to the first fault, and appends what each command prints. The line
-/// of the stop isn't appended. Where the growth for an answer was refused, the run stops at the line of its command, and
-/// the answers of the lines before it were appended.
+/// Runs the lines of an account script in order, up to the first fault, and appends what each command prints.
+/// The line of the stop isn't appended. Where the growth for an answer was refused, the run stops at the line
+/// of its command, and the answers of the lines before it were appended.
 pub fn run_account_script(script: &[u8], printed: &mut Vec<u8>) -> Result<(), ScriptStop>
     requires { length script.now ≤ 1048576 }
     ensures { Reports (result_err result) printed.old.items printed.new.items script.now }

@@ -14,13 +14,13 @@ pub enum ReplayFault {
     /// A read of the input failed. Nothing was run or written.
     #[error("read")]
     Read,
-    /// A write of the output failed or took no byte, or its flush failed. The front of what the script prints went out,
-    /// or of what is told where a growth was refused.
+    /// A write of the output failed or took no byte, or its flush failed. The front of what the script prints
+    /// went out, or of what is told where a growth was refused.
     #[error("write")]
     Write,
-    /// A growth was refused. The answers of the lines before line N are written, none of which has a fault, and then the
-    /// line `line N: NoMemory`. N is the line of the command whose answer could not be kept, or 0 if the script itself
-    /// couldn't be.
+    /// A growth was refused. The answers of the lines before line N are written, none of which has a fault,
+    /// and then the line `line N: NoMemory`. N is the line of the command whose answer could not be kept, or
+    /// 0 if the script itself couldn't be.
     #[error("NoMemory")]
     NoMemory,
 }
@@ -79,7 +79,8 @@ impl From<BadBandwidth> for ScriptFault {
     }
 }
 
-/// The line at which a script stops, and its fault. Lines are numbered from 1; 0 stands for the script as a whole.
+/// The line at which a script stops, and its fault. Lines are numbered from 1; 0 stands for the script as a
+/// whole.
 #[derive(Clone, Copy, Debug, PartialEq, Eq)]
 pub struct ScriptStop {
     pub line: u64,

@@ -10,7 +10,8 @@ use y4m_stream::Source;
 /// The bytes of one read.
 const CHUNK: usize = 4096;
 
-/// Reads the input's first bytes: `limit` of them, or all where there are fewer. No byte after them is asked for.
+/// Reads the input's first bytes: `limit` of them, or all where there are fewer. No byte after them is asked
+/// for.
 pub fn read_front<R: Source>(
     alloc: Global,
     input: &mut R,

@@ -27,8 +27,8 @@ pub fn write_report<W: Sink>(
     writer.flush().map_err(|_| ReplayFault::Write)
 }
 
-/// Writes `line N: WORD` and a line feed, or nothing where there is no stop. It takes no memory, so a refused growth can
-/// be told.
+/// Writes `line N: WORD` and a line feed, or nothing where there is no stop. It takes no memory, so a refused
+/// growth can be told.
 fn put_stop<W: Sink>(writer: &mut W, stop: Option<ScriptStop>) -> Result<(), ReplayFault>
     ensures text { Writes (W.contents writer.old) (W.contents writer.new) (stop_text stop) result }
     ensures fault { IfErr result (λ fault. fault ≡ ReplayFault.Write) }

@@ -10,8 +10,8 @@ use std::io::{self, ErrorKind, Read, Write};
 use std::test::Fail;
 use y4m_header::Header;
 
-/// Gives its bytes, seven at a time; but the read before which so many others were made fails, and is as if it had not
-/// been made.
+/// Gives its bytes, seven at a time; but the read before which so many others were made fails, and is as if
+/// it had not been made.
 #[derive(Drop)]
 struct FailsOnce<'a> {
     left: &'a [u8],

@@ -3,7 +3,7 @@ use Rattle.std.proofs.Math.Seq.{take-append_seam}
 use Rattle.std.specs.Arc.{arc_value}
 use Rattle.frame_view.specs.declared.frame.Frame.{Frame}
 use Rattle.filters.specs.Steps.{steps_of}
-use Rattle.lease.specs.JobInside.{value_of}
+use Rattle.lease.specs.JobInside.{job_of}
 use Rattle.lease.specs.Job.{AreDone, frames_by}
 use Rattle.lease.proofs.Jobs.{stays_job, steps_on}
 use Rattle.lease.proofs.job.Job.step.Goals as goal
@@ -36,7 +36,7 @@ invariant_of-self c =
     → AreDone (arc_value c.self.inside.spec)
     (frames_by source c.write_step.new.scratch c.write_step.new.canvas) (c.self.inside.done + 1) in
     rw (whole c) (stays_job
-    (value_of c.self.inside) _ c.write_step.new.scratch c.write_step.new.canvas c.self.invariant
+    (job_of c.self.inside) _ c.write_step.new.scratch c.write_step.new.canvas c.self.invariant
     (started c) left
     (rw (chain_is c) at c.write_step.ensures.scratch)
     (rw (chain_is c) at c.write_step.ensures.canvas) c.write_step.ensures.line
@@ -45,5 +45,5 @@ invariant_of-self c =
 pub returns-clause-step : goal.returns-clause-step
 returns-clause-step c =
     rw (sym c.self.view_is, whole c)
-    (steps_on (value_of c.self.inside) _ c.write_step.new.scratch c.write_step.new.canvas (started c)
+    (steps_on (job_of c.self.inside) _ c.write_step.new.scratch c.write_step.new.canvas (started c)
     (rw (chain_is c, c.deref-2.ensures) at c.write_step.ensures.written))

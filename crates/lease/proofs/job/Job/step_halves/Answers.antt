@@ -3,7 +3,7 @@ use Rattle.std.proofs.Math.Seq.{take-append_seam}
 use Rattle.std.specs.Arc.{arc_value}
 use Rattle.frame_view.specs.declared.frame.Frame.{Frame}
 use Rattle.filters.specs.Steps.{steps_of}
-use Rattle.lease.specs.JobInside.{value_of}
+use Rattle.lease.specs.JobInside.{job_of}
 use Rattle.lease.specs.Job.{AreDone, frames_by}
 use Rattle.lease.proofs.Jobs.{stays_job, steps_on}
 use Rattle.lease.proofs.job.Job.step_halves.Goals as goal
@@ -37,7 +37,7 @@ invariant_of-self g c =
     → AreDone (arc_value c.self.inside.spec)
     (frames_by source c.halve_step.new.scratch c.halve_step.new.canvas) (c.self.inside.done + 1) in
     rw (whole g c) (stays_job
-    (value_of c.self.inside) _ c.halve_step.new.scratch c.halve_step.new.canvas c.self.invariant
+    (job_of c.self.inside) _ c.halve_step.new.scratch c.halve_step.new.canvas c.self.invariant
     (started g c) left
     (rw (chain_is g c) at c.halve_step.ensures.scratch)
     (rw (chain_is g c) at c.halve_step.ensures.canvas) c.halve_step.ensures.line
@@ -46,5 +46,5 @@ invariant_of-self g c =
 pub returns-clause-step : goal.returns-clause-step
 returns-clause-step g c =
     rw (sym c.self.view_is, whole g c)
-    (steps_on (value_of c.self.inside) _ c.halve_step.new.scratch c.halve_step.new.canvas (started g c)
+    (steps_on (job_of c.self.inside) _ c.halve_step.new.scratch c.halve_step.new.canvas (started g c)
     (rw (chain_is g c, c.deref-2.ensures) at c.halve_step.ensures.written))

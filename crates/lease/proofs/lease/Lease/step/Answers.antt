@@ -2,13 +2,13 @@ use Rattle.std.proofs.Common.{◌≡◌, ◌+◌, arith, ap, sym, ◌∙◌}
 use Rattle.std.proofs.lemmas.Option.{get_or_from_slice_get, slice_get_within}
 use Rattle.filters.specs.Costs.{step_costs}
 use Rattle.lease.specs.Lease.{spent_of}
-use Rattle.lease.specs.LeaseInside.{value_of}
+use Rattle.lease.specs.LeaseInside.{lease_of}
 use Rattle.lease.proofs.Spent.{used_once, spent_once, stays_lease}
 use Rattle.lease.proofs.lease.Lease.step.Goals as goal
 
 pub invariant_of-self : goal.invariant_of-self
 invariant_of-self c =
-    let lease = value_of c.self.inside in
+    let lease = lease_of c.self.inside in
     let is = c.self.invariant.lease in
     let cost = c.next_cost.ensures.value in
     let more : spent_of (used_once lease c.step.new.self) ≡ spent_of lease + c.next_cost.result =
@@ -25,5 +25,5 @@ invariant_of-self c =
 pub returns-clause-spent : goal.returns-clause-spent
 returns-clause-spent c =
     rw (sym c.self.view_is)
-    (spent_once (value_of c.self.inside) c.step.new.self c.self.invariant.lease.own
+    (spent_once (lease_of c.self.inside) c.step.new.self c.self.invariant.lease.own
     (slice_get_within _ _ _ c.next_cost.ensures.value) c.step.ensures.step)
