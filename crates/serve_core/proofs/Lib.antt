@@ -26,4 +26,10 @@ pub mod AtOnce
 pub mod Leased
 pub mod Admissions
 pub mod Lanes
+pub mod Schedules
 pub mod Lifts
+pub mod Facts
+pub mod Allowing
+pub mod Machines
+pub mod Opened
+pub mod Runs

@@ -56,6 +56,7 @@ impl Machine {
     pub fn new(alloc: Global, setup: Setup) -> Result<Machine, AllocError>
         ensures { IfOk result (λ m. m ≡ opening_state FrameValue FrameValue setup) }
     {
+        setup.limits_law();
         let schedule = Schedule::new(alloc, setup)?;
         Ok(Machine { schedule })
     }
@@ -114,8 +115,10 @@ impl Machine {
 
     /// A frame arrives.
     fn arrive(&mut self, alloc: Global, s: u32, frame: Arc<Frame>) -> Reply
-        ensures allowed { Allows measures is_image self.old (rules.Arrive s (value_of (arc_value frame))) (heard result) }
-        ensures state { self.new ≡ after self.old (rules.Arrive s (value_of (arc_value frame))) (heard result) }
+        ensures allowed { let arrival = rules.Arrive s (value_of (arc_value frame)) in
+            Allows measures is_image self.old arrival (heard result) }
+        ensures state { let arrival = rules.Arrive s (value_of (arc_value frame)) in
+            self.new ≡ after self.old arrival (heard result) }
     {
         let geometry = frame.geometry();
         if let Some(refusal) = self.schedule.arrival_refusal(s, geometry) {
@@ -212,6 +215,7 @@ pub fn run(alloc: Global, setup: Setup, events: Vec<Event>) -> Result<Vec<Reply>
     ensures { IfOk result (λ replies.
         IsRun measures is_image setup (map seen events.items) (map heard replies.items)) }
 {
+    setup.limits_law();
     let mut machine = match Machine::new(alloc, setup) {
         Ok(machine) => machine,
         Err(_) => return Err(CoreError::NoMemory),
