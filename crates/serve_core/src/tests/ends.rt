@@ -90,3 +90,31 @@ fn a_leased_frame_keeps_its_place(rt: HostRuntime) -> Result<(), Fail> {
     ];
     serves(&rt, rt.alloc(), &plan, &script)
 }
+
+#[test]
+fn a_closed_stream_accepts_nothing_though_it_has_room(rt: HostRuntime) -> Result<(), Fail> {
+    let plan = Plan {
+        workers: 1,
+        quantum: 4,
+        streams: &[PLAIN],
+    };
+    let script = [
+        Asks(Arrive(0, Dot, &[0x00]), Accepted(0)),
+        Asks(Close(0), Closing),
+        Asks(
+            Arrive(0, Dot, &[0x01]),
+            GivenBack(Refusal::Closed, LINE, &[0x01]),
+        ),
+        Asks(Lease(0), Leased(0, 0, 1)),
+        Asks(Band(0), Stepped),
+        Asks(Collect(0), Refused(Refusal::Empty)),
+        Asks(Settle(0), Finished(0)),
+        Asks(
+            Arrive(0, Dot, &[0x01]),
+            GivenBack(Refusal::Closed, LINE, &[0x01]),
+        ),
+        Asks(Collect(0), Image(LINE, &[0xFF])),
+        Asks(Collect(0), Refused(Refusal::Drained)),
+    ];
+    serves(&rt, rt.alloc(), &plan, &script)
+}
