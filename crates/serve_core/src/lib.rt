@@ -26,3 +26,6 @@ pub use machine::{CoreError, Machine, run};
 pub use refusal::Refusal;
 pub use setup::{Setup, SetupError};
 pub use spec::StreamSpec;
+
+#[cfg(test)]
+mod tests;
