@@ -7,6 +7,7 @@
 
 mod collected;
 pub mod counts;
+pub mod desk;
 pub mod event;
 mod grant;
 pub mod held;
@@ -20,6 +21,7 @@ mod stream;
 
 pub use collected::Collected;
 pub use counts::Counts;
+pub use desk::Desk;
 pub use event::{Event, Reply};
 pub use held::Held;
 pub use machine::{CoreError, Machine, run};
