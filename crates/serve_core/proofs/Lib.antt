@@ -27,3 +27,6 @@ pub mod Leased
 pub mod Admissions
 pub mod Lanes
 pub mod Lifts
+pub mod Allowing
+pub mod Facts
+pub mod Desks

@@ -25,9 +25,12 @@ use Rattle.serve_core.specs.Schedule.{deadlines, with_lane}
 use Rattle.serve_core.specs.Setup.{steps}
 use Rattle.serve_core.specs.States.{State}
 
+abbrev pub blanks : ℕ → List Blank
+blanks n = replicate n tt
+
 -- a blank for each accepted frame that isn't collected
 abbrev pub bare_frames : Lane → List Blank
-bare_frames lane = replicate (lane.state.accepted - lane.state.collected) tt
+bare_frames lane = blanks (lane.state.accepted - lane.state.collected)
 
 -- the bare summary of what a desk keeps
 abbrev pub desk_state : ScheduleValue → State Blank
@@ -161,9 +164,9 @@ brought lease lane = brought_by lease.job lease.used lane
 pub record CanBring (job : JobValue) (bands units : ℕ) (lane : Lane) : Type 0 where
   pub out : IsSome lane.state.holder
   pub away : lane.leased ≡ None
-  pub job : IsStarted lane.state.spec.chain (lane.state.done + bands) job
+  pub started : IsStarted lane.state.spec.chain (lane.state.done + bands) job
   pub left : lane.state.done + bands ≤ steps lane.state.spec
-  pub units : units ≡ cost_of_next bands lane.state
+  pub cost : units ≡ cost_of_next bands lane.state
   pub charge : CanCharge units lane.state.account
   pub few : lane.state.charged + units < 2 ^ 64
 
@@ -179,7 +182,7 @@ pub record TakesImage (w : ℕ) (lease : LeaseValue) (number : ℕ) (old new : S
   pub lane : Lane
   pub here : slice_get old.lanes lease.stream ≡ Some lane
   pub all : lane.state.done + lease.used ≡ steps lane.state.spec
-  pub number : number ≡ lane.state.finished
+  pub first : number ≡ lane.state.finished
   pub images : List Collected
   pub gains : GainsImage lease.job lane.images images
   pub schedule : new ≡ with_held w None (with_lane lease.stream (finished images (brought lease lane)) old)
