@@ -10,13 +10,13 @@ use Rattle.serve_core.specs.Bare.{Blank, measures_any, is_any_image}
 use Rattle.serve_core.specs.Counts.{Shut, Taken}
 use Rattle.serve_core.specs.Desk.{Answers, RefusesClose, bare_frames, blanks, desk_state, one}
 use Rattle.serve_core.specs.DeskInside.{AreAway, AreUnused, IsDesk}
-use Rattle.serve_core.specs.Events.{Close, Closing, Collect, Event, Image, Reply, Transcript}
+use Rattle.serve_core.specs.Events.{Close, Closing, Collect, Event, Image, Reply, Then, Transcript}
 use Rattle.serve_core.specs.Lanes.{Lane}
 use Rattle.serve_core.specs.Rules.{Allows}
 use Rattle.serve_core.specs.Schedule.{HasLane, IsFirst, RefusesCollect, ScheduleValue, shut, stream_by, taken}
 use Rattle.serve_core.specs.Schedule.{with_lane}
 use Rattle.serve_core.specs.Sound.{IsSound}
-use Rattle.serve_core.specs.States.{StreamState, after, did}
+use Rattle.serve_core.specs.States.{State, StreamState, after, did}
 use Rattle.serve_core.proofs.Allowing.{close_allowed, collect_allowed}
 use Rattle.serve_core.proofs.Lifts.{led_close, led_collect, stream_here}
 use Rattle.serve_core.proofs.Openings.{sound_from}
@@ -61,7 +61,7 @@ blank_first a c l =
     let e : a - c ≡ suc (a - (c + 1)) = omega arith in
     ap (λ (n : ℕ). slice_get (blanks n) 0) e ∙ blank_here (a - (c + 1))
 
-with_frames : (x : StreamState Blank) (fs gs : List Blank) → fs ≡ gs
+pub with_frames : (x : StreamState Blank) (fs gs : List Blank) → fs ≡ gs
     → let v : StreamState Blank = record x { frames = fs } in
     let w : StreamState Blank = record x { frames = gs } in v ≡ w
 with_frames x fs gs e = cc
@@ -136,3 +136,12 @@ collected x y s (Ok pair) h ok err =
     let new = a.2.1 in
     rw new (led, lane_on x s (taken a.0) (Collect s) (Image tt) h (h.away s a.0 a.1) led)
 collected x y s (Err e) h ok err = (tt, rw err.1 h)
+
+-- one event more leads on
+pub led_then : (x y z : ScheduleValue) (p : Transcript Blank Blank) (e : Event Blank) (r : Reply Blank Blank)
+    → Answers x p y → Allows measures_any is_any_image (desk_state y) e r
+    → desk_state z ≡ after (desk_state y) e r → Answers x (Then p e r) z
+led_then x y z p e r led a n = (
+  (led.0, subst (λ (m : State Blank). Allows measures_any is_any_image m e r) (sym led.1) a),
+  ap (λ (m : State Blank). after m e r) led.1 ∙ sym n,
+)

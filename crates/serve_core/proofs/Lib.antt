@@ -29,4 +29,7 @@ pub mod Lanes
 pub mod Lifts
 pub mod Allowing
 pub mod Facts
+pub mod Schedules
+pub mod Handing
 pub mod Desks
+pub mod Offers

@@ -148,9 +148,8 @@ impl Desk {
         ensures events { Answers self.old (rules.offered self.old.clock s at result) self.new }
         ensures job { rules.TakesJob s at job result self.old self.new }
     {
-        if at > self.schedule.clock() {
-            self.schedule.tick(at);
-        }
+        let moment = self.schedule.clock().max(at);
+        self.schedule.tick(moment);
         self.schedule.accept(s, job)
     }
 
