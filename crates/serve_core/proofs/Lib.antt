@@ -33,3 +33,5 @@ pub mod Schedules
 pub mod Handing
 pub mod Desks
 pub mod Offers
+pub mod Lendings
+pub mod Settlements

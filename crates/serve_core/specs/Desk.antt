@@ -1,7 +1,7 @@
 -- The calls of a desk: the schedule without the jobs that are out, and with bands that are charged where their
 -- lease is settled.
-use Rattle.std.specs.Prelude.{ℕ, ◌≡◌, ◌≢◌, ◌≤◌, ◌<◌, ◌+◌, ◌-◌, ◌^◌, ◌↔◌, ◌⊎◌, max, nat_lt, Bool, IsTrue, List}
-use Rattle.std.specs.Prelude.{replicate, slice_get, Option, Some, None, IsSome, IsSomeAnd, MatchOption}
+use Rattle.std.specs.Prelude.{ℕ, ◌≡◌, ◌≢◌, ◌≤◌, ◌<◌, ◌+◌, ◌-◌, ◌^◌, ◌↔◌, ◌⊎◌, max, nat_lt, Bool, true, IsTrue, List}
+use Rattle.std.specs.Prelude.{replicate, slice_get, Option, Some, None, IsSome, IsSomeAnd, MatchBool, MatchOption}
 use Rattle.std.specs.Prelude.{if◌then◌else◌}
 use Rattle.cbs_account.specs.Rules.{CanCharge}
 use Rattle.edf_pool.specs.Earliest.{IsEarliest}
@@ -62,20 +62,22 @@ abbrev pub lane_refusal : Bool → Option Lane → Option Refusal
 lane_refusal is_sized None = Some refusals.NoStream
 lane_refusal is_sized (Some lane) = arrival_refusal is_sized lane.state
 
--- why an offer is refused, if it is, want of memory aside
-abbrev pub offer_refusal : Bool → ScheduleValue → (s at : ℕ) → Option Refusal
-offer_refusal is_sized x s at =
-    if nat_lt (2 ^ 60) at then Some refusals.ClockEnd else lane_refusal is_sized (slice_get x.lanes s)
+-- why an offered job is refused, if it is
+abbrev pub job_refusal : ScheduleValue → (s at : ℕ) → Option Refusal
+job_refusal x s at =
+    if nat_lt (2 ^ 60) at then Some refusals.ClockEnd else lane_refusal true (slice_get x.lanes s)
 
--- whether frames of this geometry have the size of stream s, if that is there
-abbrev pub IsSizeTest : ScheduleValue → ℕ → Geometry → Bool → Type 0
-IsSizeTest x s geometry is_sized = (lane : Lane) → slice_get x.lanes s ≡ Some lane
-    → IsTrue is_sized ↔ (geometry ≡ lane.state.spec.geometry)
+-- how a stream answers a frame of this geometry, want of memory aside: by a refusal, or by none
+abbrev pub IsArrivalAnswer : ScheduleValue → ℕ → Geometry → Option Refusal → Type 0
+IsArrivalAnswer x s geometry answer =
+    MatchOption (slice_get x.lanes s) (answer ≡ lane_refusal true None) (λ lane.
+    (is_sized : Bool) × (IsTrue is_sized ↔ (geometry ≡ lane.state.spec.geometry))
+    × (answer ≡ lane_refusal is_sized (Some lane)))
 
--- how an offer of a frame is answered, want of memory aside: by a refusal, or by none
+-- and how a desk answers it at a moment
 abbrev pub IsOfferAnswer : ScheduleValue → (s at : ℕ) → Geometry → Option Refusal → Type 0
 IsOfferAnswer x s at geometry answer =
-    (is_sized : Bool) × IsSizeTest x s geometry is_sized × (answer ≡ offer_refusal is_sized x s at)
+    MatchBool (nat_lt (2 ^ 60) at) (answer ≡ Some refusals.ClockEnd) (IsArrivalAnswer x s geometry answer)
 
 -- the job is fresh, and of stream s, if that is there
 abbrev pub IsFreshFor : ScheduleValue → ℕ → JobValue → Type 0

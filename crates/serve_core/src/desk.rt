@@ -127,9 +127,9 @@ impl Desk {
     pub fn offer_job(&mut self, s: u32, at: u64, job: Job) -> Result<u64, (Refusal, Job)>
         requires { rules.IsFreshFor self.old s job }
         ensures events { IfOk result (λ n. Answers self.old (rules.offered self.old.clock s at n) self.new) }
-        ensures answer { OnOk result (rules.offer_refusal true self.old s at ≡ None) }
+        ensures answer { OnOk result (rules.job_refusal self.old s at ≡ None) }
         ensures job { IfOk result (λ n. rules.TakesJob s at job n self.old self.new) }
-        ensures refused { IfErr result (λ e. rules.offer_refusal true self.old s at ≡ Some e.0) }
+        ensures refused { IfErr result (λ e. rules.job_refusal self.old s at ≡ Some e.0) }
         ensures back { IfErr result (λ e. (e.1 ≡ job) × (self.new ≡ self.old)) }
     {
         if at > LAST_MOMENT {
