@@ -1,6 +1,6 @@
 -- Bands that are charged at once, where their lease is settled.
 use Rattle.std.proofs.Common.{ℕ, zero, suc, ◌+◌, ◌≡◌, ◌≢◌, List, [], ◌∷◌, take, drop, Option, Some, None}
-use Rattle.std.proofs.Common.{slice_get, slice_set, refl, sym, ◌∙◌, ap, subst, arith, Bool, false, nat_eq}
+use Rattle.std.proofs.Common.{slice_get, slice_set, refl, sym, ◌∙◌, ap, subst, arith, Bool, false, true, nat_eq}
 use Rattle.std.proofs.lemmas.Bool.Decides.{nat_tests}
 use Rattle.std.proofs.lemmas.List.{set-set, get_or-drop}
 use Rattle.std.proofs.lemmas.Option.{slice_get_within}
@@ -39,10 +39,13 @@ units_more zero n b = rw (let e : 0 + n ≡ n = omega arith in e) refl
 units_more (suc k) n b =
     rw (let e : suc k + n ≡ suc (k + n) = omega arith in e) (ap after_unit (units_more k n b))
 
-test_no : (a b : ℕ) → a ≢ b → nat_eq a b ≡ false
+pub test_no : (a b : ℕ) → a ≢ b → nat_eq a b ≡ false
 test_no a b e = grind (arith, nat_tests)
 
-used_more : (l : Held) (a b : ℕ) → a ≡ b
+pub test_yes : (a b : ℕ) → a ≡ b → nat_eq a b ≡ true
+test_yes a b e = grind (arith, nat_tests)
+
+pub used_more : (l : Held) (a b : ℕ) → a ≡ b
     → let v : Held = record l { used = a } in let w : Held = record l { used = b } in v ≡ w
 used_more l a b e = cc
 
@@ -117,7 +120,7 @@ module _ {F : Type 0} (G : Type 0) where
 
 module _ {F G : Type 0} (measures : StreamSpec → F → Bool → Type 0)
     (is_image : StreamSpec → F → G → Type 0) where
-  band_allowed : (m : State F) (w : ℕ) (l : Held) → slice_get m.workers w ≡ Some (Some l) → l.used ≢ l.grant
+  pub band_allowed : (m : State F) (w : ℕ) (l : Held) → slice_get m.workers w ≡ Some (Some l) → l.used ≢ l.grant
       → Allows measures is_image m (Band w) Stepped
   band_allowed m w l e n = rw e (rw (test_no l.used l.grant n) refl)
 

@@ -26,10 +26,13 @@ pub mod AtOnce
 pub mod Leased
 pub mod Admissions
 pub mod Lanes
-pub mod Lifts
-pub mod Allowing
-pub mod Facts
 pub mod Schedules
+pub mod Lifts
+pub mod Facts
+pub mod Allowing
+pub mod Machines
+pub mod Opened
+pub mod Runs
 pub mod Handing
 pub mod Desks
 pub mod Offers

@@ -1,0 +1,57 @@
+-- The schedule of a setup before any event.
+use Rattle.std.proofs.Common.{ℕ, zero, suc, ◌≡◌, List, [], ◌∷◌, map, replicate, Option, Some, None, is_some}
+use Rattle.std.proofs.Common.{slice_get, refl, sym, ◌∙◌, ap, subst}
+use Rattle.filters.specs.ChainImage.{FrameValue}
+use Rattle.serve_core.specs.declared.held.Held.{Held}
+use Rattle.serve_core.specs.Counts.{held, history}
+use Rattle.serve_core.specs.Events.{Transcript, Start}
+use Rattle.serve_core.specs.Frames.{measures, is_image}
+use Rattle.serve_core.specs.Lanes.{Lane, opened}
+use Rattle.serve_core.specs.Leads.{opening_state}
+use Rattle.serve_core.specs.MachineInside.{AreWhole, IsMachine, machine}
+use Rattle.serve_core.specs.Schedule.{opened_schedule, state_by, stream_by}
+use Rattle.serve_core.specs.Setup.{IsWithin, Setup, StreamSpec}
+use Rattle.serve_core.specs.Sound.{Sound}
+use Rattle.serve_core.specs.States.{State, StreamState, map_at, stream_of}
+use Rattle.serve_core.proofs.Kept.{opening_sound}
+use Rattle.serve_core.proofs.Steps.{state_is}
+
+module _ {F : Type 0} (G : Type 0) (frames : Lane → List F) where
+  streams_opened : (setup : Setup) (i : ℕ) (specs : List StreamSpec)
+      → ((spec : StreamSpec) → stream_by frames (opened spec) ≡ stream_of spec [])
+      → let none : Transcript F G = Start in
+      map (stream_by frames) (map opened specs)
+      ≡ map_at i (λ s spec. stream_of spec (history setup.workers s none)) specs
+  streams_opened setup i [] h = refl
+  streams_opened setup i (spec ∷ specs) h =
+      let one = h spec in
+      let rest = streams_opened setup (suc i) specs h in
+      cc
+
+  workers_opened : (i n : ℕ) → let none : Transcript F G = Start in
+      replicate n None ≡ map_at {X = ℕ} i (λ w zero. held w none) (replicate n 0)
+  workers_opened i zero = refl
+  workers_opened i (suc n) = ap (λ (hs : List (Option Held)). None ∷ hs) (workers_opened (suc i) n)
+
+  -- it is the state before any event
+  pub opening_is : (setup : Setup)
+      → ((spec : StreamSpec) → stream_by frames (opened spec) ≡ stream_of spec [])
+      → state_by frames (opened_schedule setup) ≡ opening_state F G setup
+  opening_is setup h =
+      state_is 0 setup.quantum _ _ _ _ (streams_opened setup 0 setup.streams h) (workers_opened 0 setup.workers)
+
+whole_opened : (specs : List StreamSpec) → AreWhole (map opened specs)
+whole_opened [] s lane e = absurd (cc)
+whole_opened (spec ∷ specs) zero lane e =
+    subst (λ (lane : Lane). is_some lane.leased ≡ is_some lane.state.holder)
+    (let same : opened spec ≡ lane = cc in same) refl
+whole_opened (spec ∷ specs) (suc s) lane e = whole_opened specs s lane e
+
+pub machine_opened : (setup : Setup) → machine (opened_schedule setup) ≡ opening_state FrameValue FrameValue setup
+machine_opened setup = opening_is FrameValue (λ lane. lane.state.frames) setup (λ spec. refl)
+
+pub is_machine_opened : (setup : Setup) → IsWithin setup → IsMachine (opened_schedule setup)
+is_machine_opened setup v = record {
+  sound = subst Sound (sym (machine_opened setup)) (opening_sound measures is_image setup v);
+  whole = whole_opened setup.streams;
+}
