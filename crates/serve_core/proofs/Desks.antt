@@ -1,6 +1,6 @@
 -- What one change of a lane makes of a desk.
 use Rattle.std.proofs.Common.{ℕ, zero, suc, ◌+◌, ◌-◌, ◌≡◌, ◌≤◌, ◌<◌, ◌⊎◌, inl, inr, Bool, true, false, List, [], ◌∷◌}
-use Rattle.std.proofs.Common.{◌++◌, drop, replicate, slice_get, slice_set, Option, Some, None, Result, Ok, Err}
+use Rattle.std.proofs.Common.{◌++◌, drop, map, replicate, slice_get, slice_set, Option, Some, None, Result, Ok, Err}
 use Rattle.std.specs.Prelude.{⊤}
 use Rattle.std.proofs.Common.{IsFalse, IfOk, IfErr, OnOk, refl, sym, ◌∙◌, ap, subst, arith, MatchOption}
 use Rattle.serve_core.specs.declared.collected.Collected.{Collected}
@@ -11,14 +11,18 @@ use Rattle.serve_core.specs.Counts.{Shut, Taken}
 use Rattle.serve_core.specs.Desk.{Answers, RefusesClose, bare_frames, blanks, desk_state, one}
 use Rattle.serve_core.specs.DeskInside.{AreAway, AreUnused, IsDesk}
 use Rattle.serve_core.specs.Events.{Close, Closing, Collect, Event, Image, Reply, Then, Transcript}
-use Rattle.serve_core.specs.Lanes.{Lane}
+use Rattle.serve_core.specs.Lanes.{Lane, opened}
 use Rattle.serve_core.specs.Rules.{Allows}
-use Rattle.serve_core.specs.Schedule.{HasLane, IsFirst, RefusesCollect, ScheduleValue, shut, stream_by, taken}
-use Rattle.serve_core.specs.Schedule.{with_lane}
-use Rattle.serve_core.specs.Sound.{IsSound}
+use Rattle.serve_core.specs.Schedule.{HasLane, IsFirst, RefusesCollect, ScheduleValue, opened_schedule, shut}
+use Rattle.serve_core.specs.Schedule.{stream_by, taken, with_lane}
+use Rattle.serve_core.specs.Leads.{opening_state}
+use Rattle.serve_core.specs.Setup.{IsWithin, Setup, StreamSpec}
+use Rattle.serve_core.specs.Sound.{IsSound, Sound}
 use Rattle.serve_core.specs.States.{State, StreamState, after, did}
 use Rattle.serve_core.proofs.Allowing.{close_allowed, collect_allowed}
+use Rattle.serve_core.proofs.Kept.{opening_sound}
 use Rattle.serve_core.proofs.Lifts.{led_close, led_collect, stream_here}
+use Rattle.serve_core.proofs.Opened.{opening_is}
 use Rattle.serve_core.proofs.Openings.{sound_from}
 use Rattle.serve_core.proofs.Options.{some_and}
 
@@ -145,3 +149,25 @@ led_then x y z p e r led a n = (
   (led.0, subst (λ (m : State Blank). Allows measures_any is_any_image m e r) (sym led.1) a),
   ap (λ (m : State Blank). after m e r) led.1 ∙ sym n,
 )
+
+away_opened : (specs : List StreamSpec) → AreAway (map opened specs)
+away_opened [] s lane e = absurd (cc)
+away_opened (spec ∷ specs) zero lane e =
+    subst (λ (lane : Lane). lane.leased ≡ None) (let same : opened spec ≡ lane = cc in same) refl
+away_opened (spec ∷ specs) (suc s) lane e = away_opened specs s lane e
+
+unused_opened : (n : ℕ) → AreUnused (replicate n None)
+unused_opened zero w held e = absurd (cc)
+unused_opened (suc n) zero held e = absurd (cc)
+unused_opened (suc n) (suc w) held e = unused_opened n w held e
+
+-- a desk before any event
+pub desk_opened : (setup : Setup) → desk_state (opened_schedule setup) ≡ opening_state Blank Blank setup
+desk_opened setup = opening_is Blank bare_frames setup (λ spec. refl)
+
+pub is_desk_opened : (setup : Setup) → IsWithin setup → IsDesk (opened_schedule setup)
+is_desk_opened setup v = record {
+  sound = subst Sound (sym (desk_opened setup)) (opening_sound measures_any is_any_image setup v);
+  away = away_opened setup.streams;
+  unused = unused_opened setup.workers;
+}

@@ -72,7 +72,7 @@ handed_lane x y z w held job l h =
     subst (λ (lane : Lane). (lane.leased ≡ Some job) × (z ≡ with_lane held.stream (with_leased None lane) y))
     same a.2
 
-pub handed : (x y z : ScheduleValue) (w : ℕ) (held : Held) (job : JobValue) (l : IsLending w held x y)
+handed : (x y z : ScheduleValue) (w : ℕ) (held : Held) (job : JobValue) (l : IsLending w held x y)
     → HandsOver y held.stream job z
     → z ≡ with_held w (Some held) (with_lane held.stream (given w l.old_lane) x)
 handed x y z w held job l h =
@@ -85,7 +85,7 @@ handed x y z w held job l h =
     (set-set x.lanes held.stream l.new_lane (given w l.old_lane))
 
 -- the job that is handed over is the front one, started
-pub handed_job : (x y z : ScheduleValue) (w : ℕ) (held : Held) (job : JobValue) (l : IsLending w held x y)
+handed_job : (x y z : ScheduleValue) (w : ℕ) (held : Held) (job : JobValue) (l : IsLending w held x y)
     → HandsOver y held.stream job z
     → IsSomeAnd (slice_get l.old_lane.jobs 0) (λ first. job ≡ record first { scratch = job.scratch })
     × IsStarted l.old_lane.state.spec.chain l.old_lane.state.done job
@@ -93,7 +93,7 @@ handed_job x y z w held job l h =
     let same = (handed_lane x y z w held job l h).0 in
     (rw same at l.lent.job, rw same at l.lent.started)
 
-pub new_held : (held : Held) → held.used ≡ 0
+new_held : (held : Held) → held.used ≡ 0
     → held ≡ (let h : Held = record { stream = held.stream; number = held.number; grant = held.grant; used = 0 } in h)
 new_held held e = used_more held held.used 0 e
 
@@ -142,11 +142,11 @@ given_left x y z w held job d free l h =
     let all : steps_of job.chain ≡ steps l.old_lane.state.spec = rw own.of_chain (sym (steps_are l.old_lane.state.spec.chain)) in
     (own.started, omega (arith, left, all, own.steps, l.none_used))
 
-pub gives : (x y z : ScheduleValue) (w : ℕ) (held : Held) (job : JobValue) (lease : LeaseValue)
+gives : (x y z : ScheduleValue) (w : ℕ) (held : Held) (job : JobValue) (lease : LeaseValue)
     → IsLending w held x y → HandsOver y held.stream job z
     → lease ≡ granted_of job held.stream held.number held.grant → GivesJob w lease x z
 gives x y z w held job lease l h e =
-    rw e record {
+    let made : GivesJob w (granted_of job held.stream held.number held.grant) x z = record {
       lane = l.old_lane;
       here = l.here;
       number = l.number;
@@ -156,14 +156,22 @@ gives x y z w held job lease l h e =
       schedule = handed x y z w held job l h
           ∙ ap (λ (h : Held). with_held w (Some h) (with_lane held.stream (given w l.old_lane) x))
           (new_held held l.none_used);
-    }
+    } in
+    subst (λ (lease : LeaseValue). GivesJob w lease x z) (sym e) made
 
--- a lease, given or not
+-- what is said of a lease that is given
+abbrev pub Gives : (x z : ScheduleValue) (w : ℕ) → LeaseValue → Type 0
+Gives x z w lease =
+    Answers x (one (Lease w) (Leased lease.stream lease.seq lease.granted)) z × GivesJob w lease x z × IsDesk z
+
 pub given_away : (x y z : ScheduleValue) (w : ℕ) (held : Held) (job : JobValue) (lease : LeaseValue) → IsDesk x
     → slice_get x.workers w ≡ Some None → IsLending w held x y → HandsOver y held.stream job z
-    → lease ≡ granted_of job held.stream held.number held.grant
-    → Answers x (one (Lease w) (Leased lease.stream lease.seq lease.granted)) z × GivesJob w lease x z × IsDesk z
+    → lease ≡ granted_of job held.stream held.number held.grant → Gives x z w lease
 given_away x y z w held job lease d free l h e =
-    let led : Answers x (one (Lease w) (Leased lease.stream lease.seq lease.granted)) z =
-    rw e (given_led x y z w held job free l h) in
-    (led, gives x y z w held job lease l h e, given_desk x y z w held job d free l h)
+    let P : LeaseValue → Type 0 = λ lease.
+    Answers x (one (Lease w) (Leased lease.stream lease.seq lease.granted)) z in
+    (
+      subst P (sym e) (given_led x y z w held job free l h),
+      gives x y z w held job lease l h e,
+      given_desk x y z w held job d free l h,
+    )

@@ -118,9 +118,6 @@ PutsImage y w held number z =
     × IsSomeAnd lane.leased (λ job. GainsImage job lane.images after.images)
     × (z ≡ with_held w None (with_lane held.stream (finished after.images lane) y))))
 
-abbrev pub Puts : ScheduleValue → ℕ → Held → Option ℕ → ScheduleValue → Type 0
-Puts y w held n z = IfNone n (PutsBack y w held z) × IfSome n (λ number. PutsImage y w held number z)
-
 put_over : (x : ScheduleValue) (w s : ℕ) (one other : Lane)
     → with_held w None (with_lane s other (with_lane s one x)) ≡ with_held w None (with_lane s other x)
 put_over x w s one other =
@@ -129,17 +126,131 @@ put_over x w s one other =
     (set-set x.lanes s one other)
 
 -- the settlement leads on
-put_led : (x : ScheduleValue) (w k : ℕ) (held : Held) (lane new : Lane) (r : Reply Blank Blank) → IsDesk x
-    → HasLease x w held → slice_get x.lanes held.stream ≡ Some lane → held.used + k ≤ held.grant
-    → settle_reply (worked_at_once k (stream_by bare_frames lane)) ≡ r
-    → stream_by bare_frames new ≡ did_any (worked_at_once k (stream_by bare_frames lane)) (counts.settled r)
+put_led : (x : ScheduleValue) (w k : ℕ) (held : Held) (lane new : Lane) → HasLease x w held
+    → slice_get x.lanes held.stream ≡ Some lane → held.used + k ≤ held.grant
+    → let r : Reply Blank Blank = settle_reply (worked_at_once k (stream_by bare_frames lane)) in
+    stream_by bare_frames new ≡ did_any (worked_at_once k (stream_by bare_frames lane)) (counts.settled r)
     → Answers x (bands_settled w k r) (with_held w None (with_lane held.stream new x))
-put_led x w k held lane new r d mine here l e same =
+put_led x w k held lane new mine here l same =
     let y : StreamState Blank = stream_by bare_frames lane in
-    let m = desk_state x in
-    let z : ScheduleValue = with_held w None (with_lane held.stream new x) in
-    let led = settled_is measures_any is_any_image m w k held y mine
+    let led = settled_is measures_any is_any_image (desk_state x) w k held y mine
     (stream_here bare_frames x held.stream lane here) l in
-    let end = one_lease bare_frames x w held.stream None new _ same in
-    let at : Answers x (bands_settled w k r) z =
-    ? in at
+    (led.0, led.1 ∙ sym (one_lease bare_frames x w held.stream None new _ same))
+
+-- the reply tells whether all steps are done
+reply_back : (x : StreamState Blank) → x.done ≢ steps x.spec
+    → let r : Reply Blank Blank = Returned in settle_reply x ≡ r
+reply_back x n = rw (test_no x.done (steps x.spec) n) refl
+
+reply_end : (x : StreamState Blank) (number : ℕ) → x.done ≡ steps x.spec → number ≡ x.finished
+    → let r : Reply Blank Blank = Finished number in settle_reply x ≡ r
+reply_end x number e n = rw (test_yes x.done (steps x.spec) e, n) refl
+
+put_back_led : (x : ScheduleValue) (w k : ℕ) (held : Held) (job : JobValue) (lane : Lane) → HasLease x w held
+    → slice_get x.lanes held.stream ≡ Some lane → held.used + k ≤ held.grant
+    → lane.state.done + k ≢ steps lane.state.spec
+    → Answers x (bands_settled w k Returned)
+    (with_held w None (with_lane held.stream (returned (brought_by job k lane)) x))
+put_back_led x w k held job lane mine here l n =
+    let y : StreamState Blank = worked_at_once k (stream_by bare_frames lane) in
+    let new : Lane = returned (brought_by job k lane) in
+    let e = reply_back y n in
+    subst (λ (r : Reply Blank Blank). Answers x (bands_settled w k r)
+    (with_held w None (with_lane held.stream new x))) e
+    (put_led x w k held lane new mine here l
+    (ap (λ (r : Reply Blank Blank). did_any y (counts.settled r)) (sym e)))
+
+put_image_led : (x : ScheduleValue) (w k number : ℕ) (held : Held) (job : JobValue) (lane : Lane)
+    (images : List Collected) → HasLease x w held → slice_get x.lanes held.stream ≡ Some lane
+    → held.used + k ≤ held.grant → lane.state.done + k ≡ steps lane.state.spec
+    → number ≡ lane.state.finished
+    → Answers x (bands_settled w k (Finished number))
+    (with_held w None (with_lane held.stream (finished images (brought_by job k lane)) x))
+put_image_led x w k number held job lane images mine here l e n =
+    let y : StreamState Blank = worked_at_once k (stream_by bare_frames lane) in
+    let new : Lane = finished images (brought_by job k lane) in
+    let e = reply_end y number e n in
+    subst (λ (r : Reply Blank Blank). Answers x (bands_settled w k r)
+    (with_held w None (with_lane held.stream new x))) e
+    (put_led x w k held lane new mine here l
+    (ap (λ (r : Reply Blank Blank). did_any y (counts.settled r)) (sym e)))
+
+-- and leaves a desk
+put_desk : (x : ScheduleValue) (w : ℕ) (held : Held) (new : Lane) (p : Transcript Blank Blank) → IsDesk x
+    → new.leased ≡ None → Answers x p (with_held w None (with_lane held.stream new x))
+    → IsDesk (with_held w None (with_lane held.stream new x))
+put_desk x w held new p d n led =
+    desk_on x (with_held w None (with_lane held.stream new x)) p d led (away_set x.lanes held.stream new d.away n)
+    (unused_less x.workers w d.unused)
+
+-- what is said of a settlement
+abbrev pub Settles : (x z : ScheduleValue) (w : ℕ) → LeaseValue → Option ℕ → Type 0
+Settles x z w lease n =
+    Answers x (settlement w lease.used n) z
+    × MatchOption n (TakesBack w lease x z) (λ number. TakesImage w lease number x z)
+    × IsDesk z
+
+-- the schedule's settlement, seen from the lane before the job was brought back
+settled_back : (x z : ScheduleValue) (w : ℕ) (held : Held) (lease : LeaseValue) (lane : Lane) → IsDesk x
+    → HasLease x w held → slice_get x.lanes held.stream ≡ Some lane → IsRecorded lease held lane
+    → lease.used ≤ lease.granted
+    → PutsBack (with_lane held.stream (brought lease lane) x) w held z → Settles x z w lease None
+settled_back x z w held lease lane d mine here r l put =
+    let new : Lane = returned (brought lease lane) in
+    let v : ScheduleValue = with_held w None (with_lane held.stream new x) in
+    let put : (lane.state.done + lease.used ≢ steps lane.state.spec)
+        × (z ≡ with_held w None (with_lane held.stream new (with_lane held.stream (brought lease lane) x))) =
+    rw (brought_here x held.stream lease.used lease.job lane here) at put in
+    let e : z ≡ v = put.1 ∙ put_over x w held.stream (brought lease lane) new in
+    let led = put_back_led x w lease.used held lease.job lane mine here
+    (granted lease held lane r (d.unused w held mine) l) put.0 in
+    rw e (
+      led,
+      record {
+        lane = lane;
+        here = rw r.stream here;
+        left = put.0;
+        schedule = ap (λ (s : ℕ). with_held w None (with_lane s new x)) (sym r.stream);
+      },
+      put_desk x w held new (bands_settled w lease.used Returned) d refl led,
+    )
+
+settled_end : (x z : ScheduleValue) (w number : ℕ) (held : Held) (lease : LeaseValue) (lane : Lane) → IsDesk x
+    → HasLease x w held → slice_get x.lanes held.stream ≡ Some lane → IsRecorded lease held lane
+    → lease.used ≤ lease.granted
+    → PutsImage (with_lane held.stream (brought lease lane) x) w held number z
+    → Settles x z w lease (Some number)
+settled_end x z w number held lease lane d mine here r l put =
+    let put = rw (brought_here x held.stream lease.used lease.job lane here) at put in
+    let a = some_and (slice_get z.lanes held.stream) _ put in
+    let new : Lane = finished a.0.images (brought lease lane) in
+    let v : ScheduleValue = with_held w None (with_lane held.stream new x) in
+    let e : z ≡ v = a.2.3 ∙ put_over x w held.stream (brought lease lane) new in
+    let led = put_image_led x w lease.used number held lease.job lane a.0.images mine here
+    (granted lease held lane r (d.unused w held mine) l) a.2.0 a.2.1 in
+    rw e (
+      led,
+      record {
+        lane = lane;
+        here = rw r.stream here;
+        all = a.2.0;
+        first = a.2.1;
+        images = a.0.images;
+        gains = a.2.2;
+        schedule = ap (λ (s : ℕ). with_held w None (with_lane s new x)) (sym r.stream);
+      },
+      put_desk x w held new (bands_settled w lease.used (Finished number)) d refl led,
+    )
+
+pub settles : (x y z : ScheduleValue) (w : ℕ) (held : Held) (lease : LeaseValue) (n : Option ℕ) → IsDesk x
+    → HasLease x w held → IsHeldBy x w lease → lease.used ≤ lease.granted
+    → BringsJob x held.stream lease.job lease.used y → IfNone n (PutsBack y w held z)
+    → IfSome n (λ number. PutsImage y w held number z) → Settles x z w lease n
+settles x y z w held lease None d mine known l b back end =
+    let a = some_and (slice_get x.lanes held.stream) _ b in
+    settled_back x z w held lease a.0 d mine a.1 (known held a.0 mine a.1) l
+    (subst (λ (y : ScheduleValue). PutsBack y w held z) a.2 back)
+settles x y z w held lease (Some number) d mine known l b back end =
+    let a = some_and (slice_get x.lanes held.stream) _ b in
+    settled_end x z w number held lease a.0 d mine a.1 (known held a.0 mine a.1) l
+    (subst (λ (y : ScheduleValue). PutsImage y w held number z) a.2 end)
