@@ -1,6 +1,6 @@
 -- Which replies are right, by what is found of lanes and workers.
-use Rattle.std.proofs.Common.{ℕ, ◌^◌, ◌≡◌, ◌≢◌, ◌≤◌, ◌<◌, ◌⊎◌, inl, inr, Bool, true, false, not, nat_eq, nat_lt}
-use Rattle.std.proofs.Common.{List, [], ◌∷◌, map, Option, Some, None, IsTrue, IsFalse, IsSomeAnd, MatchOption}
+use Rattle.std.proofs.Common.{ℕ, ◌^◌, ◌≡◌, ◌≤◌, ◌<◌, ◌⊎◌, Bool, true, false, nat_eq, nat_lt}
+use Rattle.std.proofs.Common.{List, [], ◌∷◌, map, Option, Some, None, IsTrue, IsFalse, MatchOption}
 use Rattle.std.proofs.Common.{slice_get, if◌then◌else◌, refl, sym, ◌∙◌, ap, subst, arith}
 use Rattle.std.proofs.lemmas.Bool.Decides.{nat_tests}
 use Rattle.std.proofs.lemmas.Option.{slice_get-map}
@@ -10,7 +10,7 @@ use Rattle.serve_core.specs.declared.held.Held.{Held}
 use Rattle.serve_core.specs.declared.refusal.Refusal.{Refusal}
 use Rattle.serve_core.specs.declared.refusal.Refusal.TheVariants as refusals
 use Rattle.serve_core.specs.Events.{Accepted, Arrive, Band, Close, Closing, Collect, GivenBack, Image, Lease}
-use Rattle.serve_core.specs.Events.{Leased, Refused, Reply, Settle, Tick, Ticked}
+use Rattle.serve_core.specs.Events.{Leased, Refused, Reply, Settle, Ticked}
 use Rattle.serve_core.specs.Lanes.{Lane}
 use Rattle.serve_core.specs.Rules.{Allows, AllowsArrive, AllowsCollect, AllowsLease, arrival_refusal, close_reply}
 use Rattle.serve_core.specs.Rules.{grant, lack, settle_reply, tick_reply}
@@ -137,10 +137,11 @@ module _ {F G : Type 0} (measures : StreamSpec → F → Bool → Type 0)
       → g ≡ grant x.quantum lane.state
       → Allows measures is_image (state_by frames x) (Lease w) (Leased s n g)
   lease_allowed x w s n g lane free first e number granted =
-      rw free
-      (subst (λ (ds : List (Option ℕ)). IsEarliest ds s) (deadlines_same frames x.lanes) first,
-      and_some (slice_get (state_by frames x).streams s) _ (stream_by frames lane)
-      (stream_here frames x s lane e) (number, granted))
+      rw free (
+        subst (λ (ds : List (Option ℕ)). IsEarliest ds s) (deadlines_same frames x.lanes) first,
+        and_some (slice_get (state_by frames x).streams s) _ (stream_by frames lane)
+            (stream_here frames x s lane e) (number, granted),
+      )
 
   lease_by : (x : ScheduleValue) (o : Option (Option Held)) (k : Refusal)
       → MatchOption o (k ≡ refusals.NoWorker) (λ held.

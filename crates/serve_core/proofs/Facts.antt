@@ -1,6 +1,6 @@
 -- What a sound state says of a lease and its stream, so that its bands can be done and charged.
-use Rattle.std.proofs.Common.{ℕ, zero, suc, ◌+◌, ◌-◌, ◌*◌, ◌^◌, ◌≡◌, ◌≤◌, ◌<◌, List, [], ◌∷◌, take, drop, sum, Some}
-use Rattle.std.proofs.Common.{slice_get, refl, sym, ◌∙◌, ap, subst, arith}
+use Rattle.std.proofs.Common.{ℕ, zero, suc, ◌+◌, ◌*◌, ◌^◌, ◌≡◌, ◌≤◌, ◌<◌, List, [], ◌∷◌, take, drop, Some}
+use Rattle.std.proofs.Common.{slice_get, refl, ◌∙◌, ap, subst, arith}
 use Rattle.cbs_account.specs.Rules.{CanCharge}
 use Rattle.serve_core.specs.declared.held.Held.{Held}
 use Rattle.serve_core.specs.AtOnce.{cost_of_next}

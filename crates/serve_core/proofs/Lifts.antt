@@ -1,19 +1,18 @@
 -- What a change of one lane makes of the state that is seen of a schedule.
-use Rattle.std.proofs.Common.{ℕ, ◌^◌, ◌≡◌, ◌≤◌, Bool, true, false, nat_eq, nat_lt, List, [], ◌∷◌, ◌++◌, drop, map}
-use Rattle.std.proofs.Common.{Option, Some, None, slice_get, slice_set, if◌then◌else◌, refl, sym, ◌∙◌, ap}
-use Rattle.std.proofs.Common.{subst}
+use Rattle.std.proofs.Common.{ℕ, ◌≡◌, List}
+use Rattle.std.proofs.Common.{Option, Some, None, slice_get, slice_set, refl, ◌∙◌, ap}
 use Rattle.std.proofs.lemmas.List.{map-set}
 use Rattle.std.proofs.lemmas.Option.{slice_get-map}
 use Rattle.serve_core.specs.declared.held.Held.{Held}
-use Rattle.serve_core.specs.Counts.{Came, Deed, Ended, Back, Lent, Shut, Taken, Worked}
-use Rattle.serve_core.specs.Events.{Accepted, Arrive, Band, Close, Closing, Collect, Event, Finished, Image}
-use Rattle.serve_core.specs.Events.{Lease, Leased, Reply, Returned, Settle, Stepped}
+use Rattle.serve_core.specs.Counts.{Came, Lent, Shut, Taken, Worked}
+use Rattle.serve_core.specs.Events.{Accepted, Arrive, Band, Close, Closing, Collect, Image}
+use Rattle.serve_core.specs.Events.{Lease, Leased, Reply, Settle, Stepped}
 use Rattle.serve_core.specs.Lanes.{Lane}
 use Rattle.serve_core.specs.Schedule.{ScheduleValue, state_by, stream_by, with_held, with_lane}
 use Rattle.serve_core.specs.AtOnce.{with_used}
 use Rattle.serve_core.specs.Counts.{settled}
 use Rattle.serve_core.specs.Rules.{settle_reply}
-use Rattle.serve_core.specs.States.{State, StreamState, after, did, did_any}
+use Rattle.serve_core.specs.States.{StreamState, after, did, did_any}
 use Rattle.serve_core.proofs.Changes.{after_arrive, after_band, after_close, after_collect, after_lease}
 use Rattle.serve_core.proofs.Changes.{after_settle}
 use Rattle.serve_core.proofs.Steps.{new_lease, state, state_is}

@@ -1,6 +1,6 @@
 -- What each event makes of a machine.
-use Rattle.std.proofs.Common.{ℕ, zero, suc, ◌≡◌, ◌≢◌, ◌<◌, ◌⊎◌, inl, inr, Bool, true, List, [], ◌∷◌, Option, Some}
-use Rattle.std.proofs.Common.{None, IfNone, IsFalse, IsSome, IsSomeAnd, MatchOption, IsTrue, ◌↔◌, nat_eq, slice_get}
+use Rattle.std.proofs.Common.{ℕ, zero, suc, ◌≡◌, ◌≢◌, ◌<◌, inl, inr, Bool, true, List, [], ◌∷◌, Option, Some}
+use Rattle.std.proofs.Common.{None, IsFalse, IsSome, IsSomeAnd, MatchOption, IsTrue, ◌↔◌, slice_get}
 use Rattle.std.proofs.Common.{slice_set, is_some, refl, sym, ◌∙◌, ap, subst, arith}
 use Rattle.std.proofs.lemmas.Option.{slice_get-map}
 use Rattle.std.specs.Option.{option_map}

@@ -1,6 +1,6 @@
 -- The schedule of a setup before any event.
-use Rattle.std.proofs.Common.{ℕ, zero, suc, ◌≡◌, List, [], ◌∷◌, map, replicate, Option, Some, None, is_some}
-use Rattle.std.proofs.Common.{slice_get, refl, sym, ◌∙◌, ap, subst}
+use Rattle.std.proofs.Common.{ℕ, zero, suc, ◌≡◌, List, [], ◌∷◌, map, replicate, Option, None, is_some}
+use Rattle.std.proofs.Common.{refl, sym, ap, subst}
 use Rattle.filters.specs.ChainImage.{FrameValue}
 use Rattle.serve_core.specs.declared.held.Held.{Held}
 use Rattle.serve_core.specs.Counts.{held, history}
@@ -12,7 +12,7 @@ use Rattle.serve_core.specs.MachineInside.{AreWhole, IsMachine, machine}
 use Rattle.serve_core.specs.Schedule.{opened_schedule, state_by, stream_by}
 use Rattle.serve_core.specs.Setup.{IsWithin, Setup, StreamSpec}
 use Rattle.serve_core.specs.Sound.{Sound}
-use Rattle.serve_core.specs.States.{State, StreamState, map_at, stream_of}
+use Rattle.serve_core.specs.States.{map_at, stream_of}
 use Rattle.serve_core.proofs.Kept.{opening_sound}
 use Rattle.serve_core.proofs.Steps.{state_is}
 

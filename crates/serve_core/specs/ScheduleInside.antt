@@ -1,5 +1,5 @@
 -- What a schedule keeps, and what it stands for.
-use Rattle.std.specs.Prelude.{◌≡◌, ◌≤◌, ◌^◌, length}
+use Rattle.std.specs.Prelude.{◌≡◌, ◌≤◌, ◌^◌}
 use Rattle.serve_core.specs.declared.schedule.Schedule.TheInside.{Inside}
 use Rattle.serve_core.specs.Schedule.{ScheduleValue, deadlines}
 

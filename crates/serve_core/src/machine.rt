@@ -56,6 +56,7 @@ impl Machine {
     pub fn new(alloc: Global, setup: Setup) -> Result<Machine, AllocError>
         ensures { IfOk result (λ m. m ≡ opening_state FrameValue FrameValue setup) }
     {
+        setup.limits_law();
         let schedule = Schedule::new(alloc, setup)?;
         Ok(Machine { schedule })
     }
@@ -212,6 +213,7 @@ pub fn run(alloc: Global, setup: Setup, events: Vec<Event>) -> Result<Vec<Reply>
     ensures { IfOk result (λ replies.
         IsRun measures is_image setup (map seen events.items) (map heard replies.items)) }
 {
+    setup.limits_law();
     let mut machine = match Machine::new(alloc, setup) {
         Ok(machine) => machine,
         Err(_) => return Err(CoreError::NoMemory),

@@ -65,6 +65,13 @@ impl Setup {
             streams,
         })
     }
+
+    /// What every setup keeps. It does nothing: the laws on transcripts of a setup ask for this.
+    pub fn limits_law(&self)
+        ensures { IsSetup self.now }
+    {
+        let _workers = self.workers;
+    }
 }
 
 /// Whether all numbers but those of the streams' accounts are within their limits.

@@ -1,14 +1,13 @@
-use Rattle.std.proofs.Common.{◌≡◌, sym, subst, ap, Global}
+use Rattle.std.proofs.Common.{sym, subst, ap, Global}
 use Rattle.std.specs.Arc.{arc_value}
 use Rattle.std.specs.declared.sync.Arc.{Arc}
 use Rattle.frame_view.specs.declared.frame.Frame.{Frame}
 use Rattle.filters.specs.ChainImage.{FrameValue, value_of}
 use Rattle.serve_core.specs.declared.refusal.Refusal.TheVariants as refusals
-use Rattle.serve_core.specs.Events.{Accepted, Arrive, GivenBack, Reply}
+use Rattle.serve_core.specs.Events.{Accepted, Arrive, GivenBack}
 use Rattle.serve_core.specs.Frames.{measures, is_image}
-use Rattle.serve_core.specs.MachineInside.{machine}
 use Rattle.serve_core.specs.Rules.{Allows}
-use Rattle.serve_core.specs.States.{State, after}
+use Rattle.serve_core.specs.States.{State}
 use Rattle.serve_core.proofs.Changes.{after_given_back}
 use Rattle.serve_core.proofs.Machines.{Goes, allowed_of, arrive_goes, no_memory_allowed, state_of}
 use Rattle.serve_core.proofs.machine.Machine.arrive.Goals as goal

@@ -1,5 +1,4 @@
-use Rattle.std.proofs.Common.{◌≡◌, ◌<◌, length, Some, slice_get, refl, sym, ◌∙◌, ap, subst, arith}
-use Rattle.std.proofs.lemmas.Option.{slice_get_within}
+use Rattle.std.proofs.Common.{slice_get, ◌∙◌, ap}
 use Rattle.serve_core.specs.Lanes.{HasPlace, IsFresh, Lane}
 use Rattle.serve_core.specs.Schedule.{with_lane}
 use Rattle.serve_core.specs.ScheduleInside.{schedule}

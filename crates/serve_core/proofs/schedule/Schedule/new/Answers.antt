@@ -1,8 +1,7 @@
-use Rattle.std.proofs.Common.{ℕ, ◌≡◌, arith, length, map, replicate, List, Option, None, sym, ◌∙◌, ap}
+use Rattle.std.proofs.Common.{ℕ, ◌≡◌, arith, length, map, replicate, None, sym, ◌∙◌, ap}
 use Rattle.std.proofs.IntoIterSteps.{All-taken}
-use Rattle.serve_core.specs.Lanes.{Lane, opened}
+use Rattle.serve_core.specs.Lanes.{opened}
 use Rattle.serve_core.specs.Schedule.{deadlines}
-use Rattle.serve_core.specs.Setup.{StreamSpec}
 use Rattle.serve_core.proofs.Schedules.{none_ready}
 use Rattle.serve_core.proofs.schedule.Schedule.new.Goals as goal
 

@@ -1,4 +1,4 @@
-use Rattle.std.proofs.Common.{◌≡◌, sym, ◌∙◌, ap, subst, ◌<◌}
+use Rattle.std.proofs.Common.{sym, ◌∙◌, subst, ◌<◌}
 use Rattle.serve_core.specs.Setup.{steps}
 use Rattle.serve_core.specs.Lanes.{Lane}
 use Rattle.serve_core.proofs.Lanes.{lent_left}
