@@ -169,8 +169,7 @@ pub given_away : (x y z : ScheduleValue) (w : ℕ) (held : Held) (job : JobValue
     → lease ≡ granted_of job held.stream held.number held.grant → Gives x z w lease
 given_away x y z w held job lease d free l h e =
     let P : LeaseValue → Type 0 = λ lease.
-    Answers x (one (Lease w) (Leased lease.stream lease.seq lease.granted)) z in
-    (
+    Answers x (one (Lease w) (Leased lease.stream lease.seq lease.granted)) z in (
       subst P (sym e) (given_led x y z w held job free l h),
       gives x y z w held job lease l h e,
       given_desk x y z w held job d free l h,

@@ -8,7 +8,7 @@ use Rattle.serve_core.specs.declared.refusal.Refusal.{Refusal}
 use Rattle.serve_core.specs.declared.refusal.Refusal.TheVariants as refusals
 use Rattle.serve_core.specs.Bare.{Blank, measures_any, is_any_image}
 use Rattle.serve_core.specs.Counts.{Came}
-use Rattle.serve_core.specs.Desk.{Answers, TakesJob, bare_frames, blanks, desk_state, offered, ticked}
+use Rattle.serve_core.specs.Desk.{Answers, IsFreshFor, bare_frames, blanks, desk_state, offered, ticked}
 use Rattle.serve_core.specs.DeskInside.{IsDesk}
 use Rattle.serve_core.specs.Events.{Accepted, Arrive, Event, Reply, Start, Then, Tick, Ticked, Transcript}
 use Rattle.serve_core.specs.Lanes.{HasPlace, IsFresh, Lane}
@@ -49,8 +49,7 @@ ticked_by : (x : ScheduleValue) (at : ℕ) (b : Bool) → at ≤ 2 ^ 60 → nat_
     → Answers x (if b then Then Start (Tick at) Ticked else Start) (at_moment at x)
 ticked_by x at true l e =
     let same : at_moment at x ≡ (let y : ScheduleValue = record x { clock = at } in y) =
-    at_clock x (max x.clock at) at (later x.clock at e) in
-    (
+    at_clock x (max x.clock at) at (later x.clock at e) in (
       (tt, tick_allowed x.clock at (no_less x.clock at e) (no_more at (2 ^ 60) l)),
       sym (ap desk_state same ∙ after_tick Blank (desk_state x) at),
     )
@@ -104,8 +103,11 @@ accepted_at x z s at n job h l place took =
     let led : Answers x (offered x.clock s at n) (with_lane s new y) =
     led_then x y (with_lane s new y) (ticked x.clock at) (Arrive s tt) (Accepted n) (moment_led x at l) allowed
     (led_arrive Blank bare_frames y s n tt b.0 new b.1 (came_lane x s y.clock job b.0 h b.1)) in
-    rw b.2.1 (led, desk_on x (with_lane s new y) (offered x.clock s at n) h led
-    (away_set x.lanes s new h.away (h.away s b.0 b.1)) h.unused)
+    rw b.2.1 (
+      led,
+      desk_on x (with_lane s new y) (offered x.clock s at n) h led
+          (away_set x.lanes s new h.away (h.away s b.0 b.1)) h.unused,
+    )
 
 pub accepted : (x y z : ScheduleValue) (s at n : ℕ) (job : JobValue) → IsDesk x → at ≤ 2 ^ 60
     → HasLane x s (λ lane. HasPlace lane.state × IsFresh lane.state.spec.chain job)
@@ -116,3 +118,11 @@ accepted x y z s at n job h l place same took =
     accepted_at x z s at n job h l place
     (subst (λ (y : ScheduleValue). HasLane y s (λ lane. (n ≡ lane.state.accepted)
     × (z ≡ with_lane s (came y.clock job lane) y))) same took)
+
+-- the stream's chain is known
+pub fresh_for : (x : ScheduleValue) (s : ℕ) (job : JobValue)
+    → HasLane x s (λ lane. IsFresh lane.state.spec.chain job) → IsFreshFor x s job
+fresh_for x s job h lane e =
+    let a = some_and (slice_get x.lanes s) _ h in
+    let same : a.0 ≡ lane = one_item x.lanes s s a.0 lane refl a.1 e in
+    subst (λ (lane : Lane). IsFresh lane.state.spec.chain job) same a.2

@@ -199,7 +199,7 @@ settled_back x z w held lease lane d mine here r l put =
     let new : Lane = returned (brought lease lane) in
     let v : ScheduleValue = with_held w None (with_lane held.stream new x) in
     let put : (lane.state.done + lease.used ≢ steps lane.state.spec)
-        × (z ≡ with_held w None (with_lane held.stream new (with_lane held.stream (brought lease lane) x))) =
+    × (z ≡ with_held w None (with_lane held.stream new (with_lane held.stream (brought lease lane) x))) =
     rw (brought_here x held.stream lease.used lease.job lane here) at put in
     let e : z ≡ v = put.1 ∙ put_over x w held.stream (brought lease lane) new in
     let led = put_back_led x w lease.used held lease.job lane mine here

@@ -1,8 +1,7 @@
--- The calls of a desk: the schedule without the jobs that are out, and with bands that are charged where their
--- lease is settled.
-use Rattle.std.specs.Prelude.{ℕ, ◌≡◌, ◌≢◌, ◌≤◌, ◌<◌, ◌+◌, ◌-◌, ◌^◌, ◌↔◌, ◌⊎◌, max, nat_lt, Bool, true, IsTrue, List}
-use Rattle.std.specs.Prelude.{replicate, slice_get, Option, Some, None, IsSome, IsSomeAnd, MatchBool, MatchOption}
-use Rattle.std.specs.Prelude.{if◌then◌else◌}
+-- The calls of a desk: jobs that are out are with their leases, and bands are charged where these are settled.
+use Rattle.std.specs.Prelude.{ℕ, ◌≡◌, ◌≢◌, ◌≤◌, ◌<◌, ◌+◌, ◌-◌, ◌^◌, ◌↔◌, ◌⊎◌, max, nat_lt, Bool, true}
+use Rattle.std.specs.Prelude.{IsTrue, List, replicate, slice_get, Option, Some, None, IsSome, IsSomeAnd}
+use Rattle.std.specs.Prelude.{MatchBool, MatchOption, if◌then◌else◌}
 use Rattle.cbs_account.specs.Rules.{CanCharge}
 use Rattle.edf_pool.specs.Earliest.{IsEarliest}
 use Rattle.frame_view.specs.declared.frame.Frame.{Frame}
@@ -15,13 +14,13 @@ use Rattle.serve_core.specs.declared.refusal.Refusal.{Refusal}
 use Rattle.serve_core.specs.declared.refusal.Refusal.TheVariants as refusals
 use Rattle.serve_core.specs.AtOnce.{bands_settled, cost_of_next, worked_at_once}
 use Rattle.serve_core.specs.Bare.{Blank, measures_any, is_any_image}
-use Rattle.serve_core.specs.Events.{Event, Arrive, Tick, Reply, Accepted, Returned, Finished, Ticked, Transcript}
-use Rattle.serve_core.specs.Events.{Start, Then}
+use Rattle.serve_core.specs.Events.{Event, Arrive, Tick, Reply, Accepted, Returned, Finished, Ticked}
+use Rattle.serve_core.specs.Events.{Transcript, Start, Then}
 use Rattle.serve_core.specs.Lanes.{GainsImage, IsFresh, IsStarted, Lane, with_leased}
 use Rattle.serve_core.specs.Leads.{Leads}
 use Rattle.serve_core.specs.Rules.{arrival_refusal}
-use Rattle.serve_core.specs.Schedule.{HasLane, ScheduleValue, came, finished, lent, returned, state_by, with_held}
-use Rattle.serve_core.specs.Schedule.{deadlines, with_lane}
+use Rattle.serve_core.specs.Schedule.{HasLane, ScheduleValue, came, deadlines, finished, lent, returned}
+use Rattle.serve_core.specs.Schedule.{state_by, with_held, with_lane}
 use Rattle.serve_core.specs.Setup.{steps}
 use Rattle.serve_core.specs.States.{State}
 

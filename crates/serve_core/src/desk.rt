@@ -25,8 +25,8 @@ use std::alloc::{AllocError, Global};
 use std::marker::Model;
 use std::sync::Arc;
 
-/// The machine without the jobs that are out: a lease takes its job away, and its settlement brings it back with
-/// all bands that were done of it. Only `new` and `offer` take memory.
+/// The machine without the jobs that are out: a lease takes its job away, and its settlement brings it back
+/// with all bands that were done of it. Only `new` and `offer` take memory.
 ///
 /// Contracts see the `ScheduleValue` of `specs/Schedule.antt`, and tell of each call which bare events it is.
 #[derive(Drop)]
@@ -52,6 +52,7 @@ impl Desk {
         ensures desk { IfOk result (λ x. x ≡ schedules.opened_schedule setup) }
         ensures state { IfOk result (λ x. desk_state x ≡ opening_state Blank Blank setup) }
     {
+        setup.limits_law();
         let schedule = Schedule::new(alloc, setup)?;
         Ok(Desk { schedule })
     }
@@ -98,8 +99,8 @@ impl Desk {
         self.schedule.arrival_refusal(s, frame.geometry())
     }
 
-    /// A frame arrives at stream `s` at a moment, or now if that is later. A refused frame comes back, and the
-    /// clock stays.
+    /// A frame arrives at stream `s` at a moment, or now if that is later. A refused frame comes back, and
+    /// the clock stays.
     pub fn offer(
         &mut self,
         alloc: Global,
@@ -110,7 +111,8 @@ impl Desk {
         ensures events { IfOk result (λ n. Answers self.old (rules.offered self.old.clock s at n) self.new) }
         ensures answer { OnOk result (IsOfferAnswer self.old s at (arc_value frame).geometry None) }
         ensures job { IfOk result (λ n. rules.TakesFrame s at (arc_value frame) n self.old self.new) }
-        ensures refused { IfErr result (λ e. rules.RefusesOffer self.old s at (arc_value frame).geometry e.0) }
+        ensures refused { IfErr result (λ e.
+            rules.RefusesOffer self.old s at (arc_value frame).geometry e.0) }
         ensures back { IfErr result (λ e. (e.1 ≡ frame) × (self.new ≡ self.old)) }
     {
         if let Some(refusal) = self.offer_refusal(s, at, &frame) {
@@ -122,8 +124,8 @@ impl Desk {
         }
     }
 
-    /// What [`Desk::offer`] does, with the frame's job, which was made outside. A refused job comes back, and the
-    /// clock stays.
+    /// What [`Desk::offer`] does, with the frame's job, which was made outside. A refused job comes back, and
+    /// the clock stays.
     pub fn offer_job(&mut self, s: u32, at: u64, job: Job) -> Result<u64, (Refusal, Job)>
         requires { rules.IsFreshFor self.old s job }
         ensures events { IfOk result (λ n. Answers self.old (rules.offered self.old.clock s at n) self.new) }
@@ -189,7 +191,8 @@ impl Desk {
             Ok(held) => {
                 let bands = lease.used();
                 let units = lease.spent() as u64;
-                self.schedule.bring(held.stream, lease.into_job(), bands, units);
+                let job = lease.into_job();
+                self.schedule.bring(held.stream, job, bands, units);
                 Ok(self.schedule.settle(w, held))
             }
         }
@@ -208,7 +211,8 @@ impl Desk {
     /// What [`Desk::collect`] would refuse for stream `s`.
     pub fn collect_refusal(&self, s: u32) -> Option<Refusal>
         ensures some { IfSome result (schedules.RefusesCollect self.now s) }
-        ensures none { IfNone result (HasLane self.now s (λ lane. lane.state.collected < lane.state.finished)) }
+        ensures none { IfNone result (HasLane self.now s (λ lane.
+            lane.state.collected < lane.state.finished)) }
     {
         self.schedule.collect_refusal(s)
     }

@@ -46,8 +46,8 @@ impl Schedule {
         stream.hand_over()
     }
 
-    /// Takes the job that was handed over of stream `s`, with bands more, and charges the units that these cost
-    /// together.
+    /// Takes the job that was handed over of stream `s`, with bands more, and charges the units that these
+    /// cost together.
     pub(crate) fn bring(&mut self, s: u32, job: Job, bands: u32, units: u64)
         requires { HasLane self.old s (CanBring job bands units) }
         ensures { HasLane self.old s (λ lane. self.new ≡ with_lane s (brought_by job bands lane) self.old) }

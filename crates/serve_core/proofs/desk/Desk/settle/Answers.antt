@@ -8,15 +8,15 @@ pub bring-requires : goal.bring-requires
 bring-requires c =
     let known : IsHeldBy c.self.inside.schedule c.args.w c.args.lease = rw (← c.self.view_is) at c.requires in
     let within : c.args.lease.used ≤ c.args.lease.granted = omega arith in
-    let started : IsSome c.args.lease.job.scratch = rw c.into_job.ensures.value at c.into_job.ensures.started in
-    rw (c.into_job.ensures.value, c.used-bands.ensures.value) (brings c.self.inside.schedule c.args.w
+    let started : IsSome c.args.lease.job.scratch = rw c.into_job-job.ensures.value at c.into_job-job.ensures.started in
+    rw (c.into_job-job.ensures.value, c.used-bands.ensures.value) (brings c.self.inside.schedule c.args.w
     c.spent-units.result c.in-Ok.held c.args.lease c.self.invariant c.in-Ok.ensures.ok known within started
     c.spent-units.ensures)
 
 pub settle-requires-clause-lane : goal.settle-requires-clause-lane
 settle-requires-clause-lane c =
     brought_leased c.self.inside.schedule c.bring.new.self c.in-Ok.held.stream c.used-bands.result
-    c.into_job.result c.bring.ensures
+    c.into_job-job.result c.bring.ensures
 
 settled : (c : goal.After-settle)
     → Settles c.self.inside.schedule c.settle.new.self c.args.w c.args.lease c.settle.result
@@ -24,8 +24,8 @@ settled c =
     let known : IsHeldBy c.self.inside.schedule c.args.w c.args.lease = rw (← c.self.view_is) at c.requires in
     let within : c.args.lease.used ≤ c.args.lease.granted = omega arith in
     let back : BringsJob c.self.inside.schedule c.in-Ok.held.stream c.args.lease.job c.args.lease.used
-        c.bring.new.self =
-    rw (c.into_job.ensures.value, c.used-bands.ensures.value) at c.bring.ensures in
+    c.bring.new.self =
+    rw (c.into_job-job.ensures.value, c.used-bands.ensures.value) at c.bring.ensures in
     settles c.self.inside.schedule c.bring.new.self c.settle.new.self c.args.w c.in-Ok.held c.args.lease
     c.settle.result c.self.invariant c.in-Ok.ensures.ok known within back c.settle.ensures.back
     c.settle.ensures.finished

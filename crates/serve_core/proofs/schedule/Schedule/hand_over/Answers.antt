@@ -25,6 +25,7 @@ returns c =
     let lane = c.index_mut-stream.result.now in
     let here = item_here (λ (lane : Lane). IsSome lane.leased) c.self.inside.streams.items c.args.s lane
     (rw (← c.self.view_is) at c.requires) c.index_mut-stream.ensures.value in
-    rw (← c.self.view_is) (and_some (slice_get c.self.inside.streams.items c.args.s) _ lane here.0
-    (c.hand_over.ensures.job,
-    ap (λ (lane : Lane). with_lane c.args.s lane (schedule c.self.inside)) c.hand_over.ensures.gone))
+    rw (← c.self.view_is) (and_some (slice_get c.self.inside.streams.items c.args.s) _ lane here.0 (
+      c.hand_over.ensures.job,
+      ap (λ (lane : Lane). with_lane c.args.s lane (schedule c.self.inside)) c.hand_over.ensures.gone,
+    ))
