@@ -105,3 +105,9 @@ lent_left out spec done (Some lent) job h e l =
 -- what the next band costs
 pub band_cost : (costs : List ℕ) (k c : ℕ) → slice_get costs k ≡ Some c → c ≡ cost_of_band k costs
 band_cost costs k c e = sym (get_or_from_slice_get costs k c 0 e)
+
+-- what a finished frame asks
+pub ruleset finishing = (one_out, all_done, one_more)
+
+-- who has the scratch
+pub ruleset with_scratch = (own_waits, own_fits, own_started)

@@ -115,8 +115,10 @@ impl Machine {
 
     /// A frame arrives.
     fn arrive(&mut self, alloc: Global, s: u32, frame: Arc<Frame>) -> Reply
-        ensures allowed { Allows measures is_image self.old (rules.Arrive s (value_of (arc_value frame))) (heard result) }
-        ensures state { self.new ≡ after self.old (rules.Arrive s (value_of (arc_value frame))) (heard result) }
+        ensures allowed { let arrival = rules.Arrive s (value_of (arc_value frame)) in
+            Allows measures is_image self.old arrival (heard result) }
+        ensures state { let arrival = rules.Arrive s (value_of (arc_value frame)) in
+            self.new ≡ after self.old arrival (heard result) }
     {
         let geometry = frame.geometry();
         if let Some(refusal) = self.schedule.arrival_refusal(s, geometry) {

@@ -1,7 +1,7 @@
 //! The streams, what each worker holds, and the pool of the streams that are ready.
-ghost use Rattle.std.specs.Prelude.{◌≡◌, ◌≢◌, ◌≤◌, ◌<◌, ◌^◌, ◌↔◌, Bool, Some, None, length, slice_get, slice_set};
-ghost use Rattle.std.specs.Prelude.{IsTrue, IsFalse, IsSome, IsSomeAnd, MatchOption, IfOk, IfErr, IfSome, IfNone};
-ghost use Rattle.std.specs.Prelude.{OnOk};
+ghost use Rattle.std.specs.Prelude.{◌≡◌, ◌≢◌, ◌≤◌, ◌<◌, ◌^◌, ◌↔◌, Bool, Some, None, length, slice_get};
+ghost use Rattle.std.specs.Prelude.{slice_set, IsTrue, IsFalse, IsSome, IsSomeAnd, MatchOption, IfOk, IfErr};
+ghost use Rattle.std.specs.Prelude.{IfSome, IfNone, OnOk};
 ghost use Rattle.std.specs.Arc.{arc_value};
 ghost use Rattle.std.specs.Option.{option_map};
 ghost use Rattle.edf_pool.specs.Earliest.{IsEarliest};
@@ -268,7 +268,8 @@ impl Schedule {
     /// Why stream `s` gives no image, if it gives none.
     pub(crate) fn collect_refusal(&self, s: u32) -> Option<Refusal>
         ensures some { IfSome result (λ e. rules.RefusesCollect self.now s e) }
-        ensures none { IfNone result (HasLane self.now s (λ lane. lane.state.collected < lane.state.finished)) }
+        ensures none { IfNone result (HasLane self.now s (λ lane.
+            lane.state.collected < lane.state.finished)) }
     {
         match self.streams.get(s as usize) {
             None => Some(Refusal::NoStream),

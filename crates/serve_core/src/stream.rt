@@ -1,17 +1,17 @@
 //! One stream of the schedule.
 ghost use Rattle.std.specs.Prelude.{◌≡◌, ◌≤◌, ◌<◌, ◌+◌, ◌-◌, ◌^◌, [], ◌∷◌, ◌++◌, Some, None, drop, slice_get};
-ghost use Rattle.std.specs.Prelude.{◌↔◌, ◌≢◌, IsTrue, IsFalse, IsSome, IsSomeAnd, IfOk, IfErr, IfSome, IfNone, OnOk, OnSome};
+ghost use Rattle.std.specs.Prelude.{◌↔◌, ◌≢◌, IsTrue, IsFalse, IsSome, IsSomeAnd, IfOk, IfErr, IfSome};
+ghost use Rattle.std.specs.Prelude.{IfNone, OnOk, OnSome};
 ghost use Rattle.cbs_account.specs.Rules.{CanCharge};
 ghost use Rattle.filters.specs.Steps.{steps_of};
 ghost use Rattle.lease.specs.Job.{StepsOn};
 ghost use Rattle.serve_core.specs.AtOnce.{cost_of_next, worked_at_once};
 ghost use Rattle.serve_core.specs.Counts.{Came, Worked, Ended, Back, Lent, Shut, Taken};
-ghost use Rattle.serve_core.specs.Lanes.{GainsImage, HasPlace, IsFresh, IsPair, IsStarted, IsWithOne, listed, opened};
-ghost use Rattle.serve_core.specs.Lanes.{source_of, with_leased};
+ghost use Rattle.serve_core.specs.Lanes.{GainsImage, HasPlace, IsFresh, IsPair, IsStarted, IsWithOne, listed};
+ghost use Rattle.serve_core.specs.Lanes.{opened, source_of, with_leased, source_in};
 ghost use Rattle.serve_core.specs.Rules as rules;
 ghost use Rattle.serve_core.specs.Schedule.{counts_of, finished, returned};
 ghost use Rattle.std.specs.Arc.{arc_value};
-ghost use Rattle.serve_core.specs.Lanes.{source_in};
 ghost use Rattle.serve_core.specs.Setup.{HasBandwidth, IsWithinLimits, steps};
 ghost use Rattle.serve_core.specs.States as states;
 ghost use Rattle.serve_core.specs.States.{did, next_cost};
@@ -188,7 +188,8 @@ impl Stream {
         } }
         ensures job { IsSomeAnd self.new.leased (λ job. IsSomeAnd (slice_get self.old.jobs 0) (λ first.
             job ≡ record first { scratch = job.scratch })) }
-        ensures started { IsSomeAnd self.new.leased (IsStarted self.old.state.spec.chain self.old.state.done) }
+        ensures started { IsSomeAnd self.new.leased
+            (IsStarted self.old.state.spec.chain self.old.state.done) }
     {
         match self.queue.take() {
             None => unreachable!(),
@@ -231,7 +232,10 @@ impl Stream {
         requires left { self.old.state.done < steps self.old.state.spec }
         requires charge { CanCharge (next_cost self.old.state) self.old.state.account }
         requires few { self.old.state.charged + next_cost self.old.state < 2 ^ 64 }
-        ensures worked { self.new ≡ record self.old { state = did self.old.state Worked; leased = self.new.leased } }
+        ensures worked { self.new ≡ record self.old {
+          state = did self.old.state Worked;
+          leased = self.new.leased;
+        } }
         ensures leased { IsSome self.new.leased }
     {
         let cost = self.spec.cost_of_band(self.done);
@@ -281,7 +285,7 @@ impl Stream {
 
     /// Takes the job back that is out and whose steps are all done, and answers its number. Its image waits
     /// for collection.
-    #[tactic(auto, using(crate::proofs::Lanes::one_out, crate::proofs::Lanes::all_done, crate::proofs::Lanes::one_more))]
+    #[tactic(auto, using(crate::proofs::Lanes::finishing))]
     pub(crate) fn finish(&mut self) -> u64
         requires leased { IsSome self.old.leased }
         requires all { self.old.state.done ≡ steps self.old.state.spec }
@@ -400,7 +404,7 @@ impl Stream {
 }
 
 /// The job, started with the scratch where it has none.
-#[tactic(auto, using(crate::proofs::Lanes::own_waits, crate::proofs::Lanes::own_fits, crate::proofs::Lanes::own_started))]
+#[tactic(auto, using(crate::proofs::Lanes::with_scratch))]
 fn started(job: Job, scratch: Option<Scratch>) -> Job
     requires { IsWithOne job.chain scratch job.scratch }
     ensures same { result ≡ record job { scratch = result.scratch } }
