@@ -3,6 +3,9 @@
 //!
 //! `specs/Rules.antt` says which replies are right after which past, and `specs/Headline.antt` what follows
 //! of every run. [`laws`] has each law of the definitions as a function.
+//!
+//! [`Machine`] does the bands itself; [`Desk`] gives jobs away with their leases, and `specs/Desk.antt` says
+//! which events its calls are and which jobs they move.
 #![tactic(auto)]
 
 mod collected;
