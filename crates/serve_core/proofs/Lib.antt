@@ -33,3 +33,8 @@ pub mod Allowing
 pub mod Machines
 pub mod Opened
 pub mod Runs
+pub mod Handing
+pub mod Desks
+pub mod Offers
+pub mod Lendings
+pub mod Settlements

@@ -32,7 +32,7 @@ module _ {F : Type 0} (frames : Lane → List F) where
       (map-set (stream_by frames) x.lanes s lane
       ∙ ap (slice_set (state_by frames x).streams s) e) refl
 
-  one_lease : (x : ScheduleValue) (w s : ℕ) (h : Option Held) (lane : Lane) (y : StreamState F)
+  pub one_lease : (x : ScheduleValue) (w s : ℕ) (h : Option Held) (lane : Lane) (y : StreamState F)
       → stream_by frames lane ≡ y
       → state_by frames (with_held w h (with_lane s lane x))
       ≡ state x.clock x.quantum (slice_set (state_by frames x).streams s y) (slice_set x.workers w h)

@@ -19,3 +19,5 @@ pub mod Schedule
 pub mod ScheduleInside
 pub mod Seen
 pub mod MachineInside
+pub mod Desk
+pub mod DeskInside

@@ -3,10 +3,14 @@
 //!
 //! `specs/Rules.antt` says which replies are right after which past, and `specs/Headline.antt` what follows
 //! of every run. [`laws`] has each law of the definitions as a function.
+//!
+//! [`Machine`] does the bands itself; [`Desk`] gives jobs away with their leases, and `specs/Desk.antt` says
+//! which events its calls are and which jobs they move.
 #![tactic(auto)]
 
 mod collected;
 pub mod counts;
+pub mod desk;
 pub mod event;
 mod grant;
 pub mod held;
@@ -20,6 +24,7 @@ mod stream;
 
 pub use collected::Collected;
 pub use counts::Counts;
+pub use desk::Desk;
 pub use event::{Event, Reply};
 pub use held::Held;
 pub use machine::{CoreError, Machine, run};

@@ -7,12 +7,15 @@ ghost use Rattle.std.specs.Option.{option_map};
 ghost use Rattle.edf_pool.specs.Earliest.{IsEarliest};
 ghost use Rattle.serve_core.specs.declared.refusal.Refusal.TheVariants as refusals;
 ghost use Rattle.serve_core.specs.AtOnce.{with_used};
+ghost use Rattle.serve_core.specs.Desk.{SomeReady};
 ghost use Rattle.serve_core.specs.Lanes.{HasPlace, IsFresh, GainsImage};
 ghost use Rattle.serve_core.specs.Schedule as rules;
 ghost use Rattle.serve_core.specs.Schedule.{HasLane, HasLease, account_of, counts_of, with_held, with_lane};
 ghost use Rattle.serve_core.specs.Rules.{arrival_refusal};
 ghost use Rattle.serve_core.specs.Setup.{steps};
 ghost use Rattle.serve_core.specs.States.{ready_deadline};
+
+mod handing;
 
 use crate::collected::Collected;
 use crate::counts::Counts;
@@ -28,7 +31,7 @@ use std::marker::Model;
 use std::sync::Arc;
 
 /// The end of the clock.
-const LAST_MOMENT: u64 = 1 << 60;
+pub(crate) const LAST_MOMENT: u64 = 1 << 60;
 
 /// The streams with their jobs and images, what each worker holds, and the deadlines of the streams that are
 /// ready. Machine and desk stand on it. Contracts see the `ScheduleValue` of `specs/Schedule.antt`.
@@ -143,6 +146,7 @@ impl Schedule {
     pub(crate) fn lease_refusal(&self, w: u32) -> Option<Refusal>
         ensures some { IfSome result (λ e. rules.RefusesLease self.now w e) }
         ensures none { IfNone result (slice_get self.now.workers w ≡ Some None) }
+        ensures ready { IfNone result (SomeReady self.now) }
     {
         match self.workers.get(w as usize) {
             None => Some(Refusal::NoWorker),

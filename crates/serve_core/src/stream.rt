@@ -24,7 +24,7 @@ use crate::spec::{StreamSpec, is_same};
 use cbs_account::Account;
 use circular_buffer::HeapCircularBuffer;
 use frame_view::{Frame, Geometry};
-use lease::{Job, JobRefused, Lease, Scratch};
+use lease::{Job, JobRefused, JobSpec, Lease, Scratch};
 use std::alloc::{AllocError, Global};
 use std::marker::Model;
 use std::sync::Arc;
@@ -84,6 +84,13 @@ impl Stream {
             charged: 0,
             done: 0,
         })
+    }
+
+    /// What is done to the frames.
+    pub(crate) fn spec(&self) -> &JobSpec
+        ensures { result.now ≡ self.now.state.spec.chain }
+    {
+        &self.spec.spec
     }
 
     /// The deadline, if the front frame can be leased.

@@ -1,0 +1,229 @@
+//! The machine for workers that do their bands by themselves.
+ghost use Rattle.std.specs.Prelude.{◌≡◌, ◌≤◌, ◌<◌, ◌^◌, ◌⊎◌, true, max, Some, None, slice_get, option_copied};
+ghost use Rattle.std.specs.Prelude.{IsFalse, IsTrue, IfOk, IfErr, IfSome, IfNone, OnOk, MatchOption};
+ghost use Rattle.std.specs.Arc.{arc_value};
+ghost use Rattle.std.specs.Option.{option_map};
+ghost use Rattle.edf_pool.specs.Earliest.{IsEarliest};
+ghost use Rattle.serve_core.specs.declared.refusal.Refusal.TheVariants as refusals;
+ghost use Rattle.serve_core.specs.Bare.{Blank};
+ghost use Rattle.serve_core.specs.Desk as rules;
+ghost use Rattle.serve_core.specs.Desk.{Answers, IsOfferAnswer, desk_state, one};
+ghost use Rattle.serve_core.specs.Events as events;
+ghost use Rattle.serve_core.specs.Lanes.{HasPlace, IsFresh};
+ghost use Rattle.serve_core.specs.Leads.{opening_state};
+ghost use Rattle.serve_core.specs.Schedule as schedules;
+ghost use Rattle.serve_core.specs.Schedule.{HasLane, account_of, counts_of, with_lane};
+
+use crate::collected::Collected;
+use crate::counts::Counts;
+use crate::refusal::Refusal;
+use crate::schedule::{LAST_MOMENT, Schedule};
+use crate::setup::Setup;
+use frame_view::Frame;
+use lease::{Job, JobSpec, Lease};
+use std::alloc::{AllocError, Global};
+use std::marker::Model;
+use std::sync::Arc;
+
+/// The machine without the jobs that are out: a lease takes its job away, and its settlement brings it back
+/// with all bands that were done of it. Only `new` and `offer` take memory.
+///
+/// Contracts see the `ScheduleValue` of `specs/Schedule.antt`, and tell of each call which bare events it is.
+#[derive(Drop)]
+pub struct Desk {
+    schedule: Schedule,
+}
+
+impl Model for Desk {
+    ghost use Rattle.serve_core.specs.Schedule.{ScheduleValue};
+
+    ghost Value = { ScheduleValue };
+
+    ghost use Rattle.serve_core.specs.DeskInside.{IsDesk};
+
+    ghost view = { λ a. a.schedule };
+
+    ghost invariant = { λ a. IsDesk a.schedule };
+}
+
+impl Desk {
+    /// A desk before any event.
+    pub fn new(alloc: Global, setup: Setup) -> Result<Desk, AllocError>
+        ensures desk { IfOk result (λ x. x ≡ schedules.opened_schedule setup) }
+        ensures state { IfOk result (λ x. desk_state x ≡ opening_state Blank Blank setup) }
+    {
+        setup.limits_law();
+        let schedule = Schedule::new(alloc, setup)?;
+        Ok(Desk { schedule })
+    }
+
+    /// The present moment.
+    pub fn clock(&self) -> u64
+        ensures { result ≡ self.now.clock }
+    {
+        self.schedule.clock()
+    }
+
+    /// The budget and the deadline of stream `s`.
+    pub fn account(&self, s: u32) -> Option<(u64, u64)>
+        ensures { result ≡ option_map (λ lane. account_of lane.state) (slice_get self.now.lanes s) }
+    {
+        self.schedule.account(s)
+    }
+
+    /// How many frames of stream `s` were accepted, finished and collected, and what it was charged.
+    pub fn counts(&self, s: u32) -> Option<Counts>
+        ensures { result ≡ option_map (λ lane. counts_of lane.state) (slice_get self.now.lanes s) }
+    {
+        self.schedule.counts(s)
+    }
+
+    /// What is done to the frames of stream `s`.
+    pub fn spec(&self, s: u32) -> Option<&JobSpec>
+        ensures { option_copied result
+            ≡ option_map (λ lane. lane.state.spec.chain) (slice_get self.now.lanes s) }
+    {
+        self.schedule.spec(s)
+    }
+
+    /// What [`Desk::offer`] would refuse this frame for, want of memory aside.
+    pub fn offer_refusal(&self, s: u32, at: u64, frame: &Frame) -> Option<Refusal>
+        ensures answer { IsOfferAnswer self.now s at frame.now.geometry result }
+        ensures moment { IfNone result (at ≤ 2 ^ 60) }
+        ensures place { IfNone result (HasLane self.now s (λ lane.
+            (frame.now.geometry ≡ lane.state.spec.geometry) × HasPlace lane.state)) }
+    {
+        if at > LAST_MOMENT {
+            return Some(Refusal::ClockEnd);
+        }
+        self.schedule.arrival_refusal(s, frame.geometry())
+    }
+
+    /// A frame arrives at stream `s` at a moment, or now if that is later. A refused frame comes back, and
+    /// the clock stays.
+    pub fn offer(
+        &mut self,
+        alloc: Global,
+        s: u32,
+        at: u64,
+        frame: Arc<Frame>,
+    ) -> Result<u64, (Refusal, Arc<Frame>)>
+        ensures events { IfOk result (λ n. Answers self.old (rules.offered self.old.clock s at n) self.new) }
+        ensures answer { OnOk result (IsOfferAnswer self.old s at (arc_value frame).geometry None) }
+        ensures job { IfOk result (λ n. rules.TakesFrame s at (arc_value frame) n self.old self.new) }
+        ensures refused { IfErr result (λ e.
+            rules.RefusesOffer self.old s at (arc_value frame).geometry e.0) }
+        ensures back { IfErr result (λ e. (e.1 ≡ frame) × (self.new ≡ self.old)) }
+    {
+        if let Some(refusal) = self.offer_refusal(s, at, &frame) {
+            return Err((refusal, frame));
+        }
+        match self.schedule.job(alloc, s, frame) {
+            Ok(job) => Ok(self.accept(s, at, job)),
+            Err(frame) => Err((Refusal::NoMemory, frame)),
+        }
+    }
+
+    /// What [`Desk::offer`] does, with the frame's job, which was made outside. A refused job comes back, and
+    /// the clock stays.
+    pub fn offer_job(&mut self, s: u32, at: u64, job: Job) -> Result<u64, (Refusal, Job)>
+        requires { rules.IsFreshFor self.old s job }
+        ensures events { IfOk result (λ n. Answers self.old (rules.offered self.old.clock s at n) self.new) }
+        ensures answer { OnOk result (rules.job_refusal self.old s at ≡ None) }
+        ensures job { IfOk result (λ n. rules.TakesJob s at job n self.old self.new) }
+        ensures refused { IfErr result (λ e. rules.job_refusal self.old s at ≡ Some e.0) }
+        ensures back { IfErr result (λ e. (e.1 ≡ job) × (self.new ≡ self.old)) }
+    {
+        if at > LAST_MOMENT {
+            return Err((Refusal::ClockEnd, job));
+        }
+        match self.schedule.job_refusal(s) {
+            Some(refusal) => Err((refusal, job)),
+            None => Ok(self.accept(s, at, job)),
+        }
+    }
+
+    /// Stream `s` takes the job at a moment, or now if that is later.
+    fn accept(&mut self, s: u32, at: u64, job: Job) -> u64
+        requires moment { at ≤ 2 ^ 60 }
+        requires lane { HasLane self.old s (λ lane. HasPlace lane.state × IsFresh lane.state.spec.chain job) }
+        ensures events { Answers self.old (rules.offered self.old.clock s at result) self.new }
+        ensures job { rules.TakesJob s at job result self.old self.new }
+    {
+        let moment = self.schedule.clock().max(at);
+        self.schedule.tick(moment);
+        self.schedule.accept(s, job)
+    }
+
+    /// What [`Desk::lease`] would refuse worker `w` for.
+    pub fn lease_refusal(&self, w: u32) -> Option<Refusal>
+        ensures some { IfSome result (schedules.RefusesLease self.now w) }
+        ensures free { IfNone result (slice_get self.now.workers w ≡ Some None) }
+        ensures ready { IfNone result (rules.SomeReady self.now) }
+    {
+        self.schedule.lease_refusal(w)
+    }
+
+    /// Worker `w` gets the front job of the ready stream that has the earliest deadline, with the lease.
+    pub fn lease(&mut self, w: u32) -> Result<Lease, Refusal>
+        ensures events { IfOk result (λ lease. Answers self.old (one (events.Lease w)
+            (events.Leased lease.stream lease.seq lease.granted)) self.new) }
+        ensures job { IfOk result (λ lease. rules.GivesJob w lease self.old self.new) }
+        ensures refused { IfErr result (λ e. schedules.RefusesLease self.old w e × (self.new ≡ self.old)) }
+    {
+        let held = self.schedule.lease(w)?;
+        let job = self.schedule.hand_over(held.stream);
+        Ok(Lease::new(job, held.stream, held.number, held.grant))
+    }
+
+    /// Worker `w` gives its lease back, with its job and all bands that were done. Answers the number of the
+    /// frame if that is finished. A refused lease comes back.
+    pub fn settle(&mut self, w: u32, lease: Lease) -> Result<Option<u64>, (Refusal, Lease)>
+        requires { rules.IsHeldBy self.old w lease }
+        ensures events { IfOk result (λ n. Answers self.old (rules.settlement w lease.used n) self.new) }
+        ensures job { IfOk result (λ n. MatchOption n (rules.TakesBack w lease self.old self.new)
+            (λ number. rules.TakesImage w lease number self.old self.new)) }
+        ensures refused { IfErr result (λ e. rules.RefusesSettle self.old w e.0) }
+        ensures back { IfErr result (λ e. (e.1 ≡ lease) × (self.new ≡ self.old)) }
+    {
+        match self.schedule.held(w) {
+            Err(refusal) => Err((refusal, lease)),
+            Ok(held) => {
+                let bands = lease.used();
+                let units = lease.spent() as u64;
+                let job = lease.into_job();
+                self.schedule.bring(held.stream, job, bands, units);
+                Ok(self.schedule.settle(w, held))
+            }
+        }
+    }
+
+    /// Stream `s` accepts no more frames.
+    pub fn close(&mut self, s: u32) -> Result<(), Refusal>
+        ensures events { OnOk result (Answers self.old (one (events.Close s) events.Closing) self.new) }
+        ensures lane { OnOk result (HasLane self.old s (λ lane.
+            self.new ≡ with_lane s (schedules.shut lane) self.old)) }
+        ensures refused { IfErr result (λ e. rules.RefusesClose self.old s e × (self.new ≡ self.old)) }
+    {
+        self.schedule.close(s)
+    }
+
+    /// What [`Desk::collect`] would refuse for stream `s`.
+    pub fn collect_refusal(&self, s: u32) -> Option<Refusal>
+        ensures some { IfSome result (schedules.RefusesCollect self.now s) }
+        ensures none { IfNone result (HasLane self.now s (λ lane.
+            lane.state.collected < lane.state.finished)) }
+    {
+        self.schedule.collect_refusal(s)
+    }
+
+    /// Gives the oldest image of stream `s` away, with its source.
+    pub fn collect(&mut self, s: u32) -> Result<Collected, Refusal>
+        ensures events { OnOk result (Answers self.old (one (events.Collect s) (events.Image tt)) self.new) }
+        ensures pair { IfOk result (λ pair. HasLane self.old s (λ lane. schedules.IsFirst pair lane
+            × (self.new ≡ with_lane s (schedules.taken lane) self.old))) }
+        ensures refused { IfErr result (λ e. schedules.RefusesCollect self.old s e × (self.new ≡ self.old)) }
+    {
+        self.schedule.collect(s)
+    }
+}
