@@ -1,13 +1,12 @@
 -- What one change of a lane makes of a desk.
-use Rattle.std.proofs.Common.{ℕ, zero, suc, ◌+◌, ◌-◌, ◌≡◌, ◌≤◌, ◌<◌, ◌⊎◌, inl, inr, Bool, true, false, List, [], ◌∷◌}
-use Rattle.std.proofs.Common.{◌++◌, drop, map, replicate, slice_get, slice_set, Option, Some, None, Result, Ok, Err}
+use Rattle.std.proofs.Common.{ℕ, zero, suc, ◌+◌, ◌-◌, ◌≡◌, ◌≤◌, ◌<◌, ◌⊎◌, inl, inr, List, [], ◌∷◌}
+use Rattle.std.proofs.Common.{◌++◌, drop, map, replicate, slice_get, slice_set, Some, None, Result, Ok, Err}
 use Rattle.std.specs.Prelude.{⊤}
-use Rattle.std.proofs.Common.{IsFalse, IfOk, IfErr, OnOk, refl, sym, ◌∙◌, ap, subst, arith, MatchOption}
+use Rattle.std.proofs.Common.{IsFalse, IfOk, IfErr, OnOk, refl, sym, ◌∙◌, ap, subst, arith}
 use Rattle.serve_core.specs.declared.collected.Collected.{Collected}
-use Rattle.serve_core.specs.declared.held.Held.{Held}
 use Rattle.serve_core.specs.declared.refusal.Refusal.{Refusal}
 use Rattle.serve_core.specs.Bare.{Blank, measures_any, is_any_image}
-use Rattle.serve_core.specs.Counts.{Shut, Taken}
+use Rattle.serve_core.specs.Counts.{Taken}
 use Rattle.serve_core.specs.Desk.{Answers, RefusesClose, bare_frames, blanks, desk_state, one}
 use Rattle.serve_core.specs.DeskInside.{AreAway, AreUnused, IsDesk}
 use Rattle.serve_core.specs.Events.{Close, Closing, Collect, Event, Image, Reply, Then, Transcript}

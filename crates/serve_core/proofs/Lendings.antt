@@ -1,6 +1,6 @@
 -- What a lease that takes its job away makes of a desk.
-use Rattle.std.proofs.Common.{ℕ, ◌+◌, ◌≡◌, ◌≤◌, ◌⊎◌, inl, inr, List, Option, Some, None, IsSome, IsSomeAnd, slice_get}
-use Rattle.std.proofs.Common.{slice_set, refl, sym, ◌∙◌, ap, subst, arith, drop}
+use Rattle.std.proofs.Common.{ℕ, ◌+◌, ◌≡◌, ◌≤◌, inl, inr, List, Option, Some, None, IsSome, IsSomeAnd, slice_get}
+use Rattle.std.proofs.Common.{slice_set, refl, sym, ◌∙◌, ap, subst, arith}
 use Rattle.std.proofs.lemmas.List.{set-set}
 use Rattle.std.proofs.lemmas.Option.{slice_get_within}
 use Rattle.filters.specs.Steps.{steps_of}
@@ -8,13 +8,12 @@ use Rattle.lease.specs.Job.{JobValue}
 use Rattle.lease.specs.Lease.{LeaseValue, granted_of}
 use Rattle.serve_core.specs.declared.held.Held.{Held}
 use Rattle.serve_core.specs.Bare.{Blank, measures_any, is_any_image}
-use Rattle.serve_core.specs.Desk.{Answers, GivesJob, bare_frames, desk_state, given, held_of, one}
+use Rattle.serve_core.specs.Desk.{Answers, GivesJob, bare_frames, desk_state, given, one}
 use Rattle.serve_core.specs.DeskInside.{AreUnused, IsDesk}
 use Rattle.serve_core.specs.Events.{Lease, Leased}
 use Rattle.serve_core.specs.Lanes.{IsStarted, Lane, with_leased}
-use Rattle.serve_core.specs.Schedule.{HasLane, IsLending, ScheduleValue, lent, stream_by, with_held, with_lane}
+use Rattle.serve_core.specs.Schedule.{HasLane, IsLending, ScheduleValue, stream_by, with_held, with_lane}
 use Rattle.serve_core.specs.Setup.{steps}
-use Rattle.serve_core.specs.Sound.{IsLeaseOf}
 use Rattle.serve_core.proofs.Allowing.{lease_allowed}
 use Rattle.serve_core.proofs.AtOnce.{used_more}
 use Rattle.serve_core.proofs.Costs.{steps_are}

@@ -1,20 +1,18 @@
 -- What an accepted offer makes of a desk.
-use Rattle.std.proofs.Common.{ℕ, ◌+◌, ◌-◌, ◌^◌, ◌≡◌, ◌≤◌, ◌<◌, ◌⊎◌, inl, inr, max, nat_eq, nat_le, nat_lt, Bool, true, false, not}
-use Rattle.std.proofs.Common.{IsFalse, List, Option, Some, None, slice_get, MatchOption, if◌then◌else◌, refl, sym, ◌∙◌}
+use Rattle.std.proofs.Common.{ℕ, ◌+◌, ◌-◌, ◌^◌, ◌≡◌, ◌≤◌, ◌<◌, inl, max, nat_eq, nat_le, nat_lt, Bool, true, false}
+use Rattle.std.proofs.Common.{IsFalse, Some, None, slice_get, if◌then◌else◌, refl, sym, ◌∙◌}
 use Rattle.std.proofs.Common.{ap, subst, arith}
 use Rattle.std.proofs.lemmas.Bool.Decides.{nat_tests}
 use Rattle.lease.specs.Job.{JobValue}
-use Rattle.serve_core.specs.declared.refusal.Refusal.{Refusal}
-use Rattle.serve_core.specs.declared.refusal.Refusal.TheVariants as refusals
 use Rattle.serve_core.specs.Bare.{Blank, measures_any, is_any_image}
 use Rattle.serve_core.specs.Counts.{Came}
-use Rattle.serve_core.specs.Desk.{Answers, IsFreshFor, bare_frames, blanks, desk_state, offered, ticked}
+use Rattle.serve_core.specs.Desk.{Answers, IsFreshFor, bare_frames, desk_state, offered, ticked}
 use Rattle.serve_core.specs.DeskInside.{IsDesk}
-use Rattle.serve_core.specs.Events.{Accepted, Arrive, Event, Reply, Start, Then, Tick, Ticked, Transcript}
+use Rattle.serve_core.specs.Events.{Accepted, Arrive, Reply, Start, Then, Tick, Ticked}
 use Rattle.serve_core.specs.Lanes.{HasPlace, IsFresh, Lane}
 use Rattle.serve_core.specs.Rules.{Allows, AllowsArrive, arrival_refusal, tick_reply}
 use Rattle.serve_core.specs.Schedule.{HasLane, ScheduleValue, came, stream_by, with_lane}
-use Rattle.serve_core.specs.States.{State, StreamState, after, did}
+use Rattle.serve_core.specs.States.{StreamState, did}
 use Rattle.serve_core.proofs.Changes.{after_tick}
 use Rattle.serve_core.proofs.Desks.{away_set, blanks_more, desk_on, lane_sound, led_then, with_frames}
 use Rattle.serve_core.proofs.Lifts.{led_arrive, stream_here}

@@ -1,5 +1,5 @@
 -- What a settlement that brings its job back makes of a desk.
-use Rattle.std.proofs.Common.{ℕ, ◌+◌, ◌-◌, ◌^◌, ◌≡◌, ◌≢◌, ◌≤◌, ◌<◌, List, [], ◌∷◌, Option, Some, None, IsSome, IsSomeAnd}
+use Rattle.std.proofs.Common.{ℕ, ◌+◌, ◌-◌, ◌^◌, ◌≡◌, ◌≢◌, ◌≤◌, ◌<◌, List, Option, Some, None, IsSome, IsSomeAnd}
 use Rattle.std.proofs.Common.{MatchOption, IfSome, IfNone, slice_get, slice_set, drop, refl, sym, ◌∙◌, ap, subst, arith}
 use Rattle.std.proofs.lemmas.List.{set-set}
 use Rattle.std.proofs.lemmas.Option.{slice_get-map, slice_get_within}
@@ -24,7 +24,6 @@ use Rattle.serve_core.specs.Rules.{settle_reply}
 use Rattle.serve_core.specs.Schedule.{HasLane, HasLease, ScheduleValue, finished, returned, stream_by, with_held}
 use Rattle.serve_core.specs.Schedule.{with_lane}
 use Rattle.serve_core.specs.Setup.{steps}
-use Rattle.serve_core.specs.Sound.{IsLeaseOf}
 use Rattle.serve_core.specs.States.{StreamState, did_any}
 use Rattle.serve_core.proofs.AtOnce.{settled_is, test_no, test_yes}
 use Rattle.serve_core.proofs.Desks.{away_set, desk_on}
@@ -33,7 +32,6 @@ use Rattle.serve_core.proofs.Lendings.{unused_less}
 use Rattle.serve_core.proofs.Lifts.{one_lease, stream_here}
 use Rattle.serve_core.proofs.Lists.{slice_get_set_same}
 use Rattle.serve_core.proofs.Options.{and_some, some_and}
-use Rattle.serve_core.proofs.Soundness.{one_item}
 
 mapped : {X Y : Type 0} (f : X → Y) (o : Option X) (y : Y) → option_map f o ≡ Some y → (x : X) × (o ≡ Some x)
 mapped f None y e = absurd (cc)

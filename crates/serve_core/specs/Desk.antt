@@ -56,22 +56,22 @@ abbrev pub settlement : (w bands : ℕ) → Option ℕ → Transcript Blank Blan
 settlement w bands None = bands_settled w bands Returned
 settlement w bands (Some number) = bands_settled w bands (Finished number)
 
--- why a stream that may be there refuses a frame; is_sized: whether it has the stream's size
-abbrev pub lane_refusal : Bool → Option Lane → Option Refusal
-lane_refusal is_sized None = Some refusals.NoStream
-lane_refusal is_sized (Some lane) = arrival_refusal is_sized lane.state
+-- why a stream that may be there refuses a frame of its size
+abbrev pub lane_refusal : Option Lane → Option Refusal
+lane_refusal None = Some refusals.NoStream
+lane_refusal (Some lane) = arrival_refusal true lane.state
 
 -- why an offered job is refused, if it is
 abbrev pub job_refusal : ScheduleValue → (s at : ℕ) → Option Refusal
 job_refusal x s at =
-    if nat_lt (2 ^ 60) at then Some refusals.ClockEnd else lane_refusal true (slice_get x.lanes s)
+    if nat_lt (2 ^ 60) at then Some refusals.ClockEnd else lane_refusal (slice_get x.lanes s)
 
 -- how a stream answers a frame of this geometry, want of memory aside: by a refusal, or by none
 abbrev pub IsArrivalAnswer : ScheduleValue → ℕ → Geometry → Option Refusal → Type 0
 IsArrivalAnswer x s geometry answer =
-    MatchOption (slice_get x.lanes s) (answer ≡ lane_refusal true None) (λ lane.
+    MatchOption (slice_get x.lanes s) (answer ≡ Some refusals.NoStream) (λ lane.
     (is_sized : Bool) × (IsTrue is_sized ↔ (geometry ≡ lane.state.spec.geometry))
-    × (answer ≡ lane_refusal is_sized (Some lane)))
+    × (answer ≡ arrival_refusal is_sized lane.state))
 
 -- and how a desk answers it at a moment
 abbrev pub IsOfferAnswer : ScheduleValue → (s at : ℕ) → Geometry → Option Refusal → Type 0

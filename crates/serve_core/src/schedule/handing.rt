@@ -1,5 +1,5 @@
 //! Jobs that are handed over, and brought back with their bands.
-ghost use Rattle.std.specs.Prelude.{◌≡◌, ◌+◌, ◌<◌, ◌≤◌, ◌^◌, true, Some, None, slice_get};
+ghost use Rattle.std.specs.Prelude.{◌≡◌, ◌+◌, ◌<◌, ◌≤◌, ◌^◌, Some, None, slice_get};
 ghost use Rattle.std.specs.Prelude.{IsSome, IfNone, MatchOption, option_copied};
 ghost use Rattle.std.specs.Option.{option_map};
 ghost use Rattle.cbs_account.specs.Rules.{CanCharge};
@@ -27,7 +27,7 @@ impl Schedule {
 
     /// Why a frame of its size is refused by stream `s`, if it is.
     pub(crate) fn job_refusal(&self, s: u32) -> Option<Refusal>
-        ensures refusal { result ≡ lane_refusal true (slice_get self.now.lanes s) }
+        ensures refusal { result ≡ lane_refusal (slice_get self.now.lanes s) }
         ensures place { IfNone result (HasLane self.now s (λ lane. HasPlace lane.state)) }
     {
         match self.streams.get(s as usize) {

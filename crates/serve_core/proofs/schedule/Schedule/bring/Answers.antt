@@ -1,5 +1,4 @@
 use Rattle.std.proofs.Common.{◌≡◌, ◌∙◌, Some, ap, slice_get, subst, sym}
-use Rattle.serve_core.specs.AtOnce.{worked_at_once}
 use Rattle.serve_core.specs.Desk.{CanBring, brought_by}
 use Rattle.serve_core.specs.Lanes.{IsStarted, Lane, with_leased}
 use Rattle.serve_core.specs.Schedule.{with_lane}

@@ -1,4 +1,4 @@
-use Rattle.std.proofs.Common.{◌∙◌, IsSome, ap, refl, slice_get}
+use Rattle.std.proofs.Common.{◌∙◌, IsSome, ap, slice_get}
 use Rattle.serve_core.specs.Lanes.{Lane}
 use Rattle.serve_core.specs.Schedule.{with_lane}
 use Rattle.serve_core.specs.States.{ready_deadline}
