@@ -118,3 +118,27 @@ fn a_closed_stream_accepts_nothing_though_it_has_room(rt: HostRuntime) -> Result
     ];
     serves(&rt, rt.alloc(), &plan, &script)
 }
+
+/// Both frames are finished before the first image is asked for.
+#[test]
+fn images_come_in_the_order_of_their_frames(rt: HostRuntime) -> Result<(), Fail> {
+    let plan = Plan {
+        workers: 1,
+        quantum: 4,
+        streams: &[PLAIN],
+    };
+    let script = [
+        Asks(Arrive(0, Dot, &[0x00]), Accepted(0)),
+        Asks(Arrive(0, Dot, &[0x01]), Accepted(1)),
+        Asks(Lease(0), Leased(0, 0, 1)),
+        Asks(Band(0), Stepped),
+        Asks(Settle(0), Finished(0)),
+        Asks(Lease(0), Leased(0, 1, 1)),
+        Asks(Band(0), Stepped),
+        Asks(Settle(0), Finished(1)),
+        Asks(Collect(0), Image(LINE, &[0xFF])),
+        Asks(Collect(0), Image(LINE, &[0xFE])),
+        Asks(Collect(0), Refused(Refusal::Empty)),
+    ];
+    serves(&rt, rt.alloc(), &plan, &script)
+}
