@@ -1,4 +1,5 @@
--- The calls of a desk: jobs that are out are with their leases, and bands are charged where these are settled.
+-- The calls of a desk: jobs that are out are with their leases, and a lease's bands are charged where it is
+-- settled.
 use Rattle.std.specs.Prelude.{ℕ, ◌≡◌, ◌≢◌, ◌≤◌, ◌<◌, ◌+◌, ◌-◌, ◌^◌, ◌↔◌, ◌⊎◌, max, nat_lt, Bool, true}
 use Rattle.std.specs.Prelude.{IsTrue, List, replicate, slice_get, Option, Some, None, IsSome, IsSomeAnd}
 use Rattle.std.specs.Prelude.{MatchBool, MatchOption, if◌then◌else◌}

@@ -1,5 +1,5 @@
-//! What follows from the rules alone, whatever program keeps them. Where a law has the clauses `of_frames` and
-//! `bare`, the second is the same law for transcripts without their frames.
+//! What follows from the rules alone, whatever program keeps them. Where a law has the clauses `of_frames`
+//! and `bare`, the second is the same law for transcripts without their frames.
 pub mod charges;
 pub mod choices;
 pub mod delivered;

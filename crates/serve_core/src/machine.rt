@@ -62,7 +62,7 @@ impl Machine {
     }
 
     /// One event. Only an arrival takes memory; where it is refused the frame comes back. Behind each legal
-    /// transcript that led to the machine's state, event and reply are legal again, and lead to the new state.
+    /// transcript that led to the machine's state, event and reply are legal again, and lead to the new one.
     pub fn step(&mut self, alloc: Global, event: Event) -> Reply
         ensures allowed { Allows measures is_image self.old (seen event) (heard result) }
         ensures state { self.new ≡ after self.old (seen event) (heard result) }

@@ -27,7 +27,8 @@ pub fn delay_law()
     bandwidth();
 }
 
-/// What the streams were charged whose deadline is at most a moment is no more than the workers can do by then.
+/// What the streams were charged whose deadline is at most a moment is no more than the workers can do by
+/// then.
 pub fn demand_law()
     ensures of_frames { DemandLaw measures is_image }
     ensures bare { DemandLaw measures_any is_any_image }
@@ -39,8 +40,8 @@ pub fn at_once_law()
     ensures bare { AtOnceLaw measures_any is_any_image }
 {}
 
-/// Bands that are charged one by one, and the settlement behind them, lead to where the sum of their units and
-/// the returned or finished stream lead at once.
+/// Bands that are charged one by one, and the settlement behind them, lead to where the sum of their units
+/// and the returned or finished stream lead at once.
 pub fn settled_law()
     ensures of_frames { SettledLaw measures is_image }
     ensures bare { SettledLaw measures_any is_any_image }
