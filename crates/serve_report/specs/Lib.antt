@@ -5,3 +5,5 @@ pub mod ScriptRun
 pub mod Writing
 pub mod ScriptReplay
 pub mod ScriptDevices
+pub mod SessionWords
+pub mod SessionCommand
