@@ -7,3 +7,4 @@ pub mod ScriptReplay
 pub mod ScriptDevices
 pub mod SessionWords
 pub mod SessionCommand
+pub mod SessionLine
