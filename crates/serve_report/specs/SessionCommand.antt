@@ -60,7 +60,8 @@ stream_by name operations header q t queue outbox = None
 abbrev pub stream_of_parts : List (List ℕ) → Option StreamForm
 stream_of_parts (name ∷ q ∷ t ∷ queue ∷ outbox ∷ operations ∷ header ∷ []) =
     if is_name name && nat_le 1 (length operations)
-    then stream_by name operations header (word_number q) (word_number t) (word_number queue) (word_number outbox)
+    then stream_by name operations header
+    (word_number q) (word_number t) (word_number queue) (word_number outbox)
     else None
 stream_of_parts _ = None
 

@@ -47,7 +47,8 @@ refusal_word refusals.Drained = codes "Drained"
 
 -- `refused N WORD`
 abbrev pub refused_line : Refusal → List ℕ
-refused_line refusal = codes "refused " ++ decimal (refusal_number refusal) ++ codes " " ++ refusal_word refusal
+refused_line refusal =
+    codes "refused " ++ decimal (refusal_number refusal) ++ codes " " ++ refusal_word refusal
 
 -- `leased NAME SEQ grant G`
 abbrev pub leased_line : List ℕ → ℕ → ℕ → List ℕ

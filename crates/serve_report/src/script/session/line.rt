@@ -147,7 +147,8 @@ pub fn push_state(
     account: (u64, u64),
     counts: Counts,
 ) -> Result<(), AllocError>
-    ensures ok { OnOk result (printed.new.items ≡ printed.old.items ++ line_text (state_line account counts)) }
+    ensures ok { OnOk result
+        (printed.new.items ≡ printed.old.items ++ line_text (state_line account counts)) }
     ensures err { OnErr result (printed.new.items ≡ printed.old.items) }
 {
     let kept = printed.len();
@@ -164,7 +165,8 @@ fn push_state_parts(
     account: (u64, u64),
     counts: Counts,
 ) -> Result<(), AllocError>
-    ensures ok { OnOk result (printed.new.items ≡ printed.old.items ++ line_text (state_line account counts)) }
+    ensures ok { OnOk result
+        (printed.new.items ≡ printed.old.items ++ line_text (state_line account counts)) }
     ensures err { OnErr result (take (vec_len printed.old) printed.new.items ≡ printed.old.items) }
 {
     push_account(printed, account)?;
