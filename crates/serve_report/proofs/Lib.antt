@@ -3,3 +3,4 @@ pub mod ScriptRuns
 pub mod ScriptStops
 pub mod Fronts
 pub mod Replays
+pub mod SessionParts

@@ -5,3 +5,6 @@ pub mod ScriptRun
 pub mod Writing
 pub mod ScriptReplay
 pub mod ScriptDevices
+pub mod SessionWords
+pub mod SessionCommand
+pub mod SessionLine

@@ -33,6 +33,7 @@ mod input;
 mod lines;
 mod output;
 mod print;
+pub mod session;
 #[cfg(test)]
 mod tests;
 

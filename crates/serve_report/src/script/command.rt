@@ -82,7 +82,7 @@ fn parse_two(name: &[u8], q: &[u8], t: &[u8]) -> Option<AccountCommand>
 }
 
 /// The number that a word writes: 1 to 19 digits, leading zeros among them.
-fn parse_number(word: &[u8]) -> Option<u64>
+pub fn parse_number(word: &[u8]) -> Option<u64>
     ensures { result ≡ word_number word.now }
 {
     decimal_number(MOST_DIGITS, word)
