@@ -1,0 +1,4 @@
+pub mod Journals
+pub mod Units
+pub mod Rooms
+pub mod Kept

@@ -1,0 +1,15 @@
+//! Whether two chains are the same.
+ghost use Rattle.std.specs.Prelude.{◌≡◌, ◌↔◌, IsTrue};
+
+use lease::JobSpec;
+
+/// Whether the same is done to the frames: the same operations, on frames of the same geometry, in bands of
+/// the same height.
+pub(crate) fn is_same_spec(one: &JobSpec, other: &JobSpec) -> bool
+    ensures { IsTrue result ↔ (one.now ≡ other.now) }
+{
+    let (one, other) = (one.chain(), other.chain());
+    one.ops() == other.ops()
+        && one.geometry() == other.geometry()
+        && one.band_height() == other.band_height()
+}
