@@ -1,7 +1,6 @@
 -- What a book keeps after an accepted call.
 use Rattle.std.proofs.Common.{ℕ, ◌+◌, ◌*◌, ◌^◌, ◌≡◌, ◌≤◌, List, [], ◌∷◌, ◌++◌, length, reverse, Some, slice_get}
 use Rattle.std.proofs.Common.{refl, sym, ◌∙◌, ap, subst, arith}
-use Rattle.std.proofs.lemmas.List.{length-reverse}
 use Rattle.std.specs.Vec.{vec_capacity}
 use Rattle.serve_core.specs.Schedule.{ScheduleValue}
 use Rattle.serve_hub.specs.declared.book.Book.TheInside.{Inside}
@@ -13,6 +12,10 @@ use Rattle.serve_hub.specs.Books.{Appends, BookValue, IsBook, taken}
 use Rattle.serve_hub.specs.Journal.{entry_of}
 use Rattle.serve_hub.proofs.Entered.{IsEntered}
 use Rattle.serve_hub.proofs.Kept.{grown, pushed}
+
+length-push : (xs : List Entry) (e : Entry) → length (xs ++ e ∷ []) ≡ length xs + 1
+length-push [] e = refl
+length-push (x ∷ xs) e = let more = length-push xs e in omega (arith, more)
 
 same_book : (o o' d : ScheduleValue) (p p' : List Entry) (l l' : ℕ) (u : List ℕ) → o ≡ o' → p ≡ p' → l ≡ l'
     → let v : BookValue = record { opening = o; past = p; desk = d; limit = l; units = u } in
@@ -47,8 +50,7 @@ pub kept : (a z : Inside) (seat : Seat) (act : Act) (more : ℕ) → IsKept a �
 kept a z seat act more k p h count few =
     let grows = book_grown a z seat act p in
     let longer : length z.journal.items ≡ length a.journal.items + 1 =
-    sym (length-reverse z.journal.items) ∙ ap length (pushed a.journal.items z.journal.items (entry_of seat act) p.items)
-    ∙ ap (λ (n : ℕ). n + 1) (length-reverse a.journal.items) in
+    ap length p.items ∙ length-push a.journal.items (entry_of seat act) in
     record {
       is_book = subst IsBook (sym grows) h.is_book;
       counted = omega (arith, count, k.counted, h.count, ap taken grows);

@@ -13,11 +13,12 @@ use Rattle.serve_core.specs.Desk.{Answers, IsRecorded, TakesBack, TakesImage, ba
 use Rattle.serve_core.specs.Desk.{settlement}
 use Rattle.serve_core.specs.Grants.{cost_of_first}
 use Rattle.serve_core.specs.Lanes.{Lane}
-use Rattle.serve_core.specs.Schedule.{HasLease, ScheduleValue, finished, returned, stream_by, with_held, with_lane}
+use Rattle.serve_core.specs.Schedule.{HasLane, HasLease, ScheduleValue, finished, returned, stream_by, with_held, with_lane}
 use Rattle.serve_core.specs.Setup.{costs}
 use Rattle.serve_core.specs.Sound.{Sound}
 use Rattle.serve_core.specs.States.{State, held_at}
 use Rattle.serve_core.proofs.Lifts.{stream_here}
+use Rattle.serve_core.proofs.Options.{some_and}
 use Rattle.serve_core.proofs.Lists.{slice_get_set_other, slice_get_set_same}
 use Rattle.serve_core.proofs.Soundness.{one_item}
 use Rattle.serve_core.proofs.Steps.{held_at_is}
@@ -93,12 +94,12 @@ units_added b w k spent n held lane h mine here within cost v m e =
     ]
 
 -- the places, the workers and the charges after a settlement
-record IsLeft (x y : ScheduleValue) (lease : LeaseValue) : Type 0 where
-  places : reserved y + 1 ≡ reserved x
-  workers : length y.workers ≡ length x.workers
-  lane : Lane
-  here : slice_get x.lanes lease.stream ≡ Some lane
-  charges : books.charges y ≡ books.charges x + cost_of_next lease.used lane.state
+pub record IsLeft (x y : ScheduleValue) (lease : LeaseValue) : Type 0 where
+  pub places : reserved y + 1 ≡ reserved x
+  pub workers : length y.workers ≡ length x.workers
+  pub lane : Lane
+  pub here : slice_get x.lanes lease.stream ≡ Some lane
+  pub charges : books.charges y ≡ books.charges x + cost_of_next lease.used lane.state
 
 left_by : (x y : ScheduleValue) (w : ℕ) (lease : LeaseValue) (held : Held) (old new : Lane) → HasLease x w held
     → slice_get x.lanes lease.stream ≡ Some old → new.state.is_closed ≡ old.state.is_closed
@@ -112,7 +113,7 @@ left_by x y w lease held old new mine here closed charged is = record {
   charges = rw is (charged_more x lease.stream (cost_of_next lease.used old.state) old new here charged);
 }
 
-desk_settled : (x y : ScheduleValue) (w : ℕ) (lease : LeaseValue) (n : Option ℕ) (held : Held) → HasLease x w held
+pub desk_settled : (x y : ScheduleValue) (w : ℕ) (lease : LeaseValue) (n : Option ℕ) (held : Held) → HasLease x w held
     → Takes w lease n x y → IsLeft x y lease
 desk_settled x y w lease None held mine takes =
     left_by x y w lease held takes.lane (returned (brought lease takes.lane)) mine takes.here refl refl
@@ -127,13 +128,16 @@ sum_more : (units : List ℕ) (w more : ℕ) → w < length units
 sum_more units w more l =
     let all = sum_by-set (λ (n : ℕ). n) units w (slice_index_or units w 0 + more) 0 l in omega (arith, all)
 
-pub settle_entered : (b : BookValue) (w : ℕ) (lease : LeaseValue) (n : Option ℕ) (held : Held) (lane : Lane)
+pub settle_entered : (b : BookValue) (w : ℕ) (lease : LeaseValue) (n : Option ℕ) (held : Held)
     (desk : ScheduleValue) → IsBook b → HasLease b.desk w held
-    → slice_get b.desk.lanes held.stream ≡ Some lane → IsRecorded lease held lane → held.used ≡ 0
-    → lease.used ≤ lease.granted → Answers b.desk (settlement w lease.used n) desk
-    → Takes w lease n b.desk desk
+    → HasLane b.desk held.stream (IsRecorded lease held) → held.used ≡ 0 → lease.used ≤ lease.granted
+    → Answers b.desk (settlement w lease.used n) desk → Takes w lease n b.desk desk
     → IsEntered b (Worker w) (Settled lease.used (is_some n)) desk (with_units w (spent_of lease) b).units 0
-settle_entered b w lease n held lane desk h mine here is unused within led takes =
+settle_entered b w lease n held desk h mine recorded unused within led takes =
+    let a = some_and (slice_get b.desk.lanes held.stream) _ recorded in
+    let lane = a.0 in
+    let here = a.1 in
+    let is = a.2 in
     let number = finished_number b.desk desk w lease n held h.sound mine is.stream takes in
     let left = desk_settled b.desk desk w lease n held mine takes in
     let act = Settled lease.used (is_some n) in

@@ -37,6 +37,8 @@ pub enum BookError {
 }
 
 impl From<AllocError> for BookError {
+    ghost use Rattle.serve_hub.specs.declared.book.BookError.{BookError};
+
     ghost from_gives = { λ _ e. e ≡ BookError.NoMemory };
 
     fn from(_: AllocError) -> BookError {
