@@ -1,6 +1,7 @@
 //! Whether two chains are the same.
 ghost use Rattle.std.specs.Prelude.{◌≡◌, ◌↔◌, IsTrue};
 
+use filters::Op;
 use lease::JobSpec;
 
 /// Whether the same is done to the frames: the same operations, on frames of the same geometry, in bands of
@@ -9,11 +10,31 @@ pub(crate) fn is_same_spec(one: &JobSpec, other: &JobSpec) -> bool
     ensures { IsTrue result ↔ (one.now ≡ other.now) }
 {
     let (one, other) = (one.chain(), other.chain());
-    if one.ops() != other.ops() {
+    if !are_same_ops(one.ops(), other.ops()) {
         return false;
     }
     if one.geometry() != other.geometry() {
         return false;
     }
     one.band_height() == other.band_height()
+}
+
+fn are_same_ops(one: &[Op], other: &[Op]) -> bool
+    ensures { IsTrue result ↔ (one.now ≡ other.now) }
+{
+    if one.len() != other.len() {
+        return false;
+    }
+    for i in 0..one.len() {
+        if !is_same_op(one[i], other[i]) {
+            return false;
+        }
+    }
+    true
+}
+
+fn is_same_op(one: Op, other: Op) -> bool
+    ensures { IsTrue result ↔ (one ≡ other) }
+{
+    one == other
 }
