@@ -50,7 +50,7 @@ pub used_more : (l : Held) (a b : ℕ) → a ≡ b
 used_more l a b e = cc
 
 module _ {F : Type 0} where
-  next_more : (k : ℕ) (x : StreamState F)
+  pub next_more : (k : ℕ) (x : StreamState F)
       → cost_of_next (suc k) x ≡ cost_of_band (x.done + k) (costs x.spec) + cost_of_next k x
   next_more k x =
       first_more k (drop x.done (costs x.spec))
@@ -88,13 +88,13 @@ module _ {F : Type 0} where
       ∙ set_same m.workers w (Some l) e))
 
   -- the lease and the stream are there
-  lease_at_once : (m : State F) (w k : ℕ) (l : Held) (x : StreamState F)
+  pub lease_at_once : (m : State F) (w k : ℕ) (l : Held) (x : StreamState F)
       → slice_get m.workers w ≡ Some (Some l)
       → slice_get (at_once m w k l x).workers w ≡ Some (Some (with_used k l))
   lease_at_once m w k l x e =
       slice_get_set_same m.workers w (Some (with_used k l)) (slice_get_within m.workers w (Some l) e)
 
-  stream_at_once : (m : State F) (w k : ℕ) (l : Held) (x : StreamState F)
+  pub stream_at_once : (m : State F) (w k : ℕ) (l : Held) (x : StreamState F)
       → slice_get m.streams l.stream ≡ Some x
       → slice_get (at_once m w k l x).streams l.stream ≡ Some (worked_at_once k x)
   stream_at_once m w k l x f =

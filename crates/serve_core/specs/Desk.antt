@@ -17,7 +17,7 @@ use Rattle.serve_core.specs.AtOnce.{bands_settled, cost_of_next, worked_at_once}
 use Rattle.serve_core.specs.Bare.{Blank, measures_any, is_any_image}
 use Rattle.serve_core.specs.Events.{Event, Arrive, Tick, Reply, Accepted, Returned, Finished, Ticked}
 use Rattle.serve_core.specs.Events.{Transcript, Start, Then}
-use Rattle.serve_core.specs.Lanes.{GainsImage, IsFresh, IsStarted, Lane, with_leased}
+use Rattle.serve_core.specs.Lanes.{GainsImage, IsFresh, IsImageOf, IsStarted, Lane, with_leased}
 use Rattle.serve_core.specs.Leads.{Leads}
 use Rattle.serve_core.specs.Rules.{arrival_refusal}
 use Rattle.serve_core.specs.Schedule.{HasLane, ScheduleValue, came, deadlines, finished, lent, returned}
@@ -82,6 +82,10 @@ IsOfferAnswer x s at geometry answer =
 -- the job is fresh, and of stream s, if that is there
 abbrev pub IsFreshFor : ScheduleValue → ℕ → JobValue → Type 0
 IsFreshFor x s job = (lane : Lane) → slice_get x.lanes s ≡ Some lane → IsFresh lane.state.spec.chain job
+
+-- the image is of the size of stream s's images, if that is there
+abbrev pub IsImageFor : ScheduleValue → ℕ → Frame → Type 0
+IsImageFor x s image = (lane : Lane) → slice_get x.lanes s ≡ Some lane → IsImageOf lane.state.spec.chain image
 
 -- at moment at, or at the clock if that is later, stream s takes the job behind all others
 abbrev pub TakesJob : (s at : ℕ) → JobValue → (number : ℕ) → (old new : ScheduleValue) → Type 0

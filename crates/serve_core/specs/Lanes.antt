@@ -1,10 +1,11 @@
 -- A stream as the schedule keeps it: its state, its jobs and its images.
 use Rattle.std.specs.Prelude.{◌≡◌, ◌+◌, ◌<◌, ℕ, ⊤, Bool, true, false, List, [], ◌∷◌, ◌++◌, map, Option, Some}
-use Rattle.std.specs.Prelude.{None, IsFalse, IsSome}
+use Rattle.std.specs.Prelude.{None, IsFalse, IsSome, IsTrue}
 use Rattle.std.specs.Arc.{arc_value}
 use Rattle.std.specs.List.{AllByRecursion}
+use Rattle.frame_view.specs.declared.frame.Frame.{Frame}
 use Rattle.row_bands.specs.declared.canvas.Canvas.{Canvas}
-use Rattle.filters.specs.Chain.{ChainValue}
+use Rattle.filters.specs.Chain.{ChainValue, format_of, last_format}
 use Rattle.filters.specs.ChainImage.{FrameValue, IsChainImage, value_of}
 use Rattle.lease.specs.Canvases.{IsScratch}
 use Rattle.lease.specs.Job.{JobValue}
@@ -91,6 +92,15 @@ pub record HasPlace (x : StreamState FrameValue) : Type 0 where
   pub not_closed : IsFalse x.is_closed
   pub few : x.accepted < x.spec.frames
   pub places : x.accepted < x.finished + x.spec.queue
+
+-- the stream is closed, and all its frames are finished
+pub record IsOver (lane : Lane) : Type 0 where
+  pub closed : IsTrue lane.state.is_closed
+  pub finished : lane.state.finished ≡ lane.state.accepted
+
+-- a frame of the size of the chain's images
+abbrev pub IsImageOf : ChainValue → Frame → Type 0
+IsImageOf chain image = format_of image.geometry ≡ last_format chain.ops (format_of chain.geometry)
 
 -- the images are those that were there, and then that of the job's source
 pub record GainsImage (job : JobValue) (old new : List Collected) : Type 0 where

@@ -1,21 +1,24 @@
 //! The machine for workers that do their bands by themselves.
 ghost use Rattle.std.specs.Prelude.{◌≡◌, ◌≤◌, ◌<◌, ◌^◌, ◌⊎◌, true, max, Some, None, slice_get, option_copied};
-ghost use Rattle.std.specs.Prelude.{IsFalse, IsTrue, IfOk, IfErr, IfSome, IfNone, OnOk, MatchOption};
+ghost use Rattle.std.specs.Prelude.{◌↔◌, All, IsFalse, IsTrue, IsSome, IfOk, IfErr, IfSome, IfNone, OnOk};
+ghost use Rattle.std.specs.Prelude.{MatchOption};
 ghost use Rattle.std.specs.Arc.{arc_value};
 ghost use Rattle.std.specs.Option.{option_map};
 ghost use Rattle.edf_pool.specs.Earliest.{IsEarliest};
+ghost use Rattle.filters.specs.ChainImage.{value_of};
 ghost use Rattle.serve_core.specs.declared.refusal.Refusal.TheVariants as refusals;
 ghost use Rattle.serve_core.specs.Bare.{Blank};
 ghost use Rattle.serve_core.specs.Desk as rules;
 ghost use Rattle.serve_core.specs.Desk.{Answers, IsOfferAnswer, desk_state, one};
 ghost use Rattle.serve_core.specs.Events as events;
-ghost use Rattle.serve_core.specs.Lanes.{HasPlace, IsFresh};
+ghost use Rattle.serve_core.specs.Lanes.{HasPlace, IsFresh, IsOver};
 ghost use Rattle.serve_core.specs.Leads.{opening_state};
 ghost use Rattle.serve_core.specs.Schedule as schedules;
-ghost use Rattle.serve_core.specs.Schedule.{HasLane, account_of, counts_of, with_lane};
+ghost use Rattle.serve_core.specs.Schedule.{HasLane, HasLease, account_of, counts_of, with_lane};
 
 use crate::collected::Collected;
 use crate::counts::Counts;
+use crate::held::Held;
 use crate::refusal::Refusal;
 use crate::schedule::{LAST_MOMENT, Schedule};
 use crate::setup::Setup;
@@ -26,7 +29,7 @@ use std::marker::Model;
 use std::sync::Arc;
 
 /// The machine without the jobs that are out: a lease takes its job away, and its settlement brings it back
-/// with all bands that were done of it. Only `new` and `offer` take memory.
+/// with all bands that were done of it. Only `new`, `offer` and `offer_over` take memory.
 ///
 /// Contracts see the `ScheduleValue` of `specs/Schedule.antt`, and tell of each call which bare events it is.
 #[derive(Drop)]
@@ -124,6 +127,45 @@ impl Desk {
         }
     }
 
+    /// What [`Desk::offer`] does, in the memory of an image that isn't needed any more. It takes memory only for
+    /// the frame's line, and only where the image has another. A refused frame comes back with the image, and
+    /// the clock stays.
+    pub fn offer_over(
+        &mut self,
+        alloc: Global,
+        s: u32,
+        at: u64,
+        frame: Arc<Frame>,
+        image: Frame,
+    ) -> Result<u64, (Refusal, Arc<Frame>, Frame)>
+        requires { rules.IsImageFor self.old s image }
+        ensures events { IfOk result (λ n. Answers self.old (rules.offered self.old.clock s at n) self.new) }
+        ensures answer { OnOk result (IsOfferAnswer self.old s at (arc_value frame).geometry None) }
+        ensures job { IfOk result (λ n. rules.TakesFrame s at (arc_value frame) n self.old self.new) }
+        ensures refused { IfErr result (λ e.
+            rules.RefusesOffer self.old s at (arc_value frame).geometry e.0) }
+        ensures back { IfErr result (λ e. (e.1 ≡ frame) × (value_of e.2 ≡ value_of image)
+            × (self.new ≡ self.old)) }
+    {
+        if let Some(refusal) = self.offer_refusal(s, at, &frame) {
+            return Err((refusal, frame, image));
+        }
+        match self.schedule.job_over(alloc, s, frame, image) {
+            Ok(job) => Ok(self.accept(s, at, job)),
+            Err((frame, image)) => Err((Refusal::NoMemory, frame, image)),
+        }
+    }
+
+    /// What [`Desk::offer_job`] would refuse.
+    pub fn offer_job_refusal(&self, s: u32, at: u64) -> Option<Refusal>
+        ensures { result ≡ rules.job_refusal self.now s at }
+    {
+        if at > LAST_MOMENT {
+            return Some(Refusal::ClockEnd);
+        }
+        self.schedule.job_refusal(s)
+    }
+
     /// What [`Desk::offer`] does, with the frame's job, which was made outside. A refused job comes back, and
     /// the clock stays.
     pub fn offer_job(&mut self, s: u32, at: u64, job: Job) -> Result<u64, (Refusal, Job)>
@@ -174,6 +216,36 @@ impl Desk {
         let held = self.schedule.lease(w)?;
         let job = self.schedule.hand_over(held.stream);
         Ok(Lease::new(job, held.stream, held.number, held.grant))
+    }
+
+    /// What worker `w` holds, or why it has nothing to settle. No band is told of before the settlement.
+    pub fn held(&self, w: u32) -> Result<Held, Refusal>
+        ensures ok { IfOk result (λ held. HasLease self.now w held) }
+        ensures unused { IfOk result (λ held. held.used ≡ 0) }
+        ensures err { IfErr result (λ e. rules.RefusesSettle self.now w e) }
+    {
+        self.schedule.held(w)
+    }
+
+    /// How many bands of the first unfinished frame of stream `s` were settled.
+    pub fn done(&self, s: u32) -> Option<u32>
+        ensures { result ≡ option_map (λ lane. lane.state.done) (slice_get self.now.lanes s) }
+    {
+        self.schedule.done(s)
+    }
+
+    /// Whether stream `s` is there, and a worker has its first unfinished frame.
+    pub fn is_out(&self, s: u32) -> bool
+        ensures { IsTrue result ↔ HasLane self.now s (λ lane. IsSome lane.state.holder) }
+    {
+        self.schedule.is_out(s)
+    }
+
+    /// Whether every stream is closed, with all its frames finished: then there is nothing more to lease.
+    pub fn is_over(&self) -> bool
+        ensures { IsTrue result ↔ All IsOver self.now.lanes }
+    {
+        self.schedule.is_over()
     }
 
     /// Worker `w` gives its lease back, with its job and all bands that were done. Answers the number of the

@@ -5,10 +5,11 @@ ghost use Rattle.std.specs.Prelude.{IfSome, IfNone, OnOk};
 ghost use Rattle.std.specs.Arc.{arc_value};
 ghost use Rattle.std.specs.Option.{option_map};
 ghost use Rattle.edf_pool.specs.Earliest.{IsEarliest};
+ghost use Rattle.filters.specs.ChainImage.{value_of};
 ghost use Rattle.serve_core.specs.declared.refusal.Refusal.TheVariants as refusals;
 ghost use Rattle.serve_core.specs.AtOnce.{with_used};
 ghost use Rattle.serve_core.specs.Desk.{SomeReady};
-ghost use Rattle.serve_core.specs.Lanes.{HasPlace, IsFresh, GainsImage};
+ghost use Rattle.serve_core.specs.Lanes.{HasPlace, IsFresh, IsImageOf, GainsImage};
 ghost use Rattle.serve_core.specs.Schedule as rules;
 ghost use Rattle.serve_core.specs.Schedule.{HasLane, HasLease, account_of, counts_of, with_held, with_lane};
 ghost use Rattle.serve_core.specs.Rules.{arrival_refusal};
@@ -128,6 +129,24 @@ impl Schedule {
         ensures back { IfErr result (λ back. back ≡ frame) }
     {
         self.streams[s as usize].job(alloc, frame)
+    }
+
+    /// A job for a frame of stream `s`, in the memory of an image of it. Both come back where the memory for
+    /// another line is refused.
+    pub(crate) fn job_over(
+        &self,
+        alloc: Global,
+        s: u32,
+        frame: Arc<Frame>,
+        image: Frame,
+    ) -> Result<Job, (Arc<Frame>, Frame)>
+        requires { HasLane self.now s (λ lane. ((arc_value frame).geometry ≡ lane.state.spec.geometry)
+            × IsImageOf lane.state.spec.chain image) }
+        ensures ok { IfOk result (λ job. HasLane self.now s (λ lane. IsFresh lane.state.spec.chain job)) }
+        ensures source { IfOk result (λ job. job.source ≡ arc_value frame) }
+        ensures back { IfErr result (λ back. (back.0 ≡ frame) × (value_of back.1 ≡ value_of image)) }
+    {
+        self.streams[s as usize].job_over(alloc, frame, image)
     }
 
     /// Takes a job behind all others of stream `s`, and answers its number.

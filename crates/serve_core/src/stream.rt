@@ -3,12 +3,13 @@ ghost use Rattle.std.specs.Prelude.{◌≡◌, ◌≤◌, ◌<◌, ◌+◌, ◌-
 ghost use Rattle.std.specs.Prelude.{◌↔◌, ◌≢◌, IsTrue, IsFalse, IsSome, IsSomeAnd, IfOk, IfErr, IfSome};
 ghost use Rattle.std.specs.Prelude.{IfNone, OnOk, OnSome};
 ghost use Rattle.cbs_account.specs.Rules.{CanCharge};
+ghost use Rattle.filters.specs.ChainImage.{value_of};
 ghost use Rattle.filters.specs.Steps.{steps_of};
 ghost use Rattle.lease.specs.Job.{StepsOn};
 ghost use Rattle.serve_core.specs.AtOnce.{cost_of_next, worked_at_once};
 ghost use Rattle.serve_core.specs.Counts.{Came, Worked, Ended, Back, Lent, Shut, Taken};
 ghost use Rattle.serve_core.specs.Lanes.{GainsImage, HasPlace, IsFresh, IsPair, IsStarted, IsWithOne, listed};
-ghost use Rattle.serve_core.specs.Lanes.{opened, source_of, with_leased, source_in};
+ghost use Rattle.serve_core.specs.Lanes.{IsImageOf, IsOver, opened, source_of, with_leased, source_in};
 ghost use Rattle.serve_core.specs.Rules as rules;
 ghost use Rattle.serve_core.specs.Schedule.{counts_of, finished, returned};
 ghost use Rattle.std.specs.Arc.{arc_value};
@@ -24,7 +25,7 @@ use crate::spec::{StreamSpec, is_same};
 use cbs_account::Account;
 use circular_buffer::HeapCircularBuffer;
 use frame_view::{Frame, Geometry};
-use lease::{Job, JobRefused, JobSpec, Lease, Scratch};
+use lease::{Job, JobRefused, JobSpec, Lease, OverRefused, Scratch};
 use std::alloc::{AllocError, Global};
 use std::marker::Model;
 use std::sync::Arc;
@@ -127,6 +128,32 @@ impl Stream {
         match Job::new(alloc, spec, frame) {
             Ok(job) => Ok(job),
             Err(JobRefused::NoMemory(frame) | JobRefused::WrongSize(frame)) => Err(frame),
+        }
+    }
+
+    /// A job for a frame of the stream's size, in the memory of an image of it. Both come back where the memory
+    /// for another line is refused.
+    pub(crate) fn job_over(
+        &self,
+        alloc: Global,
+        frame: Arc<Frame>,
+        image: Frame,
+    ) -> Result<Job, (Arc<Frame>, Frame)>
+        requires size { (arc_value frame).geometry ≡ self.now.state.spec.geometry }
+        requires image { IsImageOf self.now.state.spec.chain image }
+        ensures fresh { IfOk result (IsFresh self.now.state.spec.chain) }
+        ensures source { IfOk result (λ job. job.source ≡ arc_value frame) }
+        ensures back { IfErr result (λ back. (back.0 ≡ frame) × (value_of back.1 ≡ value_of image)) }
+    {
+        let spec = match self.spec.spec.clone() {
+            Ok(spec) => spec,
+            Err(_) => return Err((frame, image)),
+        };
+        match Job::over(alloc, spec, frame, image) {
+            Ok(job) => Ok(job),
+            Err(OverRefused::NoMemory(frame, image) | OverRefused::WrongSize(frame, image)) => {
+                Err((frame, image))
+            }
         }
     }
 
@@ -388,6 +415,27 @@ impl Stream {
         ensures { result ≡ (self.now.state.account.budget, self.now.state.account.deadline) }
     {
         (self.account.budget(), self.account.deadline())
+    }
+
+    /// How many bands of the first unfinished frame are done.
+    pub(crate) fn done(&self) -> u32
+        ensures { result ≡ self.now.state.done }
+    {
+        self.done
+    }
+
+    /// Whether a worker has the first unfinished frame.
+    pub(crate) fn is_out(&self) -> bool
+        ensures { IsTrue result ↔ IsSome self.now.state.holder }
+    {
+        self.holder.is_some()
+    }
+
+    /// Whether no frame will be leased any more: the stream is closed, and all its frames are finished.
+    pub(crate) fn is_over(&self) -> bool
+        ensures { IsTrue result ↔ IsOver self.now }
+    {
+        self.queue.is_closed() && self.queue.accepted() == self.queue.finished()
     }
 
     /// What was counted.

@@ -1,16 +1,17 @@
 //! Jobs that are handed over, and brought back with their bands.
 ghost use Rattle.std.specs.Prelude.{◌≡◌, ◌+◌, ◌<◌, ◌≤◌, ◌^◌, Some, None, slice_get};
-ghost use Rattle.std.specs.Prelude.{IsSome, IfNone, MatchOption, option_copied};
+ghost use Rattle.std.specs.Prelude.{◌↔◌, All, IsTrue, IsSome, IfNone, MatchOption, option_copied};
 ghost use Rattle.std.specs.Option.{option_map};
 ghost use Rattle.cbs_account.specs.Rules.{CanCharge};
 ghost use Rattle.serve_core.specs.declared.refusal.Refusal.TheVariants as refusals;
 ghost use Rattle.serve_core.specs.AtOnce.{cost_of_next};
 ghost use Rattle.serve_core.specs.Desk.{CanBring, brought_by, lane_refusal};
-ghost use Rattle.serve_core.specs.Lanes.{HasPlace, IsStarted, with_leased};
+ghost use Rattle.serve_core.specs.Lanes.{HasPlace, IsOver, IsStarted, with_leased};
 ghost use Rattle.serve_core.specs.Schedule.{HasLane, with_lane};
 
 use super::Schedule;
 use crate::refusal::Refusal;
+use crate::stream::Stream;
 use lease::{Job, JobSpec};
 
 impl Schedule {
@@ -23,6 +24,30 @@ impl Schedule {
             None => None,
             Some(stream) => Some(stream.spec()),
         }
+    }
+
+    /// How many bands of the first unfinished frame of stream `s` are done.
+    pub(crate) fn done(&self, s: u32) -> Option<u32>
+        ensures { result ≡ option_map (λ lane. lane.state.done) (slice_get self.now.lanes s) }
+    {
+        self.streams.get(s as usize).map(|stream| stream.done())
+    }
+
+    /// Whether stream `s` is there, and a worker has its first unfinished frame.
+    pub(crate) fn is_out(&self, s: u32) -> bool
+        ensures { IsTrue result ↔ HasLane self.now s (λ lane. IsSome lane.state.holder) }
+    {
+        match self.streams.get(s as usize) {
+            None => false,
+            Some(stream) => stream.is_out(),
+        }
+    }
+
+    /// Whether no frame of any stream will be leased any more.
+    pub(crate) fn is_over(&self) -> bool
+        ensures { IsTrue result ↔ All IsOver self.now.lanes }
+    {
+        are_over(&self.streams)
     }
 
     /// Why a frame of its size is refused by stream `s`, if it is.
@@ -56,4 +81,15 @@ impl Schedule {
         stream.charge(bands, units);
         stream.hand_back(job);
     }
+}
+
+fn are_over(streams: &[Stream]) -> bool
+    ensures { IsTrue result ↔ All IsOver streams.now }
+{
+    for stream in streams {
+        if !stream.is_over() {
+            return false;
+        }
+    }
+    true
 }

@@ -1,0 +1,14 @@
+use Rattle.std.proofs.Common.{subst}
+use Rattle.serve_core.specs.Desk.{IsFreshFor}
+use Rattle.serve_core.specs.Schedule.{ScheduleValue}
+use Rattle.serve_core.proofs.Offers.{fresh_for}
+use Rattle.serve_core.proofs.desk.Desk.offer_over.Goals as goal
+
+pub returns-in-Ok-clause-job : goal.returns-in-Ok-clause-job
+returns-in-Ok-clause-job c =
+    let fresh = fresh_for c.self.inside.schedule c.args.s c.in-Ok.job c.in-Ok.ensures.ok in (
+      c.in-Ok.job,
+      c.in-Ok.ensures.source,
+      subst (λ (x : ScheduleValue). IsFreshFor x c.args.s c.in-Ok.job) c.self.view_is fresh,
+      c.accept.ensures.job,
+    )

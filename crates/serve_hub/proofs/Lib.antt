@@ -1,0 +1,10 @@
+pub mod Journals
+pub mod Units
+pub mod Rooms
+pub mod Kept
+pub mod Entered
+pub mod Settling
+pub mod Inside
+pub mod Bands
+pub mod Opened
+pub mod Chains

@@ -1,0 +1,102 @@
+-- What a book keeps.
+use Rattle.std.specs.Prelude.{ℕ, ◌+◌, ◌-◌, ◌≡◌, ◌≤◌, ◌^◌, List, [], ◌∷◌, length, replicate, slice_get, slice_set}
+use Rattle.std.specs.Prelude.{slice_index_or, sum, sum_by, Option, Some, None, IsSomeAnd, if◌then◌else◌}
+use Rattle.lease.specs.Lease.{LeaseValue}
+use Rattle.serve_core.specs.declared.held.Held.{Held}
+use Rattle.serve_core.specs.Desk.{Answers, IsRecorded, desk_state}
+use Rattle.serve_core.specs.Bare.{Blank}
+use Rattle.serve_core.specs.Events.{Transcript}
+use Rattle.serve_core.specs.Lanes.{Lane}
+use Rattle.serve_core.specs.Schedule.{HasLane, ScheduleValue}
+use Rattle.serve_core.specs.Sound.{Sound}
+use Rattle.serve_core.specs.States.{State}
+use Rattle.serve_hub.specs.declared.entry.Act.{Act}
+use Rattle.serve_hub.specs.declared.entry.Entry.{Entry}
+use Rattle.serve_hub.specs.declared.entry.Seat.{Seat}
+use Rattle.serve_hub.specs.Journal.{IsJournal, entry_of, events_of, transcript_of, units_from}
+
+pub record BookValue : Type 0 where
+  -- the desk as it was when the book was opened
+  pub opening : ScheduleValue
+  -- the journal, the latest entry first
+  pub past : List Entry
+  pub desk : ScheduleValue
+  -- the most entries
+  pub limit : ℕ
+  -- the units of each worker's bands
+  pub units : List ℕ
+
+-- a book without entries, over a desk
+abbrev pub opened_book : ScheduleValue → ℕ → BookValue
+opened_book desk limit = record {
+  opening = desk;
+  past = [];
+  desk = desk;
+  limit = limit;
+  units = replicate (length desk.workers) 0;
+}
+
+-- a limit for a journal of so many streams
+pub record IsLimit (streams limit : ℕ) : Type 0 where
+  pub some : 16 ≤ limit
+  pub most : limit ≤ 2 ^ 20
+  pub closes : streams + 2 ≤ limit
+
+-- the state that a book was opened in
+abbrev pub opening_of : BookValue → State Blank
+opening_of b = desk_state b.opening
+
+abbrev pub book_transcript : BookValue → Transcript Blank Blank
+book_transcript b = transcript_of (opening_of b) b.past
+
+abbrev pub one_out : Option Held → ℕ
+one_out None = 0
+one_out (Some held) = 1
+
+abbrev pub one_open : Lane → ℕ
+one_open lane = if lane.state.is_closed then 0 else 1
+
+-- an entry is reserved for the settlement of each lease out, and for the close of each stream that isn't closed
+abbrev pub reserved : ScheduleValue → ℕ
+reserved desk = sum_by one_out desk.workers + sum_by one_open desk.lanes
+
+abbrev pub taken : BookValue → ℕ
+taken b = length b.past + reserved b.desk
+
+abbrev pub room : BookValue → ℕ
+room b = b.limit - taken b
+
+-- worker w's units are those of its Stepped replies in the journal's transcript
+abbrev pub AreUnits : BookValue → Type 0
+AreUnits b = (w n : ℕ) → slice_get b.units w ≡ Some n → n ≡ units_from (opening_of b) w (book_transcript b)
+
+-- the units that all streams were charged
+abbrev pub charges : ScheduleValue → ℕ
+charges desk = sum_by (λ lane. lane.state.charged) desk.lanes
+
+-- what a book always is
+pub record IsBook (b : BookValue) : Type 0 where
+  pub sound : Sound (desk_state b.desk)
+  pub journal : IsJournal (opening_of b) b.past (desk_state b.desk)
+  pub workers : length b.units ≡ length b.desk.workers
+  pub units : AreUnits b
+  -- all workers' units are what the streams were charged since the book was opened
+  pub charges : sum b.units + charges b.opening ≡ charges b.desk
+  pub fits : taken b ≤ b.limit
+
+-- one entry more, its own: the desk answers its events, and all else stays
+pub record Appends (seat : Seat) (act : Act) (old new : BookValue) : Type 0 where
+  pub book : new ≡ record old { past = entry_of seat act ∷ old.past; desk = new.desk }
+  pub events : Answers old.desk (events_of (desk_state old.desk) seat act) new.desk
+  pub fits : length new.past ≤ new.limit
+
+-- worker w has done bands of so many units more
+abbrev pub with_units : (w units : ℕ) → BookValue → BookValue
+with_units w units b = record b { units = slice_set b.units w (slice_index_or b.units w 0 + units) }
+
+-- worker w holds a lease, and it is this one: of its stream, number and grant, with the chain and the first
+-- band that are recorded for it
+abbrev pub IsOut : BookValue → (w : ℕ) → LeaseValue → Type 0
+IsOut b w lease =
+    IsSomeAnd (slice_get b.desk.workers w) (λ h.
+    IsSomeAnd h (λ held. HasLane b.desk held.stream (IsRecorded lease held)))

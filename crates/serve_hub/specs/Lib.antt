@@ -1,0 +1,4 @@
+pub mod Journal
+pub mod Books
+pub mod BookInside
+pub mod Answers

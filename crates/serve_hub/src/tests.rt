@@ -1,0 +1,155 @@
+//! Books that are called in turn, with the answers that were worked out by hand.
+mod calls;
+mod full;
+mod leases;
+
+use crate::{Book, Refusal, Settled};
+use filters::{Chain, parse_ops};
+use frame_view::{Frame, Geometry};
+use lease::{JobSpec, Lease};
+use row_bands::BandHeight;
+use serve_core::{Refusal as Core, Setup, StreamSpec};
+use std::alloc::Global;
+use std::process::Abort;
+use std::sync::Arc;
+use std::test::Fail;
+use y4m_header::{Chroma, check_frame_line};
+
+/// The line of each frame here, and so of each image.
+const LINE: &[u8] = b"FRAME";
+
+/// What one stream is served with: mono frames of width 1.
+#[derive(Clone, Copy)]
+struct Served<'a> {
+    height: u32,
+    ops: &'a str,
+    rows: u32,
+    account: (u64, u64),
+    queue: u64,
+}
+
+/// A stream of single samples.
+const PLAIN: Served<'static> = Served {
+    height: 1,
+    ops: "invert",
+    rows: 16,
+    account: (1, 4),
+    queue: 16,
+};
+
+fn geometry_of(height: u32) -> Geometry {
+    Geometry {
+        width: 1,
+        height,
+        chroma: Chroma::Mono,
+    }
+}
+
+fn job_spec_of(alloc: Global, served: &Served<'_>) -> Result<Arc<JobSpec>, Fail> {
+    let band_height = BandHeight::new(served.rows).ok_or("no height")?;
+    let ops = parse_ops(alloc, served.ops.as_bytes())?;
+    let chain = Chain::new(alloc, ops, geometry_of(served.height), band_height)?;
+    Ok(Arc::new(alloc, JobSpec::new(chain))?)
+}
+
+fn setup_of(alloc: Global, workers: u64, streams: &[Served<'_>]) -> Result<Setup, Fail> {
+    let mut specs = Vec::new(alloc);
+    for served in streams {
+        let (q, t) = served.account;
+        specs.push(StreamSpec::new(
+            geometry_of(served.height),
+            job_spec_of(alloc, served)?,
+            q,
+            t,
+            served.queue,
+            4,
+            1 << 24,
+        ))?;
+    }
+    Ok(Setup::new(workers, 4, specs)?)
+}
+
+/// A book of one worker and at most 16 entries.
+fn book_of(alloc: Global, streams: &[Served<'_>]) -> Result<Book, Fail> {
+    Ok(Book::new(alloc, setup_of(alloc, 1, streams)?, 16)?)
+}
+
+fn frame_of(alloc: Global, samples: &[u8]) -> Result<Arc<Frame>, Fail> {
+    check_frame_line(LINE)?;
+    let height = samples.len() as u32;
+    if !(1..=16).contains(&height) {
+        return Err("no frame".into());
+    }
+    let frame = Frame::new(
+        geometry_of(height),
+        LINE.to_vec(alloc)?,
+        samples.to_vec(alloc)?,
+    )?;
+    Ok(Arc::new(alloc, frame)?)
+}
+
+/// Offers a frame at moment 0, which may be refused for want of memory alone.
+fn offered(alloc: Global, book: &mut Book, s: u32, samples: &[u8]) -> Result<u64, Fail> {
+    match book.offer(alloc, s, 0, frame_of(alloc, samples)?) {
+        Ok(number) => Ok(number),
+        Err((refusal, _)) => Err(Fail::from(refusal)),
+    }
+}
+
+/// Why worker `w` gets no lease.
+fn lease_refused(book: &mut Book, w: u32) -> Option<Refusal> {
+    match book.lease(w) {
+        Ok(lease) => {
+            let _job = lease.into_job();
+            None
+        }
+        Err(refusal) => Some(refusal),
+    }
+}
+
+/// Why stream `s` gives no image.
+fn collect_refused(book: &mut Book, s: u32) -> Option<Refusal> {
+    match book.collect(s) {
+        Ok(_) => None,
+        Err(refusal) => Some(refusal),
+    }
+}
+
+/// Settles a lease. A refused one ends.
+fn settled(book: &mut Book, w: u32, lease: Lease) -> Result<Settled, Refusal> {
+    match book.settle(w, lease) {
+        Ok(done) => Ok(done),
+        Err((refusal, lease)) => {
+            let _job = lease.into_job();
+            Err(refusal)
+        }
+    }
+}
+
+/// Does bands of a lease.
+fn stepped(lease: Lease, bands: u32) -> Lease {
+    let mut lease = lease;
+    for _ in 0..bands {
+        let _spent = lease.step();
+    }
+    lease
+}
+
+/// The stream, the number and the grant of a lease.
+fn told(lease: &Lease) -> (u32, u64, u32) {
+    (lease.stream(), lease.seq(), lease.granted())
+}
+
+/// Budget, deadline, and how many frames were accepted, finished and collected, and what was charged.
+fn state_of(book: &Book, s: u32) -> Option<[u64; 6]> {
+    let (budget, deadline) = book.account(s)?;
+    let counts = book.counts(s)?;
+    Some([
+        budget,
+        deadline,
+        counts.accepted,
+        counts.finished,
+        counts.collected,
+        counts.charged,
+    ])
+}
