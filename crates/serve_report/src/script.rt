@@ -12,17 +12,18 @@
 //!
 //! Each prints `budget C deadline D`, as the account then stands. The first fault prints `line N: WORD`, and
 //! nothing after it is run.
-ghost use Rattle.std.specs.Prelude.{◌≡◌, IfErr, IfOk, IfSome, IsErrOf, OnOk, true};
+ghost use Rattle.std.specs.Prelude.{◌≡◌, IfSome, IsErrOf, OnOk, true};
 ghost use Rattle.std.specs.Io.KnownBytes.{Keeps};
+ghost use Rattle.std.specs.Option.{option_map};
 ghost use Rattle.std.specs.Result.{result_err};
 ghost use Rattle.serve_report.specs.ScriptDevices.{reads_told, writes_told};
+ghost use Rattle.serve_report.specs.ScriptInside.{IsWritten, Reports, stop_told};
 ghost use Rattle.serve_report.specs.ScriptReplay.{IsReplay, answer_of};
-ghost use Rattle.serve_report.specs.ScriptRun.{Reports};
 
-use self::account::run_account_script;
 use self::fault::{ScriptFault, ScriptStop};
 use self::input::read_front;
 use self::output::write_report;
+use self::run::run_lines;
 use std::alloc::Global;
 use y4m_stream::{Sink, Source};
 
@@ -33,6 +34,7 @@ mod input;
 mod lines;
 mod output;
 mod print;
+mod run;
 pub mod session;
 #[cfg(test)]
 mod tests;
@@ -41,6 +43,12 @@ pub use self::fault::ReplayFault;
 
 /// The longest script, in bytes.
 pub const SCRIPT_LIMIT: usize = 1_048_576;
+
+/// Where a script stops that couldn't be kept.
+const UNKEPT: ScriptStop<'static> = ScriptStop {
+    line: 0,
+    fault: ScriptFault::NoMemory,
+};
 
 /// Runs a script and writes the lines that it prints. It answers whether every line was run: `false` where
 /// the script has a fault, whose line is then the last one.
@@ -78,15 +86,37 @@ fn replay_through<R: Source, W: Sink>(
     ensures writes { W.failures output.new ≡ writes_told result (W.failures output.old) }
     ensures flushed { OnOk result (W.is_flushed output.new ≡ true) }
 {
+    let script = match read_front(alloc, input, SCRIPT_LIMIT + 1) {
+        Ok(script) => script,
+        Err(ReplayFault::NoMemory) => {
+            return tell(output, b"".as_slice(), Some(UNKEPT));
+        }
+        Err(fault) => return Err(fault),
+    };
     let mut printed = Vec::new(alloc);
-    let stop = run_input(alloc, input, &mut printed)?;
-    write_report(output, &printed, stop)?;
+    let stop = run_script(alloc, &script, &mut printed).err();
+    tell(output, &printed, stop)
+}
+
+/// Writes a report: what was printed, and then the line of the stop, if there is one. It answers what a replay
+/// answers then.
+fn tell<W: Sink>(
+    output: &mut W,
+    printed: &[u8],
+    stop: Option<ScriptStop<'_>>,
+) -> Result<bool, ReplayFault>
+    ensures written { IsWritten (W.contents output.old) (W.contents output.new)
+        printed.now (option_map stop_told stop) result }
+    ensures writes { W.failures output.new ≡ writes_told result (W.failures output.old) }
+    ensures flushed { OnOk result (W.is_flushed output.new ≡ true) }
+{
+    write_report(output, printed, stop)?;
     answer_of(stop)
 }
 
 /// What a replay answers once its report is written.
-fn answer_of(stop: Option<ScriptStop>) -> Result<bool, ReplayFault>
-    ensures { result ≡ answer_of stop }
+fn answer_of(stop: Option<ScriptStop<'_>>) -> Result<bool, ReplayFault>
+    ensures { result ≡ answer_of (option_map stop_told stop) }
 {
     match stop {
         None => Ok(true),
@@ -95,29 +125,12 @@ fn answer_of(stop: Option<ScriptStop>) -> Result<bool, ReplayFault>
     }
 }
 
-/// Reads a script and runs it. A script that couldn't be kept stops at line 0.
-fn run_input<R: Source>(
-    alloc: Global,
-    input: &mut R,
-    printed: &mut Vec<u8>,
-) -> Result<Option<ScriptStop>, ReplayFault>
-    ensures reports { IfOk result
-        (λ stop. IfSome (R.remaining input.old) (Reports stop printed.old.items printed.new.items)) }
-    ensures fault { IfErr result (λ fault. fault ≡ ReplayFault.Read) }
-    ensures failures { R.failures input.new ≡ reads_told result (R.failures input.old) }
-{
-    match read_front(alloc, input, SCRIPT_LIMIT + 1) {
-        Ok(script) => Ok(run_script(&script, printed).err()),
-        Err(ReplayFault::NoMemory) => Ok(Some(ScriptStop {
-            line: 0,
-            fault: ScriptFault::NoMemory,
-        })),
-        Err(fault) => Err(fault),
-    }
-}
-
 /// Runs a script's lines up to the first fault, and appends what its commands print.
-fn run_script(script: &[u8], printed: &mut Vec<u8>) -> Result<(), ScriptStop>
+fn run_script<'a>(
+    alloc: Global,
+    script: &'a [u8],
+    printed: &mut Vec<u8>,
+) -> Result<(), ScriptStop<'a>>
     ensures { Reports (result_err result) printed.old.items printed.new.items script.now }
 {
     if script.len() > SCRIPT_LIMIT {
@@ -126,5 +139,5 @@ fn run_script(script: &[u8], printed: &mut Vec<u8>) -> Result<(), ScriptStop>
             fault: ScriptFault::TooLong,
         });
     }
-    run_account_script(script, printed)
+    run_lines(alloc, script, printed)
 }
