@@ -81,9 +81,10 @@ IsArriving geometry count g =
     MatchBool (fills_geometry geometry count) (geometry ≡ Some g) (IsSingleRow count g)
 
 -- the frame of hexadecimal digits that arrives where frames have this geometry
-pub record IsFrameOf (geometry : Option Geometry) (hex : List ℕ) (frame : FrameValue) : Type 0 where
+pub record IsFrameOf (served : Option Geometry) (hex : List ℕ) (frame : FrameValue) : Type 0 where
   pub decoded : decode_of hex ≡ Ok frame.samples
-  pub geometry : IsArriving geometry (length frame.samples) frame.geometry
+  pub narrow : (fills_geometry served (length frame.samples) ≡ true) ⊎ (length frame.samples ≤ 16384)
+  pub geometry : IsArriving served (length frame.samples) frame.geometry
   pub line : frame.line ≡ codes "FRAME"
 
 -- why there is no such frame: its samples are too many for a row, or there is no memory for one that isn't so

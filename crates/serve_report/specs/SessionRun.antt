@@ -50,12 +50,12 @@ pub record IsSingleRow (count : ℕ) (geometry : Geometry) : Type 0 where
   pub chroma : geometry.chroma ≡ Mono
 
 -- the frame of these samples that arrives at a stream: of its geometry where they fill that, else a single row
-pub record IsArrival (stream : Option StreamSpec) (samples : List ℕ) (frame : FrameValue) : Type 0 where
+pub record IsArrival (stream : Option StreamSpec) (sent : List ℕ) (frame : FrameValue) : Type 0 where
   pub geometry :
-      MatchBool (fills stream (length samples)) (IsSomeAnd stream (λ spec. frame.geometry ≡ spec.geometry))
-      (IsSingleRow (length samples) frame.geometry)
+      MatchBool (fills stream (length sent)) (IsSomeAnd stream (λ spec. frame.geometry ≡ spec.geometry))
+      (IsSingleRow (length sent) frame.geometry)
   pub line : frame.line ≡ codes "FRAME"
-  pub samples : frame.samples ≡ samples
+  pub samples : frame.samples ≡ sent
 
 -- samples that fill no frame of the stream, and are too many for a row
 abbrev pub is_too_wide : Option StreamSpec → ℕ → Bool

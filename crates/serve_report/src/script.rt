@@ -106,7 +106,7 @@ fn tell<W: Sink>(
     stop: Option<ScriptStop<'_>>,
 ) -> Result<bool, ReplayFault>
     ensures written { IsWritten (W.contents output.old) (W.contents output.new)
-        printed.now (option_map stop_told stop) result }
+        printed.now (option_map stop_told stop.entry) result }
     ensures writes { W.failures output.new ≡ writes_told result (W.failures output.old) }
     ensures flushed { OnOk result (W.is_flushed output.new ≡ true) }
 {
@@ -116,7 +116,7 @@ fn tell<W: Sink>(
 
 /// What a replay answers once its report is written.
 fn answer_of(stop: Option<ScriptStop<'_>>) -> Result<bool, ReplayFault>
-    ensures { result ≡ answer_of (option_map stop_told stop) }
+    ensures { result ≡ answer_of (option_map stop_told stop.entry) }
 {
     match stop {
         None => Ok(true),

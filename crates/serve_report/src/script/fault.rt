@@ -67,7 +67,7 @@ pub enum ScriptFault<'a> {
 impl<'a> ScriptFault<'a> {
     /// The word that is printed.
     pub fn word(self) -> &'static str
-        ensures { result.now ≡ fault_word (fault_told self) }
+        ensures { result.now ≡ fault_word (fault_told self.entry) }
     {
         match self {
             ScriptFault::BadLine => "BadLine",
@@ -86,7 +86,7 @@ impl<'a> ScriptFault<'a> {
 
     /// The name of the stream whose fault it is, where it is one stream's.
     pub fn name(self) -> Option<&'a [u8]>
-        ensures { option_copied result ≡ fault_name (fault_told self) }
+        ensures { option_copied result ≡ fault_name (fault_told self.entry) }
     {
         match self {
             ScriptFault::BadBandwidthOf(name) => Some(name),

@@ -20,7 +20,7 @@ pub fn write_report<W: Sink>(
     stop: Option<ScriptStop<'_>>,
 ) -> Result<(), ReplayFault>
     ensures text { Writes (W.contents writer.old) (W.contents writer.new)
-        (printed.now ++ stop_text (option_map stop_told stop)) result }
+        (printed.now ++ stop_text (option_map stop_told stop.entry)) result }
     ensures fault { IfErr result (λ fault. fault ≡ ReplayFault.Write) }
     ensures failures { W.failures writer.new ≡ failures_after result (W.failures writer.old) }
     ensures flushed { OnOk result (W.is_flushed writer.new ≡ true) }
@@ -34,7 +34,7 @@ pub fn write_report<W: Sink>(
 /// growth can be told.
 fn put_stop<W: Sink>(writer: &mut W, stop: Option<ScriptStop<'_>>) -> Result<(), ReplayFault>
     ensures text { Writes (W.contents writer.old) (W.contents writer.new)
-        (stop_text (option_map stop_told stop)) result }
+        (stop_text (option_map stop_told stop.entry)) result }
     ensures fault { IfErr result (λ fault. fault ≡ ReplayFault.Write) }
     ensures failures { W.failures writer.new ≡ failures_after result (W.failures writer.old) }
 {
@@ -56,7 +56,7 @@ fn put_stop<W: Sink>(writer: &mut W, stop: Option<ScriptStop<'_>>) -> Result<(),
 /// Writes a space and a name, or nothing where there is none.
 fn put_name<W: Sink>(writer: &mut W, name: Option<&[u8]>) -> Result<(), ReplayFault>
     ensures text { Writes (W.contents writer.old) (W.contents writer.new)
-        (name_text (option_copied name)) result }
+        (name_text (option_copied name.entry)) result }
     ensures fault { IfErr result (λ fault. fault ≡ ReplayFault.Write) }
     ensures failures { W.failures writer.new ≡ failures_after result (W.failures writer.old) }
 {

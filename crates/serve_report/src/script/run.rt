@@ -69,9 +69,9 @@ fn run_line<'a>(
     line: &'a [u8],
     printed: &mut Vec<u8>,
 ) -> Result<Script<'a>, ScriptFault<'a>>
-    ensures ran { IfOk result (λ next. (state : ScriptState) → Stands script state
+    ensures ran { IfOk result (λ next. (state : ScriptState) → Stands script.entry state
         → Answers (CommandGives state line.now) next printed.old.items printed.new.items) }
-    ensures fault { IfErr result (λ fault. (state : ScriptState) → Stands script state
+    ensures fault { IfErr result (λ fault. (state : ScriptState) → Stands script.entry state
         → MayFault (CommandGives state line.now) (fault_told fault)) }
     ensures kept { OnErr result (printed.new.items ≡ printed.old.items) }
 {
@@ -111,9 +111,9 @@ fn run_setup_line<'a>(
     printed: &mut Vec<u8>,
 ) -> Result<Script<'a>, ScriptFault<'a>>
     ensures ran { IfOk result (λ next.
-        Answers (SetupLineGives preparation line.now) next printed.old.items printed.new.items) }
+        Answers (SetupLineGives preparation.entry line.now) next printed.old.items printed.new.items) }
     ensures fault { IfErr result (λ fault.
-        MayFault (SetupLineGives preparation line.now) (fault_told fault)) }
+        MayFault (SetupLineGives preparation.entry line.now) (fault_told fault)) }
     ensures kept { OnErr result (printed.new.items ≡ printed.old.items) }
 {
     match parse_setup(line).ok_or(ScriptFault::BadLine)? {
@@ -140,7 +140,7 @@ fn settled<'a>(
     preparation: Preparation<'a>,
     printed: &mut Vec<u8>,
 ) -> Result<Script<'a>, ScriptFault<'a>>
-    ensures script { IfOk result (λ next. next ≡ Script.Preparation preparation) }
+    ensures script { IfOk result (λ next. next ≡ Script.Preparation preparation.entry) }
     ensures printed { OnOk result (printed.new.items ≡ printed.old.items ++ line_text (codes "ok")) }
     ensures fault { IfErr result (λ fault. fault ≡ ScriptFault.NoMemory) }
     ensures kept { OnErr result (printed.new.items ≡ printed.old.items) }

@@ -81,7 +81,7 @@ impl<'a> Preparation<'a> {
     }
 
     pub fn with_workers(self, count: u64) -> Preparation<'a>
-        ensures { result ≡ record self { workers = count } }
+        ensures { result ≡ record self.entry { workers = count } }
     {
         let mut next = self;
         next.workers = count;
@@ -89,7 +89,7 @@ impl<'a> Preparation<'a> {
     }
 
     pub fn with_quantum(self, bands: u64) -> Preparation<'a>
-        ensures { result ≡ record self { quantum = bands } }
+        ensures { result ≡ record self.entry { quantum = bands } }
     {
         let mut next = self;
         next.quantum = bands;
@@ -97,7 +97,7 @@ impl<'a> Preparation<'a> {
     }
 
     pub fn with_frames(self, most: u64) -> Preparation<'a>
-        ensures { result ≡ record self { frames = most } }
+        ensures { result ≡ record self.entry { frames = most } }
     {
         let mut next = self;
         next.frames = most;
@@ -106,8 +106,8 @@ impl<'a> Preparation<'a> {
 
     /// Bands of so many rows, for the streams that follow.
     pub fn with_band(self, rows: u64) -> Result<Preparation<'a>, ScriptFault<'a>>
-        ensures ok { IfOk result (λ next. BandGives self rows (settled next)) }
-        ensures fault { IfErr result (λ fault. MayFault (BandGives self rows) (fault_told fault)) }
+        ensures ok { IfOk result (λ next. BandGives self.entry rows (settled next)) }
+        ensures fault { IfErr result (λ fault. MayFault (BandGives self.entry rows) (fault_told fault)) }
     {
         if rows > MOST_ROWS {
             return Err(ScriptFault::BadLimits);
@@ -127,10 +127,10 @@ impl<'a> Preparation<'a> {
         alloc: Global,
         stream: StreamCommand<'a>,
     ) -> Result<Preparation<'a>, ScriptFault<'a>>
-        ensures ok { IfOk result (λ next. StreamGives self (stream_told stream)
-            (Prints (stream_line (length self.streams)) (InSetup next))) }
+        ensures ok { IfOk result (λ next. StreamGives self.entry (stream_told stream.entry)
+            (Prints (stream_line (length self.entry.streams)) (InSetup next))) }
         ensures fault { IfErr result
-            (λ fault. MayFault (StreamGives self (stream_told stream)) (fault_told fault)) }
+            (λ fault. MayFault (StreamGives self.entry (stream_told stream.entry)) (fault_told fault)) }
     {
         if self.streams.has(stream.name) {
             return Err(ScriptFault::BadName);
@@ -163,9 +163,9 @@ impl<'a> Preparation<'a> {
         alloc: Global,
         stream: StreamCommand<'a>,
     ) -> Result<StreamSpec, ScriptFault<'a>>
-        ensures ok { IfOk result (λ spec. AsksFor self.now (stream_told stream) (Ok spec)) }
+        ensures ok { IfOk result (λ spec. AsksFor self.now (stream_told stream.entry) (Ok spec)) }
         ensures fault { IfErr result
-            (λ fault. MayLack (AsksFor self.now (stream_told stream)) (fault_told fault)) }
+            (λ fault. MayLack (AsksFor self.now (stream_told stream.entry)) (fault_told fault)) }
     {
         let height = BandHeight::new(self.rows).ok_or(ScriptFault::BadLimits)?;
         let ops = parse_ops(alloc, stream.operations)?;
@@ -186,9 +186,9 @@ impl<'a> Preparation<'a> {
 
     /// The session of this setup, before any event.
     pub fn start(self, alloc: Global) -> Result<Session<'a>, ScriptFault<'a>>
-        ensures ok { IfOk result (λ kept. StartGives self (started self)) }
-        ensures kept { IfOk result (λ kept. IsAt kept (begun self)) }
-        ensures fault { IfErr result (λ fault. MayFault (StartGives self) (fault_told fault)) }
+        ensures ok { IfOk result (λ kept. StartGives self.entry (started self.entry)) }
+        ensures kept { IfOk result (λ kept. IsAt kept (begun self.entry)) }
+        ensures fault { IfErr result (λ fault. MayFault (StartGives self.entry) (fault_told fault)) }
     {
         let Preparation {
             streams,

@@ -43,7 +43,7 @@ impl<'a> Session<'a> {
     /// A session before any event.
     pub fn new(alloc: Global, streams: StreamTable<'a>, setup: Setup) -> Result<Session<'a>, AllocError>
         requires { length streams.names ≡ length setup.streams }
-        ensures streams { IfOk result (λ session. session.streams ≡ streams) }
+        ensures streams { IfOk result (λ session. session.streams ≡ streams.entry) }
         ensures machine { IfOk result (λ session.
             session.machine ≡ opening_state FrameValue FrameValue setup) }
     {
@@ -61,9 +61,9 @@ impl<'a> Session<'a> {
     ) -> Result<(), ScriptFault<'a>>
         requires { HasHex (run_told command) }
         ensures ran { OnOk result ((session : Begun) → IsAt self.old session
-            → AnswersIn (RunGives session (run_told command)) self.new printed.old.items printed.new.items) }
+            → AnswersIn (RunGives session (run_told command.entry)) self.new printed.old.items printed.new.items) }
         ensures fault { IfErr result (λ fault. (session : Begun) → IsAt self.old session
-            → MayFault (RunGives session (run_told command)) (fault_told fault)) }
+            → MayFault (RunGives session (run_told command.entry)) (fault_told fault)) }
         ensures kept { OnErr result (printed.new.items ≡ printed.old.items) }
     {
         let event = match command {

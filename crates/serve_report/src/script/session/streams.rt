@@ -84,7 +84,7 @@ impl<'a> StreamTable<'a> {
     /// One stream more.
     pub fn with(self, name: &'a [u8], geometry: Geometry) -> Result<StreamTable<'a>, AllocError>
         requires { is_taken name.now self.names ≡ false }
-        ensures { IfOk result (λ next. next ≡ with_named name.now geometry self) }
+        ensures { IfOk result (λ next. next ≡ with_named name.now geometry self.entry) }
     {
         let mut entries = self.entries;
         match entries.insert(name, geometry) {
