@@ -1,3 +1,9 @@
 pub mod ScriptParts
+pub mod AccountLines
+pub mod ScriptSteps
+pub mod SetupSteps
+pub mod LineRuns
 pub mod Fronts
+pub mod StopLines
+pub mod Replays
 pub mod SessionParts
