@@ -39,9 +39,15 @@ LeadTo-append [] more answers later state middle end first second =
     (subst (λ (from : ScriptState). LeadTo from more later end) (sym first.1) second)
 LeadTo-append (line ∷ lines) more answers later state middle end (Silent, gives, printed) second =
     (Silent, gives, LeadTo-append lines more answers later state middle end printed second)
-LeadTo-append (line ∷ lines) more answers later state middle end (Prints answer next, gives, (rest, split, printed)) second =
-    (Prints answer next, gives, (rest ++ later, ap (λ (all : List (List ℕ)). all ++ later) split,
-        LeadTo-append lines more rest later next middle end printed second))
+LeadTo-append (line ∷ lines) more answers later state middle end (Prints answer next, gives, (rest, split, printed)) second = (
+  Prints answer next,
+  gives,
+  (
+    rest ++ later,
+    ap (λ (all : List (List ℕ)). all ++ later) split,
+    LeadTo-append lines more rest later next middle end printed second,
+  ),
+)
 LeadTo-append (line ∷ lines) more answers later state middle end (Faults fault, gives, printed) second = absurd printed
 
 -- one more line does nothing
@@ -88,9 +94,10 @@ lines_before all lines answers line more end number fault split at ran command m
   ran =
       subst (λ (front : List (List ℕ)). LeadTo Fresh front answers end)
       (sym (ap (take (length lines)) split ∙ take-append_seam lines (line ∷ more))) ran;
-  stop =
-      (at,
-          subst (λ (found : Option (List ℕ)). IsSomeAnd found (λ first. MayFault (Gives end first) fault))
-          (sym (ap (λ (lines_all : List (List ℕ)). slice_get lines_all (length lines)) split ∙ at_seam lines line more))
-          (subst (λ (is : Bool). MayFault (λ given. MatchBool is (given ≡ Silent) (CommandGives end line given)) fault) (sym command) may));
+  stop = (
+    at,
+    subst (λ (found : Option (List ℕ)). IsSomeAnd found (λ first. MayFault (Gives end first) fault))
+        (sym (ap (λ (lines_all : List (List ℕ)). slice_get lines_all (length lines)) split ∙ at_seam lines line more))
+        (subst (λ (is : Bool). MayFault (λ given. MatchBool is (given ≡ Silent) (CommandGives end line given)) fault) (sym command) may),
+  );
 }

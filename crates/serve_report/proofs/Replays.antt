@@ -3,7 +3,6 @@ use Rattle.std.proofs.Common.{◌≡◌, ℕ, ◌<◌, ◌≤◌, ◌⊎◌, inl
 use Rattle.std.proofs.lemmas.List.{append_assoc, append-nil}
 use Rattle.std.specs.Io.KnownBytes.{Appends, Consumes, IsAtEnd}
 use Rattle.std.specs.Option.{option_map}
-use Rattle.serve_report.specs.ScriptDevices.{reads_told}
 use Rattle.serve_report.specs.ScriptFault as faults
 use Rattle.serve_report.specs.ScriptFault.{Fault}
 use Rattle.serve_report.specs.ScriptInside.{IsWritten, Reports, stop_told}
@@ -21,25 +20,6 @@ no_read_at fault e = absurd cc
 no_read : (stop : Option Stop) → Err Read ≡ answer_of stop → ⊥
 no_read None e = absurd cc
 no_read (Some stop) e = no_read_at stop.fault e
-
--- nor is it the answer where a report was written, or a front of it
-pub told_no_read : (old new : Option (List ℕ)) (printed : List ℕ) (stop : Option Stop) (answer : Result Bool ReplayFault) (n : ℕ)
-    → IsWritten old new printed stop answer → reads_told answer n ≡ n
-told_no_read old new printed stop (Err Read) n wrote = absurd (no_read stop wrote.1)
-told_no_read old new printed stop (Err Write) n wrote = refl
-told_no_read old new printed stop (Err NoMemory) n wrote = refl
-told_no_read old new printed stop (Ok ran) n wrote = refl
-
-told_at : (old new : Option (List ℕ)) (printed : List ℕ) (line : ℕ) (fault : Fault) → let stop : Option Stop = Some (record { line = line; fault = fault }) in
-    Appends old new (printed ++ stop_text stop) → IsWritten old new printed stop (answer_at fault)
-told_at old new printed line faults.NoMemory wrote = (wrote, refl)
-told_at old new printed line fault wrote = (wrote, refl)
-
--- what was written whole is told by its stop
-pub told : (old new : Option (List ℕ)) (printed : List ℕ) (stop : Option Stop) → Appends old new (printed ++ stop_text stop)
-    → IsWritten old new printed stop (answer_of stop)
-told old new printed None wrote = (wrote, refl)
-told old new printed (Some stop) wrote = told_at old new printed stop.line stop.fault wrote
 
 -- a report that was written is told by its stop
 replayed : (script : List ℕ) (report : Report) (old new : Option (List ℕ)) (printed : List ℕ) (answer : Result Bool ReplayFault)
@@ -72,8 +52,9 @@ replayed_input (Some text) (Some rest) script printed stop old new answer consum
     (ap (λ (front : List ℕ). front ++ stop_text (option_map stop_told stop)) reports.printed) wrote
 
 -- a script that couldn't be kept
-pub replayed_unkept : (input : Option (List ℕ)) (old new : Option (List ℕ)) (answer : Result Bool ReplayFault)
-    → IsWritten old new [] (Some (record { line = 0; fault = faults.NoMemory })) answer → IfSome input (λ whole. IsReplay whole old new answer)
-replayed_unkept None old new answer wrote = tt
-replayed_unkept (Some text) old new answer wrote =
-    replayed text (report_of [] (Some (record { line = 0; fault = faults.NoMemory }))) old new [] answer (inl (inr refl)) refl wrote
+pub replayed_unkept : (input old new : Option (List ℕ)) (printed : List ℕ) (answer : Result Bool ReplayFault) → printed ≡ []
+    → IsWritten old new printed (Some (record { line = 0; fault = faults.NoMemory })) answer → IfSome input (λ whole. IsReplay whole old new answer)
+replayed_unkept None old new printed answer none wrote = tt
+replayed_unkept (Some text) old new printed answer none wrote =
+    let stop : Option Stop = Some (record { line = 0; fault = faults.NoMemory }) in
+    replayed text (report_of [] stop) old new printed answer (inl (inr refl)) (ap (λ (front : List ℕ). front ++ stop_text stop) none) wrote

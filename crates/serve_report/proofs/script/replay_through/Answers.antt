@@ -6,7 +6,16 @@ use Rattle.serve_report.proofs.Replays.{replayed_input, replayed_unkept}
 use Rattle.serve_report.proofs.script.replay_through.Goals as goal
 
 pub returns-in-Err-NoMemory-clause-replay : goal.returns-in-Err-NoMemory-clause-replay
-returns-in-Err-NoMemory-clause-replay g c = let h = c.tell.ensures in ?
+returns-in-Err-NoMemory-clause-replay g c =
+    replayed_unkept (g.R.Source.remaining c.args.input.now) _ _ _ c.tell.result c.as_slice.ensures c.tell.ensures.written
 
 pub returns-clause-replay : goal.returns-clause-replay
-returns-clause-replay g c = ?
+returns-clause-replay g c =
+    let script = c.in-Ok.script.items in
+    let printed = c.run_script.new.printed.items in
+    let stop = c.err-stop.result in
+    let consumed : Consumes (g.R.Source.remaining c.args.input.now) (g.R.Source.remaining c.read_front.new.input) script = search rules in
+    let at_end : length script < 1048577 → IsAtEnd (g.R.Source.remaining c.read_front.new.input) = search rules in
+    let reports : Reports stop [] printed script = search rules in
+    let wrote : IsWritten (g.W.Sink.contents c.args.output.now) (g.W.Sink.contents c.tell-2.new.output) printed (option_map stop_told stop) c.tell-2.result = search rules in
+    replayed_input _ _ script printed stop _ _ c.tell-2.result consumed at_end reports wrote

@@ -14,24 +14,24 @@ pub returns-in_err-run_account_line-in-Fresh-clause-fault :
 returns-in_err-run_account_line-in-Fresh-clause-fault c =
     let opens : begins_account c.args.line.now ≡ true = search rules in
     err_then c.from_residual.result c.from_residual.ensures.1 (λ fault same state stands. (
-      subst (λ own. MayFault (CommandGives state c.args.line.now) (fault_told own)) (sym same)
-      (first_may_fault state c.args.line.now _ (subst (λ script. Stands script state) c.in-Fresh.is stands) opens c.in_err-run_account_line-in-Fresh.ensures.fault)
+    subst (λ own. MayFault (CommandGives state c.args.line.now) (fault_told own)) (sym same)
+    (first_may_fault state c.args.line.now _ (subst (λ script. Stands script state) c.in-Fresh.is stands) opens c.in_err-run_account_line-in-Fresh.ensures.fault)
     ))
 
 pub returns-in_err-run_account_line-in-Account-clause-fault :
     goal.returns-in_err-run_account_line-in-Account-clause-fault
 returns-in_err-run_account_line-in-Account-clause-fault c =
     err_then c.from_residual-in_err-run_account_line-in-Account.result c.from_residual-in_err-run_account_line-in-Account.ensures.1 (λ fault same state stands. (
-      subst (λ own. MayFault (CommandGives state c.args.line.now) (fault_told own)) (sym same)
-      (account_line_may_fault c.in-Account.account state c.args.line.now _ (subst (λ script. Stands script state) c.in-Account.is stands) c.in_err-run_account_line-in-Account.ensures.fault)
+    subst (λ own. MayFault (CommandGives state c.args.line.now) (fault_told own)) (sym same)
+    (account_line_may_fault c.in-Account.account state c.args.line.now _ (subst (λ script. Stands script state) c.in-Account.is stands) c.in_err-run_account_line-in-Account.ensures.fault)
     ))
 
 pub returns-in_err-run-in-Session-clause-fault : goal.returns-in_err-run-in-Session-clause-fault
 returns-in_err-run-in-Session-clause-fault c =
     let is : run_of c.args.line.now ≡ Some (run_told c.in_ok-command-in-Session.command) = search rules in
     err_then c.from_residual-in_err-run-in-Session.result c.from_residual-in_err-run-in-Session.ensures.1 (λ fault same state stands. (
-      subst (λ own. MayFault (CommandGives state c.args.line.now) (fault_told own)) (sym same)
-      (run_may_fault c.in-Session.session state c.args.line.now _ _ (subst (λ script. Stands script state) c.in-Session.is stands) is c.in_err-run-in-Session.ensures.fault)
+    subst (λ own. MayFault (CommandGives state c.args.line.now) (fault_told own)) (sym same)
+    (run_may_fault c.in-Session.session state c.args.line.now _ _ (subst (λ script. Stands script state) c.in-Session.is stands) is c.in_err-run-in-Session.ensures.fault)
     ))
 
 pub returns-in_ok-run_account_line-in-Fresh-clause-ran :

@@ -16,8 +16,8 @@ returns-in_err-push_stream-in-Stream-clause-fault c =
     let is : setup_of c.args.line.now ≡ Some form = search rules in
     let unkept = stream_unkept c.args.preparation (stream_told c.in-Stream.stream) _ _ c.in_ok-next-in-Stream.ensures.ok in
     err_then c.from_residual-in_err-push_stream-in-Stream.result c.from_residual-in_err-push_stream-in-Stream.ensures.1 (λ fault none. (
-      subst (λ own. MayFault (SetupLineGives c.args.preparation c.args.line.now) own) (sym none)
-      (setup_may_fault c.args.preparation c.args.line.now form faults.NoMemory is unkept)
+    subst (λ own. MayFault (SetupLineGives c.args.preparation c.args.line.now) own) (sym none)
+    (setup_may_fault c.args.preparation c.args.line.now form faults.NoMemory is unkept)
     ))
 
 pub returns-in_err-push_line-in-Start-clause-fault :
@@ -26,8 +26,8 @@ returns-in_err-push_line-in-Start-clause-fault c =
     let is : setup_of c.args.line.now ≡ Some Start = search rules in
     let unkept = start_unkept c.args.preparation c.in_ok-session-in-Start.ensures.ok in
     err_then c.from_residual-in_err-push_line-in-Start.result c.from_residual-in_err-push_line-in-Start.ensures.1 (λ fault none. (
-      subst (λ own. MayFault (SetupLineGives c.args.preparation c.args.line.now) own) (sym none)
-      (setup_may_fault c.args.preparation c.args.line.now Start faults.NoMemory is unkept)
+    subst (λ own. MayFault (SetupLineGives c.args.preparation c.args.line.now) own) (sym none)
+    (setup_may_fault c.args.preparation c.args.line.now Start faults.NoMemory is unkept)
     ))
 
 pub returns-in-Workers-clause-ran : goal.returns-in-Workers-clause-ran
