@@ -1,3 +1,5 @@
 pub mod ScriptParts
 pub mod Fronts
 pub mod SessionParts
+pub mod Arrivals
+pub mod Sessions
