@@ -7,3 +7,5 @@ pub mod Fronts
 pub mod StopLines
 pub mod Replays
 pub mod SessionParts
+pub mod Arrivals
+pub mod Sessions
