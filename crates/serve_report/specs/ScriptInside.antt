@@ -10,7 +10,7 @@ use Rattle.serve_report.specs.ScriptCommand.{command_of}
 use Rattle.serve_report.specs.ScriptFault as faults
 use Rattle.serve_report.specs.ScriptFault.{Fault, fault_told}
 use Rattle.serve_report.specs.ScriptReplay.{answer_of}
-use Rattle.serve_report.specs.ScriptReport.{Report, Stop, IsReport, line_text, stop_text, text_of_lines}
+use Rattle.serve_report.specs.ScriptReport.{Report, Stop, line_text, report_of, stop_text, text_of_lines}
 use Rattle.serve_report.specs.ScriptState.{Given, Prints, Preparation, ScriptState, Session}
 use Rattle.serve_report.specs.ScriptState.{Fresh, OnAccount, InSetup, InSession}
 use Rattle.serve_report.specs.declared.script.command.AccountCommand.{AccountCommand}
@@ -60,11 +60,11 @@ pub record Answers (Gives : Given → Type 0) (kept : Script) (before after : Li
   pub stands : Stands kept next
   pub printed : after ≡ before ++ line_text answer
 
--- a run has printed the answers of a report that the script may have, and this is its stop
-pub record Reports (stop : Option ScriptStop) (before after script : List ℕ) : Type 0 where
+-- a run has printed the answers of such a report, and this is its stop
+pub record Reports (IsSuch : Report → Type 0) (stop : Option ScriptStop) (before after : List ℕ) : Type 0 where
   pub answers : List (List ℕ)
   pub printed : after ≡ before ++ text_of_lines answers
-  pub report : IsReport script (record { answers = answers; stop = option_map stop_told stop })
+  pub report : IsSuch (report_of answers (option_map stop_told stop))
 
 -- a report of this text and this stop was written, and the answer is the report's; or a front of it was
 abbrev pub IsWritten :

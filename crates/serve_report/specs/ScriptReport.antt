@@ -62,11 +62,9 @@ pub record Report : Type 0 where
 abbrev pub report_of : List (List ℕ) → Option Stop → Report
 report_of answers stop = record { answers = answers; stop = stop }
 
--- nothing was run: the script is longer than 1,048,576 bytes, or there is no memory to keep it
-abbrev pub IsUnread : List ℕ → Report → Type 0
-IsUnread script report =
-    ((1048576 < length script) × (report ≡ report_of [] (Some (record { line = 0; fault = faults.TooLong }))))
-    ⊎ (report ≡ report_of [] (Some (record { line = 0; fault = faults.NoMemory })))
+-- a stop for the script as a whole: nothing was run
+abbrev pub stopped_whole : Fault → Report
+stopped_whole fault = report_of [] (Some (record { line = 0; fault = fault }))
 
 -- all lines are run, or those before the first fault, or before the first want of memory
 pub record IsOfLines (lines : List (List ℕ)) (report : Report) : Type 0 where
@@ -77,10 +75,16 @@ pub record IsOfLines (lines : List (List ℕ)) (report : Report) : Type 0 where
       (stop.line ≡ count + 1)
       × IsSomeAnd (slice_get lines count) (λ line. MayFault (Gives state line) stop.fault))
 
--- a report that a script may have
+-- the report of a script that could be kept: one longer than 1,048,576 bytes isn't run
+abbrev pub IsKeptReport : List ℕ → Report → Type 0
+IsKeptReport script report =
+    ((length script ≤ 1048576) × IsOfLines (script_lines script) report)
+    ⊎ ((1048576 < length script) × (report ≡ stopped_whole faults.TooLong))
+
+-- a report that a script may have: its own, or there is no memory to keep the script
 abbrev pub IsReport : List ℕ → Report → Type 0
 IsReport script report =
-    IsUnread script report ⊎ ((length script ≤ 1048576) × IsOfLines (script_lines script) report)
+    IsKeptReport script report ⊎ ((0 < length script) × (report ≡ stopped_whole faults.NoMemory))
 
 -- a line as it is written
 abbrev pub line_text : List ℕ → List ℕ

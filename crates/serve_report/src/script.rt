@@ -16,9 +16,10 @@ ghost use Rattle.std.specs.Prelude.{◌≡◌, IfSome, IsErrOf, OnOk, true};
 ghost use Rattle.std.specs.Io.KnownBytes.{Keeps};
 ghost use Rattle.std.specs.Option.{option_map};
 ghost use Rattle.std.specs.Result.{result_err};
-ghost use Rattle.serve_report.specs.ScriptDevices.{reads_told, writes_told};
+ghost use Rattle.serve_report.specs.ScriptDevices.{OnTold, TakesScript, reads_told, writes_told};
 ghost use Rattle.serve_report.specs.ScriptInside.{IsWritten, Reports, stop_told};
 ghost use Rattle.serve_report.specs.ScriptReplay.{IsReplay, answer_of};
+ghost use Rattle.serve_report.specs.ScriptReport.{IsKeptReport};
 
 use self::fault::{ScriptFault, ScriptStop};
 use self::input::read_front;
@@ -64,9 +65,10 @@ pub fn replay<R: Source + Drop, W: Sink>(
     ensures unread { IsErrOf result.1 ReplayFault.Read → Keeps (W.contents output) (W.contents result.0) }
 
     // As the source was when it was given up.
-    ensures reads { (last : R) × (R.failures last ≡ reads_told result.1 (R.failures input)) }
+    ensures reads { (last : R) × (R.failures last ≡ reads_told result.1 (R.failures input))
+        × OnOk result.1 (TakesScript (R.remaining input) (R.remaining last)) }
     ensures writes { W.failures result.0 ≡ writes_told result.1 (W.failures output) }
-    ensures flushed { OnOk result.1 (W.is_flushed result.0 ≡ true) }
+    ensures flushed { OnTold result.1 (W.is_flushed result.0 ≡ true) }
 {
     let answer = replay_through(alloc, &mut input, &mut output);
     (output, answer)
@@ -83,8 +85,9 @@ fn replay_through<R: Source, W: Sink>(
     ensures unread { IsErrOf result ReplayFault.Read → Keeps (W.contents output.old) (W.contents output.new) }
 
     ensures reads { R.failures input.new ≡ reads_told result (R.failures input.old) }
+    ensures taken { OnOk result (TakesScript (R.remaining input.old) (R.remaining input.new)) }
     ensures writes { W.failures output.new ≡ writes_told result (W.failures output.old) }
-    ensures flushed { OnOk result (W.is_flushed output.new ≡ true) }
+    ensures flushed { OnTold result (W.is_flushed output.new ≡ true) }
 {
     let script = match read_front(alloc, input, SCRIPT_LIMIT + 1) {
         Ok(script) => script,
@@ -108,7 +111,7 @@ fn tell<W: Sink>(
     ensures written { IsWritten (W.contents output.old) (W.contents output.new)
         printed.now (option_map stop_told stop.entry) result }
     ensures writes { W.failures output.new ≡ writes_told result (W.failures output.old) }
-    ensures flushed { OnOk result (W.is_flushed output.new ≡ true) }
+    ensures flushed { OnTold result (W.is_flushed output.new ≡ true) }
 {
     write_report(output, printed, stop)?;
     answer_of(stop)
@@ -131,7 +134,7 @@ fn run_script<'a>(
     script: &'a [u8],
     printed: &mut Vec<u8>,
 ) -> Result<(), ScriptStop<'a>>
-    ensures { Reports (result_err result) printed.old.items printed.new.items script.now }
+    ensures { Reports (IsKeptReport script.now) (result_err result) printed.old.items printed.new.items }
 {
     if script.len() > SCRIPT_LIMIT {
         return Err(ScriptStop {

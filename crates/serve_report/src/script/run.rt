@@ -3,8 +3,10 @@ ghost use Rattle.std.specs.Prelude.{◌≡◌, ◌≤◌, ◌++◌, IfErr, IfOk,
 ghost use Rattle.std.specs.Result.{result_err};
 ghost use Rattle.serve_report.specs.ScriptFault.{fault_told};
 ghost use Rattle.serve_report.specs.ScriptInside.{Answers, Reports, Stands};
-ghost use Rattle.serve_report.specs.ScriptReport.{CommandGives, SetupLineGives, begins_account, line_text};
+ghost use Rattle.serve_report.specs.ScriptReport.{CommandGives, IsOfLines, SetupLineGives, begins_account, line_text};
 ghost use Rattle.serve_report.specs.ScriptState.{MayFault, ScriptState};
+
+ghost use Rattle.serve_report.specs.ScriptText.{script_lines};
 
 use super::account::run_account_line;
 use super::fault::{ScriptFault, ScriptStop};
@@ -40,7 +42,8 @@ pub fn run_lines<'a>(
     printed: &mut Vec<u8>,
 ) -> Result<(), ScriptStop<'a>>
     requires { length script.now ≤ 1048576 }
-    ensures { Reports (result_err result) printed.old.items printed.new.items script.now }
+    ensures { Reports (IsOfLines (script_lines script.now))
+        (result_err result) printed.old.items printed.new.items }
 {
     let mut state = Script::Fresh;
     let mut rest = script;

@@ -1,4 +1,4 @@
-use Rattle.std.proofs.Common.{◌≡◌, ◌+◌, [], ◌∷◌, ◌++◌, length, false, true, rules, arith, inr, refl, sym, ap, ◌∙◌}
+use Rattle.std.proofs.Common.{◌≡◌, ◌+◌, [], ◌∷◌, ◌++◌, length, false, true, rules, arith, refl, sym, ap, ◌∙◌}
 use Rattle.std.proofs.lemmas.List.{append-nil}
 use Rattle.serve_report.specs.ScriptFault.{fault_told}
 use Rattle.serve_report.specs.ScriptReport.{line_text, text_of_lines}
@@ -33,8 +33,7 @@ returns-in-Err c =
     record {
       answers = run.answers;
       printed = c.in-Err.ensures.kept ∙ run.printed;
-      report =
-          inr (c.requires, lines_before _ run.lines run.answers line more run.led (c.loop-rest.number + 1) (fault_told c.in-Err.fault) split at run.ran command may);
+      report = lines_before _ run.lines run.answers line more run.led (c.loop-rest.number + 1) (fault_told c.in-Err.fault) split at run.ran command may;
     }
 
 pub loop-rest-preserved-in-Ok : goal.loop-rest-preserved-in-Ok
@@ -83,5 +82,5 @@ returns c =
     record {
       answers = run.answers;
       printed = run.printed;
-      report = inr (c.requires, all_lines _ run.lines run.answers run.led all run.ran);
+      report = all_lines _ run.lines run.answers run.led all run.ran;
     }
