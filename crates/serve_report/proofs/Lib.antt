@@ -1,3 +1,8 @@
 pub mod ScriptParts
 pub mod Fronts
 pub mod SessionParts
+pub mod StreamNames
+pub mod SaidOps
+pub mod StreamAsked
+pub mod StreamGiven
+pub mod SetupFaults
