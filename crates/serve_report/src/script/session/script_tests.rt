@@ -380,3 +380,27 @@ fn many_samples_are_a_frame_of_their_stream_alone(rt: HostRuntime) -> Result<(),
     }
     Ok(())
 }
+
+#[test]
+fn a_session_that_lacks_memory_says_so(rt: HostRuntime) {
+    let (script, lines) = DRAINED;
+    let mut room = [0; 512];
+    let output = OverWrite::new(room.as_mut_slice());
+    let (output, outcome) = replay(rt.alloc(), OverRead::new(script.as_bytes()), output);
+    let left = output.into_inner().len();
+    let printed = &room[..512 - left.min(512)];
+    match outcome {
+        Err(ReplayFault::NoMemory) => {
+            assert!(rt; printed.ends_with(b": NoMemory\n".as_slice()));
+        }
+        _ => assert_eq!(rt; outcome, Ok(true)),
+    }
+    let is_refused = printed
+        .split(|byte| *byte == b'\n')
+        .any(|line| line == b"refused 6 NoMemory".as_slice());
+    let wanted = lines.as_bytes().split(|byte| *byte == b'\n');
+    for (line, wanted) in printed.split(|byte| *byte == b'\n').zip(wanted) {
+        let is_told = line == wanted || line.starts_with(b"line ".as_slice());
+        assert!(rt; is_told || is_refused);
+    }
+}
