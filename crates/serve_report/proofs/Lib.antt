@@ -9,3 +9,8 @@ pub mod Replays
 pub mod SessionParts
 pub mod Arrivals
 pub mod Sessions
+pub mod StreamNames
+pub mod SaidOps
+pub mod StreamAsked
+pub mod StreamGiven
+pub mod SetupFaults
