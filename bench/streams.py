@@ -99,6 +99,15 @@ def medians(*runs):
     return [statistics.median(kept) for kept in seconds]
 
 
+def minima(count, *runs):
+    """The least of each run's seconds, the runs taken in turn so many times."""
+    seconds = [[] for _ in runs]
+    for _ in range(count):
+        for kept, run in zip(seconds, runs):
+            kept.append(run())
+    return [min(kept) for kept in seconds]
+
+
 def rate(path, seconds):
     """MB of input a second."""
     return os.path.getsize(path) / seconds / 1e6

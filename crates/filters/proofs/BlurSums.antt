@@ -1,8 +1,9 @@
--- Sums by index, and sums over a window that moves by one place.
-use Rattle.std.proofs.Common.{◌≡◌, ℕ, ◌+◌, ◌-◌, ◌*◌, ◌≤◌, ◌<◌, ◌/◌, ◌^◌, refl, suc, zero, arith, subst, sym}
+-- Sums by index, sums of groups of four terms, and the means of squares.
+use Rattle.std.proofs.Common.{◌≡◌, ℕ, ◌+◌, ◌*◌, ◌≤◌, ◌<◌, ◌/◌, ◌^◌, refl, suc, zero, arith, subst, sym}
 use Rattle.std.proofs.Common.{ap, ◌∙◌, ◌⊎◌, ⊎_elim}
 use Rattle.std.proofs.Common.{List, length, get_or, set}
 use Rattle.std.proofs.lemmas.List.Edits.{fill_by_more}
+use Rattle.std.proofs.lemmas.Nat.{div_below}
 use Rattle.std.proofs.Math.Numerals.{add-one}
 use Rattle.filters.specs.Blur.{sum_below, clamped}
 
@@ -40,20 +41,6 @@ sum_slides g count r at (suc n) =
     ap g (clamped_next count r at n ∙ ap (λ k. clamped count r at k) (add-one n)) in
     omega arith
 
--- The sum of n terms from the next place on.
-pub window_slides : (c : ℕ → ℕ) (x n : ℕ) →
-    sum_below (λ j. c (x + j)) (n + 1) ≡ c x + sum_below (λ j. c (x + 1 + j)) n
-window_slides c x zero = let e : c (x + 0) ≡ c x = ap c (omega arith) in omega arith
-window_slides c x (suc n) =
-    let before : sum_below (λ j. c (x + j)) (n + 1) ≡ c x + sum_below (λ j. c (x + 1 + j)) n =
-    window_slides c x n in
-    let more : sum_below (λ j. c (x + j)) (suc n + 1) ≡ sum_below (λ j. c (x + j)) (suc n) + c (x + suc n) =
-    sum_below_more (λ j. c (x + j)) (suc n) in
-    let one : sum_below (λ j. c (x + j)) (n + 1) ≡ sum_below (λ j. c (x + j)) (suc n) =
-    ap (λ m. sum_below (λ j. c (x + j)) m) (add-one n) in
-    let place : c (x + suc n) ≡ c (x + 1 + n) = ap c (omega arith) in
-    omega arith
-
 split : (k n : ℕ) → k < suc n → (k ≡ n) ⊎ (k < n)
 split k n h = grind arith
 
@@ -65,27 +52,6 @@ term_within f (suc n) k h =
     (λ (l : k < n). let before : f k ≤ sum_below f n = term_within f n k l in omega arith)
     (split k n h)
 
--- A window of s terms is its first s - 1 terms and its last one, and its first one and the s - 1 terms then.
-pub window_enters : (c : ℕ → ℕ) (x s : ℕ) → 0 < s →
-    sum_below (λ j. c (x + j)) s ≡ sum_below (λ j. c (x + j)) (s - 1) + c (x + (s - 1))
-window_enters c x s h =
-    let e : s - 1 + 1 ≡ s = omega arith in
-    let more : sum_below (λ j. c (x + j)) (s - 1 + 1) ≡ sum_below (λ j. c (x + j)) (s - 1) + c (x + (s - 1)) =
-    sum_below_more (λ j. c (x + j)) (s - 1) in
-    let same : sum_below (λ j. c (x + j)) (s - 1 + 1) ≡ sum_below (λ j. c (x + j)) s =
-    ap (λ m. sum_below (λ j. c (x + j)) m) e in
-    omega arith
-
-pub window_leaves : (c : ℕ → ℕ) (x s : ℕ) → 0 < s →
-    sum_below (λ j. c (x + j)) s ≡ c x + sum_below (λ j. c (x + 1 + j)) (s - 1)
-window_leaves c x s h =
-    let e : s - 1 + 1 ≡ s = omega arith in
-    let slid : sum_below (λ j. c (x + j)) (s - 1 + 1) ≡ c x + sum_below (λ j. c (x + 1 + j)) (s - 1) =
-    window_slides c x (s - 1) in
-    let same : sum_below (λ j. c (x + j)) (s - 1 + 1) ≡ sum_below (λ j. c (x + j)) s =
-    ap (λ m. sum_below (λ j. c (x + j)) m) e in
-    omega arith
-
 -- A loop that writes f k at each index k, one step on.
 pub written_more : (f : ℕ → ℕ) (xs : List ℕ) (i v : ℕ) → i < length xs → v ≡ f i →
     ((k : ℕ) → k < i → get_or xs k 0 ≡ f k) → (k : ℕ) → k < i + 1 → get_or (set xs i v) k 0 ≡ f k
@@ -93,17 +59,74 @@ written_more f xs i v h e before =
     let P : ℕ → Type 0 = λ w. (k : ℕ) → k < i + 1 → get_or (set xs i w) k 0 ≡ f k in
     subst P (sym e) (fill_by_more f xs i 0 h before)
 
+-- A sum is that of its first m terms and that of the n after them.
+sum_below_append : (f : ℕ → ℕ) (m n : ℕ) → sum_below f (m + n) ≡ sum_below f m + sum_below (λ j. f (m + j)) n
+sum_below_append f m zero = let e : m + 0 ≡ m = omega arith in ap (sum_below f) e ∙ (omega arith)
+sum_below_append f m (suc n) =
+    let place : m + suc n ≡ m + n + 1 = omega arith in
+    let more : sum_below f (m + n + 1) ≡ sum_below f (m + n) + f (m + n) = sum_below_more f (m + n) in
+    let before : sum_below f (m + n) ≡ sum_below f m + sum_below (λ j. f (m + j)) n =
+    sum_below_append f m n in
+    let same : sum_below f (m + suc n) ≡ sum_below f (m + n + 1) = ap (sum_below f) place in
+    omega arith
+
+-- four terms more
+pub sum_below_four : (f : ℕ → ℕ) (n : ℕ) →
+    sum_below f (4 * (n + 1))
+    ≡ sum_below f (4 * n) + (f (4 * n) + f (4 * n + 1) + f (4 * n + 2) + f (4 * n + 3))
+sum_below_four f n =
+    let place : 4 * (n + 1) ≡ 4 * n + 4 = omega arith in
+    let append : sum_below f (4 * n + 4) ≡ sum_below f (4 * n) + sum_below (λ j. f (4 * n + j)) 4 =
+    sum_below_append f (4 * n) 4 in
+    let first : f (4 * n + 0) ≡ f (4 * n) = ap f (omega arith) in
+    ap (sum_below f) place ∙ append ∙ (omega arith)
+
+before_and_last : (a b c d e f : ℕ) → a ≡ b → c ≡ d → d ≡ b + e → e ≡ f → a + f ≡ c
+before_and_last a b c d e f p q r s = omega arith
+
+-- The sum of groups of four terms is that of all their terms.
+sum_of_fours : (c : ℕ → ℕ) (x n : ℕ) →
+    sum_below (λ g. sum_below (λ j. c (x + 4 * g + j)) 4) n ≡ sum_below (λ j. c (x + j)) (4 * n)
+sum_of_fours c x zero = refl
+sum_of_fours c x (suc n) =
+    let place : 4 * suc n ≡ 4 * n + 4 = omega arith in
+    before_and_last _ _ _ _ _ _ (sum_of_fours c x n)
+    (ap (sum_below (λ j. c (x + j))) place)
+    (sum_below_append (λ j. c (x + j)) (4 * n) 4)
+    (sum_below_same (λ j. c (x + (4 * n + j))) (λ j. c (x + 4 * n + j)) 4 (λ k h. ap c (omega arith)))
+
+-- The sum of n groups of four terms and of the rest after them is that of all terms.
+pub sum_of_groups : (c f : ℕ → ℕ) (x count n rest : ℕ) → count ≡ 4 * n + rest →
+    ((g : ℕ) → g < n → f (x + 4 * g) ≡ sum_below (λ j. c (x + 4 * g + j)) 4) →
+    sum_below (λ g. f (x + 4 * g)) n + sum_below (λ j. c (x + 4 * n + j)) rest
+    ≡ sum_below (λ j. c (x + j)) count
+sum_of_groups c f x count n rest parts h =
+    let groups : sum_below (λ g. f (x + 4 * g)) n ≡ sum_below (λ j. c (x + j)) (4 * n) =
+    sum_below_same (λ g. f (x + 4 * g)) (λ g. sum_below (λ j. c (x + 4 * g + j)) 4) n h
+    ∙ sum_of_fours c x n in
+    let append = sum_below_append (λ j. c (x + j)) (4 * n) rest in
+    let last =
+    sum_below_same (λ j. c (x + (4 * n + j))) (λ j. c (x + 4 * n + j)) rest (λ k p. ap c (omega arith)) in
+    let whole = ap (sum_below (λ j. c (x + j))) parts in
+    omega arith
+
 square_some : (s : ℕ) → 0 < s → 0 < s * s
 square_some s some = grind arith
 
-square_most : (s : ℕ) → s ≤ 17 → s * s ≤ 289
-square_most s few = grind arith
+square_short : (s : ℕ) → s ≤ 15 → s * s ≤ 225
+square_short s few = grind arith
 
--- The rounded mean of a square fits a byte, and its sum 32 bits.
-pub square_fits : (c : ℕ → ℕ) (s : ℕ) → 0 < s → s ≤ 17 → ((j : ℕ) → j < s → c j ≤ 255 * s) →
-    (s * s / 2 + sum_below c s < 256 * (s * s)) × (s * s / 2 + sum_below c s < 2 ^ 32)
-square_fits c s some few bytes =
-    let most = sum_below_most c (255 * s) s bytes in
+-- The rounded mean of a square of up to 15 columns fits a byte, and its sum 16 bits.
+pub mean_fits : (sum s : ℕ) → 0 < s → s ≤ 15 → sum ≤ 255 * (s * s) →
+    (s * s < 2 ^ 16) × (0 < s * s) × (sum + s * s / 2 < 2 ^ 16) × ((sum + s * s / 2) / (s * s) < 256)
+mean_fits sum s some few bytes =
     let positive = square_some s some in
-    let small = square_most s few in
-    (omega arith, omega arith)
+    let small = square_short s few in
+    (omega arith, positive, omega arith, div_below (sum + s * s / 2) (s * s) 256 positive (omega arith))
+
+-- the sum of s columns of s samples each
+pub sum_of_bytes : (c : ℕ → ℕ) (x s : ℕ) → ((j : ℕ) → j < s → c (x + j) ≤ 255 * s) →
+    sum_below (λ j. c (x + j)) s ≤ 255 * (s * s)
+sum_of_bytes c x s bytes =
+    let most = sum_below_most (λ j. c (x + j)) (255 * s) s bytes in
+    omega arith

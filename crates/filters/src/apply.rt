@@ -2,7 +2,8 @@
 ghost use Rattle.std.specs.Prelude.{◌≡◌, ◌<◌};
 ghost use Rattle.frame_view.specs.Frame.{line_of, samples_of};
 ghost use Rattle.row_bands.specs.Bands.{band_count, luma_from, luma_to};
-ghost use Rattle.row_bands.specs.Canvas.{band_geometry, frame_of, height_of};
+ghost use Rattle.row_bands.specs.Canvas.{frame_of, height_of};
+ghost use Rattle.row_bands.specs.Band.{band_geometry};
 ghost use Rattle.row_bands.specs.Written.{HasBand, IsPainted};
 ghost use Rattle.filters.specs.Image.{IsDoable, image_pixel};
 ghost use Rattle.filters.specs.Chain.{IsImageGeometry};

@@ -13,7 +13,7 @@ use Rattle.frame_view.proofs.Places.{next_row, planes_ordered, row_in_plane, row
 use Rattle.row_bands.specs.Bands.{rows_above}
 use Rattle.row_bands.specs.Written.{HasBand}
 use Rattle.row_bands.specs.declared.band.Band.{Band}
-use Rattle.row_bands.specs.Canvas.{band_frame, band_geometry}
+use Rattle.row_bands.specs.Band.{band_frame, band_geometry}
 use Rattle.row_bands.proofs.Bands.{rows_above-le, rows_above-height, inside}
 
 -- a band of the planes below n alone: the other planes are as before

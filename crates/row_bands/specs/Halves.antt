@@ -6,7 +6,7 @@ use Rattle.frame_view.specs.Frame.{samples_of}
 use Rattle.frame_view.specs.Rows.{run_of}
 use Rattle.row_bands.specs.declared.band.Band.{Band}
 use Rattle.row_bands.specs.Bands.{rows_above, IsInPart}
-use Rattle.row_bands.specs.Canvas.{band_frame, band_geometry}
+use Rattle.row_bands.specs.Band.{band_frame, band_geometry}
 
 -- in each plane one call left the rows that go with the luma rows from one on to another, and no rows beside
 -- them; gives is what a call for a plane, its first row and the row that follows the last may leave

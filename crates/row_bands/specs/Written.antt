@@ -8,7 +8,8 @@ use Rattle.frame_view.specs.Places.{plane_width, plane_height}
 use Rattle.frame_view.specs.Rows.{sample}
 use Rattle.row_bands.specs.declared.band.Band.{Band}
 use Rattle.row_bands.specs.Bands.{rows_above}
-use Rattle.row_bands.specs.Canvas.{band_frame, height_of}
+use Rattle.row_bands.specs.Canvas.{height_of}
+use Rattle.row_bands.specs.Band.{band_frame}
 
 -- every sample outside the rows that go with these luma rows is as before
 abbrev pub KeepsOthers : ℕ → ℕ → Geometry → List ℕ → List ℕ → Type 0

@@ -26,7 +26,7 @@ impl Band<'_> {
     ghost use Rattle.frame_view.specs.Rows.{row_of};
     ghost use Rattle.frame_view.specs.Frame.{samples_of};
     ghost use Rattle.row_bands.specs.Bands.{rows_above, half_row};
-    ghost use Rattle.row_bands.specs.Canvas.{band_frame, band_geometry};
+    ghost use Rattle.row_bands.specs.Band.{band_frame, band_geometry};
     ghost use Rattle.row_bands.specs.Halves.{part_of};
     ghost use Rattle.row_bands.specs.Lending.{LendsBandRows, LendsPlane};
 
@@ -34,7 +34,7 @@ impl Band<'_> {
     pub fn geometry(&self) -> Geometry
         ensures { result ≡ band_geometry self.now }
     {
-        self.canvas.frame.geometry()
+        self.canvas.frame().geometry()
     }
 
     /// The luma rows of the band, counted in the frame: the first one, and the one that follows the last.

@@ -4,12 +4,21 @@ use crate::band_height::BandHeight;
 use crate::band_plan::BandPlan;
 use frame_view::{Frame, Geometry};
 use std::alloc::{AllocError, Global};
+use std::marker::Model;
 
 /// A frame that is written band by band.
 #[derive(Debug, Drop)]
 pub struct Canvas {
-    pub(crate) frame: Frame,
-    pub(crate) height: BandHeight,
+    frame: Frame,
+    height: BandHeight,
+}
+
+impl Model for Canvas {
+    ghost use Rattle.row_bands.specs.Canvas.{CanvasValue};
+
+    ghost Value = { CanvasValue };
+
+    ghost view = { λ a. record { frame = a.frame; height = a.height } };
 }
 
 impl Canvas {

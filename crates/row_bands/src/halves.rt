@@ -1,6 +1,6 @@
 // Writing the two parts of a band at the same time.
 ghost use Rattle.std.specs.Prelude.{◌≡◌, ◌≤◌};
-ghost use Rattle.row_bands.specs.Canvas.{band_geometry};
+ghost use Rattle.row_bands.specs.Band.{band_geometry};
 ghost use Rattle.row_bands.specs.Halves.{IsHalved, HalvesPartTheBand};
 ghost use Rattle.row_bands.specs.Written.{IsPainted};
 

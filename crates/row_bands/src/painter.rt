@@ -5,7 +5,8 @@ ghost use Rattle.frame_view.specs.declared.geometry.Geometry.{Geometry};
 ghost use Rattle.frame_view.specs.Places.{plane_width, plane_height};
 ghost use Rattle.frame_view.specs.Written.{IsRows, HasRows};
 ghost use Rattle.row_bands.specs.Bands.{rows_above};
-ghost use Rattle.row_bands.specs.Canvas.{band_frame, band_geometry, height_of};
+ghost use Rattle.row_bands.specs.Canvas.{height_of};
+ghost use Rattle.row_bands.specs.Band.{band_frame, band_geometry};
 ghost use Rattle.row_bands.specs.Written.{IsPainted};
 
 use crate::band::Band;

@@ -8,12 +8,13 @@ use super::columns::{first_columns, next_columns, repeat_ends};
 use super::source::SourcePlane;
 use super::window::mean_squares;
 
-/// The row whose sums of columns these are. The columns stay; the places beside them are written.
-fn mean_row(columns: &mut [u16], radius: usize, target: &mut [u8])
+/// The row whose sums of columns these are. The columns stay; the places beside them and `fours` are written.
+fn mean_row(columns: &mut [u16], radius: usize, fours: &mut [u16], target: &mut [u8])
     requires reach { 1 ≤ radius }
     requires small { radius ≤ 8 }
     requires some { 0 < length target.old }
     requires sized { length target.old + 2 * radius ≡ length columns.old }
+    requires fours { length fours.old ≡ length columns.old }
     requires bytes { (x : ℕ) → x < length target.old →
         slice_index columns.old (radius + x) ≤ 255 * side radius }
     ensures kept { (x : ℕ) → x < length target.old →
@@ -24,16 +25,18 @@ fn mean_row(columns: &mut [u16], radius: usize, target: &mut [u8])
         slice_index target.new x ≡ (sum + side radius * side radius / 2) / (side radius * side radius) }
 {
     repeat_ends(columns, radius);
-    mean_squares(columns, radius, target);
+    mean_squares(columns, radius, fours, target);
 }
 
-/// Writes the rows from `from` up to `to` of the blurred plane, with the sums of the columns in `columns`.
+/// Writes the rows from `from` up to `to` of the blurred plane, with the sums of the columns in `columns` and
+/// those of four columns in `fours`.
 fn blur_band(
     plane: &SourcePlane,
     radius: usize,
     from: usize,
     to: usize,
     columns: &mut [u16],
+    fours: &mut [u16],
     target: &mut [u8],
 )
     requires reach { 1 ≤ radius }
@@ -41,6 +44,7 @@ fn blur_band(
     requires some { from < to }
     requires rows { to ≤ plane.now.height }
     requires columns { length columns.old ≡ plane.now.width + 2 * radius }
+    requires fours { length fours.old ≡ plane.now.width + 2 * radius }
     requires sized { length target.old ≡ (to - from) * plane.now.width }
     ensures { (v x : ℕ) → from + v < to → x < plane.now.width →
         pixel_of target.new plane.now.width v x
@@ -51,12 +55,12 @@ fn blur_band(
     first_columns(plane, radius, from, columns);
     for v in 0..to - from {
         let at = v * width;
-        mean_row(columns, radius, &mut target[at..at + width]);
+        mean_row(columns, radius, fours, &mut target[at..at + width]);
         next_columns(plane, radius, from + v, columns);
     }
 }
 
-/// As `blur_band`, in an array of `ROOM` sums of columns.
+/// As `blur_band`, in two arrays of `ROOM` sums.
 fn blur_band_in<const ROOM: usize>(
     plane: &SourcePlane,
     radius: usize,
@@ -77,12 +81,21 @@ fn blur_band_in<const ROOM: usize>(
         plane.now.width plane.now.height radius (from + v) x }
 {
     let mut columns = [0u16; ROOM];
+    let mut fours = [0u16; ROOM];
     let used = plane.width + 2 * radius;
-    blur_band(plane, radius, from, to, &mut columns[..used], target);
+    blur_band(
+        plane,
+        radius,
+        from,
+        to,
+        &mut columns[..used],
+        &mut fours[..used],
+        target,
+    );
 }
 
-/// Writes the rows of the blurred plane from `from` up to `to`, `to` left out, in a time that hardly grows
-/// with the radius. The sums of the columns lie on the stack.
+/// Writes the rows of the blurred plane from `from` up to `to`, `to` left out, in a time that grows far less
+/// than the squares do. The sums of the columns lie on the stack.
 ///
 /// `source` and `target` hold rows of `width` samples one after another: `source` all rows of the plane,
 /// `target` those that are written.

@@ -1,10 +1,10 @@
 //! The sums of the columns over the rows near one row, kept from row to row.
 //!
 //! A line of column sums has `radius` places before the first column and as many after the last one, so
-//! that a window over it needs no clamping.
+//! that a square over it needs no clamping.
 
-ghost use Rattle.std.specs.Prelude.{◌≡◌, ◌+◌, ◌-◌, ◌*◌, ◌≤◌, ◌<◌, ℕ, length, slice_index};
-ghost use Rattle.filters.specs.Blur.{clamped, column_sum, pixel_of};
+ghost use Rattle.std.specs.Prelude.{◌≡◌, ◌+◌, ◌-◌, ◌*◌, ◌/◌, ◌≤◌, ◌<◌, ℕ, length, slice_index};
+ghost use Rattle.filters.specs.Blur.{clamped, column_sum, pixel_of, sum_below};
 
 use super::source::{SourcePlane, clamped_place};
 
@@ -17,6 +17,31 @@ fn add_row(columns: &mut [u16], radius: usize, row: &[u8])
 {
     for x in 0..row.len() {
         columns[radius + x] += row[x] as u16;
+    }
+}
+
+/// Adds four rows to the sums of the columns, in a pass that takes hardly more time than that of one.
+fn add_rows(
+    columns: &mut [u16],
+    radius: usize,
+    first: &[u8],
+    second: &[u8],
+    third: &[u8],
+    fourth: &[u8],
+)
+    requires same { length first.now + 2 * radius ≡ length columns.old }
+    requires second { length second.now ≡ length first.now }
+    requires third { length third.now ≡ length first.now }
+    requires fourth { length fourth.now ≡ length first.now }
+    requires room { (x : ℕ) → x < length first.now → slice_index columns.old (radius + x) ≤ 64515 }
+    ensures { (x : ℕ) → x < length first.now →
+        slice_index columns.new (radius + x)
+        ≡ slice_index columns.old (radius + x) + (slice_index first.now x + slice_index second.now x
+        + slice_index third.now x + slice_index fourth.now x) }
+{
+    for x in 0..first.len() {
+        let four = first[x] as u16 + second[x] as u16 + third[x] as u16 + fourth[x] as u16;
+        columns[radius + x] += four;
     }
 }
 
@@ -36,6 +61,42 @@ fn move_row(columns: &mut [u16], radius: usize, entering: &[u8], leaving: &[u8])
     }
 }
 
+/// Row `k` of those near `y`, from `y - radius` on.
+fn row_near<'a>(plane: &'a SourcePlane, radius: usize, y: usize, k: usize) -> &'a [u8]
+    requires down { y < plane.now.height }
+    requires few { k ≤ 17 }
+    ensures sized { length result.now ≡ plane.now.width }
+    ensures samples { (x : ℕ) → x < plane.now.width →
+        slice_index result.now x
+        ≡ pixel_of plane.now.samples.now plane.now.width (clamped plane.now.height radius y k) x }
+    ensures bytes { (x : ℕ) → slice_index result.now x ≤ 255 }
+{
+    plane.row(clamped_place(plane.height, radius, y, k))
+}
+
+/// Sets the sums of the columns to those over the rows near `y`, but for the last ones, which make no group
+/// of four.
+fn first_groups(plane: &SourcePlane, radius: usize, y: usize, columns: &mut [u16])
+    requires down { y < plane.now.height }
+    requires small { radius ≤ 8 }
+    requires sized { length columns.old ≡ plane.now.width + 2 * radius }
+    ensures sums { (x : ℕ) → x < plane.now.width →
+        slice_index columns.new (radius + x)
+        ≡ sum_below (λ i. pixel_of plane.now.samples.now plane.now.width
+        (clamped plane.now.height radius y i) x) (4 * (radius / 2)) }
+    ensures bytes { (x : ℕ) → x < plane.now.width →
+        slice_index columns.new (radius + x) ≤ 255 * (4 * (radius / 2)) }
+{
+    columns.fill(0);
+    for g in 0..radius / 2 {
+        let first = row_near(plane, radius, y, 4 * g);
+        let second = row_near(plane, radius, y, 4 * g + 1);
+        let third = row_near(plane, radius, y, 4 * g + 2);
+        let fourth = row_near(plane, radius, y, 4 * g + 3);
+        add_rows(columns, radius, first, second, third, fourth);
+    }
+}
+
 /// Sets the sums of the columns to those over the rows near `y`.
 pub fn first_columns(plane: &SourcePlane, radius: usize, y: usize, columns: &mut [u16])
     requires down { y < plane.now.height }
@@ -45,13 +106,9 @@ pub fn first_columns(plane: &SourcePlane, radius: usize, y: usize, columns: &mut
         slice_index columns.new (radius + x)
         ≡ column_sum (pixel_of plane.now.samples.now plane.now.width) plane.now.height radius y x }
 {
-    columns.fill(0);
-    for i in 0..2 * radius + 1 {
-        add_row(
-            columns,
-            radius,
-            plane.row(clamped_place(plane.height, radius, y, i)),
-        );
+    first_groups(plane, radius, y, columns);
+    for i in 4 * (radius / 2)..2 * radius + 1 {
+        add_row(columns, radius, row_near(plane, radius, y, i));
     }
 }
 
@@ -67,8 +124,8 @@ pub fn next_columns(plane: &SourcePlane, radius: usize, y: usize, columns: &mut 
         slice_index columns.new (radius + x)
         ≡ column_sum (pixel_of plane.now.samples.now plane.now.width) plane.now.height radius (y + 1) x }
 {
-    let entering = plane.row(clamped_place(plane.height, radius, y, 2 * radius + 1));
-    let leaving = plane.row(clamped_place(plane.height, radius, y, 0));
+    let entering = row_near(plane, radius, y, 2 * radius + 1);
+    let leaving = row_near(plane, radius, y, 0);
     move_row(columns, radius, entering, leaving);
 }
 

@@ -1,57 +1,192 @@
-//! The window that slides over the sums of the columns.
+//! The means of the squares that begin at each column, from the sums of the columns.
+//!
+//! A sum of up to 15 columns fits 16 bits, and loops over 16 bits are compiled to vectors of eight: so no
+//! sum slides, and each square is summed afresh, from groups of four columns where it is wide.
 
 ghost use Rattle.std.specs.Prelude.{◌≡◌, ◌+◌, ◌-◌, ◌*◌, ◌/◌, ◌≤◌, ◌<◌, ℕ, length, slice_index};
 ghost use Rattle.filters.specs.Blur.{side, sum_below};
 
-/// A quotient that fits a sample.
-#[tactic(auto, using(std::proofs::lemmas::Nat::div_below))]
-pub fn quotient(sum: u32, count: u32) -> u8
-    requires some { 0 < count }
-    requires fits { sum < 256 * count }
-    ensures { result ≡ sum / count }
+/// The rounded mean of a square of up to 15 columns, from its sum. The compiler knows `SIDE`, so that it need
+/// not divide.
+fn mean<const SIDE: usize>(sum: u16) -> u8
+    requires some { 0 < SIDE }
+    requires few { SIDE ≤ 15 }
+    requires bytes { sum ≤ 255 * (SIDE * SIDE) }
+    ensures { result ≡ (sum + SIDE * SIDE / 2) / (SIDE * SIDE) }
 {
-    (sum / count) as u8
+    match SIDE {
+        5 => mean_of_25(sum),
+        7 => mean_of_49(sum),
+        _ => {
+            let count = (SIDE * SIDE) as u16;
+            ((sum + count / 2) / count) as u8
+        }
+    }
 }
 
-/// Half the number of samples of a square, for the rounding, and the sums of its columns but the last.
-fn first_sum<const SIDE: usize>(columns: &[u16]) -> u32
-    requires some { 0 < SIDE }
-    requires few { SIDE ≤ 17 }
-    requires sized { SIDE ≤ length columns.now + 1 }
-    requires bytes { (k : ℕ) → k < length columns.now → slice_index columns.now k ≤ 255 * SIDE }
-    ensures { result ≡ SIDE * SIDE / 2 + sum_below (λ j. slice_index columns.now j) (SIDE - 1) }
+/// The upper half of a product.
+fn upper_product(a: u16, b: u16) -> u16
+    ensures { result ≡ a * b / 65536 }
 {
-    let mut sum = (SIDE * SIDE / 2) as u32;
-    for j in 0..SIDE - 1 {
-        sum += columns[j] as u32;
+    (a as u32 * b as u32 / 65536) as u16
+}
+
+/// The rounded mean of 25 samples, as `mean` has it: the compiler takes twice the steps for this division.
+fn mean_of_25(sum: u16) -> u8
+    requires { sum ≤ 6375 }
+    ensures { result ≡ (sum + 12) / 25 }
+{
+    ((upper_product(sum, 41944) + 8) / 16) as u8
+}
+
+/// The rounded mean of 49 samples.
+fn mean_of_49(sum: u16) -> u8
+    requires { sum ≤ 12495 }
+    ensures { result ≡ (sum + 24) / 49 }
+{
+    ((upper_product(sum, 42800) + 16) / 32) as u8
+}
+
+/// A 289th of a sum of two parts. The sum may exceed 16 bits; what is above 57,800, which 289 divides, is
+/// divided apart.
+fn quotient_of_parts(one: u16, other: u16) -> u8
+    requires fits { one + other < 256 * 289 }
+    requires most { other ≤ 57800 }
+    ensures { result ≡ (one + other) / 289 }
+{
+    let part = one.saturating_add(other).min(57800);
+    let rest = one - (part - other);
+    (part / 289 + rest / 289) as u8
+}
+
+/// The sum of `COUNT` columns from `x` on.
+#[tactic(auto, using(crate::proofs::BlurSums::sum_below_more))]
+fn columns_sum<const COUNT: usize>(columns: &[u16], x: usize) -> u16
+    requires few { COUNT ≤ 15 }
+    requires inside { x + COUNT ≤ length columns.now }
+    requires small { (k : ℕ) → k < length columns.now → slice_index columns.now k ≤ 4335 }
+    ensures { result ≡ sum_below (λ j. slice_index columns.now (x + j)) COUNT }
+{
+    let mut sum = 0;
+    for j in 0..COUNT {
+        sum += columns[x + j];
     }
     sum
 }
 
-/// The rounded means of the squares of `SIDE` columns that begin at each place. The window adds the column
-/// that enters and takes off the one that leaves; the compiler knows `SIDE`, so that it need not divide.
-fn slide_window<const SIDE: usize>(columns: &[u16], target: &mut [u8])
+/// The sum of `COUNT` groups of four columns, from `x` on.
+#[tactic(auto, using(crate::proofs::BlurSums::sum_below_more))]
+fn fours_sum<const COUNT: usize>(fours: &[u16], x: usize) -> u16
+    requires few { COUNT ≤ 3 }
+    requires inside { x + 4 * COUNT ≤ length fours.now + 3 }
+    requires small { (k : ℕ) → k < length fours.now → slice_index fours.now k ≤ 17340 }
+    ensures { result ≡ sum_below (λ g. slice_index fours.now (x + 4 * g)) COUNT }
+{
+    let mut sum = 0;
+    for g in 0..COUNT {
+        sum += fours[x + 4 * g];
+    }
+    sum
+}
+
+/// Sets each of `fours` to the sum of the four columns from its place on.
+fn add_fours(columns: &[u16], fours: &mut [u16])
+    requires sized { length fours.old + 3 ≡ length columns.now }
+    requires small { (k : ℕ) → k < length columns.now → slice_index columns.now k ≤ 4335 }
+    ensures { (k : ℕ) → k < length fours.old →
+        slice_index fours.new k ≡ sum_below (λ j. slice_index columns.now (k + j)) 4 }
+{
+    for x in 0..fours.len() {
+        fours[x] = columns_sum::<4>(columns, x);
+    }
+}
+
+/// The rounded means of the squares of `SIDE` columns that begin at each place.
+fn narrow_means<const SIDE: usize>(columns: &[u16], target: &mut [u8])
     requires some { 0 < SIDE }
-    requires few { SIDE ≤ 17 }
+    requires few { SIDE ≤ 15 }
     requires sized { length target.old + SIDE ≡ length columns.now + 1 }
     requires bytes { (k : ℕ) → k < length columns.now → slice_index columns.now k ≤ 255 * SIDE }
     ensures { (x : ℕ) → x < length target.old →
         slice_index target.new x
         ≡ (sum_below (λ j. slice_index columns.now (x + j)) SIDE + SIDE * SIDE / 2) / (SIDE * SIDE) }
 {
-    let mut sum = first_sum::<SIDE>(columns);
     for x in 0..target.len() {
-        sum += columns[x + (SIDE - 1)] as u32;
-        target[x] = quotient(sum, (SIDE * SIDE) as u32);
-        sum -= columns[x] as u32;
+        target[x] = mean::<SIDE>(columns_sum::<SIDE>(columns, x));
     }
 }
 
-/// The rounded means of the squares of columns that begin at each place, by their radius.
-pub fn mean_squares(columns: &[u16], radius: usize, target: &mut [u8])
+/// As `narrow_means`, where `SIDE` is `4 * FOURS + REST`, from the sums of four columns.
+fn wide_means<const SIDE: usize, const FOURS: usize, const REST: usize>(
+    columns: &[u16],
+    fours: &[u16],
+    target: &mut [u8],
+)
+    requires parts { SIDE ≡ 4 * FOURS + REST }
+    requires some { 0 < REST }
+    requires few { SIDE ≤ 15 }
+    requires sized { length target.old + SIDE ≡ length columns.now + 1 }
+    requires fours_sized { length fours.now + 3 ≡ length columns.now }
+    requires bytes { (k : ℕ) → k < length columns.now → slice_index columns.now k ≤ 255 * SIDE }
+    requires fours { (k : ℕ) → k < length fours.now →
+        slice_index fours.now k ≡ sum_below (λ j. slice_index columns.now (k + j)) 4 }
+    ensures { (x : ℕ) → x < length target.old →
+        slice_index target.new x
+        ≡ (sum_below (λ j. slice_index columns.now (x + j)) SIDE + SIDE * SIDE / 2) / (SIDE * SIDE) }
+{
+    for x in 0..target.len() {
+        let sum = fours_sum::<FOURS>(fours, x) + columns_sum::<REST>(columns, x + 4 * FOURS);
+        target[x] = mean::<SIDE>(sum);
+    }
+}
+
+/// As `wide_means`, for the widest square, of 17 columns, whose sum may exceed 16 bits.
+fn widest_means(columns: &[u16], fours: &[u16], target: &mut [u8])
+    requires sized { length target.old + 16 ≡ length columns.now }
+    requires fours_sized { length fours.now + 3 ≡ length columns.now }
+    requires bytes { (k : ℕ) → k < length columns.now → slice_index columns.now k ≤ 4335 }
+    requires fours { (k : ℕ) → k < length fours.now →
+        slice_index fours.now k ≡ sum_below (λ j. slice_index columns.now (k + j)) 4 }
+    ensures { (x : ℕ) → x < length target.old →
+        slice_index target.new x ≡ (sum_below (λ j. slice_index columns.now (x + j)) 17 + 144) / 289 }
+{
+    for x in 0..target.len() {
+        let one = fours_sum::<2>(fours, x);
+        let other = fours_sum::<2>(fours, x + 8) + columns[x + 16] + 144;
+        target[x] = quotient_of_parts(one, other);
+    }
+}
+
+/// As `mean_squares`, from radius 4 on.
+fn mean_wide_squares(columns: &[u16], radius: usize, fours: &mut [u16], target: &mut [u8])
+    requires reach { 4 ≤ radius }
+    requires small { radius ≤ 8 }
+    requires sized { length target.old + 2 * radius ≡ length columns.now }
+    requires fours { length fours.old ≡ length columns.now }
+    requires bytes { (k : ℕ) → k < length columns.now → slice_index columns.now k ≤ 255 * side radius }
+    ensures { (x : ℕ) → x < length target.old →
+        slice_index target.new x
+        ≡ (sum_below (λ j. slice_index columns.now (x + j)) (side radius) + side radius * side radius / 2)
+        / (side radius * side radius) }
+{
+    let fours = &mut fours[..columns.len() - 3];
+    add_fours(columns, fours);
+    match radius {
+        4 => wide_means::<9, 2, 1>(columns, fours, target),
+        5 => wide_means::<11, 2, 3>(columns, fours, target),
+        6 => wide_means::<13, 3, 1>(columns, fours, target),
+        7 => wide_means::<15, 3, 3>(columns, fours, target),
+        _ => widest_means(columns, fours, target),
+    }
+}
+
+/// The rounded means of the squares of columns that begin at each place, by their radius. `fours` is written
+/// over.
+pub fn mean_squares(columns: &[u16], radius: usize, fours: &mut [u16], target: &mut [u8])
     requires reach { 1 ≤ radius }
     requires small { radius ≤ 8 }
     requires sized { length target.old + 2 * radius ≡ length columns.now }
+    requires fours { length fours.old ≡ length columns.now }
     requires bytes { (k : ℕ) → k < length columns.now → slice_index columns.now k ≤ 255 * side radius }
     ensures { (x : ℕ) → x < length target.old →
         slice_index target.new x
@@ -59,13 +194,9 @@ pub fn mean_squares(columns: &[u16], radius: usize, target: &mut [u8])
         / (side radius * side radius) }
 {
     match radius {
-        1 => slide_window::<3>(columns, target),
-        2 => slide_window::<5>(columns, target),
-        3 => slide_window::<7>(columns, target),
-        4 => slide_window::<9>(columns, target),
-        5 => slide_window::<11>(columns, target),
-        6 => slide_window::<13>(columns, target),
-        7 => slide_window::<15>(columns, target),
-        _ => slide_window::<17>(columns, target),
+        1 => narrow_means::<3>(columns, target),
+        2 => narrow_means::<5>(columns, target),
+        3 => narrow_means::<7>(columns, target),
+        _ => mean_wide_squares(columns, radius, fours, target),
     }
 }

@@ -1,5 +1,5 @@
 use Rattle.std.proofs.Common.{rules, refl}
-use Rattle.row_bands.specs.Canvas.{band_frame}
+use Rattle.row_bands.specs.Band.{band_frame}
 use Rattle.row_bands.proofs.Filled.{both_parts}
 use Rattle.row_bands.proofs.halves.paint_halves.Goals as goal
 

@@ -1,6 +1,6 @@
 use Rattle.std.proofs.Common.{◌∙◌, ◌≤◌}
 use Rattle.row_bands.proofs.Bands.{inside}
-use Rattle.row_bands.specs.Canvas.{band_geometry}
+use Rattle.row_bands.specs.Band.{band_geometry}
 use Rattle.row_bands.proofs.Written.{one_more_plane}
 use Rattle.row_bands.proofs.painter.paint_band.Goals as goal
 

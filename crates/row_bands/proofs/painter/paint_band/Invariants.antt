@@ -1,6 +1,7 @@
 use Rattle.std.proofs.Common.{◌≡◌}
 use Rattle.row_bands.proofs.Written.{HasPlanes}
-use Rattle.row_bands.specs.Canvas.{band_frame, height_of}
+use Rattle.row_bands.specs.Band.{band_frame}
+use Rattle.row_bands.specs.Canvas.{height_of}
 use Rattle.row_bands.proofs.painter.paint_band.Given as goal
 
 abbrev pub invariant-loop-p : goal.invariant-loop-p

@@ -1,4 +1,4 @@
-use Rattle.std.proofs.Common.{◌+◌, ◌*◌, arith}
+use Rattle.std.proofs.Common.{arith}
 use Rattle.filters.specs.Blur.{clamped, pixel_of}
 use Rattle.filters.proofs.BlurSums.{sum_below_more}
 use Rattle.filters.proofs.blur.columns.first_columns.Goals as goal
@@ -9,7 +9,7 @@ loop-i-preserved c =
       (λ x h.
           let added = c.add_row.ensures x (omega arith) in
           let so_far = c.loop-i.invariant.0 x h in
-          let read = rw (c.clamped_place.ensures.place) at (c.row.ensures.samples x h) in
+          let read = c.row_near.ensures.samples x h in
           let more =
           sum_below_more
           (λ i. pixel_of plane.samples.now plane.width (clamped plane.height c.args.radius c.args.y i) x)
@@ -18,7 +18,6 @@ loop-i-preserved c =
       (λ x h.
           let added = c.add_row.ensures x (omega arith) in
           let so_far = c.loop-i.invariant.1 x h in
-          let read = c.row.ensures.samples x h in
-          let byte = plane.bytes (c.clamped_place.result * plane.width + x) in
+          let byte = c.row_near.ensures.bytes x in
           omega arith),
     )

@@ -18,7 +18,7 @@ pub move_row-requires-clause-kept : goal.move_row-requires-clause-kept
 move_row-requires-clause-kept c x h =
     let plane = c.args.plane.now in
     let at = c.requires.at x (omega arith) in
-    let read = rw (c.clamped_place-2.ensures.place) at (c.row-leaving.ensures.samples x (omega arith)) in
+    let read = c.row_near-leaving.ensures.samples x (omega arith) in
     let within =
     term_within
     (λ i. pixel_of plane.samples.now plane.width (clamped plane.height c.args.radius c.args.y i) x)
@@ -30,8 +30,8 @@ returns c x h =
     let plane = c.args.plane.now in
     let at = c.requires.at x h in
     let moved = c.move_row.ensures x (omega arith) in
-    let leaves = rw (c.clamped_place-2.ensures.place) at (c.row-leaving.ensures.samples x h) in
-    let enters = rw (c.clamped_place.ensures.place) at (c.row-entering.ensures.samples x h) in
+    let leaves = c.row_near-leaving.ensures.samples x h in
+    let enters = c.row_near-entering.ensures.samples x h in
     let slides =
     sum_slides (λ v. pixel_of plane.samples.now plane.width v x) plane.height c.args.radius c.args.y
     (side c.args.radius) in

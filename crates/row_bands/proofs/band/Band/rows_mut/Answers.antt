@@ -1,7 +1,7 @@
 use Rattle.std.proofs.Common.{rules, refl, ap, ◌∙◌}
 use Rattle.frame_view.specs.Places.{row_start}
 use Rattle.row_bands.specs.Lending.{band_with}
-use Rattle.row_bands.specs.Canvas.{band_geometry}
+use Rattle.row_bands.specs.Band.{band_geometry}
 use Rattle.row_bands.proofs.SameBand.{same_band}
 use Rattle.row_bands.proofs.band.Band.rows_mut.Goals as goal
 

@@ -1,4 +1,4 @@
-use Rattle.std.proofs.Common.{◌≡◌, ◌∙◌, Some, ap, slice_get, subst, sym}
+use Rattle.std.proofs.Common.{◌≡◌, ◌∙◌, Some, None, IsSome, ap, slice_get, subst, sym}
 use Rattle.serve_core.specs.Desk.{CanBring, brought_by}
 use Rattle.serve_core.specs.Lanes.{IsStarted, Lane, with_leased}
 use Rattle.serve_core.specs.Schedule.{with_lane}
@@ -8,6 +8,34 @@ use Rattle.serve_core.proofs.Handing.{brought_still, shown_still}
 use Rattle.serve_core.proofs.Options.{and_some}
 use Rattle.serve_core.proofs.Schedules.{item_here}
 use Rattle.serve_core.proofs.schedule.Schedule.bring.Goals as goal
+
+pub charge-requires-clause-charge : goal.charge-requires-clause-charge
+charge-requires-clause-charge c =
+    let lane = c.index_mut-stream.result.now in
+    let here = item_here (CanBring c.args.job c.args.bands c.args.units) c.self.inside.streams.items c.args.s lane
+    (rw (← c.self.view_is) at c.requires) c.index_mut-stream.ensures.value in
+    here.1.charge
+
+pub charge-requires-clause-few : goal.charge-requires-clause-few
+charge-requires-clause-few c =
+    let lane = c.index_mut-stream.result.now in
+    let here = item_here (CanBring c.args.job c.args.bands c.args.units) c.self.inside.streams.items c.args.s lane
+    (rw (← c.self.view_is) at c.requires) c.index_mut-stream.ensures.value in
+    here.1.few
+
+pub hand_back-requires-clause-out : goal.hand_back-requires-clause-out
+hand_back-requires-clause-out c =
+    let lane = c.index_mut-stream.result.now in
+    let here = item_here (CanBring c.args.job c.args.bands c.args.units) c.self.inside.streams.items c.args.s lane
+    (rw (← c.self.view_is) at c.requires) c.index_mut-stream.ensures.value in
+    subst (λ (lane : Lane). IsSome lane.state.holder) (sym c.charge.ensures) here.1.out
+
+pub hand_back-requires-clause-gone : goal.hand_back-requires-clause-gone
+hand_back-requires-clause-gone c =
+    let lane = c.index_mut-stream.result.now in
+    let here = item_here (CanBring c.args.job c.args.bands c.args.units) c.self.inside.streams.items c.args.s lane
+    (rw (← c.self.view_is) at c.requires) c.index_mut-stream.ensures.value in
+    subst (λ (lane : Lane). lane.leased ≡ None) (sym c.charge.ensures) here.1.away
 
 pub hand_back-requires-clause-started : goal.hand_back-requires-clause-started
 hand_back-requires-clause-started c =

@@ -1,0 +1,7 @@
+use Rattle.std.proofs.Common.{◌≡◌, ◌+◌, ◌<◌, ℕ, slice_index}
+use Rattle.filters.specs.Blur.{sum_below}
+use Rattle.filters.proofs.blur.window.add_fours.Given as goal
+
+abbrev pub invariant-loop-x : goal.invariant-loop-x
+invariant-loop-x l =
+    (k : ℕ) → k < l.x → slice_index l.fours k ≡ sum_below (λ j. slice_index l.columns (k + j)) 4
