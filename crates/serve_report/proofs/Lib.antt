@@ -7,3 +7,8 @@ pub mod Fronts
 pub mod StopLines
 pub mod Replays
 pub mod SessionParts
+pub mod StreamNames
+pub mod SaidOps
+pub mod StreamAsked
+pub mod StreamGiven
+pub mod SetupFaults

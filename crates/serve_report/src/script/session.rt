@@ -9,7 +9,11 @@ pub mod pieces;
 pub mod preparation;
 pub mod run_command;
 pub mod running;
+#[cfg(test)]
+mod script_tests;
 pub mod setup_command;
+#[cfg(test)]
+mod start_tests;
 pub mod streams;
 #[cfg(test)]
 mod tests;
