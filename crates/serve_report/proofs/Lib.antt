@@ -12,3 +12,5 @@ pub mod SaidOps
 pub mod StreamAsked
 pub mod StreamGiven
 pub mod SetupFaults
+pub mod Arrivals
+pub mod Sessions

@@ -41,7 +41,11 @@ impl<'a> Model for Session<'a> {
 
 impl<'a> Session<'a> {
     /// A session before any event.
-    pub fn new(alloc: Global, streams: StreamTable<'a>, setup: Setup) -> Result<Session<'a>, AllocError>
+    pub fn new(
+        alloc: Global,
+        streams: StreamTable<'a>,
+        setup: Setup,
+    ) -> Result<Session<'a>, AllocError>
         requires { length streams.names ≡ length setup.streams }
         ensures streams { IfOk result (λ session. session.streams ≡ streams.entry) }
         ensures machine { IfOk result (λ session.
@@ -87,7 +91,12 @@ impl<'a> Session<'a> {
     }
 
     /// The arrival of a frame of hexadecimal digits.
-    fn arrival(&self, alloc: Global, name: &'a [u8], hex: &'a [u8]) -> Result<Event, ScriptFault<'a>>
+    fn arrival(
+        &self,
+        alloc: Global,
+        name: &'a [u8],
+        hex: &'a [u8],
+    ) -> Result<Event, ScriptFault<'a>>
         requires { is_hex hex.now ≡ true }
         ensures ok { IfOk result (λ event. (session : Begun) → IsAt self.now session
             → IsArrivalEvent session name.now hex.now (seen event)) }
