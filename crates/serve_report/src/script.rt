@@ -1,8 +1,12 @@
-//! Scripts that are replayed: their commands are run on an account, and each prints one line.
+//! Scripts that are replayed: their commands are run in order, and each prints one line.
 //!
 //! A script is bytes, at most 1,048,576 of them, in lines that are ended by a line feed, which the last one
 //! may lack. Lines are numbered from 1. An empty line and a line that begins with `#` do nothing. Any other
-//! line is a command: words between single spaces. A number is 1 to 19 decimal digits.
+//! line is a command: words between single spaces. A number is 1 to 19 decimal digits. The first command
+//! decides: `account` begins an account script, any other a session script.
+//!
+//! An account script moves the account of one server. Each command prints `budget C deadline D`, as the
+//! account then stands:
 //!
 //! | Command | What happens to the account |
 //! |---|---|
@@ -10,8 +14,30 @@
 //! | `idle R`, `R` at most 2^60 | a job arrives at the moment `R` and finds the server idle |
 //! | `charge K` | `K` units of work were done |
 //!
-//! Each prints `budget C deadline D`, as the account then stands. The first fault prints `line N: WORD`, and
-//! nothing after it is run.
+//! A session script first sets up streams and the workers that they share:
+//!
+//! | Command | What is set up | What it prints |
+//! |---|---|---|
+//! | `workers N`, `quantum K` | how many workers, and the most bands of a lease; at first 1 and 4 | `ok` |
+//! | `band B`, `frames N` | for the streams that follow: the luma rows of a band, the most frames; at first 16 and 16,777,216 | `ok` |
+//! | `stream NAME Q T QUEUE OUTBOX OPS HEADER` | one more stream; `HEADER` is all that follows | `stream S` |
+//! | `start` | the machine is made | `started` |
+//!
+//! From then on each command is an event of that machine, or shows a stream:
+//!
+//! | Command | What it prints |
+//! |---|---|
+//! | `arrive NAME HEX` | `accepted SEQ` |
+//! | `lease W` | `leased NAME SEQ grant G` |
+//! | `band W` | `stepped` |
+//! | `settle W` | `returned` or `finished SEQ` |
+//! | `tick N` | `ticked` |
+//! | `close NAME` | `closing` |
+//! | `collect NAME` | `image HEX` |
+//! | `state NAME` | `budget C deadline D accepted A finished F collected K charged U` |
+//!
+//! What the machine refuses prints `refused N WORD`, and the script goes on. The first fault prints
+//! `line N: WORD`, and nothing after it is run.
 ghost use Rattle.std.specs.Prelude.{◌≡◌, IfSome, IsErrOf, OnOk, true};
 ghost use Rattle.std.specs.Io.KnownBytes.{Keeps};
 ghost use Rattle.std.specs.Option.{option_map};
