@@ -1,11 +1,12 @@
 use crate::script::{ReplayFault, replay};
 use std::alloc::{AllocError, Global};
 use std::process::Abort;
+use std::str;
 use std::test::Fail;
 use y4m_stream::{OverRead, OverWrite};
 
 /// Replays a script, and answers what it prints.
-pub fn replayed(alloc: Global, script: &[u8]) -> (Vec<u8>, Result<bool, ReplayFault>) {
+fn replayed(alloc: Global, script: &[u8]) -> (Vec<u8>, Result<bool, ReplayFault>) {
     let output = OverWrite::new(Vec::new(alloc));
     let (output, outcome) = replay(alloc, OverRead::new(script), output);
     (output.into_inner(), outcome)
@@ -15,7 +16,7 @@ pub fn replayed(alloc: Global, script: &[u8]) -> (Vec<u8>, Result<bool, ReplayFa
 pub fn expect_lines(rt: &impl Abort, alloc: Global, script: &[u8], lines: &str, whole: bool) {
     let (printed, outcome) = replayed(alloc, script);
     assert_eq!(rt; outcome, Ok(whole));
-    assert_eq!(rt; printed.as_slice(), lines.as_bytes());
+    assert_eq!(rt; str::from_utf8(&printed), Ok(lines));
 }
 
 /// Each of these scripts is run to its end, and prints these lines.
@@ -362,21 +363,26 @@ fn arrival_of(alloc: Global, name: &str, samples: usize) -> Result<Vec<u8>, Allo
 
 #[test]
 fn many_samples_are_a_frame_of_their_stream_alone(rt: HostRuntime) -> Result<(), Fail> {
-    for (name, samples, lines, whole) in [
-        ("z", 16_384, "refused 1 NoStream\n", true),
-        ("a", 16_384, "refused 3 WrongSize\n", true),
-        ("b", 32_768, "accepted 0\n", true),
-        ("z", 16_385, "line 4: BadLine\n", false),
-        ("a", 16_385, "line 4: BadLine\n", false),
-        ("b", 32_767, "line 4: BadLine\n", false),
+    for (name, samples, lines) in [
+        (
+            "z",
+            16_384,
+            "stream 0\nstream 1\nstarted\nrefused 1 NoStream\n",
+        ),
+        (
+            "a",
+            16_384,
+            "stream 0\nstream 1\nstarted\nrefused 3 WrongSize\n",
+        ),
+        ("b", 32_768, "stream 0\nstream 1\nstarted\naccepted 0\n"),
     ] {
         let script = arrival_of(rt.alloc(), name, samples)?;
-        let (printed, outcome) = replayed(rt.alloc(), &script);
-        assert_eq!(rt; outcome, Ok(whole));
-        let before = b"stream 0\nstream 1\nstarted\n".as_slice();
-        assert!(rt; printed.as_slice().starts_with(before));
-        assert!(rt; printed.as_slice().ends_with(lines.as_bytes()));
-        assert_eq!(rt; printed.len(), before.len() + lines.len());
+        expect_lines(&rt, rt.alloc(), &script, lines, true);
+    }
+    let too_many = "stream 0\nstream 1\nstarted\nline 4: BadLine\n";
+    for (name, samples) in [("z", 16_385), ("a", 16_385), ("b", 32_767)] {
+        let script = arrival_of(rt.alloc(), name, samples)?;
+        expect_lines(&rt, rt.alloc(), &script, too_many, false);
     }
     Ok(())
 }

@@ -1,6 +1,7 @@
-use super::script_tests::{expect_each, expect_lines, replayed};
-use std::alloc::Global;
+use super::script_tests::{expect_each, expect_lines};
+use std::alloc::{AllocError, Global};
 use std::process::Abort;
+use std::test::Fail;
 
 /// Each of these scripts stops at a fault, and prints these lines.
 fn expect_faults(rt: &impl Abort, alloc: Global, scripts: &[(&str, &str)]) {
@@ -89,7 +90,7 @@ fn settings_are_for_the_streams_that_follow(rt: HostRuntime) {
 }
 
 #[test]
-fn lines_have_their_place_in_a_script(rt: HostRuntime) {
+fn lines_have_their_place_in_a_script(rt: HostRuntime) -> Result<(), Fail> {
     expect_faults(
         &rt,
         rt.alloc(),
@@ -120,23 +121,19 @@ fn lines_have_their_place_in_a_script(rt: HostRuntime) {
         "close a ",
         "collect a.b",
     ] {
-        expect_bad_run(&rt, rt.alloc(), line);
+        expect_bad_run(&rt, rt.alloc(), line)?;
     }
+    Ok(())
 }
 
 /// The line is none behind a `start`.
-fn expect_bad_run(rt: &impl Abort, alloc: Global, line: &str) {
+fn expect_bad_run(rt: &impl Abort, alloc: Global, line: &str) -> Result<(), AllocError> {
     let mut script = Vec::new(alloc);
-    let setup = b"stream a 1 4 4 4 invert YUV4MPEG2 W1 H1 Cmono\nstart\n".as_slice();
-    assert!(rt; script.extend_from_slice(setup).is_ok());
-    assert!(rt; script.extend_from_slice(line.as_bytes()).is_ok());
-    expect_lines(
-        rt,
-        alloc,
-        &script,
-        "stream 0\nstarted\nline 3: BadLine\n",
-        false,
-    );
+    script.extend_from_slice(b"stream a 1 4 4 4 invert YUV4MPEG2 W1 H1 Cmono\nstart\n")?;
+    script.extend_from_slice(line.as_bytes())?;
+    let lines = "stream 0\nstarted\nline 3: BadLine\n";
+    expect_lines(rt, alloc, &script, lines, false);
+    Ok(())
 }
 
 #[test]
@@ -181,7 +178,7 @@ fn numbers_of_a_setup_have_limits(rt: HostRuntime) {
 }
 
 #[test]
-fn a_streams_line_has_one_fault(rt: HostRuntime) {
+fn a_streams_line_has_one_fault(rt: HostRuntime) -> Result<(), Fail> {
     for (words, word) in [
         ("invert YUV4MPEG2W2 H2", "NotY4m"),
         ("invert ", "NotY4m"),
@@ -204,12 +201,13 @@ fn a_streams_line_has_one_fault(rt: HostRuntime) {
             "TooManySteps",
         ),
     ] {
-        expect_stream_fault(&rt, rt.alloc(), "b 1 4 4 4", words, word);
+        expect_stream_fault(&rt, rt.alloc(), &["b 1 4 4 4", words], word)?;
     }
+    Ok(())
 }
 
 #[test]
-fn a_streams_line_is_read_from_its_front(rt: HostRuntime) {
+fn a_streams_line_is_read_from_its_front(rt: HostRuntime) -> Result<(), Fail> {
     for (numbers, words, word) in [
         ("a 1 4 4 x", "invert+ YUV4MPEG2 W3 H2", "BadLine"),
         ("a 1 4 4 4", "", "BadLine"),
@@ -221,23 +219,25 @@ fn a_streams_line_is_read_from_its_front(rt: HostRuntime) {
         ("b 1 4 4 4", "crop:1,0,2,2 YUV4MPEG2 W3 H2", "NotDivisible"),
         ("b 5 4 4 4", "crop:1,0,2,2 YUV4MPEG2 W4 H2", "BadCrop"),
     ] {
-        expect_stream_fault(&rt, rt.alloc(), numbers, words, word);
+        expect_stream_fault(&rt, rt.alloc(), &[numbers, words], word)?;
     }
+    Ok(())
 }
 
 /// A second stream of these words stops a script whose first one has the name `a`. Its bands have 2 rows.
-fn expect_stream_fault(rt: &impl Abort, alloc: Global, numbers: &str, words: &str, word: &str) {
+fn expect_stream_fault(
+    rt: &impl Abort,
+    alloc: Global,
+    words: &[&str],
+    word: &str,
+) -> Result<(), Fail> {
     let mut script = Vec::new(alloc);
-    let first = b"band 2\nstream a 1 4 4 4 invert YUV4MPEG2 W1 H1 Cmono\nstream ".as_slice();
-    for text in [first, numbers.as_bytes(), b" ".as_slice(), words.as_bytes()] {
-        assert!(rt; script.extend_from_slice(text).is_ok());
+    script.extend_from_slice(b"band 2\nstream a 1 4 4 4 invert YUV4MPEG2 W1 H1 Cmono\nstream")?;
+    for word in words {
+        script.push(b' ')?;
+        script.extend_from_slice(word.as_bytes())?;
     }
-    let mut lines = Vec::new(alloc);
-    let before = b"ok\nstream 0\nline 3: ".as_slice();
-    for text in [before, word.as_bytes(), b"\n".as_slice()] {
-        assert!(rt; lines.extend_from_slice(text).is_ok());
-    }
-    let (printed, outcome) = replayed(alloc, &script);
-    assert_eq!(rt; outcome, Ok(false));
-    assert_eq!(rt; printed.as_slice(), lines.as_slice());
+    let lines = format!(in alloc; "ok\nstream 0\nline 3: {word}\n")?;
+    expect_lines(rt, alloc, &script, lines.as_str(), false);
+    Ok(())
 }
