@@ -37,7 +37,7 @@ EventGives session event given =
     (reply : Reply FrameValue FrameValue)
     × IsLegal measures is_image session.setup (Then session.past event reply)
     × (given ≡ Prints (reply_line (leased_name session.names reply) reply)
-        (InSession (record session { past = Then session.past event reply })))
+    (InSession (record session { past = Then session.past event reply })))
 
 -- so many samples fill a frame of the stream, if there is one
 abbrev pub fills : Option StreamSpec → ℕ → Bool
@@ -69,7 +69,7 @@ ArrivalGives session name hex given =
     (samples : List ℕ) × (decode_of hex ≡ Ok samples)
     × MatchBool (is_too_wide stream (length samples)) (given ≡ Faults faults.BadLine)
     ((frame : FrameValue) × IsArrival stream samples frame
-        × EventGives session (events.Arrive number frame) given)
+    × EventGives session (events.Arrive number frame) given)
 
 -- the line of a stream's state, if there is one
 abbrev pub state_answer : {F : Type 0} → Option (StreamState F) → List ℕ

@@ -56,16 +56,16 @@ abbrev pub AsksOfChain : Preparation → StreamForm → ChainValue → Result St
 AsksOfChain p form chain asked =
     (IsChain chain × (asked ≡ Ok (spec_with p form chain)))
     ⊎ ((error : FilterError) × (error ≢ filter.NoMemory) × IsChainRefusedAs error chain
-        × (asked ≡ Err (faults.BadChain error)))
+    × (asked ≡ Err (faults.BadChain error)))
 
 -- the same where its operations are these, or why its header is refused
 abbrev pub AsksOfHeader : Preparation → StreamForm → List Op → Result StreamSpec Fault → Type 0
 AsksOfHeader p form ops asked =
     ((geometry : Geometry) × (height : BandHeight)
-        × IsHeaderLine form.header geometry.width geometry.height geometry.chroma × (height.rows ≡ p.band)
-        × AsksOfChain p form (chain_of ops geometry height) asked)
+    × IsHeaderLine form.header geometry.width geometry.height geometry.chroma × (height.rows ≡ p.band)
+    × AsksOfChain p form (chain_of ops geometry height) asked)
     ⊎ ((error : HeaderError) × (error ≢ header.NoMemory) × IsRefusedAs error form.header
-        × (asked ≡ Err (faults.BadHeader error)))
+    × (asked ≡ Err (faults.BadHeader error)))
 
 -- what a line's stream is served with, or the first thing that is wrong: its operations, its header, its chain
 abbrev pub AsksFor : Preparation → StreamForm → Result StreamSpec Fault → Type 0

@@ -5,7 +5,6 @@ ghost use Rattle.serve_report.specs.ScriptFault.{fault_told};
 ghost use Rattle.serve_report.specs.ScriptInside.{Answers, Reports, Stands};
 ghost use Rattle.serve_report.specs.ScriptReport.{CommandGives, IsOfLines, SetupLineGives, begins_account, line_text};
 ghost use Rattle.serve_report.specs.ScriptState.{MayFault, ScriptState};
-
 ghost use Rattle.serve_report.specs.ScriptText.{script_lines};
 
 use super::account::run_account_line;
