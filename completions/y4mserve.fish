@@ -15,7 +15,7 @@ end
 
 complete -c y4mserve -f
 complete -c y4mserve -n __fish_use_subcommand -a filter -d 'Filters a stream from standard input to standard output'
-complete -c y4mserve -n __fish_use_subcommand -a replay -d 'Runs a script on the account of a constant bandwidth server'
+complete -c y4mserve -n __fish_use_subcommand -a replay -d 'Runs a script on an account, or on a machine that serves streams'
 complete -c y4mserve -n __fish_use_subcommand -a help -d 'Prints the help of the program or of a command'
 complete -c y4mserve -n __fish_use_subcommand -s V -l version -d 'Print the version'
 complete -c y4mserve -s h -l help -d 'Print help'

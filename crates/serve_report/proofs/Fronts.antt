@@ -52,3 +52,9 @@ not_written a b text (Err error) failed cut = cut
 pub all_written : {T E : Type 0} (a b : Option (List ℕ)) (text : List ℕ) (result : Result T E) → Appends a b text → Writes a b text result
 all_written a b text (Ok value) out = out
 all_written a b text (Err error) out = all_front a b text out
+
+-- a piece behind one that went out is written
+pub later_written : {T E : Type 0} (a b c : Option (List ℕ)) (text more : List ℕ) (result : Result T E) → Appends a b text → Writes b c more result
+    → Writes a c (text ++ more) result
+later_written a b c text more (Ok value) out wrote = Appends-trans a b c text more out wrote
+later_written a b c text more (Err error) out wrote = later_cut a b c text more out wrote

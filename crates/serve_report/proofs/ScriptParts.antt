@@ -6,7 +6,7 @@ use Rattle.serve_report.specs.ScriptText.{script_lines, without_empty_end, words
 use Rattle.serve_report.specs.ScriptCommand.{command_of, command_of_words}
 
 -- a text has at least one part
-some_parts : (separator : ℕ) (text : List ℕ) → 0 < length (parts separator text)
+pub some_parts : (separator : ℕ) (text : List ℕ) → 0 < length (parts separator text)
 some_parts separator text = omega (arith, length-slice_split (λ b. eqb b separator) text)
 
 more_lines : (line : List ℕ) (more : List (List ℕ)) → 0 < length more → without_empty_end (line ∷ more) ≡ line ∷ without_empty_end more

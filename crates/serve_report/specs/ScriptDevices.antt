@@ -1,5 +1,5 @@
--- How a replay counts the failures of its input and of its output.
-use Rattle.std.specs.Prelude.{ℕ, Result, Ok, Err}
+-- What a replay takes from its input, and how it counts the failures of its input and of its output.
+use Rattle.std.specs.Prelude.{ℕ, ◌≡◌, ⊤, List, drop, Option, Some, None, Result, Ok, Err}
 use Rattle.y4m_stream.specs.Failures.{one_more}
 use Rattle.serve_report.specs.declared.script.fault.ReplayFault.{ReplayFault}
 use Rattle.serve_report.specs.declared.script.fault.ReplayFault.TheVariants.{Read, Write, NoMemory}
@@ -25,3 +25,14 @@ writes_at NoMemory n = n
 abbrev pub writes_told : {T : Type 0} → Result T ReplayFault → ℕ → ℕ
 writes_told (Ok x) n = n
 writes_told (Err fault) n = writes_at fault n
+
+-- as many bytes were taken from the input as a script of the greatest size and one more has, or all of them
+abbrev pub TakesScript : (old new : Option (List ℕ)) → Type 0
+TakesScript None new = ⊤
+TakesScript (Some bytes) new = new ≡ Some (drop 1048577 bytes)
+
+-- a report was told whole
+abbrev pub OnTold : {T : Type 0} → Result T ReplayFault → Type 0 → Type 0
+OnTold (Ok x) P = P
+OnTold (Err NoMemory) P = P
+OnTold (Err fault) P = ⊤

@@ -1,5 +1,5 @@
 -- The commands of a session script, and the lines that write them.
-use Rattle.std.specs.Prelude.{ℕ, ◌&&◌, nat_le, if◌then◌else◌, List, [], ◌∷◌, length, codes}
+use Rattle.std.specs.Prelude.{ℕ, ◌≡◌, ⊤, true, ◌&&◌, nat_le, if◌then◌else◌, List, [], ◌∷◌, length, codes}
 use Rattle.std.specs.Prelude.{Option, Some, None, option_and_then}
 use Rattle.std.specs.Option.{option_map}
 use Rattle.std.specs.Str.{bytes_eq}
@@ -147,3 +147,8 @@ abbrev pub parts_of : StreamWords → List (List ℕ)
 parts_of words =
     words.name.now ∷ words.q.now ∷ words.t.now ∷ words.queue.now ∷ words.outbox.now
     ∷ words.operations.now ∷ words.header.now ∷ []
+
+-- the data of an arrival are pairs of hexadecimal digits
+abbrev pub HasHex : RunForm → Type 0
+HasHex (Arrive name hex) = is_hex hex ≡ true
+HasHex form = ⊤

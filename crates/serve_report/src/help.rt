@@ -101,29 +101,120 @@ Status 1:
   before it have been written.";
 
 /// What `replay` does.
-pub const REPLAY: &str = "Runs a script on the account of a constant bandwidth server";
+pub const REPLAY: &str = "Runs a script on an account, or on a machine that serves streams";
 
 /// The same, for the long help.
 pub const REPLAY_LONG: &str =
-    "Reads a script from standard input, runs its commands on the account of a
-constant bandwidth server (Abeni and Buttazzo, 1998), and prints one line for
-each.";
+    "Reads a script from standard input, runs its commands, and prints one line for
+each. An account script moves the account of one constant bandwidth server
+(Abeni and Buttazzo, 1998). A session script sets up streams that share some
+workers, starts the machine that serves them, and tells it what happens. Nothing
+happens and no time passes but by a command.";
 
 /// The commands, the limits and the faults of `replay`.
 pub const REPLAY_PAGE: &str =
-    "Commands, one a line, with single spaces (a number is 1 to 19 digits):
+    "A script has at most 1048576 bytes, one command a line, with single spaces. An
+empty line and a line that begins with '#' do nothing. A number is 1 to 19
+digits. NAME is 1 to 32 letters, digits, '_' or '-'; W is the number of a worker,
+from 0, at most 4294967295; HEX is one or more pairs of hexadecimal digits.
+Where the first command is 'account' it is an account script, else a session
+script.
+
+Commands of an account script, each printing 'budget C deadline D':
   account Q T    A new account of maximum budget Q and period T, where
                  1 <= Q <= T <= 1048576.
   idle R         A job arrives at the moment R, at most 1152921504606846976, and
                  finds the server idle.
   charge K       K units of work were done.
-  Each prints 'budget C deadline D', as the account then stands. An empty line
-  and a line that begins with '#' do nothing. A script has at most 1048576 bytes.
+
+Commands of a session script before 'start'; a setting prints 'ok':
+  workers N      There are N workers, 1 to 16; at first 1.
+  quantum K      A lease grants at most K bands, 1 to 64; at first 4.
+  band B         The streams that follow have bands of B luma rows, even, 2 to
+                 128; at first 16.
+  frames N       Each stream that follows accepts at most N frames, 1 to
+                 16777216; at first 16777216.
+  stream NAME Q T QUEUE OUTBOX OPS HEADER  Prints 'stream S', S counted from 0.
+                 A stream with an account of Q units in every T moments, where
+                 1 <= Q <= T <= 1048576, with at most QUEUE frames unfinished and
+                 OUTBOX images waiting, each 1 to 256. OPS is as for 'filter';
+                 HEADER is all that follows, the header line of its frames. The
+                 line is checked in this order: its form, the name, OPS, HEADER,
+                 and the chain of OPS for such frames.
+  start          Prints 'started'. There are 1 to 64 streams. A stream's share is
+                 Q * 1000000 / T, rounded up; all together are at most 1000000
+                 for each worker. The numbers are checked here: first all limits,
+                 then stream by stream Q and T and the share.
+
+Commands of a session script after 'start':
+  arrive NAME HEX  A frame arrives; HEX is its samples, the planes one after
+                 another: 'accepted SEQ', SEQ counted from 0 in its stream.
+  lease W        The worker asks for a lease: 'leased NAME SEQ grant G'. It goes
+                 to the ready stream with the earliest deadline, then the lowest
+                 number, for at most the quantum, the bands that are left, and
+                 what the budget pays for, but for one at least. A stream is
+                 ready where it has an unfinished frame, none of its frames is
+                 leased, and its outbox has room.
+  band W         It does the next band of its lease: 'stepped'. A band of blur:R
+                 costs the stream's account 1 + R units, any other 1.
+  settle W       It gives its lease back: 'finished SEQ' where the frame's last
+                 band is done, else 'returned'.
+  tick N         The clock goes on from 0 to N, at most 1152921504606846976:
+                 'ticked'.
+  close NAME     The stream gets no more frames: 'closing'.
+  collect NAME   The stream's oldest image is given out: 'image HEX'.
+  state NAME     Shows the stream: 'budget C deadline D accepted A finished F
+                 collected K charged U'.
+
+Refusals, 'refused N WORD'; the lowest that holds, and the script goes on:
+  1 NoStream       No stream has the name.
+  2 Closed         A frame arrives, and the stream was closed.
+  3 WrongSize      A frame of the stream has another number of samples.
+  4 TooManyFrames  The stream has accepted as many frames as it may.
+  5 Full           As many frames as QUEUE says are unfinished.
+  6 NoMemory       There was no memory for the frame's images.
+  7 NoWorker       There is no such worker.
+  8 Busy           The worker holds a lease.
+  9 NoneReady      No stream is ready.
+  10 NoLease       The worker holds no lease.
+  11 GrantSpent    All bands of the lease are done.
+  12 Past          The moment is before the clock.
+  13 ClockEnd      The moment is too late.
+  14 AlreadyClosed  The stream was closed before.
+  15 Empty         No image waits.
+  16 Drained       No image will come: the stream is closed and all is collected.
+
+Example: with one worker these lines print 'stream 0', 'stream 1', 'stream 2' and
+'line 4: Overload c', status 1; behind 'workers 2', which prints 'ok', the last
+one prints 'started', status 0:
+  stream a 1 3 4 4 invert YUV4MPEG2 W1 H1 Cmono
+  stream b 1 3 4 4 invert YUV4MPEG2 W1 H1 Cmono
+  stream c 1 3 4 4 invert YUV4MPEG2 W1 H1 Cmono
+  start
 
 Faults of the script, printed as the last line, 'line N: WORD'; status 1:
-  BadLine        The line has none of these forms, or there is no account yet.
-  BadBandwidth   Q and T are out of range.
+  BadLine        The line has none of these forms, or not one for its place: of
+                 the other kind of script, or on the wrong side of 'start'. Also
+                 an arrival of more than 16384 samples that are no frame of
+                 the stream.
+  BadName        A stream has the name.
   Range          More units than can be charged.
+  BadOp          A part of OPS has none of the forms of an operation.
+  TooManyOps     OPS has more than 8 parts.
+  NotY4m         HEADER is refused, here and by the next six as after 'read
+                 Header' in 'filter --help'.
+  BadNumber      W or H of HEADER.
+  RepeatedTag    W, H or C of HEADER.
+  MissingSize    W or H of HEADER.
+  UnknownChroma  C of HEADER.
+  NotDivisible   W or H of HEADER.
+  TooLarge       W, H or a frame of HEADER.
+  BadCrop        A rectangle of OPS is none of the stream's pictures.
+  TooManySteps   A frame of the stream costs more than 32768 units.
+  BadLimits      A number is outside its limits: at 'band', else at 'start'.
+  BadBandwidth   Q and T of 'account' are out of range, or at 'start', with NAME
+                 behind it, those of that stream.
+  Overload NAME  Those before it leave the stream less than its share.
   TooLong        The script is over its limit (N is 0).
   NoMemory       No memory was left. This one is told on standard error too.
 Other faults, each one line on standard error behind 'y4mserve: '; status 1:

@@ -1,5 +1,5 @@
 //! Reading a script.
-ghost use Rattle.std.specs.Prelude.{◌≡◌, ◌≢◌, ◌≤◌, ◌<◌, IfErr, IfOk, vec_len};
+ghost use Rattle.std.specs.Prelude.{◌≡◌, ◌≢◌, ◌≤◌, ◌<◌, IfErr, IfOk, IfSome, IsErrOf, length, vec_len};
 ghost use Rattle.std.specs.Io.KnownBytes.{Consumes, IsAtEnd};
 ghost use Rattle.serve_report.specs.ScriptDevices.{reads_told};
 
@@ -22,6 +22,8 @@ pub fn read_front<R: Source>(
     ensures bound { IfOk result (λ bytes. vec_len bytes ≤ limit) }
     ensures whole { IfOk result (λ bytes. vec_len bytes < limit → IsAtEnd (R.remaining input.new)) }
     ensures no_write { IfErr result (λ fault. fault ≢ ReplayFault.Write) }
+    ensures some { IsErrOf result ReplayFault.NoMemory
+        → IfSome (R.remaining input.old) (λ rest. 0 < length rest) }
     ensures failures { R.failures input.new ≡ reads_told result (R.failures input.old) }
 {
     let mut bytes = Vec::new(alloc);

@@ -2,6 +2,9 @@
 ghost use Rattle.std.specs.Prelude.{◌≡◌, ◌++◌, IfErr, OnOk, true};
 ghost use Rattle.std.specs.List.{flat_map};
 ghost use Rattle.y4m_stream.specs.Failures.{failures_after};
+ghost use Rattle.std.specs.Option.{option_copied, option_map};
+ghost use Rattle.serve_report.specs.ScriptFault.{name_text};
+ghost use Rattle.serve_report.specs.ScriptInside.{stop_told};
 ghost use Rattle.serve_report.specs.ScriptReport.{stop_text};
 ghost use Rattle.serve_report.specs.Writing.{Writes};
 
@@ -14,10 +17,10 @@ use y4m_stream::{Sink, put_all};
 pub fn write_report<W: Sink>(
     writer: &mut W,
     printed: &[u8],
-    stop: Option<ScriptStop>,
+    stop: Option<ScriptStop<'_>>,
 ) -> Result<(), ReplayFault>
     ensures text { Writes (W.contents writer.old) (W.contents writer.new)
-        (printed.now ++ stop_text stop) result }
+        (printed.now ++ stop_text (option_map stop_told stop.entry)) result }
     ensures fault { IfErr result (λ fault. fault ≡ ReplayFault.Write) }
     ensures failures { W.failures writer.new ≡ failures_after result (W.failures writer.old) }
     ensures flushed { OnOk result (W.is_flushed writer.new ≡ true) }
@@ -29,8 +32,9 @@ pub fn write_report<W: Sink>(
 
 /// Writes `line N: WORD` and a line feed, or nothing where there is no stop. It takes no memory, so a refused
 /// growth can be told.
-fn put_stop<W: Sink>(writer: &mut W, stop: Option<ScriptStop>) -> Result<(), ReplayFault>
-    ensures text { Writes (W.contents writer.old) (W.contents writer.new) (stop_text stop) result }
+fn put_stop<W: Sink>(writer: &mut W, stop: Option<ScriptStop<'_>>) -> Result<(), ReplayFault>
+    ensures text { Writes (W.contents writer.old) (W.contents writer.new)
+        (stop_text (option_map stop_told stop.entry)) result }
     ensures fault { IfErr result (λ fault. fault ≡ ReplayFault.Write) }
     ensures failures { W.failures writer.new ≡ failures_after result (W.failures writer.old) }
 {
@@ -42,10 +46,25 @@ fn put_stop<W: Sink>(writer: &mut W, stop: Option<ScriptStop>) -> Result<(), Rep
         b"line ".as_slice(),
         number.format(stop.line).as_bytes(),
         b": ".as_slice(),
-        stop.fault.name().as_bytes(),
-        b"\n".as_slice(),
+        stop.fault.word().as_bytes(),
     ];
-    put_pieces(writer, &pieces)
+    put_pieces(writer, &pieces)?;
+    put_name(writer, stop.fault.name())?;
+    put(writer, b"\n".as_slice())
+}
+
+/// Writes a space and a name, or nothing where there is none.
+fn put_name<W: Sink>(writer: &mut W, name: Option<&[u8]>) -> Result<(), ReplayFault>
+    ensures text { Writes (W.contents writer.old) (W.contents writer.new)
+        (name_text (option_copied name.entry)) result }
+    ensures fault { IfErr result (λ fault. fault ≡ ReplayFault.Write) }
+    ensures failures { W.failures writer.new ≡ failures_after result (W.failures writer.old) }
+{
+    let Some(name) = name else {
+        return Ok(());
+    };
+    put(writer, b" ".as_slice())?;
+    put(writer, name)
 }
 
 /// Writes pieces of a text, one after another.

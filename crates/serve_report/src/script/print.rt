@@ -1,6 +1,7 @@
 //! The lines that a script prints.
 ghost use Rattle.std.specs.Prelude.{◌≡◌, ◌++◌, OnErr, OnOk, codes, decimal, take, vec_len};
-ghost use Rattle.serve_report.specs.ScriptReport.{balance_line, line_text};
+ghost use Rattle.serve_report.specs.AccountScript.{balance_line};
+ghost use Rattle.serve_report.specs.ScriptReport.{line_text};
 
 use cbs_account::Account;
 use itoa::Buffer;

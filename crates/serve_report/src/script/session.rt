@@ -1,18 +1,20 @@
-//! Session scripts, of which the parts that stand alone are here: their lines' commands, frames in hexadecimal digits,
-//! and the lines that replies print.
-//!
-//! A session script first sets up streams, and then runs events on them, from the line `start` on. [`replay`] doesn't
-//! run session scripts yet.
-//!
-//! [`replay`]: crate::script::replay
+//! Session scripts: they first set up streams, and then run events on them, from the line `start` on.
 
+mod arrival;
 pub mod digits;
 pub mod line;
 #[cfg(test)]
 mod line_tests;
 pub mod pieces;
+pub mod preparation;
 pub mod run_command;
+pub mod running;
+#[cfg(test)]
+mod script_tests;
 pub mod setup_command;
+#[cfg(test)]
+mod start_tests;
+pub mod streams;
 #[cfg(test)]
 mod tests;
 mod word;

@@ -91,7 +91,6 @@ fn a_fault_is_the_last_line(rt: HostRuntime) {
         ),
         ("idle 0\naccount 2 10\n", "line 1: BadLine\n"),
         ("charge 1\n", "line 1: BadLine\n"),
-        ("workers 2\n", "line 1: BadLine\n"),
         (
             "account 2 10\nstart\n",
             "budget 2 deadline 0\nline 2: BadLine\n",

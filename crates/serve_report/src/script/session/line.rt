@@ -5,6 +5,7 @@ ghost use Rattle.serve_report.specs.ScriptReport.{line_text};
 ghost use Rattle.serve_report.specs.SessionLine.{account_text, counts_text, image_line, leased_line};
 ghost use Rattle.serve_report.specs.SessionLine.{refusal_number, refusal_word, refused_line, reply_line};
 ghost use Rattle.serve_report.specs.SessionLine.{state_line};
+ghost use Rattle.serve_report.specs.SessionSetup.{stream_line};
 
 use super::pieces::{push_line, push_pieces};
 use itoa::Buffer;
@@ -35,6 +36,14 @@ pub fn push_reply(
         Reply::Refused(refusal) => push_refusal(printed, *refusal),
         Reply::GivenBack(refusal, _) => push_refusal(printed, *refusal),
     }
+}
+
+/// Appends the line of a stream's number, or nothing.
+pub fn push_stream(printed: &mut Vec<u8>, number: u64) -> Result<(), AllocError>
+    ensures ok { OnOk result (printed.new.items ≡ printed.old.items ++ line_text (stream_line number)) }
+    ensures err { OnErr result (printed.new.items ≡ printed.old.items) }
+{
+    push_numbered(printed, b"stream ".as_slice(), number)
 }
 
 /// Appends a line of a word and a number, or nothing.
@@ -79,7 +88,7 @@ fn push_image(alloc: Global, printed: &mut Vec<u8>, samples: &[u8]) -> Result<()
 }
 
 /// Appends the line of a refusal, or nothing.
-fn push_refusal(printed: &mut Vec<u8>, refusal: Refusal) -> Result<(), AllocError>
+pub fn push_refusal(printed: &mut Vec<u8>, refusal: Refusal) -> Result<(), AllocError>
     ensures ok { OnOk result (printed.new.items ≡ printed.old.items ++ line_text (refused_line refusal)) }
     ensures err { OnErr result (printed.new.items ≡ printed.old.items) }
 {

@@ -1,7 +1,7 @@
 //! The commands of a session script after its `start`.
-ghost use Rattle.std.specs.Prelude.{◌≡◌};
+ghost use Rattle.std.specs.Prelude.{◌≡◌, IfSome};
 ghost use Rattle.std.specs.Option.{option_map};
-ghost use Rattle.serve_report.specs.SessionCommand.{arrival_of, run_of, run_told, run_with};
+ghost use Rattle.serve_report.specs.SessionCommand.{HasHex, arrival_of, run_of, run_told, run_with};
 
 use super::word::{is_hex, is_name, parse_name, parse_worker};
 use crate::script::command::parse_number;
@@ -30,7 +30,8 @@ pub enum RunCommand<'a> {
 
 /// The command that a line after `start` writes. No stream may have the name, and no worker the number.
 pub fn parse_run(line: &[u8]) -> Option<RunCommand<'_>>
-    ensures { option_map run_told result ≡ run_of line.now }
+    ensures command { option_map run_told result ≡ run_of line.now }
+    ensures hex { IfSome result (λ command. HasHex (run_told command)) }
 {
     let (word, rest) = cut(b' ', line);
     parse_with(word, rest?)
@@ -38,7 +39,8 @@ pub fn parse_run(line: &[u8]) -> Option<RunCommand<'_>>
 
 /// The command of this first word, with what stands behind it.
 fn parse_with<'a>(word: &[u8], rest: &'a [u8]) -> Option<RunCommand<'a>>
-    ensures { option_map run_told result ≡ run_with word.now rest.now }
+    ensures command { option_map run_told result ≡ run_with word.now rest.now }
+    ensures hex { IfSome result (λ command. HasHex (run_told command)) }
 {
     if word == b"arrive".as_slice() {
         parse_arrival(rest)
@@ -70,7 +72,8 @@ fn parse_with<'a>(word: &[u8], rest: &'a [u8]) -> Option<RunCommand<'a>>
 
 /// The arrival that the text behind `arrive` asks for.
 fn parse_arrival(text: &[u8]) -> Option<RunCommand<'_>>
-    ensures { option_map run_told result ≡ arrival_of text.now }
+    ensures command { option_map run_told result ≡ arrival_of text.now }
+    ensures hex { IfSome result (λ command. HasHex (run_told command)) }
 {
     let (name, rest) = cut(b' ', text);
     let hex = rest?;

@@ -1,8 +1,9 @@
 use Rattle.std.proofs.Common.{◌≡◌, ℕ, ◌+◌, ◌≤◌, List, ◌++◌, length}
-use Rattle.serve_report.specs.ScriptReport.{text_of_lines}
+use Rattle.serve_report.specs.ScriptInside.{Stands}
+use Rattle.serve_report.specs.ScriptReport.{LeadTo, text_of_lines}
+use Rattle.serve_report.specs.ScriptState.{Fresh, ScriptState}
 use Rattle.serve_report.specs.ScriptText.{script_lines}
-use Rattle.serve_report.proofs.ScriptStops.{HaveRun}
-use Rattle.serve_report.proofs.script.account.run_account_script.Given as goal
+use Rattle.serve_report.proofs.script.run.run_lines.Given as goal
 
 -- the lines before those that are left have run, and their answers were printed
 abbrev pub invariant-loop-rest : goal.invariant-loop-rest
@@ -10,9 +11,11 @@ invariant-loop-rest l =
     record {
       lines : List (List ℕ);
       answers : List (List ℕ);
+      led : ScriptState;
       split : script_lines l.script ≡ lines ++ script_lines l.rest;
       at : l.number ≡ length lines;
-      ran : HaveRun lines l.account answers;
+      ran : LeadTo Fresh lines answers led;
+      stands : Stands l.state led;
       printed : l.printed.items ≡ l.fn.printed.items ++ text_of_lines answers;
       count : l.number + length l.rest ≤ length l.script;
     }
