@@ -1,0 +1,73 @@
+-- What the seats of a hub keep.
+use Rattle.std.specs.Prelude.{ℕ, ◌+◌, ◌≡◌, Bool, false, List, [], ◌∷◌, ◌++◌, length, slice_get, Some}
+use Rattle.filters.specs.Chain.{ChainValue}
+use Rattle.filters.specs.ChainImage.{FrameValue}
+use Rattle.serve_core.specs.Setup.{StreamSpec}
+use Rattle.serve_hub.specs.declared.entry.Act.{Act}
+use Rattle.serve_hub.specs.Books.{BookValue}
+
+-- the accepted calls of a seat, the oldest first, and how many entries its journal may have
+pub record CallsValue : Type 0 where
+  pub limit : ℕ
+  pub list : List Act
+
+abbrev pub with_call : Act → CallsValue → CallsValue
+with_call act calls = record calls { list = calls.list ++ act ∷ [] }
+
+-- who offers frames of a stream and collects its images
+pub record StreamSeatValue : Type 0 where
+  pub number : ℕ
+  pub calls : CallsValue
+  -- what is done to its frames
+  pub chain : ChainValue
+  -- how many of its frames may be unfinished, and how many it may accept at all
+  pub queue : ℕ
+  pub frames : ℕ
+  -- how many were accepted
+  pub accepted : ℕ
+  pub is_closed : Bool
+  -- the frames that were accepted and aren't collected, the oldest first
+  pub kept : List FrameValue
+
+-- who leases jobs and settles them
+pub record WorkSeatValue : Type 0 where
+  pub number : ℕ
+  pub calls : CallsValue
+
+-- how many seats a hub has
+pub record HubValue : Type 0 where
+  pub streams : ℕ
+  pub workers : ℕ
+
+abbrev pub no_calls : ℕ → CallsValue
+no_calls limit = record { limit = limit; list = [] }
+
+abbrev pub opened_stream : (limit number : ℕ) → StreamSpec → StreamSeatValue
+opened_stream limit number spec = record {
+  number = number;
+  calls = no_calls limit;
+  chain = spec.chain;
+  queue = spec.queue;
+  frames = spec.frames;
+  accepted = 0;
+  is_closed = false;
+  kept = [];
+}
+
+abbrev pub opened_worker : (limit number : ℕ) → WorkSeatValue
+opened_worker limit number = record { number = number; calls = no_calls limit }
+
+-- a seat for each stream
+pub record AreStreamSeats (limit : ℕ) (specs : List StreamSpec) (seats : List StreamSeatValue) : Type 0 where
+  pub count : length seats ≡ length specs
+  pub each : (s : ℕ) (spec : StreamSpec) → slice_get specs s ≡ Some spec
+      → slice_get seats s ≡ Some (opened_stream limit s spec)
+
+-- what stands under the lock of a hub: the book, and how many seats there are
+pub record SharedValue : Type 0 where
+  pub book : BookValue
+  pub streams : ℕ
+  pub workers : ℕ
+
+abbrev pub hub_of : (streams workers : ℕ) → HubValue
+hub_of streams workers = record { streams = streams; workers = workers }
