@@ -1,6 +1,7 @@
 //! Books that are called in turn, with the answers that were worked out by hand.
 mod calls;
 mod full;
+mod hubs;
 mod leases;
 
 use crate::{Book, Refusal, Settled};
