@@ -1,5 +1,5 @@
 -- A book with one entry more.
-use Rattle.std.proofs.Common.{ℕ, ◌+◌, ◌≡◌, ◌≤◌, List, [], ◌∷◌, ◌++◌, length, reverse, Some, slice_get, ◌∙◌, ap}
+use Rattle.std.proofs.Common.{ℕ, ◌+◌, ◌≡◌, ◌≤◌, List, [], ◌∷◌, ◌++◌, length, reverse, Some, slice_get, sum, ◌∙◌, ap}
 use Rattle.std.proofs.Common.{arith}
 use Rattle.std.proofs.lemmas.List.{reverse-append}
 use Rattle.serve_core.specs.Bare.{Blank, measures_any, is_any_image}
@@ -11,7 +11,7 @@ use Rattle.serve_core.proofs.Openings.{sound_from}
 use Rattle.serve_hub.specs.declared.entry.Act.{Act}
 use Rattle.serve_hub.specs.declared.entry.Entry.{Entry}
 use Rattle.serve_hub.specs.declared.entry.Seat.{Seat}
-use Rattle.serve_hub.specs.Books.{BookValue, IsBook, book_transcript, opening_of, taken}
+use Rattle.serve_hub.specs.Books.{BookValue, IsBook, book_transcript, charges, opening_of, taken}
 use Rattle.serve_hub.specs.Journal.{IsEntry, entry_of, events_of, units_from}
 use Rattle.serve_hub.proofs.Journals.{one_more_entry}
 use Rattle.serve_hub.proofs.Units.{units_joined}
@@ -34,8 +34,8 @@ AddsUnits b seat act units =
 pub one_more : (b : BookValue) (seat : Seat) (act : Act) (desk : ScheduleValue) (units : List ℕ) → IsBook b
     → Answers b.desk (events_of (desk_state b.desk) seat act) desk → IsEntry (desk_state b.desk) seat act
     → length units ≡ length desk.workers → AddsUnits b seat act units
-    → taken (grown b seat act desk units) ≤ b.limit → IsBook (grown b seat act desk units)
-one_more b seat act desk units h led is workers adds fits = record {
+    → sum units + charges b.opening ≡ charges desk → taken (grown b seat act desk units) ≤ b.limit → IsBook (grown b seat act desk units)
+one_more b seat act desk units h led is workers adds sums fits = record {
   sound = sound_from measures_any is_any_image (desk_state b.desk) (desk_state desk)
       (events_of (desk_state b.desk) seat act) h.sound led;
   journal = one_more_entry (opening_of b) (desk_state b.desk) (desk_state desk) b.past seat act h.journal is led;
@@ -47,5 +47,6 @@ one_more b seat act desk units h led is workers adds fits = record {
       let q = events_of (state_from o p) seat act in
       let same = ap (λ (m : State Blank). units_from m w (events_of m seat act)) h.journal.leads.1 in
       omega (arith, a.2, h.units w a.0 a.1, units_joined o w p q, same);
+  charges = sums;
   fits = fits;
 }

@@ -2,3 +2,8 @@ pub mod Journals
 pub mod Units
 pub mod Rooms
 pub mod Kept
+pub mod Entered
+pub mod Settling
+pub mod Inside
+pub mod Bands
+pub mod Opened

@@ -6,7 +6,7 @@ use Rattle.std.proofs.lemmas.Option.{get_or_from_slice_get, slice_get_within}
 use Rattle.serve_core.specs.declared.held.Held.{Held}
 use Rattle.serve_core.specs.Lanes.{Lane}
 use Rattle.serve_core.specs.Schedule.{ScheduleValue, with_held, with_lane}
-use Rattle.serve_hub.specs.Books.{one_open, one_out, reserved}
+use Rattle.serve_hub.specs.Books.{charges, one_open, one_out, reserved}
 
 -- an item of a sum is changed
 sum_set : {X : Type 0} (f : X → ℕ) (xs : List X) (i : ℕ) (x y : X) → slice_get xs i ≡ Some x
@@ -51,3 +51,14 @@ lease_settled x w s held old new mine e same =
       sum_set one_open x.lanes s old new e,
       open_still old new same,
     )
+
+-- what the streams were charged
+pub charged_more : (x : ScheduleValue) (s k : ℕ) (old new : Lane) → slice_get x.lanes s ≡ Some old
+    → new.state.charged ≡ old.state.charged + k → charges (with_lane s new x) ≡ charges x + k
+charged_more x s k old new e more =
+    omega (arith, sum_set (λ (lane : Lane). lane.state.charged) x.lanes s old new e, more)
+
+pub charged_still : (x : ScheduleValue) (s : ℕ) (old new : Lane) → slice_get x.lanes s ≡ Some old
+    → new.state.charged ≡ old.state.charged → charges (with_lane s new x) ≡ charges x
+charged_still x s old new e same =
+    omega (arith, sum_set (λ (lane : Lane). lane.state.charged) x.lanes s old new e, same)

@@ -42,11 +42,15 @@ counted : (b : Bool) (a c d : ℕ) → c + a ≡ d → (if b then a else 0) + (i
 counted true a c d e = omega (arith, e)
 counted false a c d e = refl
 
+no_band : (b : Bool) → 0 ≡ (if b then 0 else 0)
+no_band true = refl
+no_band false = refl
+
 -- the bands of worker v's lease l of stream x
 pub bands_units : (m : State Blank) (w v k : ℕ) (l : Held) (x : StreamState Blank)
     → slice_get m.workers v ≡ Some (Some l) → slice_get m.streams l.stream ≡ Some x → l.used + k ≤ l.grant
     → units_from m w (bands v k) ≡ (if nat_eq v w then cost_of_next k x else 0)
-bands_units m w v zero l x e f u = none (nat_eq v w)
+bands_units m w v zero l x e f u = no_band (nat_eq v w)
 bands_units m w v (suc k) l x e f u =
     let before = bands_units m w v k l x e f (omega arith) in
     let here = at_once_is measures_any is_any_image m v k l x e f (omega arith) in

@@ -1,6 +1,6 @@
 -- What a book keeps.
 use Rattle.std.specs.Prelude.{ℕ, ◌+◌, ◌-◌, ◌≡◌, ◌≤◌, ◌^◌, List, [], ◌∷◌, length, replicate, slice_get, slice_set}
-use Rattle.std.specs.Prelude.{slice_index_or, sum_by, Option, Some, None, IsSomeAnd, if◌then◌else◌}
+use Rattle.std.specs.Prelude.{slice_index_or, sum, sum_by, Option, Some, None, IsSomeAnd, if◌then◌else◌}
 use Rattle.lease.specs.Lease.{LeaseValue}
 use Rattle.serve_core.specs.declared.held.Held.{Held}
 use Rattle.serve_core.specs.Desk.{Answers, IsRecorded, desk_state}
@@ -70,12 +70,18 @@ room b = b.limit - taken b
 abbrev pub AreUnits : BookValue → Type 0
 AreUnits b = (w n : ℕ) → slice_get b.units w ≡ Some n → n ≡ units_from (opening_of b) w (book_transcript b)
 
+-- the units that all streams were charged
+abbrev pub charges : ScheduleValue → ℕ
+charges desk = sum_by (λ lane. lane.state.charged) desk.lanes
+
 -- what a book always is
 pub record IsBook (b : BookValue) : Type 0 where
   pub sound : Sound (desk_state b.desk)
   pub journal : IsJournal (opening_of b) b.past (desk_state b.desk)
   pub workers : length b.units ≡ length b.desk.workers
   pub units : AreUnits b
+  -- all workers' units are what the streams were charged since the book was opened
+  pub charges : sum b.units + charges b.opening ≡ charges b.desk
   pub fits : taken b ≤ b.limit
 
 -- one entry more, its own: the desk answers its events, and all else stays

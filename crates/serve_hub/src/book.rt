@@ -1,5 +1,5 @@
 //! A desk with the journal of what it accepted.
-ghost use Rattle.std.specs.Prelude.{◌≡◌, ◌<◌, ◌^◌, ◌↔◌, All, IfOk, IfSome, IsErrOf, IsSome, IsTrue, length, option_copied};
+ghost use Rattle.std.specs.Prelude.{◌≡◌, ◌<◌, ◌≤◌, ◌^◌, ◌↔◌, All, IfOk, IfSome, IsErrOf, IsSome, IsTrue, length, option_copied};
 ghost use Rattle.std.specs.Prelude.{reverse, slice_get};
 ghost use Rattle.std.specs.Option.{option_map};
 ghost use Rattle.serve_core.specs.Lanes.{IsOver};
@@ -37,6 +37,8 @@ pub enum BookError {
 }
 
 impl From<AllocError> for BookError {
+    ghost use Rattle.serve_hub.specs.declared.book.BookError.{BookError};
+
     ghost from_gives = { λ _ e. e ≡ BookError.NoMemory };
 
     fn from(_: AllocError) -> BookError {
@@ -177,12 +179,20 @@ impl Book {
     pub fn bands(&self, w: u32) -> u64
         ensures { result ≡ bands_of w self.now.past }
     {
-        let mut sum = 0;
-        for entry in &self.journal {
-            sum += bands_in(w, entry);
-        }
-        sum
+        bands_settled(w, &self.journal)
     }
+}
+
+/// The bands that a journal tells of worker `w`.
+fn bands_settled(w: u32, journal: &[Entry]) -> u64
+    requires { length journal.now ≤ 2 ^ 20 }
+    ensures { result ≡ bands_of w journal.now }
+{
+    let mut sum = 0;
+    for entry in journal {
+        sum += bands_in(w, entry);
+    }
+    sum
 }
 
 /// The bands that an entry tells of worker `w`.

@@ -35,6 +35,8 @@ pub enum Refusal {
 }
 
 impl From<serve_core::Refusal> for Refusal {
+    ghost use Rattle.serve_hub.specs.declared.refusal.Refusal.{Refusal};
+
     ghost from_gives = { λ e refusal. refusal ≡ Refusal.Core e };
 
     fn from(refusal: serve_core::Refusal) -> Refusal {

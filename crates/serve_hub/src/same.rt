@@ -11,9 +11,13 @@ pub(crate) fn is_same_spec(one: &JobSpec, other: &JobSpec) -> bool
     ensures { IsTrue result ↔ (one.now ≡ other.now) }
 {
     let (one, other) = (one.chain(), other.chain());
-    one.ops() == other.ops()
-        && one.geometry() == other.geometry()
-        && one.band_height() == other.band_height()
+    if one.ops() != other.ops() {
+        return false;
+    }
+    if one.geometry() != other.geometry() {
+        return false;
+    }
+    one.band_height() == other.band_height()
 }
 
 /// Whether two frames have the same geometry, line and samples.

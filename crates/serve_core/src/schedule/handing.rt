@@ -11,6 +11,7 @@ ghost use Rattle.serve_core.specs.Schedule.{HasLane, with_lane};
 
 use super::Schedule;
 use crate::refusal::Refusal;
+use crate::stream::Stream;
 use lease::{Job, JobSpec};
 
 impl Schedule {
@@ -46,12 +47,7 @@ impl Schedule {
     pub(crate) fn is_over(&self) -> bool
         ensures { IsTrue result ↔ All IsOver self.now.lanes }
     {
-        for stream in &self.streams {
-            if !stream.is_over() {
-                return false;
-            }
-        }
-        true
+        are_over(&self.streams)
     }
 
     /// Why a frame of its size is refused by stream `s`, if it is.
@@ -85,4 +81,15 @@ impl Schedule {
         stream.charge(bands, units);
         stream.hand_back(job);
     }
+}
+
+fn are_over(streams: &[Stream]) -> bool
+    ensures { IsTrue result ↔ All IsOver streams.now }
+{
+    for stream in streams {
+        if !stream.is_over() {
+            return false;
+        }
+    }
+    true
 }

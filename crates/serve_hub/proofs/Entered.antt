@@ -1,0 +1,136 @@
+-- What each accepted call makes of a book.
+use Rattle.std.proofs.Common.{ℕ, ◌+◌, ◌≡◌, ◌≤◌, max, nat_lt, Bool, true, false, List, length, Some, None, Option, slice_get}
+use Rattle.std.proofs.Common.{if◌then◌else◌, refl, sym, ◌∙◌, ap, subst, arith}
+use Rattle.std.proofs.lemmas.List.{length-set}
+use Rattle.lease.specs.Job.{JobValue}
+use Rattle.lease.specs.Lease.{LeaseValue}
+use Rattle.serve_core.specs.declared.refusal.Refusal.TheVariants as refusals
+use Rattle.serve_core.specs.Bare.{Blank}
+use Rattle.serve_core.specs.Desk.{Answers, GivesJob, TakesJob, bare_frames, desk_state, given, held_of, offered, one}
+use Rattle.serve_core.specs.Desk.{ticked}
+use Rattle.serve_core.specs.Events.{Accepted, Arrive, Close, Closing, Collect, Image, Lease, Reply, Refused, Start}
+use Rattle.serve_core.specs.Events.{Then, Tick, Ticked, Transcript}
+use Rattle.serve_core.specs.Events as events
+use Rattle.serve_core.specs.Lanes.{Lane}
+use Rattle.serve_core.specs.Schedule.{HasLane, ScheduleValue, came, shut, taken, with_lane}
+use Rattle.serve_core.specs.States.{State}
+use Rattle.serve_core.proofs.Lifts.{stream_here}
+use Rattle.serve_core.proofs.Options.{and_some, some_and}
+use Rattle.serve_hub.specs.declared.entry.Act.{Act}
+use Rattle.serve_hub.specs.declared.entry.Act.TheVariants.{Offered, Closed, Leased, Collected}
+use Rattle.serve_hub.specs.declared.entry.Seat.{Seat}
+use Rattle.serve_hub.specs.declared.entry.Seat.TheVariants.{Stream, Worker}
+use Rattle.serve_hub.specs.Books as books
+use Rattle.serve_hub.specs.Books.{BookValue, IsBook, reserved}
+use Rattle.serve_hub.specs.Journal.{IsEntry, events_of, tick_of, ticks, units_from}
+use Rattle.serve_hub.proofs.Kept.{AddsUnits, grown, one_more}
+use Rattle.serve_hub.proofs.Rooms.{charged_still, lane_kept, lane_shut, lease_given}
+use Rattle.serve_hub.proofs.Units.{offer_units}
+
+-- one entry more, with so much more of the journal's places taken
+pub record IsEntered (b : BookValue) (seat : Seat) (act : Act) (desk : ScheduleValue) (units : List ℕ) (more : ℕ)
+    : Type 0 where
+  pub is_book : IsBook (grown b seat act desk units)
+  pub count : books.taken (grown b seat act desk units) ≡ books.taken b + more
+  pub led : Answers b.desk (events_of (desk_state b.desk) seat act) desk
+
+ticks_by : (b : Bool) (at : ℕ) → ticks (if b then Some at else None)
+    ≡ (if b then Then Start (Tick at) Ticked else Start)
+ticks_by true at = refl
+ticks_by false at = refl
+
+offer_led : (x y : ScheduleValue) (s at n : ℕ) → Answers x (offered x.clock s at n) y
+    → Answers x (events_of (desk_state x) (Stream s) (Offered (tick_of x.clock at) n)) y
+offer_led x y s at n led =
+    subst (λ (p : Transcript Blank Blank). Answers x (Then p (Arrive s tt) (Accepted n)) y)
+    (sym (ticks_by (nat_lt x.clock at) at)) led
+
+-- events of no band have no units
+quiet : (b : BookValue) (seat : Seat) (act : Act)
+    → ((w : ℕ) → units_from (desk_state b.desk) w (events_of (desk_state b.desk) seat act) ≡ 0)
+    → AddsUnits b seat act b.units
+quiet b seat act none w n e = let no = none w in (n, e, omega (arith, no))
+
+-- a call of no band that leaves the number of workers
+entered : (b : BookValue) (seat : Seat) (act : Act) (desk : ScheduleValue) (more : ℕ) → IsBook b
+    → Answers b.desk (events_of (desk_state b.desk) seat act) desk → IsEntry (desk_state b.desk) seat act
+    → ((w : ℕ) → units_from (desk_state b.desk) w (events_of (desk_state b.desk) seat act) ≡ 0)
+    → length desk.workers ≡ length b.desk.workers → books.charges desk ≡ books.charges b.desk
+    → reserved desk + 1 ≡ reserved b.desk + more → books.taken b + more ≤ b.limit
+    → IsEntered b seat act desk b.units more
+entered b seat act desk more h led is none workers charges places fits =
+    let count : books.taken (grown b seat act desk b.units) ≡ books.taken b + more = omega (arith, places) in
+    record {
+      is_book = one_more b seat act desk b.units h led is (h.workers ∙ sym workers) (quiet b seat act none)
+          (h.charges ∙ sym charges) (omega (arith, count, fits));
+      count = count;
+      led = led;
+    }
+
+desk_took : (s at n : ℕ) (job : JobValue) (x y : ScheduleValue) → TakesJob s at job n x y
+    → (reserved y ≡ reserved x) × (length y.workers ≡ length x.workers) × (books.charges y ≡ books.charges x)
+desk_took s at n job x y took =
+    let clock = max x.clock at in
+    let a = some_and (slice_get x.lanes s) _ took in
+    let z : ScheduleValue = record x { clock = clock } in
+    let new = came clock job a.0 in
+    rw a.2.1 (lane_kept z s a.0 new a.1 refl, refl, charged_still z s a.0 new a.1 refl)
+
+pub offer_entered : (b : BookValue) (s at n : ℕ) (job : JobValue) (desk : ScheduleValue) → IsBook b
+    → Answers b.desk (offered b.desk.clock s at n) desk → TakesJob s at job n b.desk desk
+    → books.taken b + 1 ≤ b.limit
+    → IsEntered b (Stream s) (Offered (tick_of b.desk.clock at) n) desk b.units 1
+offer_entered b s at n job desk h led took fits =
+    let same = desk_took s at n job b.desk desk took in
+    entered b (Stream s) (Offered (tick_of b.desk.clock at) n) desk 1 h (offer_led b.desk desk s at n led) tt
+    (λ w. offer_units (desk_state b.desk) w s (tick_of b.desk.clock at) n) same.1 same.2
+    (omega (arith, same.0)) fits
+
+was_open : (b : Bool) → (let shut : Reply Blank Blank = Closing in
+    shut ≡ (if b then Refused refusals.AlreadyClosed else Closing)) → b ≡ false
+was_open true e = absurd (cc)
+was_open false e = refl
+
+-- a stream that is closed was open
+closed_of : (x y : ScheduleValue) (s : ℕ) (lane : Lane) → slice_get x.lanes s ≡ Some lane
+    → Answers x (one (Close s) Closing) y → lane.state.is_closed ≡ false
+closed_of x y s lane e led =
+    was_open lane.state.is_closed (rw (stream_here bare_frames x s lane e) at led.0.1)
+
+pub close_entered : (b : BookValue) (s : ℕ) (desk : ScheduleValue) → IsBook b
+    → Answers b.desk (one (Close s) Closing) desk
+    → HasLane b.desk s (λ lane. desk ≡ with_lane s (shut lane) b.desk)
+    → IsEntered b (Stream s) Closed desk b.units 0
+close_entered b s desk h led shuts =
+    let a = some_and (slice_get b.desk.lanes s) _ shuts in
+    let was = closed_of b.desk desk s a.0 a.1 led in
+    let fewer = lane_shut b.desk s a.0 (shut a.0) a.1 was refl in
+    let places : reserved desk + 1 ≡ reserved b.desk = rw a.2 fewer in
+    entered b (Stream s) Closed desk 0 h led tt (λ w. refl) (rw a.2 refl)
+    (rw a.2 (charged_still b.desk s a.0 (shut a.0) a.1 refl)) (omega (arith, places)) (omega (arith, h.fits))
+
+pub lease_entered : (b : BookValue) (w : ℕ) (lease : LeaseValue) (desk : ScheduleValue) → IsBook b
+    → slice_get b.desk.workers w ≡ Some None
+    → Answers b.desk (one (Lease w) (events.Leased lease.stream lease.seq lease.granted)) desk
+    → GivesJob w lease b.desk desk → books.taken b + 2 ≤ b.limit
+    → IsEntered b (Worker w) (Leased lease.stream lease.seq lease.granted) desk b.units 2
+lease_entered b w lease desk h free led gives fits =
+    let more = lease_given b.desk w lease.stream (held_of lease) gives.lane (given w gives.lane) free gives.here refl
+    in
+    let places : reserved desk ≡ reserved b.desk + 1 = rw gives.schedule more in
+    entered b (Worker w) (Leased lease.stream lease.seq lease.granted) desk 2 h led tt (λ v. refl)
+    (rw gives.schedule (length-set b.desk.workers w (Some (held_of lease))))
+    (rw gives.schedule (charged_still b.desk lease.stream gives.lane (given w gives.lane) gives.here refl))
+    (omega (arith, places)) fits
+
+pub collect_entered : (b : BookValue) (s n : ℕ) (lane : Lane) (desk : ScheduleValue) → IsBook b
+    → Answers b.desk (one (Collect s) (Image tt)) desk → slice_get b.desk.lanes s ≡ Some lane
+    → n ≡ lane.state.collected → desk ≡ with_lane s (taken lane) b.desk → books.taken b + 1 ≤ b.limit
+    → IsEntered b (Stream s) (Collected n) desk b.units 1
+collect_entered b s n lane desk h led here number takes fits =
+    let still = lane_kept b.desk s lane (taken lane) here refl in
+    let places : reserved desk ≡ reserved b.desk = rw takes still in
+    entered b (Stream s) (Collected n) desk 1 h led
+    (and_some (slice_get (desk_state b.desk).streams s) _ _ (stream_here bare_frames b.desk s lane here) number)
+    (λ w. refl) (rw takes refl) (rw takes (charged_still b.desk s lane (taken lane) here refl))
+    (omega (arith, places)) fits

@@ -1,0 +1,71 @@
+-- What a book keeps after an accepted call.
+use Rattle.std.proofs.Common.{ℕ, ◌+◌, ◌*◌, ◌^◌, ◌≡◌, ◌≤◌, List, [], ◌∷◌, ◌++◌, length, reverse, Some, slice_get}
+use Rattle.std.proofs.Common.{refl, sym, ◌∙◌, ap, subst, arith}
+use Rattle.std.specs.Vec.{vec_capacity}
+use Rattle.serve_core.specs.Schedule.{ScheduleValue}
+use Rattle.serve_hub.specs.declared.book.Book.TheInside.{Inside}
+use Rattle.serve_hub.specs.declared.entry.Act.{Act}
+use Rattle.serve_hub.specs.declared.entry.Entry.{Entry}
+use Rattle.serve_hub.specs.declared.entry.Seat.{Seat}
+use Rattle.serve_hub.specs.BookInside.{IsKept, book}
+use Rattle.serve_hub.specs.Books.{Appends, BookValue, IsBook, taken}
+use Rattle.serve_hub.specs.Journal.{entry_of}
+use Rattle.serve_hub.proofs.Entered.{IsEntered}
+use Rattle.serve_hub.proofs.Kept.{grown, pushed}
+
+length-push : (xs : List Entry) (e : Entry) → length (xs ++ e ∷ []) ≡ length xs + 1
+length-push [] e = refl
+length-push (x ∷ xs) e = let more = length-push xs e in omega (arith, more)
+
+same_book : (o o' d : ScheduleValue) (p p' : List Entry) (l l' : ℕ) (u : List ℕ) → o ≡ o' → p ≡ p' → l ≡ l'
+    → let v : BookValue = record { opening = o; past = p; desk = d; limit = l; units = u } in
+    let w : BookValue = record { opening = o'; past = p'; desk = d; limit = l'; units = u } in v ≡ w
+same_book o o' d p p' l l' u e f g = cc
+
+-- z is a with one entry more at the end of its journal
+pub record IsPushed (a z : Inside) (seat : Seat) (act : Act) : Type 0 where
+  pub opening : z.opening.value ≡ a.opening.value
+  pub limit : z.limit ≡ a.limit
+  pub items : z.journal.items ≡ a.journal.items ++ entry_of seat act ∷ []
+  pub capacity : vec_capacity z.journal ≡ vec_capacity a.journal
+
+pub book_grown : (a z : Inside) (seat : Seat) (act : Act) → IsPushed a z seat act
+    → book z ≡ grown (book a) seat act z.desk z.units.items
+book_grown a z seat act p =
+    same_book z.opening.value a.opening.value z.desk (reverse z.journal.items)
+    (entry_of seat act ∷ reverse a.journal.items) z.limit a.limit z.units.items p.opening
+    (pushed a.journal.items z.journal.items (entry_of seat act) p.items) p.limit
+
+-- no worker's units rise by more than 2^32
+abbrev pub AreFewMore : List ℕ → List ℕ → Type 0
+AreFewMore old new =
+    (w n : ℕ) → slice_get new w ≡ Some n → (m : ℕ) × (slice_get old w ≡ Some m) × (n ≤ m + 2 ^ 32)
+
+pub no_more : (units : List ℕ) → AreFewMore units units
+no_more units w n e = (n, e, omega arith)
+
+pub kept : (a z : Inside) (seat : Seat) (act : Act) (more : ℕ) → IsKept a → IsPushed a z seat act
+    → IsEntered (book a) seat act z.desk z.units.items more → z.taken ≡ a.taken + more
+    → AreFewMore a.units.items z.units.items → IsKept z
+kept a z seat act more k p h count few =
+    let grows = book_grown a z seat act p in
+    let longer : length z.journal.items ≡ length a.journal.items + 1 =
+    ap length p.items ∙ length-push a.journal.items (entry_of seat act) in
+    record {
+      is_book = subst IsBook (sym grows) h.is_book;
+      counted = omega (arith, count, k.counted, h.count, ap taken grows);
+      limit = omega (arith, p.limit, k.limit);
+      reserved = omega (arith, p.limit, p.capacity, k.reserved);
+      few = λ w n e.
+          let f = few w n e in
+          omega (arith, f.2, k.few w f.0 f.1, longer);
+    }
+
+pub appends : (b z : BookValue) (seat : Seat) (act : Act) (desk : ScheduleValue) (units : List ℕ) (more : ℕ)
+    → IsEntered b seat act desk units more → z ≡ grown b seat act desk units
+    → let old : BookValue = record b { units = units } in Appends seat act old z
+appends b z seat act desk units more h is = rw is (record {
+  book = refl;
+  events = h.led;
+  fits = omega (arith, h.is_book.fits);
+})

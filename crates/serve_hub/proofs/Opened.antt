@@ -1,0 +1,44 @@
+-- A book before any entry.
+use Rattle.std.proofs.Common.{ℕ, zero, suc, ◌+◌, ◌*◌, ◌^◌, ◌≡◌, ◌≤◌, List, [], ◌∷◌, length, map, replicate, Some, None}
+use Rattle.std.proofs.Common.{slice_get, sum_by, Option, refl, sym, ◌∙◌, subst, arith}
+use Rattle.std.proofs.lemmas.List.{length-replicate}
+use Rattle.std.proofs.lemmas.List.Folds.{sum_by-replicate}
+use Rattle.std.proofs.lemmas.List.Sums.{sum_by-cons}
+use Rattle.serve_core.specs.declared.held.Held.{Held}
+use Rattle.serve_core.specs.Bare.{Blank, measures_any, is_any_image}
+use Rattle.serve_core.specs.Desk.{desk_state}
+use Rattle.serve_core.specs.Lanes.{opened}
+use Rattle.serve_core.specs.Schedule.{opened_schedule}
+use Rattle.serve_core.specs.Setup.{IsWithin, Setup, StreamSpec}
+use Rattle.serve_core.specs.Sound.{Sound}
+use Rattle.serve_core.proofs.Desks.{desk_opened}
+use Rattle.serve_core.proofs.Kept.{opening_sound}
+use Rattle.serve_hub.specs.Books.{IsBook, IsLimit, charges, one_open, one_out, opened_book, reserved}
+
+all_open : (specs : List StreamSpec) → sum_by one_open (map opened specs) ≡ length specs
+all_open [] = refl
+all_open (spec ∷ specs) =
+    omega (arith, sum_by-cons one_open (opened spec) (map opened specs), all_open specs)
+
+pub places_opened : (setup : Setup) → reserved (opened_schedule setup) ≡ length setup.streams
+places_opened setup =
+    let none : Option Held = None in
+    omega (arith, sum_by-replicate one_out setup.workers none, all_open setup.streams)
+
+pub no_units : (n w m : ℕ) → slice_get (replicate n 0) w ≡ Some m → m ≡ 0
+no_units zero w m e = absurd (cc)
+no_units (suc n) zero m e = cc
+no_units (suc n) (suc w) m e = no_units n w m e
+
+pub is_book_opened : (setup : Setup) (limit : ℕ) → IsWithin setup → IsLimit (length setup.streams) limit
+    → IsBook (opened_book (opened_schedule setup) limit)
+is_book_opened setup limit v l =
+    let desk = opened_schedule setup in
+    record {
+      sound = subst Sound (sym (desk_opened setup)) (opening_sound measures_any is_any_image setup v);
+      journal = record { entries = tt; leads = (tt, refl) };
+      workers = length-replicate (length desk.workers) 0;
+      units = λ w m e. no_units (length desk.workers) w m e;
+      charges = omega (arith, sum_by-replicate (λ (n : ℕ). n) (length desk.workers) 0);
+      fits = omega (arith, places_opened setup, l.closes);
+    }
