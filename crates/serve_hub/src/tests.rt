@@ -3,6 +3,7 @@ mod calls;
 mod full;
 mod hubs;
 mod leases;
+mod threads;
 
 use crate::{Book, Refusal, Settled};
 use filters::{Chain, parse_ops};
