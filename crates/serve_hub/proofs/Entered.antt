@@ -2,26 +2,30 @@
 use Rattle.std.proofs.Common.{ℕ, ◌+◌, ◌≡◌, ◌≤◌, max, nat_lt, Bool, true, false, List, length, Some, None, Option, slice_get}
 use Rattle.std.proofs.Common.{if◌then◌else◌, refl, sym, ◌∙◌, ap, subst, arith}
 use Rattle.std.proofs.lemmas.List.{length-set}
+use Rattle.std.proofs.lemmas.Option.{slice_get_within}
 use Rattle.lease.specs.Job.{JobValue}
 use Rattle.lease.specs.Lease.{LeaseValue}
+use Rattle.std.specs.Option.{option_map}
+use Rattle.serve_core.specs.declared.counts.Counts.{Counts}
 use Rattle.serve_core.specs.declared.refusal.Refusal.TheVariants as refusals
 use Rattle.serve_core.specs.Bare.{Blank}
-use Rattle.serve_core.specs.Desk.{Answers, GivesJob, TakesJob, bare_frames, desk_state, given, held_of, offered, one}
+use Rattle.serve_core.specs.Desk.{Answers, GivesJob, IsRecorded, TakesJob, bare_frames, desk_state, given, held_of, offered, one}
 use Rattle.serve_core.specs.Desk.{ticked}
 use Rattle.serve_core.specs.Events.{Accepted, Arrive, Close, Closing, Collect, Image, Lease, Reply, Refused, Start}
 use Rattle.serve_core.specs.Events.{Then, Tick, Ticked, Transcript}
 use Rattle.serve_core.specs.Events as events
 use Rattle.serve_core.specs.Lanes.{Lane}
-use Rattle.serve_core.specs.Schedule.{HasLane, ScheduleValue, came, shut, taken, with_lane}
+use Rattle.serve_core.specs.Schedule.{HasLane, ScheduleValue, came, counts_of, shut, taken, with_lane}
 use Rattle.serve_core.specs.States.{State}
 use Rattle.serve_core.proofs.Lifts.{stream_here}
+use Rattle.serve_core.proofs.Lists.{slice_get_set_same}
 use Rattle.serve_core.proofs.Options.{and_some, some_and}
 use Rattle.serve_hub.specs.declared.entry.Act.{Act}
 use Rattle.serve_hub.specs.declared.entry.Act.TheVariants.{Offered, Closed, Leased, Collected}
 use Rattle.serve_hub.specs.declared.entry.Seat.{Seat}
 use Rattle.serve_hub.specs.declared.entry.Seat.TheVariants.{Stream, Worker}
 use Rattle.serve_hub.specs.Books as books
-use Rattle.serve_hub.specs.Books.{BookValue, IsBook, reserved}
+use Rattle.serve_hub.specs.Books.{BookValue, IsBook, IsOut, reserved}
 use Rattle.serve_hub.specs.Journal.{IsEntry, events_of, tick_of, ticks, units_from}
 use Rattle.serve_hub.proofs.Kept.{AddsUnits, grown, one_more}
 use Rattle.serve_hub.proofs.Rooms.{charged_still, lane_kept, lane_shut, lease_given}
@@ -134,3 +138,31 @@ collect_entered b s n lane desk h led here number takes fits =
     (and_some (slice_get (desk_state b.desk).streams s) _ _ (stream_here bare_frames b.desk s lane here) number)
     (λ w. refl) (rw takes refl) (rw takes (charged_still b.desk s lane (taken lane) here refl))
     (omega (arith, places)) fits
+
+-- the lease that is given is the one that is recorded
+pub given_out : (b : BookValue) (x : ScheduleValue) (w : ℕ) (lease : LeaseValue) → slice_get x.workers w ≡ Some None
+    → GivesJob w lease x b.desk → IsOut b w lease
+given_out b x w lease free gives =
+    let held = held_of lease in
+    let lane = given w gives.lane in
+    let mine : slice_get b.desk.workers w ≡ Some (Some held) =
+    rw gives.schedule (slice_get_set_same x.workers w (Some held) (slice_get_within x.workers w None free)) in
+    let here : slice_get b.desk.lanes lease.stream ≡ Some lane =
+    rw gives.schedule (slice_get_set_same x.lanes lease.stream lane
+    (slice_get_within x.lanes lease.stream gives.lane gives.here)) in
+    let recorded : IsRecorded lease held lane = record {
+      stream = refl;
+      number = refl;
+      grant = refl;
+      chain = gives.started.of_chain;
+      done = omega (arith, gives.started.steps, gives.none_used);
+    } in
+    and_some (slice_get b.desk.workers w) _ (Some held) mine
+    (and_some (slice_get b.desk.lanes lease.stream) _ lane here recorded)
+
+-- how many were collected of the stream that is there
+pub collected_here : (lanes : List Lane) (s : ℕ) (lane : Lane) (counts : Counts) → slice_get lanes s ≡ Some lane
+    → Some counts ≡ option_map (λ (x : Lane). counts_of x.state) (slice_get lanes s)
+    → counts.collected ≡ lane.state.collected
+collected_here lanes s lane counts e told =
+    let both : Some counts ≡ Some (counts_of lane.state) = told ∙ rw e refl in cc

@@ -1,6 +1,9 @@
 -- What a book keeps after an accepted call.
 use Rattle.std.proofs.Common.{ℕ, ◌+◌, ◌*◌, ◌^◌, ◌≡◌, ◌≤◌, List, [], ◌∷◌, ◌++◌, length, reverse, Some, slice_get}
-use Rattle.std.proofs.Common.{refl, sym, ◌∙◌, ap, subst, arith}
+use Rattle.std.proofs.Common.{◌<◌, inl, inr, slice_index_or, slice_set, refl, sym, ◌∙◌, ap, subst, arith}
+use Rattle.std.proofs.lemmas.Option.{slice_get-get_or}
+use Rattle.serve_core.proofs.Lists.{slice_get_set_other, slice_get_set_same}
+use Rattle.serve_core.proofs.Streams.{same_or}
 use Rattle.std.specs.Vec.{vec_capacity}
 use Rattle.serve_core.specs.Schedule.{ScheduleValue}
 use Rattle.serve_hub.specs.declared.book.Book.TheInside.{Inside}
@@ -8,7 +11,7 @@ use Rattle.serve_hub.specs.declared.entry.Act.{Act}
 use Rattle.serve_hub.specs.declared.entry.Entry.{Entry}
 use Rattle.serve_hub.specs.declared.entry.Seat.{Seat}
 use Rattle.serve_hub.specs.BookInside.{IsKept, book}
-use Rattle.serve_hub.specs.Books.{Appends, BookValue, IsBook, taken}
+use Rattle.serve_hub.specs.Books.{Appends, BookValue, IsBook, taken, with_units}
 use Rattle.serve_hub.specs.Journal.{entry_of}
 use Rattle.serve_hub.proofs.Entered.{IsEntered}
 use Rattle.serve_hub.proofs.Kept.{grown, pushed}
@@ -61,11 +64,44 @@ kept a z seat act more k p h count few =
           omega (arith, f.2, k.few w f.0 f.1, longer);
     }
 
-pub appends : (b z : BookValue) (seat : Seat) (act : Act) (desk : ScheduleValue) (units : List ℕ) (more : ℕ)
-    → IsEntered b seat act desk units more → z ≡ grown b seat act desk units
-    → let old : BookValue = record b { units = units } in Appends seat act old z
-appends b z seat act desk units more h is = rw is (record {
-  book = refl;
-  events = h.led;
-  fits = omega (arith, h.is_book.fits);
-})
+-- a call that leaves the units appends its entry
+pub appends : (a z : Inside) (old : BookValue) (seat : Seat) (act : Act) (more : ℕ) → book a ≡ old
+    → IsPushed a z seat act → IsEntered (book a) seat act z.desk z.units.items more
+    → z.units.items ≡ a.units.items → Appends seat act old (book z)
+appends a z old seat act more is p h same =
+    subst (λ (o : BookValue). Appends seat act o (book z)) is (record {
+      book = book_grown a z seat act p ∙ ap (grown (book a) seat act z.desk) same;
+      events = h.led;
+      fits = subst (λ (x : BookValue). length x.past ≤ x.limit) (sym (book_grown a z seat act p))
+          (omega (arith, h.is_book.fits));
+    })
+
+-- and a settlement appends its own, with the units that were spent
+pub appends_spent : (a z : Inside) (old : BookValue) (seat : Seat) (act : Act) (w spent more : ℕ) → book a ≡ old
+    → IsPushed a z seat act → IsEntered (book a) seat act z.desk z.units.items more
+    → z.units.items ≡ (with_units w spent (book a)).units
+    → Appends seat act (with_units w spent old) (book z)
+appends_spent a z old seat act w spent more is p h same =
+    subst (λ (o : BookValue). Appends seat act (with_units w spent o) (book z)) is (record {
+      book = book_grown a z seat act p ∙ ap (grown (book a) seat act z.desk) same;
+      events = h.led;
+      fits = subst (λ (x : BookValue). length x.past ≤ x.limit) (sym (book_grown a z seat act p))
+          (omega (arith, h.is_book.fits));
+    })
+
+-- one worker's units rise by what was spent
+pub few_more : (units : List ℕ) (w spent : ℕ) → w < length units → spent ≤ 2 ^ 32
+    → AreFewMore units (slice_set units w (slice_index_or units w 0 + spent))
+few_more units w spent inside few v n e =
+    elim (same_or w v) [
+      | inl p ↦ (
+          let was = slice_index_or units w 0 in
+          let here : slice_get units v ≡ Some was =
+          subst (λ (i : ℕ). slice_get units i ≡ Some was) p.0 (slice_get-get_or units w 0 inside) in
+          let new : slice_get (slice_set units w (was + spent)) v ≡ Some (was + spent) =
+          subst (λ (i : ℕ). slice_get (slice_set units w (was + spent)) i ≡ Some (was + spent)) p.0
+          (slice_get_set_same units w (was + spent) inside) in
+          let value : n ≡ was + spent = cc in
+          (was, here, omega (arith, value, few)))
+      | inr p ↦ (n, sym (slice_get_set_other units w v _ (λ q. p.0 (sym q))) ∙ e, omega arith)
+    ]

@@ -1,6 +1,6 @@
 -- A book before any entry.
 use Rattle.std.proofs.Common.{ℕ, zero, suc, ◌+◌, ◌*◌, ◌^◌, ◌≡◌, ◌≤◌, List, [], ◌∷◌, length, map, replicate, Some, None}
-use Rattle.std.proofs.Common.{slice_get, sum_by, Option, refl, sym, ◌∙◌, subst, arith}
+use Rattle.std.proofs.Common.{slice_get, sum_by, Option, reverse, refl, sym, ◌∙◌, ap, subst, arith}
 use Rattle.std.proofs.lemmas.List.{length-replicate}
 use Rattle.std.proofs.lemmas.List.Folds.{sum_by-replicate}
 use Rattle.std.proofs.lemmas.List.Sums.{sum_by-cons}
@@ -8,12 +8,16 @@ use Rattle.serve_core.specs.declared.held.Held.{Held}
 use Rattle.serve_core.specs.Bare.{Blank, measures_any, is_any_image}
 use Rattle.serve_core.specs.Desk.{desk_state}
 use Rattle.serve_core.specs.Lanes.{opened}
-use Rattle.serve_core.specs.Schedule.{opened_schedule}
+use Rattle.serve_core.specs.Schedule.{ScheduleValue, opened_schedule}
 use Rattle.serve_core.specs.Setup.{IsWithin, Setup, StreamSpec}
 use Rattle.serve_core.specs.Sound.{Sound}
 use Rattle.serve_core.proofs.Desks.{desk_opened}
 use Rattle.serve_core.proofs.Kept.{opening_sound}
-use Rattle.serve_hub.specs.Books.{IsBook, IsLimit, charges, one_open, one_out, opened_book, reserved}
+use Rattle.std.specs.Vec.{vec_capacity}
+use Rattle.serve_hub.specs.declared.book.Book.TheInside.{Inside}
+use Rattle.serve_hub.specs.declared.entry.Entry.{Entry}
+use Rattle.serve_hub.specs.BookInside.{IsKept, book}
+use Rattle.serve_hub.specs.Books.{BookValue, IsBook, IsLimit, charges, one_open, one_out, opened_book, reserved, taken}
 
 all_open : (specs : List StreamSpec) → sum_by one_open (map opened specs) ≡ length specs
 all_open [] = refl
@@ -41,4 +45,30 @@ is_book_opened setup limit v l =
       units = λ w m e. no_units (length desk.workers) w m e;
       charges = omega (arith, sum_by-replicate (λ (n : ℕ). n) (length desk.workers) 0);
       fits = omega (arith, places_opened setup, l.closes);
+    }
+
+same_book : (o d : ScheduleValue) (p : List Entry) (l : ℕ) (u : List ℕ) (setup : Setup) → o ≡ d
+    → d ≡ opened_schedule setup → p ≡ [] → u ≡ replicate setup.workers 0
+    → let b : BookValue = record { opening = o; past = p; desk = d; limit = l; units = u } in
+    b ≡ opened_book (opened_schedule setup) l
+same_book o d p l u setup e f g h =
+    let n : length (opened_schedule setup).workers ≡ setup.workers = length-replicate setup.workers _ in
+    let units : u ≡ replicate (length (opened_schedule setup).workers) 0 = rw n h in
+    cc
+
+-- what a new book keeps
+pub kept_opened : (z : Inside) (setup : Setup) → IsWithin setup → IsLimit (length setup.streams) z.limit
+    → z.opening.value ≡ z.desk → z.desk ≡ opened_schedule setup → z.journal.items ≡ []
+    → z.units.items ≡ replicate setup.workers 0 → z.taken ≡ length setup.streams
+    → z.limit ≤ vec_capacity z.journal → IsKept z
+kept_opened z setup v l o d j u t room =
+    let is : book z ≡ opened_book (opened_schedule setup) z.limit =
+    same_book z.opening.value z.desk (reverse z.journal.items) z.limit z.units.items setup o d (ap reverse j) u in
+    record {
+      is_book = subst IsBook (sym is) (is_book_opened setup z.limit v l);
+      counted = omega (arith, t, places_opened setup, ap taken is);
+      limit = l.most;
+      reserved = room;
+      few = λ w n e.
+          let none : n ≡ 0 = no_units setup.workers w n (rw u at e) in omega (arith, none);
     }

@@ -25,6 +25,7 @@ use Rattle.serve_core.proofs.Steps.{held_at_is}
 use Rattle.serve_core.proofs.Streams.{same_or}
 use Rattle.serve_hub.specs.declared.entry.Act.TheVariants.{Settled}
 use Rattle.serve_hub.specs.declared.entry.Seat.TheVariants.{Worker}
+use Rattle.serve_hub.specs.Answers.{is_finished, settled_as}
 use Rattle.serve_hub.specs.Books as books
 use Rattle.serve_hub.specs.Books.{BookValue, IsBook, reserved, with_units}
 use Rattle.serve_hub.specs.Journal.{events_of, number_of, units_from}
@@ -164,3 +165,8 @@ settle_entered b w lease n held desk h mine recorded unused within led takes =
       count = count;
       led = its;
     }
+
+-- what a settlement answers tells whether it finished its frame
+pub finished_as : (n : Option ℕ) → is_some n ≡ is_finished (settled_as n)
+finished_as None = refl
+finished_as (Some number) = refl

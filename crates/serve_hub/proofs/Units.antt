@@ -42,7 +42,7 @@ counted : (b : Bool) (a c d : ℕ) → c + a ≡ d → (if b then a else 0) + (i
 counted true a c d e = omega (arith, e)
 counted false a c d e = refl
 
-no_band : (b : Bool) → 0 ≡ (if b then 0 else 0)
+no_band : (b : Bool) → ◌≡◌ {A = ℕ} 0 (if b then 0 else 0)
 no_band true = refl
 no_band false = refl
 

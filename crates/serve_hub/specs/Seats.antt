@@ -1,7 +1,12 @@
 -- What the seats of a hub keep.
-use Rattle.std.specs.Prelude.{ℕ, ◌+◌, ◌≡◌, Bool, false, List, [], ◌∷◌, ◌++◌, length, slice_get, Some}
+use Rattle.std.specs.Prelude.{ℕ, ◌+◌, ◌≡◌, Bool, false, List, [], ◌∷◌, ◌++◌, All, length, map, slice_get, Some}
+use Rattle.std.specs.declared.alloc.Global.{Global}
+use Rattle.std.specs.declared.sync.Arc.{Arc}
+use Rattle.std.specs.Arc.{arc_value}
+use Rattle.frame_view.specs.declared.frame.Frame.{Frame}
+use Rattle.frame_view.specs.declared.geometry.Geometry.{Geometry}
 use Rattle.filters.specs.Chain.{ChainValue}
-use Rattle.filters.specs.ChainImage.{FrameValue}
+use Rattle.filters.specs.ChainImage.{FrameValue, value_of}
 use Rattle.serve_core.specs.Setup.{StreamSpec}
 use Rattle.serve_hub.specs.declared.entry.Act.{Act}
 use Rattle.serve_hub.specs.Books.{BookValue}
@@ -28,6 +33,14 @@ pub record StreamSeatValue : Type 0 where
   pub is_closed : Bool
   -- the frames that were accepted and aren't collected, the oldest first
   pub kept : List FrameValue
+
+-- the frames that a seat keeps
+abbrev pub kept_in : List (Arc Frame Global) → List FrameValue
+kept_in frames = map (λ f. value_of (arc_value f)) frames
+
+-- all are of one size
+abbrev pub AreSized : Geometry → List FrameValue → Type 0
+AreSized geometry frames = All (λ f. f.geometry ≡ geometry) frames
 
 -- who leases jobs and settles them
 pub record WorkSeatValue : Type 0 where

@@ -85,7 +85,7 @@ impl Book {
     {
         let streams = setup.streams().len();
         let workers = setup.workers();
-        if !(LEAST_LIMIT..=MOST_LIMIT).contains(&limit) || limit < streams + 2 {
+        if limit < LEAST_LIMIT || limit > MOST_LIMIT || limit < streams + 2 {
             return Err(BookError::BadLimit);
         }
         setup.limits_law();

@@ -14,6 +14,7 @@ mod limit;
 pub mod refusal;
 pub mod refused;
 mod same;
+mod same_frame;
 mod shared;
 pub mod stream_seat;
 pub mod work_seat;

@@ -1,8 +1,7 @@
-//! Whether two chains, or two frames, are the same.
+//! Whether two chains are the same.
 ghost use Rattle.std.specs.Prelude.{◌≡◌, ◌↔◌, IsTrue};
-ghost use Rattle.filters.specs.ChainImage.{value_of};
 
-use frame_view::{Frame, Geometry};
+use filters::Op;
 use lease::JobSpec;
 
 /// Whether the same is done to the frames: the same operations, on frames of the same geometry, in bands of
@@ -11,7 +10,7 @@ pub(crate) fn is_same_spec(one: &JobSpec, other: &JobSpec) -> bool
     ensures { IsTrue result ↔ (one.now ≡ other.now) }
 {
     let (one, other) = (one.chain(), other.chain());
-    if one.ops() != other.ops() {
+    if !are_same_ops(one.ops(), other.ops()) {
         return false;
     }
     if one.geometry() != other.geometry() {
@@ -20,17 +19,22 @@ pub(crate) fn is_same_spec(one: &JobSpec, other: &JobSpec) -> bool
     one.band_height() == other.band_height()
 }
 
-/// Whether two frames have the same geometry, line and samples.
-pub(crate) fn is_same_frame(one: &Frame, other: &Frame) -> bool
-    ensures { IsTrue result ↔ (value_of one.now ≡ value_of other.now) }
+fn are_same_ops(one: &[Op], other: &[Op]) -> bool
+    ensures { IsTrue result ↔ (one.now ≡ other.now) }
 {
-    is_same_geometry(one.geometry(), other.geometry())
-        && one.line() == other.line()
-        && one.data() == other.data()
+    if one.len() != other.len() {
+        return false;
+    }
+    for i in 0..one.len() {
+        if !is_same_op(one[i], other[i]) {
+            return false;
+        }
+    }
+    true
 }
 
-pub(crate) fn is_same_geometry(one: Geometry, other: Geometry) -> bool
+fn is_same_op(one: Op, other: Op) -> bool
     ensures { IsTrue result ↔ (one ≡ other) }
 {
-    one.width == other.width && one.height == other.height && one.chroma == other.chroma
+    one == other
 }

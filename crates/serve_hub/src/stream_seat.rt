@@ -38,10 +38,8 @@ pub struct StreamSeat<L: Ledger> {
 }
 
 impl<L: Ledger> Model for StreamSeat<L> {
-    ghost use Rattle.std.specs.Prelude.{◌≡◌, ◌≤◌, ◌^◌, All, map};
     ghost use Rattle.std.specs.Arc.{arc_value};
-    ghost use Rattle.filters.specs.ChainImage.{value_of};
-    ghost use Rattle.serve_hub.specs.Seats.{StreamSeatValue};
+    ghost use Rattle.serve_hub.specs.Seats.{AreSized, StreamSeatValue, kept_in};
 
     ghost Value = { StreamSeatValue };
 
@@ -53,10 +51,10 @@ impl<L: Ledger> Model for StreamSeat<L> {
       frames = a.frames;
       accepted = a.accepted;
       is_closed = a.is_closed;
-      kept = map (λ f. value_of (arc_value f)) a.kept.items;
+      kept = kept_in a.kept.items;
     } };
 
-    ghost invariant = { λ a. All (λ f. (arc_value f).geometry ≡ (arc_value a.spec).geometry) a.kept.items };
+    ghost invariant = { λ a. AreSized (arc_value a.spec).geometry (kept_in a.kept.items) };
 }
 
 impl<L: Ledger> StreamSeat<L> {

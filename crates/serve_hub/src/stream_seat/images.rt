@@ -6,7 +6,7 @@ ghost use Rattle.serve_hub.specs.Calls.{after_refusal, gives_up};
 use super::StreamSeat;
 use crate::refusal::{Came, Refusal};
 use crate::refused::CollectRefused;
-use crate::same::is_same_frame;
+use crate::same_frame::is_same_frame;
 use crate::shared::Shared;
 use serve_core::{Collected, Refusal as Core};
 use std::sync::ledger::Ledger;

@@ -7,7 +7,7 @@ ghost use Rattle.serve_hub.specs.Calls.{Accepts, AcceptsOther, AllowsOffer, IsTo
 
 use super::StreamSeat;
 use crate::refusal::{Came, Refusal};
-use crate::same::is_same_geometry;
+use crate::same_frame::is_same_geometry;
 use crate::shared::Shared;
 use frame_view::{Frame, Geometry};
 use lease::{Job, JobRefused, OverRefused};

@@ -23,11 +23,9 @@ invariant_of-self c =
     c.in-Ok.ensures.events c.in-Ok.ensures.job fits in
     let made = c.new.ensures ∙ ap (λ t. entry_of (Stream c.args.s) (Offered t n))
     (c.tick_of-tick.ensures ∙ ap (λ k. tick_of k c.args.at) c.clock.ensures) in
-    let pushed = record {
+    kept c.self.inside _ (Stream c.args.s) act 1 c.self.invariant (record {
       opening = refl;
       limit = refl;
       items = c.push_reserved.ensures.items ∙ ap (λ e. c.self.inside.journal.items ++ e ∷ []) made;
       capacity = c.push_reserved.ensures.capacity;
-    } in
-    kept c.self.inside _ (Stream c.args.s) act 1 c.self.invariant pushed entered refl
-    (no_more c.self.inside.units.items)
+    }) entered refl (no_more c.self.inside.units.items)

@@ -1,0 +1,22 @@
+use Rattle.std.proofs.Common.{◌≡◌, ◌+◌, ◌≤◌, ◌^◌, length, replicate, sym, ◌∙◌, ap, arith}
+use Rattle.serve_core.specs.Setup.{Setup}
+use Rattle.serve_hub.specs.Books.{IsLimit}
+use Rattle.serve_hub.proofs.Opened.{kept_opened}
+use Rattle.serve_hub.proofs.book.Book.new.Goals as goal
+
+pub invariant_of-result : goal.invariant_of-result
+invariant_of-result c =
+    let count : length c.streams-streams.result.now ≡ length c.args.setup.streams =
+    ap length c.streams-streams.ensures in
+    let limit : IsLimit (length c.args.setup.streams) c.args.limit =
+    record { some = omega arith; most = omega arith; closes = omega (arith, count) } in
+    kept_opened _ c.args.setup c.limits_law.ensures.0 limit c.of.ensures c.in_ok-desk.ensures.desk
+    c.in_ok-journal.ensures.items c.in_ok-units.ensures.items count c.in_ok-journal.ensures.capacity
+
+pub returns-clause-bad_limit : goal.returns-clause-bad_limit
+returns-clause-bad_limit c =
+    let count : length c.streams-streams.result.now ≡ length c.args.setup.streams =
+    ap length c.streams-streams.ensures in
+    let limit : IsLimit (length c.args.setup.streams) c.args.limit =
+    record { some = omega arith; most = omega arith; closes = omega (arith, count) } in
+    (λ e. ?, λ no. ?)

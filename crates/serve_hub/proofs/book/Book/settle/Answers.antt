@@ -1,0 +1,120 @@
+use Rattle.std.proofs.Common.{◌≡◌, ◌≤◌, ◌<◌, ◌+◌, ◌^◌, ◌++◌, ◌∷◌, [], is_some, length, slice_get, slice_index_or, Some}
+use Rattle.std.proofs.Common.{slice_set, refl, sym, ◌∙◌, ap, subst, arith, rules}
+use Rattle.std.proofs.lemmas.List.{get_or_read, length-reverse}
+use Rattle.std.proofs.lemmas.Option.{slice_get-get_or, slice_get_within}
+use Rattle.std.specs.Vec.{with_item}
+use Rattle.lease.specs.Lease.{spent_of}
+use Rattle.serve_core.specs.Desk.{IsRecorded}
+use Rattle.serve_core.specs.Schedule.{HasLane}
+use Rattle.serve_hub.specs.declared.book.Book.TheInside.{Inside}
+use Rattle.serve_hub.specs.declared.entry.Act.TheVariants.{Settled}
+use Rattle.serve_hub.specs.declared.entry.Seat.TheVariants.{Worker}
+use Rattle.serve_hub.specs.Answers.{is_finished, settled_as}
+use Rattle.serve_hub.specs.BookInside.{book}
+use Rattle.serve_hub.specs.Books.{Appends, BookValue, with_units}
+use Rattle.serve_hub.specs.Journal.{entry_of}
+use Rattle.serve_hub.proofs.Entered.{IsEntered}
+use Rattle.serve_hub.proofs.Inside.{IsPushed, appends_spent, few_more, kept}
+use Rattle.serve_hub.proofs.Settling.{desk_settled, finished_as, settle_entered}
+use Rattle.serve_hub.proofs.book.Book.settle.Goals as goal
+
+pub push_reserved-requires : goal.push_reserved-requires
+push_reserved-requires c =
+    let k = c.self.invariant in
+    let left = desk_settled c.self.inside.desk c.settle.new.self c.args.w c.args.lease c.in-Ok-settle.number
+    c.in-Ok.held c.in-Ok.ensures.ok c.in-Ok-settle.ensures.job in
+    omega (arith, left.places, k.is_book.fits, k.reserved, length-reverse c.self.inside.journal.items)
+
+pub index_mut-requires : goal.index_mut-requires
+index_mut-requires c =
+    omega (
+      arith,
+      slice_get_within c.self.inside.desk.workers c.args.w (Some c.in-Ok.held) c.in-Ok.ensures.ok,
+      c.self.invariant.is_book.workers,
+    )
+
+inside : (c : goal.After-settled) → c.args.w < length c.self.inside.units.items
+inside c =
+    omega (
+      arith,
+      slice_get_within c.self.inside.desk.workers c.args.w (Some c.in-Ok.held) c.in-Ok.ensures.ok,
+      c.self.invariant.is_book.workers,
+    )
+
+pub overflow_add-index_mut : goal.overflow_add-index_mut
+overflow_add-index_mut c =
+    let k = c.self.invariant in
+    let items = c.self.inside.units.items in
+    let w = c.args.w in
+    let within : w < length items =
+    omega (
+      arith,
+      slice_get_within c.self.inside.desk.workers w (Some c.in-Ok.held) c.in-Ok.ensures.ok,
+      k.is_book.workers,
+    ) in
+    let was : c.index_mut.result.now ≡ slice_index_or items w 0 =
+    get_or_read items w c.index_mut.result.now within c.index_mut.ensures.value 0 in
+    let few = k.few w (slice_index_or items w 0) (slice_get-get_or items w 0 within) in
+    let fits = k.is_book.fits in
+    omega (arith, was, few, fits, k.limit, length-reverse c.self.inside.journal.items)
+
+entered : (c : goal.After-settled) → IsEntered (book c.self.inside) (Worker c.args.w)
+    (Settled c.args.lease.used (is_some c.in-Ok-settle.number)) c.settle.new.self
+    (with_units c.args.w (spent_of c.args.lease) (book c.self.inside)).units 0
+entered c =
+    let recorded : HasLane c.self.inside.desk c.in-Ok.held.stream (IsRecorded c.args.lease c.in-Ok.held) =
+    subst (λ (b : BookValue). HasLane b.desk c.in-Ok.held.stream (IsRecorded c.args.lease c.in-Ok.held))
+    (sym c.self.view_is) (c.if-not-is_recorded.ensures.0 refl) in
+    let within : c.args.lease.used ≤ c.args.lease.granted = omega arith in
+    settle_entered (book c.self.inside) c.args.w c.args.lease c.in-Ok-settle.number c.in-Ok.held c.settle.new.self
+    c.self.invariant.is_book c.in-Ok.ensures.ok recorded c.in-Ok.ensures.unused within
+    c.in-Ok-settle.ensures.events c.in-Ok-settle.ensures.job
+
+units : (c : goal.After-settled)
+    → slice_set c.self.inside.units.items c.args.w (c.index_mut.result.now + c.spent-units.result)
+    ≡ (with_units c.args.w (spent_of c.args.lease) (book c.self.inside)).units
+units c =
+    let items = c.self.inside.units.items in
+    ap (slice_set items c.args.w) (let was = get_or_read items c.args.w c.index_mut.result.now (inside c)
+    c.index_mut.ensures.value 0 in omega (arith, was, c.spent-units.ensures))
+
+made : (c : goal.After-settled)
+    → c.new.result ≡ entry_of (Worker c.args.w) (Settled c.args.lease.used (is_some c.in-Ok-settle.number))
+made c = c.new.ensures ∙ rw (c.used-bands.ensures.value, c.is_some.ensures) refl
+
+pub invariant_of-self : goal.invariant_of-self
+invariant_of-self c =
+    let act = Settled c.args.lease.used (is_some c.in-Ok-settle.number) in
+    let few : c.spent-units.result ≤ 2 ^ 32 = omega arith in
+    let more = few_more c.self.inside.units.items c.args.w (spent_of c.args.lease) (inside c)
+    (rw (← c.spent-units.ensures) few) in
+    kept c.self.inside _ (Worker c.args.w) act 0 c.self.invariant (record {
+      opening = refl;
+      limit = refl;
+      items = c.push_reserved.ensures.items ∙ ap (λ e. c.self.inside.journal.items ++ e ∷ []) (made c);
+      capacity = c.push_reserved.ensures.capacity;
+    }) (rw (units c) (entered c)) (omega arith) (rw (units c) more)
+
+pub returns-in-Ok-settle-clause-entry : goal.returns-in-Ok-settle-clause-entry
+returns-in-Ok-settle-clause-entry c =
+    let act = Settled c.args.lease.used (is_some c.in-Ok-settle.number) in
+    let z : Inside = record {
+      opening = c.self.inside.opening;
+      desk = c.settle.new.self;
+      journal = c.push_reserved.new.self;
+      limit = c.self.inside.limit;
+      taken = c.self.inside.taken;
+      units = with_item c.self.inside.units c.args.w (c.index_mut.result.now + c.spent-units.result);
+    } in
+    let pushed : IsPushed c.self.inside z (Worker c.args.w) act = record {
+      opening = refl;
+      limit = refl;
+      items = c.push_reserved.ensures.items ∙ ap (λ e. c.self.inside.journal.items ++ e ∷ []) (made c);
+      capacity = c.push_reserved.ensures.capacity;
+    } in
+    let finished : is_some c.in-Ok-settle.number ≡ is_finished c.settled.result =
+    finished_as c.in-Ok-settle.number ∙ ap is_finished (sym c.settled.ensures) in
+    subst (λ f. Appends (Worker c.args.w) (Settled c.args.lease.used f)
+    (with_units c.args.w (spent_of c.args.lease) c.args.self.now) (book z)) finished
+    (appends_spent c.self.inside z c.args.self.now (Worker c.args.w) act c.args.w (spent_of c.args.lease) 0
+    c.self.view_is pushed (rw (units c) (entered c)) (units c))
