@@ -7,3 +7,4 @@ pub mod Settling
 pub mod Inside
 pub mod Bands
 pub mod Opened
+pub mod Chains

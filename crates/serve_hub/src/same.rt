@@ -2,7 +2,9 @@
 ghost use Rattle.std.specs.Prelude.{◌≡◌, ◌↔◌, IsTrue};
 
 use filters::Op;
+use frame_view::Geometry;
 use lease::JobSpec;
+use row_bands::BandHeight;
 
 /// Whether the same is done to the frames: the same operations, on frames of the same geometry, in bands of
 /// the same height.
@@ -13,10 +15,22 @@ pub(crate) fn is_same_spec(one: &JobSpec, other: &JobSpec) -> bool
     if !are_same_ops(one.ops(), other.ops()) {
         return false;
     }
-    if one.geometry() != other.geometry() {
+    if !is_same_geometry(one.geometry(), other.geometry()) {
         return false;
     }
-    one.band_height() == other.band_height()
+    is_same_height(one.band_height(), other.band_height())
+}
+
+fn is_same_geometry(one: Geometry, other: Geometry) -> bool
+    ensures { IsTrue result ↔ (one ≡ other) }
+{
+    one.width == other.width && one.height == other.height && one.chroma == other.chroma
+}
+
+fn is_same_height(one: BandHeight, other: BandHeight) -> bool
+    ensures { IsTrue result ↔ (one ≡ other) }
+{
+    one.rows() == other.rows()
 }
 
 fn are_same_ops(one: &[Op], other: &[Op]) -> bool

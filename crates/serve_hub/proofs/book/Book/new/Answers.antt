@@ -1,4 +1,4 @@
-use Rattle.std.proofs.Common.{◌≡◌, ◌+◌, ◌≤◌, ◌^◌, length, replicate, sym, ◌∙◌, ap, arith}
+use Rattle.std.proofs.Common.{ℕ, ◌≡◌, ◌+◌, ◌≤◌, ◌^◌, length, replicate, sym, ◌∙◌, ap, arith}
 use Rattle.serve_core.specs.Setup.{Setup}
 use Rattle.serve_hub.specs.Books.{IsLimit}
 use Rattle.serve_hub.proofs.Opened.{kept_opened}
@@ -10,8 +10,11 @@ invariant_of-result c =
     ap length c.streams-streams.ensures in
     let limit : IsLimit (length c.args.setup.streams) c.args.limit =
     record { some = omega arith; most = omega arith; closes = omega (arith, count) } in
+    let units : c.in_ok-units.units.items ≡ replicate c.args.setup.workers 0 =
+    c.in_ok-units.ensures.items_if_clones_equal (λ y e. e) ∙ ap (λ (n : ℕ). replicate n 0) c.workers-workers.ensures
+    in
     kept_opened _ c.args.setup c.limits_law.ensures.0 limit c.of.ensures c.in_ok-desk.ensures.desk
-    c.in_ok-journal.ensures.items c.in_ok-units.ensures.items count c.in_ok-journal.ensures.capacity
+    c.in_ok-journal.ensures.items units count c.in_ok-journal.ensures.capacity
 
 pub returns-clause-bad_limit : goal.returns-clause-bad_limit
 returns-clause-bad_limit c =
@@ -19,4 +22,4 @@ returns-clause-bad_limit c =
     ap length c.streams-streams.ensures in
     let limit : IsLimit (length c.args.setup.streams) c.args.limit =
     record { some = omega arith; most = omega arith; closes = omega (arith, count) } in
-    (λ e. ?, λ no. ?)
+    (λ e l. absurd (cc), λ no. absurd (no limit))
