@@ -8,3 +8,4 @@ pub mod Inside
 pub mod Bands
 pub mod Opened
 pub mod Chains
+pub mod Keeping

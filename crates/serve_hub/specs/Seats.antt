@@ -1,5 +1,5 @@
 -- What the seats of a hub keep.
-use Rattle.std.specs.Prelude.{ℕ, ◌+◌, ◌≡◌, Bool, false, List, [], ◌∷◌, ◌++◌, All, length, map, slice_get, Some}
+use Rattle.std.specs.Prelude.{ℕ, ◌+◌, ◌≡◌, ◌<◌, Bool, false, List, [], ◌∷◌, ◌++◌, All, length, map, slice_get, Some}
 use Rattle.std.specs.declared.alloc.Global.{Global}
 use Rattle.std.specs.declared.sync.Arc.{Arc}
 use Rattle.std.specs.Arc.{arc_value}
@@ -31,8 +31,17 @@ pub record StreamSeatValue : Type 0 where
   -- how many were accepted
   pub accepted : ℕ
   pub is_closed : Bool
-  -- the frames that were accepted and aren't collected, the oldest first
+  -- the frames that were accepted and aren't collected, the oldest first, and how many it has places for
   pub kept : List FrameValue
+  pub places : ℕ
+
+-- the seat can keep one frame more
+pub record HasPlace (seat : StreamSeatValue) : Type 0 where
+  pub places : length seat.kept < seat.places
+  pub few : seat.accepted < seat.frames
+
+abbrev pub kept_more : FrameValue → StreamSeatValue → StreamSeatValue
+kept_more frame seat = record seat { accepted = seat.accepted + 1; kept = seat.kept ++ frame ∷ [] }
 
 -- the frames that a seat keeps
 abbrev pub kept_in : List (Arc Frame Global) → List FrameValue
@@ -65,6 +74,7 @@ opened_stream limit number spec = record {
   accepted = 0;
   is_closed = false;
   kept = [];
+  places = spec.queue + spec.outbox;
 }
 
 abbrev pub opened_worker : (limit number : ℕ) → WorkSeatValue

@@ -39,6 +39,7 @@ pub struct StreamSeat<L: Ledger> {
 
 impl<L: Ledger> Model for StreamSeat<L> {
     ghost use Rattle.std.specs.Arc.{arc_value};
+    ghost use Rattle.std.specs.VecDeque.{deque_capacity};
     ghost use Rattle.serve_hub.specs.Seats.{AreSized, StreamSeatValue, kept_in};
 
     ghost Value = { StreamSeatValue };
@@ -52,6 +53,7 @@ impl<L: Ledger> Model for StreamSeat<L> {
       accepted = a.accepted;
       is_closed = a.is_closed;
       kept = kept_in a.kept.items;
+      places = deque_capacity a.kept;
     } };
 
     ghost invariant = { λ a. AreSized (arc_value a.spec).geometry (kept_in a.kept.items) };

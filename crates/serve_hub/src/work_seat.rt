@@ -109,21 +109,22 @@ impl<L: Ledger> WorkSeat<L> {
         }
         let number = lease.seq();
         let Shared { book, total, .. } = shared;
-        match book.settle(self.number, lease) {
-            Err((refusal, lease)) => Err(LeaseRefused {
-                refusal,
-                lease: Some(lease),
-            }),
-            Ok(done) => {
-                self.calls.count(book, total);
-                match done {
-                    Settled::Finished(other) if other != number => Err(LeaseRefused {
-                        refusal: Refusal::Torn(Came::Number(other)),
-                        lease: None,
-                    }),
-                    _ => Ok(done),
-                }
+        let done = match book.settle(self.number, lease) {
+            Ok(done) => done,
+            Err((refusal, lease)) => {
+                return Err(LeaseRefused {
+                    refusal,
+                    lease: Some(lease),
+                });
             }
+        };
+        self.calls.count(book, total);
+        match done {
+            Settled::Finished(other) if other != number => Err(LeaseRefused {
+                refusal: Refusal::Torn(Came::Number(other)),
+                lease: None,
+            }),
+            _ => Ok(done),
         }
     }
 }

@@ -1,5 +1,8 @@
 //! Images that a seat collects, and its close.
-ghost use Rattle.std.specs.Prelude.{◌≡◌, Ok, None, IfErr, IfOk, MatchResult, OnOk};
+ghost use Rattle.std.specs.Prelude.{◌≡◌, Ok, None, IfErr, IfOk, MatchResult, OnOk, slice_get};
+ghost use Rattle.std.specs.Arc.{arc_value};
+ghost use Rattle.std.specs.Option.{option_map};
+ghost use Rattle.filters.specs.ChainImage.{value_of};
 ghost use Rattle.serve_hub.specs.Calls.{AllowsClose, AllowsCollect, Closes, Collects, IsOldest, IsOther, IsTold};
 ghost use Rattle.serve_hub.specs.Calls.{after_refusal, gives_up};
 
@@ -8,7 +11,9 @@ use crate::refusal::{Came, Refusal};
 use crate::refused::CollectRefused;
 use crate::same_frame::is_same_frame;
 use crate::shared::Shared;
+use frame_view::Frame;
 use serve_core::{Collected, Refusal as Core};
+use std::sync::Arc;
 use std::sync::ledger::Ledger;
 
 impl<L: Ledger> StreamSeat<L> {
@@ -66,12 +71,21 @@ impl<L: Ledger> StreamSeat<L> {
             Err(refusal) => refusal,
         };
         if let Refusal::Torn(_) = refusal {
-            let _oldest = self.kept.pop_front();
+            let _oldest = self.give_up();
         }
         Err(CollectRefused {
             refusal,
             pair: None,
         })
+    }
+
+    /// Gives the oldest frame up, and tells it.
+    #[tactic(auto, using(crate::proofs::Keeping::sized_rest, crate::proofs::Keeping::rest_kept))]
+    fn give_up(&mut self) -> Option<Arc<Frame>>
+        ensures oldest { option_map (λ f. value_of (arc_value f)) result ≡ slice_get self.old.kept 0 }
+        ensures seat { self.new ≡ gives_up self.old }
+    {
+        self.kept.pop_front()
     }
 
     /// Takes the oldest frame off, and compares it with the pair's source.
@@ -80,7 +94,7 @@ impl<L: Ledger> StreamSeat<L> {
         ensures other { IfErr result (λ e. IsOther pair e self.old) }
         ensures seat { self.new ≡ gives_up self.old }
     {
-        match self.kept.pop_front() {
+        match self.give_up() {
             Some(oldest) if is_same_frame(&oldest, &pair.source) => Ok(pair),
             _ => Err(CollectRefused {
                 refusal: Refusal::Torn(Came::Source),

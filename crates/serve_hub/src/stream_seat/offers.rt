@@ -3,7 +3,9 @@ ghost use Rattle.std.specs.Prelude.{◌≡◌, ◌≢◌, ◌↔◌, ◌<◌, �
 ghost use Rattle.std.specs.Arc.{arc_value};
 ghost use Rattle.filters.specs.ChainImage.{value_of};
 ghost use Rattle.serve_core.specs.Lanes.{IsFresh, IsImageOf};
+ghost use Rattle.serve_core.specs.Schedule.{HasLane};
 ghost use Rattle.serve_hub.specs.Calls.{Accepts, AcceptsOther, AllowsOffer, IsTold};
+ghost use Rattle.serve_hub.specs.Seats.{HasPlace, kept_more};
 
 use super::StreamSeat;
 use crate::refusal::{Came, Refusal};
@@ -88,25 +90,66 @@ impl<L: Ledger> StreamSeat<L> {
         if !self.is_of(shared) {
             return Err((Refusal::Torn(Came::Other), Some(job)));
         }
-        if self.kept.len() >= self.kept.capacity() || self.accepted >= self.frames {
+        if !self.has_place() {
             let refusal = self.refusal(shared, at, &frame, Refusal::Torn(Came::Other));
             return Err((refusal, Some(job)));
         }
+        self.enter(shared, at, job, frame)
+    }
+
+    /// The same, where the book has the seat's stream, and the seat a place for the frame.
+    fn enter(
+        &mut self,
+        shared: &mut Shared<L>,
+        at: u64,
+        job: Job,
+        frame: Arc<Frame>,
+    ) -> Result<u64, (Refusal, Option<Job>)>
+        requires fresh { IsFresh self.old.chain job }
+        requires size { (arc_value frame).geometry ≡ self.old.chain.geometry }
+        requires limit { self.old.calls.limit ≡ shared.old.book.limit }
+        requires chain { HasLane shared.old.book.desk self.old.number (λ lane.
+            lane.state.spec.chain ≡ self.old.chain) }
+        requires place { HasPlace self.old }
+        ensures accepted { IfOk result (λ n. (n ≡ self.old.accepted)
+            × Accepts (value_of (arc_value frame)) n self.old self.new) }
+        ensures refused { IfErr result (λ e. MatchOption e.1
+            (AcceptsOther (value_of (arc_value frame)) e.0 self.old self.new)
+            (λ back. (back ≡ job) × (self.new ≡ self.old)
+            × IsTold (AllowsOffer self.old at (arc_value frame).geometry) e.0)) }
+    {
         let Shared { book, total, .. } = shared;
-        match book.offer_job(self.number, at, job) {
-            Err((refusal, job)) => Err((self.told_offer(at, &frame, refusal), Some(job))),
-            Ok(number) => {
-                let next = self.accepted;
-                self.calls.count(book, total);
-                self.kept.push_back_reserved(frame);
-                self.accepted += 1;
-                if number == next {
-                    Ok(number)
-                } else {
-                    Err((Refusal::Torn(Came::Number(number)), None))
-                }
-            }
+        let number = match book.offer_job(self.number, at, job) {
+            Ok(number) => number,
+            Err((refusal, job)) => return Err((self.told_offer(at, &frame, refusal), Some(job))),
+        };
+        self.calls.count(book, total);
+        let next = self.keep(frame);
+        if number != next {
+            return Err((Refusal::Torn(Came::Number(number)), None));
         }
+        Ok(number)
+    }
+
+    /// Whether the seat can keep one frame more. There are places for as many as the stream can have.
+    fn has_place(&self) -> bool
+        ensures { IsTrue result ↔ HasPlace self.now }
+    {
+        self.kept.len() < self.kept.capacity() && self.accepted < self.frames
+    }
+
+    /// Keeps a frame that was accepted, and tells the number that it should have.
+    #[tactic(auto, using(crate::proofs::Keeping::sized_more, crate::proofs::Keeping::one_more_kept))]
+    fn keep(&mut self, frame: Arc<Frame>) -> u64
+        requires size { (arc_value frame).geometry ≡ self.old.chain.geometry }
+        requires place { HasPlace self.old }
+        ensures next { result ≡ self.old.accepted }
+        ensures seat { self.new ≡ kept_more (value_of (arc_value frame)) self.old }
+    {
+        let next = self.accepted;
+        self.kept.push_back_reserved(frame);
+        self.accepted += 1;
+        next
     }
 
     /// What the book refuses a frame for whose job wasn't made. Where it would accept it, the answer is `unmade`.
