@@ -1,7 +1,6 @@
 -- What is left of a hub whose seats are all back.
 use Rattle.std.specs.Prelude.{ℕ, ◌+◌, ◌≡◌, ◌≢◌, ◌⊎◌, ◌==◌, Bool, true, false, List, [], ◌∷◌, All, filter, length, map}
-use Rattle.std.specs.Prelude.{reverse, sum, sum_by}
-use Rattle.serve_core.specs.Schedule.{ScheduleValue}
+use Rattle.std.specs.Prelude.{reverse, sum_by}
 use Rattle.serve_hub.specs.declared.entry.Act.{Act}
 use Rattle.serve_hub.specs.declared.entry.Act.TheVariants.{Leased}
 use Rattle.serve_hub.specs.declared.entry.Entry.{Entry}
@@ -52,11 +51,3 @@ begins_with_lease (act ∷ acts) = is_lease act
 -- the latest call of a worker is a lease, which is still out
 abbrev pub HasLeaseOut : WorkSeatValue → Type 0
 HasLeaseOut seat = begins_with_lease (reverse seat.calls.list) ≡ true
-
--- the units of all streams' charges
-abbrev pub charges : ScheduleValue → ℕ
-charges desk = sum_by (λ lane. lane.state.charged) desk.lanes
-
--- the units of all workers' bands are those that the streams were charged
-abbrev pub Balances : BookValue → Type 0
-Balances b = sum b.units ≡ charges b.desk

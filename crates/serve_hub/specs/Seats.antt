@@ -1,5 +1,5 @@
 -- What the seats of a hub keep.
-use Rattle.std.specs.Prelude.{ℕ, ◌+◌, ◌≡◌, ◌<◌, Bool, false, List, [], ◌∷◌, ◌++◌, All, length, map, slice_get, Some}
+use Rattle.std.specs.Prelude.{ℕ, suc, ◌+◌, ◌≡◌, ◌<◌, Bool, false, List, [], ◌∷◌, ◌++◌, All, length, map}
 use Rattle.std.specs.declared.alloc.Global.{Global}
 use Rattle.std.specs.declared.sync.Arc.{Arc}
 use Rattle.std.specs.Arc.{arc_value}
@@ -80,11 +80,10 @@ opened_stream limit number spec = record {
 abbrev pub opened_worker : (limit number : ℕ) → WorkSeatValue
 opened_worker limit number = record { number = number; calls = no_calls limit }
 
--- a seat for each stream
-pub record AreStreamSeats (limit : ℕ) (specs : List StreamSpec) (seats : List StreamSeatValue) : Type 0 where
-  pub count : length seats ≡ length specs
-  pub each : (s : ℕ) (spec : StreamSpec) → slice_get specs s ≡ Some spec
-      → slice_get seats s ≡ Some (opened_stream limit s spec)
+-- a seat for each of these streams, numbered from `first` on
+abbrev pub opened_streams : (limit first : ℕ) → List StreamSpec → List StreamSeatValue
+opened_streams limit first [] = []
+opened_streams limit first (spec ∷ specs) = opened_stream limit first spec ∷ opened_streams limit (suc first) specs
 
 -- what stands under the lock of a hub: the book, and how many seats there are
 pub record SharedValue : Type 0 where

@@ -1,12 +1,12 @@
 //! A book that threads share.
 ghost use Rattle.std.specs.Prelude.{◌≡◌, ◌+◌, ◌≤◌, ◌↔◌, [], All, IfErr, IfOk, IsErrOf, MatchResult, OnOk, length, map};
-ghost use Rattle.std.specs.Prelude.{IsFalse, IsTrue, vec_len};
+ghost use Rattle.std.specs.Prelude.{IfNone, IsFalse, IsTrue, Some, reverse, vec_len};
 ghost use Rattle.std.specs.List.{range_with_len};
 ghost use Rattle.serve_core.specs.Setup.{IsWithinLimits};
 ghost use Rattle.serve_hub.specs.declared.ended.Fault.TheVariants as faults;
 ghost use Rattle.serve_hub.specs.Books.{IsLimit};
-ghost use Rattle.serve_hub.specs.Ends.{AreCalls, HasLeaseOut, IsMissing};
-ghost use Rattle.serve_hub.specs.Seats.{AreStreamSeats, hub_of, opened_worker};
+ghost use Rattle.serve_hub.specs.Ends.{AreCalls, AreStreamCalls, AreWorkCalls, HasLeaseOut, IsMissing};
+ghost use Rattle.serve_hub.specs.Seats.{hub_of, opened_streams, opened_worker};
 
 mod images;
 mod leases;
@@ -59,6 +59,8 @@ pub enum HubError {
 }
 
 impl From<AllocError> for HubError {
+    ghost use Rattle.serve_hub.specs.declared.hub.HubError.{HubError};
+
     ghost from_gives = { λ _ e. e ≡ HubError.NoMemory };
 
     fn from(_: AllocError) -> HubError {
@@ -82,7 +84,7 @@ impl<L: Ledger> Hub<L> {
         requires parts { blank.parts ≡ L.parts }
         requires enough { blank.parts ≡ 80 }
         ensures hub { IfOk result (λ r. r.0 ≡ hub_of (length setup.streams) setup.workers) }
-        ensures streams { IfOk result (λ r. AreStreamSeats limit setup.streams r.1.items) }
+        ensures streams { IfOk result (λ r. r.1.items ≡ opened_streams limit 0 setup.streams) }
         ensures workers { IfOk result (λ r.
             r.2.items ≡ map (opened_worker limit) (range_with_len 0 setup.workers)) }
         ensures limit { IfOk result (λ _. IsLimit (length setup.streams) limit) }
@@ -140,21 +142,15 @@ impl<L: Ledger> Hub<L> {
             ..
         } = self;
         let shared = shared.into_inner();
-        let fault = if streams.len() != stream_count || workers.len() != worker_count {
-            Fault::SeatMissing
-        } else if any_lease_out(&workers) {
-            Fault::LeaseOut
-        } else if !shared.agrees(&streams, &workers) {
-            Fault::Differs
-        } else {
-            return Ok(Ended::new(shared.into_book(streams, workers)));
-        };
-        Err(Mismatch {
-            fault,
-            hub: Hub::of(shared, stream_count, worker_count),
-            streams,
-            workers,
-        })
+        if let Some(fault) = fault(&shared, (stream_count, worker_count), &streams, &workers) {
+            return Err(Mismatch {
+                fault,
+                hub: Hub::of(shared, stream_count, worker_count),
+                streams,
+                workers,
+            });
+        }
+        Ok(Ended::new(shared.into_book(streams, workers)))
     }
 
     /// Wakes those who wait in vain from now on, where the journal has no place for another lease.
@@ -166,6 +162,37 @@ impl<L: Ledger> Hub<L> {
     }
 }
 
+/// What does not fit between a hub of so many streams and workers and the seats.
+fn fault<L: Ledger>(
+    shared: &Shared<L>,
+    counts: (usize, usize),
+    streams: &Vec<StreamSeat<L>>,
+    workers: &Vec<WorkSeat<L>>,
+) -> Option<Fault>
+    ensures missing { (result ≡ Some faults.SeatMissing)
+        ↔ IsMissing (hub_of counts.0 counts.1) (vec_len streams.now) (vec_len workers.now) }
+    ensures out { result ≡ Some faults.LeaseOut → ¬ All (λ s. ¬ HasLeaseOut s) workers.now.items }
+    ensures settled { IfNone result (All (λ s. ¬ HasLeaseOut s) workers.now.items) }
+    ensures there { IfNone result ((vec_len streams.now ≡ shared.now.streams)
+        × (vec_len workers.now ≡ shared.now.workers)) }
+    ensures of_streams { IfNone result
+        (AreStreamCalls (reverse shared.now.book.past) streams.now.items) }
+    ensures of_workers { IfNone result
+        (AreWorkCalls (reverse shared.now.book.past) workers.now.items) }
+{
+    let (stream_count, worker_count) = counts;
+    if streams.len() != stream_count || workers.len() != worker_count {
+        return Some(Fault::SeatMissing);
+    }
+    if any_lease_out(workers) {
+        return Some(Fault::LeaseOut);
+    }
+    if !shared.agrees(streams, workers) {
+        return Some(Fault::Differs);
+    }
+    None
+}
+
 /// Whether a worker's latest call is a lease.
 fn any_lease_out<L: Ledger>(seats: &Vec<WorkSeat<L>>) -> bool
     ensures out { IsTrue result → ¬ All (λ s. ¬ HasLeaseOut s) seats.now.items }
@@ -175,6 +202,7 @@ fn any_lease_out<L: Ledger>(seats: &Vec<WorkSeat<L>>) -> bool
 }
 
 /// Cuts a part for the seat of each stream.
+#[tactic(auto, using(crate::proofs::Seating::one_more_seat))]
 fn stream_seats<L: Ledger>(
     alloc: Global,
     rest: &mut Share<L>,
@@ -185,7 +213,7 @@ fn stream_seats<L: Ledger>(
     requires amount { rest.old.amount ≡ 0 }
     requires limits { All IsWithinLimits streams.now }
     requires few { length streams.now ≤ 64 }
-    ensures seats { IfOk result (λ seats. AreStreamSeats limit streams.now seats.items) }
+    ensures seats { IfOk result (λ seats. seats.items ≡ opened_streams limit 0 streams.now) }
     ensures parts { OnOk result (rest.new.parts + length streams.now ≡ rest.old.parts) }
     ensures amount { rest.new.amount ≡ 0 }
 {

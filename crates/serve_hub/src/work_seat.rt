@@ -90,6 +90,7 @@ impl<L: Ledger> WorkSeat<L> {
         Ok(lease)
     }
 
+    #[tactic(auto, using(crate::proofs::Outcomes::outcome))]
     pub(crate) fn settle(
         &mut self,
         shared: &mut Shared<L>,

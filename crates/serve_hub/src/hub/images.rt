@@ -27,6 +27,7 @@ impl<L: Ledger> Hub<L> {
     }
 
     /// The oldest image of the seat's stream, with its source. It waits for the lock alone.
+    #[tactic(auto, using(crate::proofs::Giving::gives))]
     pub fn try_collect(
         &self,
         rt: &impl Wait,
@@ -46,6 +47,7 @@ impl<L: Ledger> Hub<L> {
 
     /// The oldest image of the seat's stream, with its source. It waits for one while the stream isn't drained and
     /// one can come.
+    #[tactic(auto, using(crate::proofs::Giving::gives))]
     pub fn collect<R: Wait>(
         &self,
         rt: &R,

@@ -3,6 +3,7 @@ ghost use Rattle.std.specs.Prelude.{◌≡◌, Ok, None, IfErr, IfOk, MatchResul
 ghost use Rattle.std.specs.Arc.{arc_value};
 ghost use Rattle.std.specs.Option.{option_map};
 ghost use Rattle.filters.specs.ChainImage.{value_of};
+ghost use Rattle.serve_core.specs.Lanes.{source_in};
 ghost use Rattle.serve_hub.specs.Calls.{AllowsClose, AllowsCollect, Closes, Collects, IsOldest, IsOther, IsTold};
 ghost use Rattle.serve_hub.specs.Calls.{after_refusal, gives_up};
 
@@ -62,6 +63,7 @@ impl<L: Ledger> StreamSeat<L> {
     ) -> Result<Collected, CollectRefused>
         ensures given { IfOk result (λ pair. (answer ≡ Ok pair) × IsOldest pair self.old
             × (self.new ≡ gives_up self.old)) }
+        ensures size { IfOk result (λ pair. (source_in pair).geometry ≡ self.old.chain.geometry) }
         ensures refused { IfErr result (λ e. MatchResult answer (λ pair. IsOther pair e self.old
             × (self.new ≡ gives_up self.old)) (λ refusal. (e.refusal ≡ refusal) × (e.pair ≡ None)
             × (self.new ≡ after_refusal refusal self.old))) }
@@ -89,8 +91,10 @@ impl<L: Ledger> StreamSeat<L> {
     }
 
     /// Takes the oldest frame off, and compares it with the pair's source.
+    #[tactic(auto, using(crate::proofs::Giving::oldest_sized))]
     fn take(&mut self, pair: Collected) -> Result<Collected, CollectRefused>
         ensures given { IfOk result (λ given. (given ≡ pair) × IsOldest pair self.old) }
+        ensures size { OnOk result ((source_in pair).geometry ≡ self.old.chain.geometry) }
         ensures other { IfErr result (λ e. IsOther pair e self.old) }
         ensures seat { self.new ≡ gives_up self.old }
     {
