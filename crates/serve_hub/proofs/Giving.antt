@@ -1,6 +1,6 @@
 -- Images that are given with the oldest frame that a seat keeps.
 use Rattle.std.proofs.Common.{ℕ, ◌≡◌, ◌<◌, List, [], ◌∷◌, drop, length, Some, slice_get, slice_index_or, sym, ◌∙◌}
-use Rattle.std.proofs.Common.{ap, arith, subst}
+use Rattle.std.proofs.Common.{ap, arith, subst, IfOk, OnOk, Ok, Err, Result}
 use Rattle.std.proofs.lemmas.Option.{slice_get_within}
 use Rattle.frame_view.specs.declared.geometry.Geometry.{Geometry}
 use Rattle.filters.specs.declared.op.Op.{Op}
@@ -9,6 +9,8 @@ use Rattle.filters.specs.ChainImage.{FrameValue, IsImageByAll, value_of}
 use Rattle.serve_core.specs.declared.collected.Collected.{Collected}
 use Rattle.serve_core.specs.Lanes.{IsImageOf, source_in}
 use Rattle.serve_hub.specs.declared.entry.Act.TheVariants as acts
+use Rattle.serve_hub.specs.declared.refusal.Refusal.{Refusal}
+use Rattle.serve_hub.specs.declared.refused.CollectRefused.{CollectRefused}
 use Rattle.serve_hub.specs.Calls.{Collects, Gives, IsOldest, gives_up}
 use Rattle.serve_hub.specs.Seats.{StreamSeatValue, with_call}
 
@@ -53,3 +55,16 @@ oldest_sized pair g [] all e = absurd (omega (arith, slice_get_within [] 0 (sour
 oldest_sized pair g (f ∷ fs) all e =
     let same : f ≡ source_in pair = cc in
     subst (λ (v : FrameValue). v.geometry ≡ g) same (all 0 f (omega arith))
+
+-- what was collected and compared is given
+pub given : (answer : Result Collected Refusal) (result : Result Collected CollectRefused)
+    (old mid new : StreamSeatValue) → IfOk answer (λ pair. Collects pair old mid)
+    → OnOk answer (mid.kept ≡ old.kept)
+    → IfOk result (λ pair. (answer ≡ Ok pair) × IsOldest pair mid × (new ≡ gives_up mid))
+    → IfOk result (λ pair. (source_in pair).geometry ≡ mid.chain.geometry)
+    → IfOk result (λ pair. Gives pair old new)
+given answer (Ok pair) old mid new a k r s =
+    gives pair old mid new
+    (subst (λ (x : Result Collected Refusal). IfOk x (λ p. Collects p old mid)) r.0 a)
+    (subst (λ (x : Result Collected Refusal). OnOk x (mid.kept ≡ old.kept)) r.0 k) r.1 s r.2
+given answer (Err e) old mid new a k r s = tt

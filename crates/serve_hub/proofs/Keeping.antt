@@ -1,5 +1,7 @@
 -- The frames that a seat keeps.
 use Rattle.std.proofs.Common.{ℕ, zero, suc, ◌≡◌, ◌<◌, List, [], ◌∷◌, ◌++◌, drop, map, refl, subst, sym, arith}
+use Rattle.std.proofs.Common.{ap, Option, Some, None, IfSome}
+use Rattle.std.specs.Option.{option_to_list}
 use Rattle.std.proofs.lemmas.List.{map-append}
 use Rattle.std.proofs.lemmas.List.Elements.{All-append}
 use Rattle.std.specs.declared.alloc.Global.{Global}
@@ -34,3 +36,13 @@ pub sized_rest : (g : Geometry) (fs : List (Arc Frame Global)) → AreSized g (k
     → AreSized g (kept_in (drop 1 fs))
 sized_rest g [] all = all
 sized_rest g (f ∷ fs) all = λ k d l. all (suc k) d (omega (arith, l))
+
+pub first_sized : (g : Geometry) (old new : List (Arc Frame Global)) (o : Option (Arc Frame Global))
+    → old ≡ option_to_list o ++ new → AreSized g (kept_in old)
+    → IfSome o (λ f. (arc_value f).geometry ≡ g)
+first_sized g old new None e all = tt
+first_sized g old new (Some f) e all =
+    subst (λ (fs : List (Arc Frame Global)). AreSized g (kept_in fs)) e all 0 (value_of (arc_value f)) (omega arith)
+
+pub same_size : (a b : Frame) → value_of a ≡ value_of b → a.geometry ≡ b.geometry
+same_size a b e = ap (λ (v : FrameValue). v.geometry) e

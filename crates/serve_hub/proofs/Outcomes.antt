@@ -1,5 +1,5 @@
 -- What a settlement says of its lease.
-use Rattle.std.proofs.Common.{ℕ, ◌+◌, ◌≡◌, ◌≢◌, length, Some, slice_get, sym, ◌∙◌, ap, subst, refl, arith}
+use Rattle.std.proofs.Common.{ℕ, ◌+◌, ◌≡◌, ◌≢◌, length, Some, slice_get, sym, ◌∙◌, ap, subst, refl, arith, Bool, MatchBool, ⊤}
 use Rattle.filters.specs.Chain.{ChainValue}
 use Rattle.filters.specs.Costs.{step_costs}
 use Rattle.filters.specs.Steps.{steps_of}
@@ -35,7 +35,7 @@ pub outcome : (b : BookValue) (w : ℕ) (lease : LeaseValue) (done : code.Settle
     → IsOut b w lease → TakesLease w lease done b.desk new → IsOutcome lease done
 outcome b w lease settled.Returned new out took =
     let here = out_here b w lease out took.lane took.here in
-    record { all = (λ f. absurd f, λ e. absurd (took.left (sym here.0 ∙ e ∙ sym here.1))) }
+    record { all = (λ f. absurd (subst (λ (b : Bool). MatchBool b ⊥ ⊤) f tt), λ e. absurd (took.left (sym here.0 ∙ e ∙ sym here.1))) }
 outcome b w lease (settled.Finished n) new out took =
     let here = out_here b w lease out took.lane took.here in
     record { all = (λ t. here.0 ∙ took.all ∙ here.1, λ e. refl) }

@@ -1,5 +1,5 @@
 //! Images that a seat collects, and its close.
-ghost use Rattle.std.specs.Prelude.{◌≡◌, Ok, None, IfErr, IfOk, MatchResult, OnOk, slice_get};
+ghost use Rattle.std.specs.Prelude.{◌≡◌, Ok, None, IfErr, IfOk, IfSome, MatchResult, OnOk, slice_get};
 ghost use Rattle.std.specs.Arc.{arc_value};
 ghost use Rattle.std.specs.Option.{option_map};
 ghost use Rattle.filters.specs.ChainImage.{value_of};
@@ -82,16 +82,17 @@ impl<L: Ledger> StreamSeat<L> {
     }
 
     /// Gives the oldest frame up, and tells it.
-    #[tactic(auto, using(crate::proofs::Keeping::sized_rest, crate::proofs::Keeping::rest_kept))]
+    #[tactic(auto, using(crate::proofs::Keeping::first_sized, crate::proofs::Keeping::rest_kept))]
     fn give_up(&mut self) -> Option<Arc<Frame>>
         ensures oldest { option_map (λ f. value_of (arc_value f)) result ≡ slice_get self.old.kept 0 }
+        ensures size { IfSome result (λ f. (arc_value f).geometry ≡ self.old.chain.geometry) }
         ensures seat { self.new ≡ gives_up self.old }
     {
         self.kept.pop_front()
     }
 
     /// Takes the oldest frame off, and compares it with the pair's source.
-    #[tactic(auto, using(crate::proofs::Giving::oldest_sized))]
+    #[tactic(auto, using(crate::proofs::Keeping::same_size))]
     fn take(&mut self, pair: Collected) -> Result<Collected, CollectRefused>
         ensures given { IfOk result (λ given. (given ≡ pair) × IsOldest pair self.old) }
         ensures size { OnOk result ((source_in pair).geometry ≡ self.old.chain.geometry) }

@@ -24,7 +24,7 @@ returns-in-Err-clause-refused g c =
 pub returns-in-Err-default-Some-clause-refused : goal.returns-in-Err-default-Some-clause-refused
 returns-in-Err-default-Some-clause-refused g c =
     let e = c.in-Err-default-Some in
-    let back = matched e.field-0-1 e.job e.field-0-1-is e.ensures.refused in (
+    let back = matched _ _ e.field-0-1 e.job e.field-0-1-is e.ensures.refused in (
       c.undo.ensures.source ∙ ap (λ (j : JobValue). j.source) back.0 ∙ c.in-Ok.ensures.source,
       c.undo.ensures.format
       ∙ ap (λ (x : ChainValue). last_format x.ops (format_of x.geometry))
