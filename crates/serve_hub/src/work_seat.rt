@@ -120,12 +120,15 @@ impl<L: Ledger> WorkSeat<L> {
             }
         };
         self.calls.count(book, total);
-        match done {
-            Settled::Finished(other) if other != number => Err(LeaseRefused {
-                refusal: Refusal::Torn(Came::Number(other)),
+        let Settled::Finished(found) = done else {
+            return Ok(done);
+        };
+        if found != number {
+            return Err(LeaseRefused {
+                refusal: Refusal::Torn(Came::Number(found)),
                 lease: None,
-            }),
-            _ => Ok(done),
+            });
         }
+        Ok(done)
     }
 }
