@@ -127,9 +127,9 @@ impl Desk {
         }
     }
 
-    /// What [`Desk::offer`] does, in the memory of an image that isn't needed any more. It takes memory only for
-    /// the frame's line, and only where the image has another. A refused frame comes back with the image, and
-    /// the clock stays.
+    /// What [`Desk::offer`] does, in the memory of an image that isn't needed any more. It takes memory only
+    /// for the frame's line, and only where the image has another. A refused frame comes back with the image,
+    /// and the clock stays.
     pub fn offer_over(
         &mut self,
         alloc: Global,

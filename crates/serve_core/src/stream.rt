@@ -131,8 +131,8 @@ impl Stream {
         }
     }
 
-    /// A job for a frame of the stream's size, in the memory of an image of it. Both come back where the memory
-    /// for another line is refused.
+    /// A job for a frame of the stream's size, in the memory of an image of it. Both come back where the
+    /// memory for another line is refused.
     pub(crate) fn job_over(
         &self,
         alloc: Global,

@@ -1,5 +1,6 @@
 -- How a book answers: as its desk, but where the journal is full or a lease isn't the worker's.
-use Rattle.std.specs.Prelude.{ℕ, ◌≡◌, ◌≤◌, ◌<◌, ◌⊎◌, Bool, true, false, Option, Some, None, IsSome, IsSomeAnd, slice_get}
+use Rattle.std.specs.Prelude.{ℕ, ◌≡◌, ◌≤◌, ◌<◌, ◌⊎◌, Bool, true, false, Option, Some, None, IsSome}
+use Rattle.std.specs.Prelude.{IsSomeAnd, slice_get}
 use Rattle.frame_view.specs.declared.geometry.Geometry.{Geometry}
 use Rattle.lease.specs.Lease.{LeaseValue}
 use Rattle.serve_core.specs.declared.refusal.Refusal as core
@@ -13,8 +14,8 @@ use Rattle.serve_hub.specs.declared.refusal.Refusal.{Refusal}
 use Rattle.serve_hub.specs.declared.refusal.Refusal.TheVariants.{Core, HistoryFull, StrayLease}
 use Rattle.serve_hub.specs.Books.{BookValue, IsOut, room}
 
--- a call that needs so many entries is answered as the desk answers it, but by HistoryFull where the desk would
--- accept it and fewer entries are left
+-- a call that needs so many entries is answered as the desk answers it, but by HistoryFull where the desk
+-- would accept it and fewer entries are left
 abbrev pub WithRoom : (need : ℕ) → BookValue → (Option core.Refusal → Type 0) → Option Refusal → Type 0
 WithRoom need b IsAnswer None = IsAnswer None × (need ≤ room b)
 WithRoom need b IsAnswer (Some (Core e)) = IsAnswer (Some e)

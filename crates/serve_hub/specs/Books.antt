@@ -1,6 +1,6 @@
 -- What a book keeps.
-use Rattle.std.specs.Prelude.{ℕ, ◌+◌, ◌-◌, ◌≡◌, ◌≤◌, ◌^◌, List, [], ◌∷◌, length, replicate, slice_get, slice_set}
-use Rattle.std.specs.Prelude.{slice_index_or, sum, sum_by, Option, Some, None, IsSomeAnd, if◌then◌else◌}
+use Rattle.std.specs.Prelude.{ℕ, ◌+◌, ◌-◌, ◌≡◌, ◌≤◌, ◌^◌, List, [], ◌∷◌, length, replicate, slice_get}
+use Rattle.std.specs.Prelude.{slice_set, slice_index_or, sum, sum_by, Option, Some, None, IsSomeAnd, if◌then◌else◌}
 use Rattle.lease.specs.Lease.{LeaseValue}
 use Rattle.serve_core.specs.declared.held.Held.{Held}
 use Rattle.serve_core.specs.Desk.{Answers, IsRecorded, desk_state}
@@ -56,7 +56,8 @@ one_out (Some held) = 1
 abbrev pub one_open : Lane → ℕ
 one_open lane = if lane.state.is_closed then 0 else 1
 
--- an entry is reserved for the settlement of each lease out, and for the close of each stream that isn't closed
+-- an entry is reserved for the settlement of each lease out, and for the close of each stream that isn't
+-- closed
 abbrev pub reserved : ScheduleValue → ℕ
 reserved desk = sum_by one_out desk.workers + sum_by one_open desk.lanes
 

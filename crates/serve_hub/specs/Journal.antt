@@ -1,6 +1,6 @@
 -- Journals of accepted calls: which events their entries stand for.
-use Rattle.std.specs.Prelude.{ℕ, ◌+◌, ◌≡◌, ⊤, nat_eq, nat_lt, Bool, true, false, List, [], ◌∷◌, slice_get, sum_by}
-use Rattle.std.specs.Prelude.{Option, Some, None, IsSomeAnd, if◌then◌else◌}
+use Rattle.std.specs.Prelude.{ℕ, ◌+◌, ◌≡◌, ⊤, nat_eq, nat_lt, Bool, true, false, List, [], ◌∷◌, slice_get}
+use Rattle.std.specs.Prelude.{sum_by, Option, Some, None, IsSomeAnd, if◌then◌else◌}
 use Rattle.serve_core.specs.declared.held.Held.{Held}
 use Rattle.serve_core.specs.Bare.{Blank, measures_any, is_any_image}
 use Rattle.serve_core.specs.Desk.{one, settlement}
@@ -76,7 +76,7 @@ abbrev pub lease_cost : State Blank → Option Held → ℕ
 lease_cost m None = 0
 lease_cost m (Some held) = stream_cost (slice_get m.streams held.stream)
 
--- the units that worker w is charged for by a reply: a band that is stepped costs what the state before it says
+-- the units of a reply to worker w: a band that is stepped costs what the state before it says
 abbrev pub event_units : (w : ℕ) → State Blank → Event Blank → Reply Blank Blank → ℕ
 event_units w m (events.Band v) events.Stepped = if nat_eq v w then lease_cost m (held_at m.workers v) else 0
 event_units w m e r = 0

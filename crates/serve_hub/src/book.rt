@@ -1,6 +1,6 @@
 //! A desk with the journal of what it accepted.
-ghost use Rattle.std.specs.Prelude.{◌≡◌, ◌<◌, ◌≤◌, ◌^◌, ◌↔◌, All, IfOk, IfSome, IsErrOf, IsSome, IsTrue, length, option_copied};
-ghost use Rattle.std.specs.Prelude.{reverse, slice_get};
+ghost use Rattle.std.specs.Prelude.{◌≡◌, ◌<◌, ◌≤◌, ◌^◌, ◌↔◌, All, IfOk, IfSome, IsErrOf, IsSome, IsTrue};
+ghost use Rattle.std.specs.Prelude.{length, option_copied, reverse, slice_get};
 ghost use Rattle.std.specs.Option.{option_map};
 ghost use Rattle.serve_core.specs.Lanes.{IsOver};
 ghost use Rattle.serve_core.specs.Schedule.{HasLane, account_of, counts_of, opened_schedule};
@@ -48,12 +48,12 @@ impl From<AllocError> for BookError {
 
 /// A desk, and the journal of what it accepted: an entry for each accepted call, and none for a refused one.
 ///
-/// The journal has a limit. An entry is reserved for the settlement of each lease that is out and for the close
-/// of each stream that isn't closed, so these are never refused for it. The journal is reserved when the book
-/// is made, so only `new`, `offer` and `offer_over` take memory.
+/// The journal has a limit. An entry is reserved for the settlement of each lease that is out and for the
+/// close of each stream that isn't closed, so these are never refused for it. The memory for the journal is
+/// taken when the book is made, so only `new`, `offer` and `offer_over` take any.
 ///
-/// Contracts see the `BookValue` of `specs/Books.antt`: the journal leads from the desk as it was when the book
-/// was opened to the desk as it is.
+/// Contracts see the `BookValue` of `specs/Books.antt`: the journal leads from the desk as it was when the
+/// book was opened to the desk as it is.
 #[derive(Drop)]
 pub struct Book {
     opening: Snapshot<Desk>,
@@ -170,7 +170,8 @@ impl Book {
     /// How many units the bands cost that worker `w` settled since the book was opened.
     pub fn units(&self, w: u32) -> Option<u64>
         ensures value { result ≡ slice_get self.now.units w }
-        ensures units { IfSome result (λ n. n ≡ units_from (opening_of self.now) w (book_transcript self.now)) }
+        ensures units { IfSome result (λ n.
+            n ≡ units_from (opening_of self.now) w (book_transcript self.now)) }
     {
         self.units.get(w as usize).copied()
     }

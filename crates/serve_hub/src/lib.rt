@@ -1,7 +1,7 @@
 //! Serving with a journal: what was accepted, entry by entry, over a desk.
 //!
-//! `specs/Journal.antt` says which events an entry stands for, and `specs/Books.antt` what a [`Book`] keeps and
-//! how it answers.
+//! `specs/Journal.antt` says which events an entry stands for, `specs/Books.antt` what a [`Book`] keeps, and
+//! `specs/Answers.antt` how it answers.
 #![tactic(auto)]
 
 mod agree;

@@ -98,6 +98,20 @@ fn offered(alloc: Global, book: &mut Book, s: u32, samples: &[u8]) -> Result<u64
     }
 }
 
+/// Offers a frame that is refused.
+fn offer_refused(alloc: Global, book: &mut Book, s: u32, at: u64) -> Result<Option<Refusal>, Fail> {
+    match book.offer(alloc, s, at, frame_of(alloc, &[0x5A])?) {
+        Ok(_) => Ok(None),
+        Err((refusal, frame)) => {
+            if frame.data() == [0x5A].as_slice() {
+                Ok(Some(refusal))
+            } else {
+                Err("another frame came back".into())
+            }
+        }
+    }
+}
+
 /// Why worker `w` gets no lease.
 fn lease_refused(book: &mut Book, w: u32) -> Option<Refusal> {
     match book.lease(w) {
@@ -109,12 +123,18 @@ fn lease_refused(book: &mut Book, w: u32) -> Option<Refusal> {
     }
 }
 
-/// Why stream `s` gives no image.
-fn collect_refused(book: &mut Book, s: u32) -> Option<Refusal> {
-    match book.collect(s) {
-        Ok(_) => None,
-        Err(refusal) => Some(refusal),
-    }
+/// The first sample of the source and of the image that stream `s` gives.
+fn collected(book: &mut Book, s: u32) -> Result<(Option<u8>, Option<u8>), Refusal> {
+    let pair = book.collect(s)?;
+    let source = pair.source.data().first().copied();
+    Ok((source, pair.image.data().first().copied()))
+}
+
+/// A lease that is settled after this many bands: what it told, and what became of its frame.
+fn worked(book: &mut Book, w: u32, bands: u32) -> Result<((u32, u64, u32), Settled), Refusal> {
+    let lease = book.lease(w)?;
+    let lent = told(&lease);
+    Ok((lent, settled(book, w, stepped(lease, bands))?))
 }
 
 /// Settles a lease. A refused one ends.

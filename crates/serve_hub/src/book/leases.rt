@@ -7,7 +7,8 @@ ghost use Rattle.serve_core.specs.Schedule as schedules;
 ghost use Rattle.serve_hub.specs.declared.entry.Act.TheVariants as acts;
 ghost use Rattle.serve_hub.specs.declared.entry.Seat.TheVariants as seats;
 ghost use Rattle.serve_hub.specs.Answers as answers;
-ghost use Rattle.serve_hub.specs.Answers.{IsCollectAnswer, IsLeaseAnswer, RefusesClose, RefusesSettle, TakesLease};
+ghost use Rattle.serve_hub.specs.Answers.{IsCollectAnswer, IsLeaseAnswer, RefusesClose, RefusesSettle};
+ghost use Rattle.serve_hub.specs.Answers.{TakesLease};
 ghost use Rattle.serve_hub.specs.Books.{Appends, IsOut, with_units};
 
 use super::Book;
@@ -52,7 +53,8 @@ impl Book {
         Ok(lease)
     }
 
-    /// Worker `w` gives its lease back, with its job and all bands that were done. A refused lease comes back.
+    /// Worker `w` gives its lease back, with its job and all bands that were done. A refused lease comes
+    /// back.
     pub fn settle(&mut self, w: u32, lease: Lease) -> Result<Settled, (Refusal, Lease)>
         ensures entry { IfOk result (λ done. Appends (seats.Worker w)
             (acts.Settled lease.used (answers.is_finished done))

@@ -31,8 +31,8 @@ impl Book {
         None
     }
 
-    /// A frame arrives at stream `s` at a moment, or now if that is later. A refused frame comes back, and the
-    /// clock stays.
+    /// A frame arrives at stream `s` at a moment, or now if that is later. A refused frame comes back, and
+    /// the clock stays.
     pub fn offer(
         &mut self,
         alloc: Global,
@@ -62,9 +62,9 @@ impl Book {
         }
     }
 
-    /// What [`Book::offer`] does, in the memory of an image that isn't needed any more. It takes memory only for
-    /// the frame's line, and only where the image has another. A refused frame comes back with the image, and
-    /// the clock stays.
+    /// What [`Book::offer`] does, in the memory of an image that isn't needed any more. It takes memory only
+    /// for the frame's line, and only where the image has another. A refused frame comes back with the image,
+    /// and the clock stays.
     pub fn offer_over(
         &mut self,
         alloc: Global,

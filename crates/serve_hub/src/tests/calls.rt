@@ -1,72 +1,66 @@
 //! One frame from its offer to its collection, with the refusals on its way.
 use super::{
-    Core, LINE, PLAIN, book_of, collect_refused, frame_of, lease_refused, offered, settled,
-    state_of, stepped, told,
+    Core, LINE, PLAIN, book_of, collected, frame_of, job_spec_of, lease_refused, offer_refused,
+    offered, settled, state_of, stepped, told, worked,
 };
 use crate::Act::{Closed, Collected, Leased, Offered, Settled};
 use crate::Seat::{Stream, Worker};
-use crate::{Entry, Refusal, Settled as Done};
+use crate::{Book, Entry, Refusal, Settled as Done};
 use lease::Job;
+use std::alloc::Global;
+use std::process::Abort;
 use std::test::Fail;
 
-#[test]
-fn a_frame_goes_through(rt: HostRuntime) -> Result<(), Fail> {
-    let alloc = rt.alloc();
-    let mut book = book_of(alloc, &[PLAIN])?;
+/// What a book answers before any frame.
+fn asks_early(rt: &impl Abort, book: &mut Book) {
     assert_eq!(rt;
-        lease_refused(&mut book, 0),
+        lease_refused(book, 0),
         Some(Refusal::Core(Core::NoneReady))
     );
-    assert_eq!(rt;
-        collect_refused(&mut book, 0),
-        Some(Refusal::Core(Core::Empty))
-    );
-    assert_eq!(rt; offered(alloc, &mut book, 0, &[0x00])?, 0);
+    assert_eq!(rt; collected(book, 0), Err(Refusal::Core(Core::Empty)));
+}
+
+/// What it answers while its one frame is leased.
+fn works(rt: &impl Abort, book: &mut Book) -> Result<(), Fail> {
     let lease = book.lease(0)?;
     assert_eq!(rt; told(&lease), (0, 0, 1));
-    assert_eq!(rt;
-        lease_refused(&mut book, 0),
-        Some(Refusal::Core(Core::Busy))
-    );
-    assert_eq!(rt;
-        collect_refused(&mut book, 0),
-        Some(Refusal::Core(Core::Empty))
-    );
     assert!(rt; book.is_out(0));
-    assert_eq!(rt;
-        settled(&mut book, 0, stepped(lease, 1)),
-        Ok(Done::Finished(0))
-    );
+    assert_eq!(rt; lease_refused(book, 0), Some(Refusal::Core(Core::Busy)));
+    assert_eq!(rt; collected(book, 0), Err(Refusal::Core(Core::Empty)));
+    assert_eq!(rt; settled(book, 0, stepped(lease, 1)), Ok(Done::Finished(0)));
     assert!(rt; !book.is_out(0));
-    let pair = book.collect(0)?;
-    assert_eq!(rt; pair.source.data(), [0x00].as_slice());
-    assert_eq!(rt;
-        (pair.image.line(), pair.image.data()),
-        (LINE, [0xFF].as_slice())
-    );
-    assert_eq!(rt;
-        collect_refused(&mut book, 0),
-        Some(Refusal::Core(Core::Empty))
-    );
-    assert_eq!(rt;
-        lease_refused(&mut book, 0),
-        Some(Refusal::Core(Core::NoneReady))
-    );
+    Ok(())
+}
+
+/// What it answers from its close on.
+fn closes(rt: &impl Abort, alloc: Global, book: &mut Book) -> Result<(), Fail> {
     assert!(rt; !book.is_over());
     assert_eq!(rt; book.close(0), Ok(()));
     assert!(rt; book.is_over());
+    assert_eq!(rt; collected(book, 0), Err(Refusal::Core(Core::Drained)));
     assert_eq!(rt;
-        collect_refused(&mut book, 0),
-        Some(Refusal::Core(Core::Drained))
+        offer_refused(alloc, book, 0, 0)?,
+        Some(Refusal::Core(Core::Closed))
     );
-    match book.offer(alloc, 0, 0, frame_of(alloc, &[0x00])?) {
-        Ok(_) => assert!(rt; false, "accepted after the close"),
-        Err((refusal, frame)) => {
-            assert_eq!(rt; refusal, Refusal::Core(Core::Closed));
-            assert_eq!(rt; frame.data(), [0x00].as_slice());
-        }
-    }
     assert_eq!(rt; book.close(0), Err(Refusal::Core(Core::AlreadyClosed)));
+    Ok(())
+}
+
+/// The book after one frame.
+fn after_one_frame(rt: &impl Abort, alloc: Global) -> Result<Book, Fail> {
+    let mut book = book_of(alloc, &[PLAIN])?;
+    asks_early(rt, &mut book);
+    assert_eq!(rt; offered(alloc, &mut book, 0, &[0x00])?, 0);
+    works(rt, &mut book)?;
+    assert_eq!(rt; collected(&mut book, 0)?, (Some(0x00), Some(0xFF)));
+    asks_early(rt, &mut book);
+    closes(rt, alloc, &mut book)?;
+    Ok(book)
+}
+
+#[test]
+fn a_frame_goes_through(rt: HostRuntime) -> Result<(), Fail> {
+    let book = after_one_frame(&rt, rt.alloc())?;
     let journal = [
         Entry {
             seat: Stream(0),
@@ -100,15 +94,14 @@ fn a_frame_goes_through(rt: HostRuntime) -> Result<(), Fail> {
     Ok(())
 }
 
-/// An offer at a later moment lets the clock go on, and tells it in its entry; a refused one doesn't.
+/// An offer at a later moment lets the clock go on, and tells it in its entry.
 #[test]
 fn an_entry_tells_the_tick(rt: HostRuntime) -> Result<(), Fail> {
     let alloc = rt.alloc();
     let mut book = book_of(alloc, &[PLAIN])?;
     match book.offer(alloc, 0, 7, frame_of(alloc, &[0x00])?) {
         Ok(number) => {
-            assert_eq!(rt; number, 0);
-            assert_eq!(rt; book.clock(), 7);
+            assert_eq!(rt; (number, book.clock()), (0, 7));
             let entry = Entry {
                 seat: Stream(0),
                 act: Offered(Some(7), 0),
@@ -117,16 +110,21 @@ fn an_entry_tells_the_tick(rt: HostRuntime) -> Result<(), Fail> {
         }
         Err((refusal, _)) => assert_eq!(rt; refusal, Refusal::Core(Core::NoMemory)),
     }
-    let clock = book.clock();
-    match book.offer(alloc, 1, 9, frame_of(alloc, &[0x00])?) {
-        Ok(_) => assert!(rt; false, "no such stream"),
-        Err((refusal, _)) => assert_eq!(rt; refusal, Refusal::Core(Core::NoStream)),
-    }
-    match book.offer(alloc, 0, (1 << 60) + 1, frame_of(alloc, &[0x00])?) {
-        Ok(_) => assert!(rt; false, "past the end of the clock"),
-        Err((refusal, _)) => assert_eq!(rt; refusal, Refusal::Core(Core::ClockEnd)),
-    }
-    assert_eq!(rt; book.clock(), clock);
+    Ok(())
+}
+
+/// A refused offer leaves the clock.
+#[test]
+fn a_refused_offer_leaves_the_clock(rt: HostRuntime) -> Result<(), Fail> {
+    let alloc = rt.alloc();
+    let mut book = book_of(alloc, &[PLAIN])?;
+    assert_eq!(rt;
+        offer_refused(alloc, &mut book, 1, 9)?,
+        Some(Refusal::Core(Core::NoStream))
+    );
+    let late = offer_refused(alloc, &mut book, 0, (1 << 60) + 1)?;
+    assert_eq!(rt; late, Some(Refusal::Core(Core::ClockEnd)));
+    assert_eq!(rt; (book.clock(), book.latest()), (0, None));
     Ok(())
 }
 
@@ -137,33 +135,19 @@ fn jobs_come_from_outside(rt: HostRuntime) -> Result<(), Fail> {
     let mut book = book_of(alloc, &[PLAIN])?;
     let job = Job::new(
         alloc,
-        super::job_spec_of(alloc, &PLAIN)?,
+        job_spec_of(alloc, &PLAIN)?,
         frame_of(alloc, &[0x01])?,
     )?;
-    match book.offer_job(0, 0, job) {
-        Ok(number) => assert_eq!(rt; number, 0),
-        Err(_) => assert!(rt; false, "the job was refused"),
-    }
-    let lease = book.lease(0)?;
-    assert_eq!(rt;
-        settled(&mut book, 0, stepped(lease, 1)),
-        Ok(Done::Finished(0))
-    );
-    let pair = book.collect(0)?;
-    assert_eq!(rt; pair.image.data(), [0xFE].as_slice());
-    match book.offer_over(alloc, 0, 0, frame_of(alloc, &[0x5A])?, pair.image) {
-        Ok(number) => assert_eq!(rt; number, 1),
-        Err(_) => assert!(rt; false, "the frame was refused"),
-    }
-    let lease = book.lease(0)?;
-    assert_eq!(rt;
-        settled(&mut book, 0, stepped(lease, 1)),
-        Ok(Done::Finished(1))
-    );
+    assert!(rt; matches!(book.offer_job(0, 0, job), Ok(0)));
+    assert_eq!(rt; worked(&mut book, 0, 1)?, ((0, 0, 1), Done::Finished(0)));
     let pair = book.collect(0)?;
     assert_eq!(rt;
-        (pair.source.data(), pair.image.data()),
-        ([0x5A].as_slice(), [0xA5].as_slice())
+        (pair.image.line(), pair.image.data()),
+        (LINE, [0xFE].as_slice())
     );
+    let frame = frame_of(alloc, &[0x5A])?;
+    assert!(rt; matches!(book.offer_over(alloc, 0, 0, frame, pair.image), Ok(1)));
+    assert_eq!(rt; worked(&mut book, 0, 1)?, ((0, 1, 1), Done::Finished(1)));
+    assert_eq!(rt; collected(&mut book, 0)?, (Some(0x5A), Some(0xA5)));
     Ok(())
 }

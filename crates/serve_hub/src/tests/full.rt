@@ -1,7 +1,7 @@
 //! Journals up to their last entry.
 use super::{
-    Core, PLAIN, book_of, collect_refused, frame_of, lease_refused, offered, settled, setup_of,
-    state_of, stepped, told,
+    Core, PLAIN, book_of, collected, frame_of, lease_refused, offer_refused, offered, settled,
+    setup_of, state_of, stepped, worked,
 };
 use crate::{Book, BookError, Refusal, Settled};
 use std::test::Fail;
@@ -13,13 +13,10 @@ fn offers_fill_the_journal(rt: HostRuntime) -> Result<(), Fail> {
     for number in 0..15 {
         assert_eq!(rt; offered(alloc, &mut book, 0, &[number as u8])?, number);
     }
-    match book.offer(alloc, 0, 0, frame_of(alloc, &[0x5A])?) {
-        Ok(_) => assert!(rt; false, "a sixteenth entry before the close"),
-        Err((refusal, frame)) => {
-            assert_eq!(rt; refusal, Refusal::HistoryFull);
-            assert_eq!(rt; frame.data(), [0x5A].as_slice());
-        }
-    }
+    assert_eq!(rt;
+        offer_refused(alloc, &mut book, 0, 0)?,
+        Some(Refusal::HistoryFull)
+    );
     assert_eq!(rt; book.offer_job_refusal(0, 0), Some(Refusal::HistoryFull));
     assert_eq!(rt; lease_refused(&mut book, 0), Some(Refusal::HistoryFull));
     assert_eq!(rt; book.close(0), Ok(()));
@@ -46,9 +43,7 @@ fn leases_without_a_band_fill_the_journal(rt: HostRuntime) -> Result<(), Fail> {
     let mut book = book_of(alloc, &[PLAIN])?;
     assert_eq!(rt; offered(alloc, &mut book, 0, &[0x00])?, 0);
     for _ in 0..7 {
-        let lease = book.lease(0)?;
-        assert_eq!(rt; told(&lease), (0, 0, 1));
-        assert_eq!(rt; settled(&mut book, 0, lease), Ok(Settled::Returned));
+        assert_eq!(rt; worked(&mut book, 0, 0)?, ((0, 0, 1), Settled::Returned));
     }
     assert_eq!(rt; lease_refused(&mut book, 0), Some(Refusal::HistoryFull));
     assert_eq!(rt; book.close(0), Ok(()));
@@ -73,16 +68,13 @@ fn a_lease_is_out_while_the_journal_fills(rt: HostRuntime) -> Result<(), Fail> {
         Err((refusal, _)) => assert_eq!(rt; refusal, Refusal::Core(Core::NoMemory)),
     }
     let last = book.offer_job_refusal(0, 0);
-    assert_eq!(rt;
-        collect_refused(&mut book, 0),
-        Some(Refusal::Core(Core::Empty))
-    );
+    assert_eq!(rt; collected(&mut book, 0), Err(Refusal::Core(Core::Empty)));
     assert_eq!(rt;
         settled(&mut book, 0, stepped(lease, 1)),
         Ok(Settled::Finished(0))
     );
     if last == Some(Refusal::HistoryFull) {
-        assert_eq!(rt; collect_refused(&mut book, 0), Some(Refusal::HistoryFull));
+        assert_eq!(rt; collected(&mut book, 0), Err(Refusal::HistoryFull));
         assert_eq!(rt; book.close(0), Ok(()));
         assert_eq!(rt; book.journal().len(), 16);
         assert_eq!(rt; state_of(&book, 0), Some([1, 8, 13, 1, 0, 1]));

@@ -1,6 +1,7 @@
 //! Leases that come back to the wrong worker or book.
 use super::{
-    Core, PLAIN, Served, book_of, frame_of, offered, settled, setup_of, state_of, stepped, told,
+    Core, PLAIN, Served, book_of, collected, frame_of, offered, settled, setup_of, state_of,
+    stepped, told, worked,
 };
 use crate::{Book, Refusal, Settled};
 use lease::{Job, Lease};
@@ -131,11 +132,7 @@ fn equal_leases_are_settled_crosswise(rt: HostRuntime) -> Result<(), Fail> {
     };
     assert_eq!(rt; settled(&mut one, 0, of_other), Ok(Settled::Finished(0)));
     assert_eq!(rt; settled(&mut other, 0, of_one), Ok(Settled::Finished(0)));
-    let pair = one.collect(0)?;
-    assert_eq!(rt;
-        (pair.source.data(), pair.image.data()),
-        ([0x01].as_slice(), [0xFE].as_slice())
-    );
+    assert_eq!(rt; collected(&mut one, 0)?, (Some(0x01), Some(0xFE)));
     Ok(())
 }
 
