@@ -29,7 +29,7 @@ out_here b w lease out lane e =
     let same : r.0 ≡ lane = cc in (
       r.2.done ∙ ap (λ (x : Lane). x.state.done + lease.used) same,
       ap (λ (x : Lane). steps x.state.spec) (sym same)
-      ∙ ap (λ (chain : ChainValue). length (step_costs chain)) (sym r.2.chain) ∙ steps_are lease.job.chain,
+          ∙ ap (λ (chain : ChainValue). length (step_costs chain)) (sym r.2.chain) ∙ steps_are lease.job.chain,
     )
 
 pub outcome : (b : BookValue) (w : ℕ) (lease : LeaseValue) (done : code.Settled) (new : ScheduleValue)

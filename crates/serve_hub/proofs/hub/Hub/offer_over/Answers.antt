@@ -27,8 +27,8 @@ returns-in-Err-default-Some-clause-refused g c =
     let back = matched _ _ e.field-0-1 e.job e.field-0-1-is e.ensures.refused in (
       c.undo.ensures.source ∙ ap (λ (j : JobValue). j.source) back.0 ∙ c.in-Ok.ensures.source,
       c.undo.ensures.format
-      ∙ ap (λ (x : ChainValue). last_format x.ops (format_of x.geometry))
-      (ap (λ (j : JobValue). j.chain) back.0 ∙ c.in-Ok.ensures.fresh.of_chain),
+          ∙ ap (λ (x : ChainValue). last_format x.ops (format_of x.geometry))
+          (ap (λ (j : JobValue). j.chain) back.0 ∙ c.in-Ok.ensures.fresh.of_chain),
       record {
         told = subst (λ (f : Frame). IsTold (AllowsOffer c.args.seat.now c.args.at f.geometry) e.refusal)
             c.in-Ok.ensures.kept back.2;

@@ -8,5 +8,5 @@ returns-in-Err-clause-refused g c = (
   c.in-Err.ensures.back.0,
   refl,
   subst (λ (f : Frame). IsTold (AllowsOffer c.args.self.now c.args.at f.geometry) c.told_offer.result)
-  c.deref.ensures c.told_offer.ensures,
+      c.deref.ensures c.told_offer.ensures,
 )
