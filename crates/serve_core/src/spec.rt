@@ -90,6 +90,27 @@ impl StreamSpec {
         &self.spec
     }
 
+    /// How many of its frames may be unfinished.
+    pub fn queue(&self) -> u64
+        ensures { result ≡ self.now.queue }
+    {
+        self.queue
+    }
+
+    /// How many finished frames may be uncollected.
+    pub fn outbox(&self) -> u64
+        ensures { result ≡ self.now.outbox }
+    {
+        self.outbox
+    }
+
+    /// How many frames it may accept at all.
+    pub fn frames(&self) -> u64
+        ensures { result ≡ self.now.frames }
+    {
+        self.frames
+    }
+
     /// What band `k` of a frame costs.
     #[tactic(auto, using(crate::proofs::Lanes::band_cost))]
     pub(crate) fn cost_of_band(&self, k: u32) -> u64

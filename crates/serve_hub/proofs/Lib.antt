@@ -8,3 +8,8 @@ pub mod Inside
 pub mod Bands
 pub mod Opened
 pub mod Chains
+pub mod Keeping
+pub mod Giving
+pub mod Outcomes
+pub mod Seating
+pub mod Refusing

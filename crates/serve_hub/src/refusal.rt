@@ -3,6 +3,20 @@ ghost use Rattle.std.specs.Prelude.{◌≡◌};
 
 use thiserror::Error;
 
+/// What a book answered that contradicts a seat.
+#[derive(Clone, Copy, Debug, PartialEq, Eq)]
+pub enum Came {
+    /// The call was accepted with this number, which isn't the seat's next one, or not the lease's.
+    Number(u64),
+    /// The call was refused so.
+    Refused(serve_core::Refusal),
+    /// The image was of another frame than the oldest that the seat keeps.
+    Source,
+    /// The stream has another chain than the seat, or the journal another limit, or more frames would be
+    /// accepted than the seat has places for.
+    Other,
+}
+
 /// Why a call on a book or a hub is refused.
 #[derive(Clone, Copy, Debug, PartialEq, Eq, Error)]
 pub enum Refusal {
@@ -17,7 +31,7 @@ pub enum Refusal {
     StrayLease,
     /// What the book answered contradicts the seat. Only a hub answers so.
     #[error("Torn")]
-    Torn,
+    Torn(Came),
 }
 
 impl From<serve_core::Refusal> for Refusal {

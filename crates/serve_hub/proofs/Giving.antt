@@ -1,0 +1,70 @@
+-- Images that are given with the oldest frame that a seat keeps.
+use Rattle.std.proofs.Common.{ℕ, ◌≡◌, ◌<◌, List, [], ◌∷◌, drop, length, Some, slice_get, slice_index_or, sym, ◌∙◌}
+use Rattle.std.proofs.Common.{ap, arith, subst, IfOk, OnOk, Ok, Err, Result}
+use Rattle.std.proofs.lemmas.Option.{slice_get_within}
+use Rattle.frame_view.specs.declared.geometry.Geometry.{Geometry}
+use Rattle.filters.specs.declared.op.Op.{Op}
+use Rattle.filters.specs.Chain.{format_of, last_format}
+use Rattle.filters.specs.ChainImage.{FrameValue, IsImageByAll, value_of}
+use Rattle.serve_core.specs.declared.collected.Collected.{Collected}
+use Rattle.serve_core.specs.Lanes.{IsImageOf, source_in}
+use Rattle.serve_hub.specs.declared.entry.Act.TheVariants as acts
+use Rattle.serve_hub.specs.declared.refusal.Refusal.{Refusal}
+use Rattle.serve_hub.specs.declared.refused.CollectRefused.{CollectRefused}
+use Rattle.serve_hub.specs.Calls.{Collects, Gives, IsOldest, gives_up}
+use Rattle.serve_hub.specs.Seats.{StreamSeatValue, with_call}
+
+-- an image has the size that the operations make of its frame's
+image_format : (ops : List Op) (source image : FrameValue) → IsImageByAll ops source image
+    → format_of image.geometry ≡ last_format ops (format_of source.geometry)
+image_format [] source image e = ap (λ (v : FrameValue). format_of v.geometry) e
+image_format (op ∷ ops) source image all =
+    image_format ops all.0 image all.2 ∙ ap (last_format ops) all.1.geometry.format
+
+first_rest : {X : Type 0} (xs : List X) (x : X) → slice_get xs 0 ≡ Some x → xs ≡ x ∷ drop 1 xs
+first_rest [] x e = absurd (omega (arith, slice_get_within [] 0 x e))
+first_rest (y ∷ ys) x e = let same : y ≡ x = cc in ap (λ z. z ∷ ys) same
+
+-- an image was collected, and then its source compared
+pub gives : (pair : Collected) (old mid new : StreamSeatValue) → Collects pair old mid → mid.kept ≡ old.kept
+    → IsOldest pair mid → (source_in pair).geometry ≡ mid.chain.geometry → new ≡ gives_up mid
+    → Gives pair old new
+gives pair old mid new x same oldest sized up =
+    let kept : new.kept ≡ drop 1 mid.kept = ap (λ (v : StreamSeatValue). v.kept) up in
+    let chain : mid.chain ≡ old.chain = ap (λ (v : StreamSeatValue). v.chain) x.seat in record {
+      collects = record {
+        number = x.number;
+        image = x.image;
+        seat = up ∙ ap gives_up x.seat
+            ∙ ap (λ (k : List FrameValue). record old {
+              calls = with_call (acts.Collected x.number) old.calls;
+              kept = k;
+            }) (sym kept);
+      };
+      oldest = sym same ∙ first_rest mid.kept (source_in pair) oldest ∙ ap (λ (k : List FrameValue). source_in pair ∷ k) (sym kept);
+      size = image_format old.chain.ops (source_in pair) (value_of pair.image) x.image.by_all
+          ∙ ap (λ (g : Geometry). last_format old.chain.ops (format_of g))
+          (sized ∙ ap (λ (v : StreamSeatValue). v.chain.geometry) x.seat);
+    }
+
+-- the oldest of frames of one size
+pub oldest_sized : (pair : Collected) (g : Geometry) (kept : List FrameValue)
+    → ((k : ℕ) (d : FrameValue) → k < length kept → (slice_index_or kept k d).geometry ≡ g)
+    → slice_get kept 0 ≡ Some (source_in pair) → (source_in pair).geometry ≡ g
+oldest_sized pair g [] all e = absurd (omega (arith, slice_get_within [] 0 (source_in pair) e))
+oldest_sized pair g (f ∷ fs) all e =
+    let same : f ≡ source_in pair = cc in
+    subst (λ (v : FrameValue). v.geometry ≡ g) same (all 0 f (omega arith))
+
+-- what was collected and compared is given
+pub given : (answer : Result Collected Refusal) (result : Result Collected CollectRefused)
+    (old mid new : StreamSeatValue) → IfOk answer (λ pair. Collects pair old mid)
+    → OnOk answer (mid.kept ≡ old.kept)
+    → IfOk result (λ pair. (answer ≡ Ok pair) × IsOldest pair mid × (new ≡ gives_up mid))
+    → IfOk result (λ pair. (source_in pair).geometry ≡ mid.chain.geometry)
+    → IfOk result (λ pair. Gives pair old new)
+given answer (Ok pair) old mid new a k r s =
+    gives pair old mid new
+    (subst (λ (x : Result Collected Refusal). IfOk x (λ p. Collects p old mid)) r.0 a)
+    (subst (λ (x : Result Collected Refusal). OnOk x (mid.kept ≡ old.kept)) r.0 k) r.1 s r.2
+given answer (Err e) old mid new a k r s = tt

@@ -1,0 +1,160 @@
+-- How the calls of a hub leave the seats, and which refusals a seat can be told.
+use Rattle.std.specs.Prelude.{ℕ, ◌+◌, ◌≡◌, ◌≢◌, ◌≤◌, ◌<◌, ◌^◌, ◌↔◌, ⊤, Bool, true, IsTrue, List, [], ◌∷◌, ◌++◌}
+use Rattle.std.specs.Prelude.{drop, length, slice_get, Option, Some, None, MatchOption, IfSome}
+use Rattle.std.specs.Arc.{arc_value}
+use Rattle.frame_view.specs.declared.frame.Frame.{Frame}
+use Rattle.frame_view.specs.declared.geometry.Geometry.{Geometry}
+use Rattle.filters.specs.ChainImage.{FrameValue, IsChainImage, value_of}
+use Rattle.filters.specs.Steps.{steps_of}
+use Rattle.lease.specs.Lease.{LeaseValue}
+use Rattle.serve_core.specs.declared.collected.Collected.{Collected}
+use Rattle.serve_core.specs.declared.refusal.Refusal as core
+use Rattle.serve_core.specs.declared.refusal.Refusal.TheVariants as cores
+use Rattle.serve_core.specs.Lanes.{IsImageOf, source_in}
+use Rattle.serve_hub.specs.declared.entry.Act.TheVariants as acts
+use Rattle.serve_hub.specs.declared.entry.Settled as code
+use Rattle.serve_hub.specs.declared.entry.Settled.TheVariants as settled
+use Rattle.serve_hub.specs.declared.refusal.Came.TheVariants as came
+use Rattle.serve_hub.specs.declared.refusal.Refusal.{Refusal}
+use Rattle.serve_hub.specs.declared.refusal.Refusal.TheVariants.{Core, HistoryFull, StrayLease, Torn}
+use Rattle.serve_hub.specs.declared.refused.CollectRefused.{CollectRefused}
+use Rattle.serve_hub.specs.declared.refused.LeaseRefused.{LeaseRefused}
+use Rattle.serve_hub.specs.declared.refused.OfferRefused.{OfferRefused}
+use Rattle.serve_hub.specs.declared.refused.OverRefused.{OverRefused}
+use Rattle.serve_hub.specs.Answers.{is_finished}
+use Rattle.serve_hub.specs.Seats.{StreamSeatValue, WorkSeatValue, with_call}
+
+-- a refusal as a seat is told it: one that the seat allows, or what contradicts the seat
+abbrev pub IsTold : (core.Refusal → Type 0) → Refusal → Type 0
+IsTold Allows (Core e) = Allows e
+IsTold Allows HistoryFull = ⊤
+IsTold Allows StrayLease = ⊥
+IsTold Allows (Torn (came.Refused e)) = Allows e → ⊥
+IsTold Allows (Torn came.Other) = ⊤
+IsTold Allows (Torn c) = ⊥
+
+-- which refusals a seat allows: of a frame of this geometry that is offered at a moment
+abbrev pub AllowsOffer : StreamSeatValue → (at : ℕ) → Geometry → core.Refusal → Type 0
+AllowsOffer seat at geometry cores.ClockEnd = 2 ^ 60 < at
+AllowsOffer seat at geometry cores.Closed = IsTrue seat.is_closed
+AllowsOffer seat at geometry cores.WrongSize = geometry ≢ seat.chain.geometry
+AllowsOffer seat at geometry cores.TooManyFrames = seat.accepted ≡ seat.frames
+AllowsOffer seat at geometry cores.Full = seat.queue ≤ length seat.kept
+AllowsOffer seat at geometry cores.NoMemory = geometry ≡ seat.chain.geometry
+AllowsOffer seat at geometry e = ⊥
+
+-- of a close
+abbrev pub AllowsClose : StreamSeatValue → core.Refusal → Type 0
+AllowsClose seat cores.AlreadyClosed = IsTrue seat.is_closed
+AllowsClose seat e = ⊥
+
+-- of a collection
+abbrev pub AllowsCollect : StreamSeatValue → core.Refusal → Type 0
+AllowsCollect seat cores.Empty = ⊤
+AllowsCollect seat cores.Drained = IsTrue seat.is_closed × (seat.kept ≡ [])
+AllowsCollect seat e = ⊥
+
+-- a frame of the seat was accepted, with this number, and is the last that the seat keeps
+pub record Accepts (frame : FrameValue) (number : ℕ) (old new : StreamSeatValue) : Type 0 where
+  pub tick : Option ℕ
+  pub seat : new ≡ record old {
+    calls = with_call (acts.Offered tick number) old.calls;
+    accepted = old.accepted + 1;
+    kept = old.kept ++ frame ∷ [];
+  }
+
+-- an accepted frame got another number than the seat's next
+abbrev pub AcceptsOther : FrameValue → Refusal → (old new : StreamSeatValue) → Type 0
+AcceptsOther frame (Torn (came.Number n)) old new = (n ≢ old.accepted) × Accepts frame n old new
+AcceptsOther frame e old new = ⊥
+
+-- a refused frame comes back, and the seat stays as it was
+pub record ReturnsFrame (at : ℕ) (frame : Frame) (e : Refusal) (old new : StreamSeatValue) : Type 0 where
+  pub told : IsTold (AllowsOffer old at frame.geometry) e
+  pub seat : new ≡ old
+
+-- why an offer is refused. The frame doesn't come back where it was accepted after all
+abbrev pub IsOfferRefused : (at : ℕ) → Frame → OfferRefused → (old new : StreamSeatValue) → Type 0
+IsOfferRefused at frame e old new =
+    MatchOption e.frame (AcceptsOther (value_of frame) e.refusal old new) (λ back.
+    (arc_value back ≡ frame) × ReturnsFrame at frame e.refusal old new)
+
+-- and over an image, which comes back with the frame, as the memory of the next image
+abbrev pub IsOverRefused : (at : ℕ) → Frame → OverRefused → (old new : StreamSeatValue) → Type 0
+IsOverRefused at frame e old new =
+    MatchOption e.back (AcceptsOther (value_of frame) e.refusal old new) (λ back.
+    (arc_value back.0 ≡ frame) × IsImageOf old.chain back.1 × ReturnsFrame at frame e.refusal old new)
+
+-- the seat closed its stream
+abbrev pub Closes : (old new : StreamSeatValue) → Type 0
+Closes old new = new ≡ record old { calls = with_call acts.Closed old.calls; is_closed = true }
+
+-- an image of the seat's chain was collected
+pub record Collects (pair : Collected) (old new : StreamSeatValue) : Type 0 where
+  pub number : ℕ
+  pub image : IsChainImage old.chain.ops (source_in pair) (value_of pair.image)
+  pub seat : new ≡ record old { calls = with_call (acts.Collected number) old.calls; kept = new.kept }
+
+-- the pair's source is the oldest frame that the seat keeps
+abbrev pub IsOldest : Collected → StreamSeatValue → Type 0
+IsOldest pair seat = slice_get seat.kept 0 ≡ Some (source_in pair)
+
+-- the pair is told as an image of another frame
+abbrev pub IsOther : Collected → CollectRefused → StreamSeatValue → Type 0
+IsOther pair e seat =
+    (slice_get seat.kept 0 ≢ Some (source_in pair)) × (e.pair ≡ Some pair) × (e.refusal ≡ Torn came.Source)
+
+-- the oldest frame that the seat keeps came, with its image
+pub record Gives (pair : Collected) (old new : StreamSeatValue) : Type 0 where
+  pub collects : Collects pair old new
+  pub oldest : old.kept ≡ source_in pair ∷ new.kept
+  pub size : IsImageOf old.chain pair.image
+
+abbrev pub gives_up : StreamSeatValue → StreamSeatValue
+gives_up seat = record seat { kept = drop 1 seat.kept }
+
+-- a seat that is told Torn gives its oldest frame up
+abbrev pub after_refusal : Refusal → StreamSeatValue → StreamSeatValue
+after_refusal (Torn c) seat = gives_up seat
+after_refusal e seat = seat
+
+-- an image came that isn't of the oldest frame that the seat keeps, which the seat gives up
+pub record GivesOther (pair : Collected) (e : CollectRefused) (old new : StreamSeatValue) : Type 0 where
+  pub collects : Collects pair old new
+  pub other : IsOther pair e old
+  pub kept : new.kept ≡ drop 1 old.kept
+
+-- why a collection gives no image of the seat's oldest frame
+abbrev pub IsCollectRefused : CollectRefused → (old new : StreamSeatValue) → Type 0
+IsCollectRefused e old new =
+    MatchOption e.pair (IsTold (AllowsCollect old) e.refusal × (new ≡ after_refusal e.refusal old)) (λ pair.
+    GivesOther pair e old new)
+
+-- the worker got this lease
+abbrev pub Leases : LeaseValue → (old new : WorkSeatValue) → Type 0
+Leases lease old new =
+    new ≡ record old { calls = with_call (acts.Leased lease.stream lease.seq lease.granted) old.calls }
+
+-- the worker gave this lease back, with this outcome
+abbrev pub Settles : LeaseValue → code.Settled → (old new : WorkSeatValue) → Type 0
+Settles lease done old new =
+    new ≡ record old { calls = with_call (acts.Settled lease.used (is_finished done)) old.calls }
+
+-- the frame of the lease is finished where all its steps are done, and has the lease's number
+pub record IsOutcome (lease : LeaseValue) (done : code.Settled) : Type 0 where
+  pub all : IsTrue (is_finished done) ↔ (lease.job.done ≡ steps_of lease.job.chain)
+
+abbrev pub HasNumber : LeaseValue → code.Settled → Type 0
+HasNumber lease settled.Returned = ⊤
+HasNumber lease (settled.Finished n) = n ≡ lease.seq
+
+-- a settlement finished a frame of another number than the lease's
+abbrev pub FinishesOther : LeaseValue → Refusal → (old new : WorkSeatValue) → Type 0
+FinishesOther lease (Torn (came.Number n)) old new =
+    (n ≢ lease.seq) × IsOutcome lease (settled.Finished n) × Settles lease (settled.Finished n) old new
+FinishesOther lease e old new = ⊥
+
+-- why a settlement is refused. The lease doesn't come back where it was settled after all
+abbrev pub IsSettleRefused : LeaseValue → LeaseRefused → (old new : WorkSeatValue) → Type 0
+IsSettleRefused lease e old new =
+    MatchOption e.lease (FinishesOther lease e.refusal old new) (λ back. (back ≡ lease) × (new ≡ old))

@@ -1,0 +1,76 @@
+//! The calls that a seat made.
+ghost use Rattle.std.specs.Prelude.{◌≡◌, ◌+◌, ◌<◌, ◌≤◌, [], ◌∷◌, ◌++◌, length, IfOk, IsSomeAnd, slice_get};
+ghost use Rattle.serve_hub.specs.Seats.{no_calls, with_call};
+
+use crate::book::Book;
+use crate::entry::Act;
+use std::alloc::{AllocError, Global};
+use std::marker::Model;
+use std::sync::ledger::{Book as Total, Ledger, Share};
+
+/// The accepted calls of a seat, the oldest first, each of which is counted in the seat's share of the ledger.
+/// There is room for as many as the hub's journal has.
+#[derive(Drop)]
+pub(crate) struct Calls<L: Ledger> {
+    list: Vec<Act>,
+    limit: usize,
+    share: Share<L>,
+}
+
+impl<L: Ledger> Model for Calls<L> {
+    ghost use Rattle.std.specs.Prelude.{◌≡◌, ◌≤◌, vec_len, vec_capacity};
+    ghost use Rattle.serve_hub.specs.Seats.{CallsValue};
+
+    ghost Value = { CallsValue };
+
+    ghost view = { λ a. record { limit = a.limit; list = a.list.items } };
+
+    ghost invariant = { λ a. (a.share.parts ≡ 1) × (a.share.amount ≡ vec_len a.list)
+        × (a.limit ≤ vec_capacity a.list) };
+}
+
+impl<L: Ledger> Calls<L> {
+    pub(crate) fn new(alloc: Global, limit: usize, share: Share<L>) -> Result<Calls<L>, AllocError>
+        requires part { share.parts ≡ 1 }
+        requires amount { share.amount ≡ 0 }
+        ensures { IfOk result (λ calls. calls ≡ no_calls limit) }
+    {
+        let list = Vec::with_capacity(alloc, limit)?;
+        Ok(Calls { list, limit, share })
+    }
+
+    pub(crate) fn list(&self) -> &[Act]
+        ensures { result.now ≡ self.now.list }
+    {
+        &self.list
+    }
+
+    pub(crate) fn limit(&self) -> usize
+        ensures { result ≡ self.now.limit }
+    {
+        self.limit
+    }
+
+    /// The part of the ledger that counted the calls.
+    pub(crate) fn into_share(self) -> Share<L>
+        ensures parts { result.parts ≡ 1 }
+        ensures amount { result.amount ≡ length self.list }
+    {
+        self.share
+    }
+
+    /// Adds the call of the book's latest entry, which the total doesn't count yet.
+    pub(crate) fn count(&mut self, book: &Book, total: &mut Total<L>)
+        requires behind { total.old.total + 1 ≡ length book.now.past }
+        requires fits { length book.now.past ≤ self.old.limit }
+        ensures total { total.new.total ≡ length book.now.past }
+        ensures call { IsSomeAnd (slice_get book.now.past 0) (λ e. self.new ≡ with_call e.act self.old) }
+    {
+        let Some(entry) = book.latest() else {
+            unreachable!()
+        };
+        total.audit(&mut self.share);
+        total.add(&mut self.share, 1);
+        self.list.push_reserved(entry.act);
+    }
+}

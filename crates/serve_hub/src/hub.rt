@@ -1,0 +1,249 @@
+//! A book that threads share.
+ghost use Rattle.std.specs.Prelude.{◌≡◌, ◌+◌, ◌≤◌, ◌↔◌, [], All, IfErr, IfOk, IsErrOf, MatchResult, OnOk, length, map};
+ghost use Rattle.std.specs.Prelude.{IfNone, IsFalse, IsTrue, Some, reverse, vec_len};
+ghost use Rattle.std.specs.List.{range_with_len};
+ghost use Rattle.serve_core.specs.Setup.{IsWithinLimits};
+ghost use Rattle.serve_hub.specs.declared.ended.Fault.TheVariants as faults;
+ghost use Rattle.serve_hub.specs.Books.{IsLimit};
+ghost use Rattle.serve_hub.specs.Ends.{AreCalls, AreStreamCalls, AreWorkCalls, HasLeaseOut, IsMissing};
+ghost use Rattle.serve_hub.specs.Seats.{hub_of, opened_streams, opened_worker};
+
+mod images;
+mod leases;
+mod offers;
+
+use crate::book::Book;
+use crate::ended::{Ended, Fault, Mismatch};
+use crate::limit::is_limit;
+use crate::shared::Shared;
+use crate::stream_seat::StreamSeat;
+use crate::work_seat::WorkSeat;
+use serve_core::{Setup, StreamSpec};
+use std::alloc::{AllocError, Global};
+use std::marker::Model;
+use std::sync::ledger::{Blank, Ledger, Share};
+use std::sync::{Condvar, Mutex};
+use thiserror::Error;
+
+/// A book under one lock, for the seats of its streams and workers, whose calls wait for the lock.
+///
+/// `L` is the name of the ledger that counts the journal's entries, and tells which hub a seat belongs to. A call
+/// that is accepted wakes those whom it may help: a worker where a stream may be ready, and the streams where an
+/// image may be there. Contracts see how many seats there are.
+#[derive(Drop)]
+pub struct Hub<L: Ledger> {
+    shared: Mutex<Shared<L>>,
+    for_workers: Condvar,
+    for_streams: Condvar,
+    streams: usize,
+    workers: usize,
+}
+
+impl<L: Ledger> Model for Hub<L> {
+    ghost use Rattle.serve_hub.specs.Seats.{HubValue};
+
+    ghost Value = { HubValue };
+
+    ghost view = { λ a. record { streams = a.streams; workers = a.workers } };
+}
+
+/// Why there is no hub.
+#[derive(Clone, Copy, Debug, PartialEq, Eq, Error)]
+pub enum HubError {
+    /// The journal's limit isn't 16 to 1,048,576, or not at least the number of streams and 2.
+    #[error("BadLimit")]
+    BadLimit,
+    /// The memory for the book or the seats was refused.
+    #[error("NoMemory")]
+    NoMemory,
+}
+
+impl From<AllocError> for HubError {
+    ghost use Rattle.serve_hub.specs.declared.hub.HubError.{HubError};
+
+    ghost from_gives = { λ _ e. e ≡ HubError.NoMemory };
+
+    fn from(_: AllocError) -> HubError {
+        HubError::NoMemory
+    }
+}
+
+/// A hub with the seats of its streams and of its workers.
+pub type Opened<L> = (Hub<L>, Vec<StreamSeat<L>>, Vec<WorkSeat<L>>);
+
+impl<L: Ledger> Hub<L> {
+    /// A hub without entries, for at most `limit`, with a seat for each stream and each worker. The ledger's 80
+    /// parts are enough for these: a seat has one.
+    pub fn new(
+        alloc: Global,
+        blank: Blank,
+        setup: Setup,
+        limit: usize,
+    ) -> Result<Opened<L>, HubError>
+        requires name { blank.name ≡ L.name }
+        requires parts { blank.parts ≡ L.parts }
+        requires enough { blank.parts ≡ 80 }
+        ensures hub { IfOk result (λ r. r.0 ≡ hub_of (length setup.streams) setup.workers) }
+        ensures streams { IfOk result (λ r. r.1.items ≡ opened_streams limit 0 setup.streams) }
+        ensures workers { IfOk result (λ r.
+            r.2.items ≡ map (opened_worker limit) (range_with_len 0 setup.workers)) }
+        ensures limit { IfOk result (λ _. IsLimit (length setup.streams) limit) }
+        ensures bad_limit { IsErrOf result HubError.BadLimit ↔ ¬ IsLimit (length setup.streams) limit }
+    {
+        setup.limits_law();
+        let streams = setup.streams().len();
+        let workers = setup.workers() as usize;
+        if !is_limit(streams, limit) {
+            return Err(HubError::BadLimit);
+        }
+        let (total, mut spare) = blank.open::<L>();
+        let stream_seats = stream_seats(alloc, &mut spare, setup.streams(), limit)?;
+        let work_seats = work_seats(alloc, &mut spare, workers, limit)?;
+        let Ok(book) = Book::new(alloc, setup, limit) else {
+            return Err(HubError::NoMemory);
+        };
+        let shared = Shared::new(book, limit, total, spare, streams, workers);
+        Ok((Hub::of(shared, streams, workers), stream_seats, work_seats))
+    }
+
+    fn of(shared: Shared<L>, streams: usize, workers: usize) -> Hub<L>
+        ensures { result ≡ hub_of streams workers }
+    {
+        Hub {
+            shared: Mutex::new(shared),
+            for_workers: Condvar::new(),
+            for_streams: Condvar::new(),
+            streams,
+            workers,
+        }
+    }
+
+    /// What the hub did, where all seats are back, no lease is out, and the seats' lists are the journal's. A hub
+    /// that can't be ended comes back with the seats.
+    pub fn finish(
+        self,
+        streams: Vec<StreamSeat<L>>,
+        workers: Vec<WorkSeat<L>>,
+    ) -> Result<Ended, Mismatch<L>>
+        ensures calls { IfOk result (λ ended. AreCalls ended streams.items workers.items) }
+        ensures missing { MatchResult result (λ _. ¬ IsMissing self (vec_len streams) (vec_len workers))
+            (λ m. (m.fault ≡ faults.SeatMissing) ↔ IsMissing self (vec_len streams) (vec_len workers)) }
+        ensures out { IfErr result (λ m. m.fault ≡ faults.LeaseOut
+            → ¬ All (λ s. ¬ HasLeaseOut s) workers.items) }
+        ensures settled { OnOk result (All (λ s. ¬ HasLeaseOut s) workers.items) }
+        ensures hub { IfErr result (λ m. m.hub ≡ self) }
+        ensures back { IfErr result (λ m. (m.streams.items ≡ streams.items)
+            × (m.workers.items ≡ workers.items)) }
+    {
+        let Hub {
+            shared,
+            streams: stream_count,
+            workers: worker_count,
+            ..
+        } = self;
+        let shared = shared.into_inner();
+        if let Some(fault) = fault(&shared, (stream_count, worker_count), &streams, &workers) {
+            return Err(Mismatch {
+                fault,
+                hub: Hub::of(shared, stream_count, worker_count),
+                streams,
+                workers,
+            });
+        }
+        Ok(Ended::new(shared.into_book(streams, workers)))
+    }
+
+    /// Wakes those who wait in vain from now on, where the journal has no place for another lease.
+    fn wake_where(&self, is_full: bool) {
+        if is_full {
+            self.for_workers.notify_all();
+            self.for_streams.notify_all();
+        }
+    }
+}
+
+/// What does not fit between a hub of so many streams and workers and the seats.
+fn fault<L: Ledger>(
+    shared: &Shared<L>,
+    counts: (usize, usize),
+    streams: &Vec<StreamSeat<L>>,
+    workers: &Vec<WorkSeat<L>>,
+) -> Option<Fault>
+    ensures missing { (result ≡ Some faults.SeatMissing)
+        ↔ IsMissing (hub_of counts.0 counts.1) (vec_len streams.now) (vec_len workers.now) }
+    ensures out { result ≡ Some faults.LeaseOut → ¬ All (λ s. ¬ HasLeaseOut s) workers.now.items }
+    ensures settled { IfNone result (All (λ s. ¬ HasLeaseOut s) workers.now.items) }
+    ensures there { IfNone result ((vec_len streams.now ≡ shared.now.streams)
+        × (vec_len workers.now ≡ shared.now.workers)) }
+    ensures of_streams { IfNone result
+        (AreStreamCalls (reverse shared.now.book.past) streams.now.items) }
+    ensures of_workers { IfNone result
+        (AreWorkCalls (reverse shared.now.book.past) workers.now.items) }
+{
+    let (stream_count, worker_count) = counts;
+    if streams.len() != stream_count || workers.len() != worker_count {
+        return Some(Fault::SeatMissing);
+    }
+    if any_lease_out(workers) {
+        return Some(Fault::LeaseOut);
+    }
+    if !shared.agrees(streams, workers) {
+        return Some(Fault::Differs);
+    }
+    None
+}
+
+/// Whether a worker's latest call is a lease.
+fn any_lease_out<L: Ledger>(seats: &Vec<WorkSeat<L>>) -> bool
+    ensures out { IsTrue result → ¬ All (λ s. ¬ HasLeaseOut s) seats.now.items }
+    ensures settled { IsFalse result → All (λ s. ¬ HasLeaseOut s) seats.now.items }
+{
+    seats.iter().any(|seat| seat.has_lease())
+}
+
+/// Cuts a part for the seat of each stream.
+#[tactic(auto, using(crate::proofs::Seating::one_more_seat))]
+fn stream_seats<L: Ledger>(
+    alloc: Global,
+    rest: &mut Share<L>,
+    streams: &[StreamSpec],
+    limit: usize,
+) -> Result<Vec<StreamSeat<L>>, AllocError>
+    requires parts { length streams.now ≤ rest.old.parts }
+    requires amount { rest.old.amount ≡ 0 }
+    requires limits { All IsWithinLimits streams.now }
+    requires few { length streams.now ≤ 64 }
+    ensures seats { IfOk result (λ seats. seats.items ≡ opened_streams limit 0 streams.now) }
+    ensures parts { OnOk result (rest.new.parts + length streams.now ≡ rest.old.parts) }
+    ensures amount { rest.new.amount ≡ 0 }
+{
+    let mut seats = Vec::with_capacity(alloc, streams.len())?;
+    for (s, stream) in streams.iter().enumerate() {
+        let share = rest.split_off(1, 0);
+        seats.push(StreamSeat::new(alloc, s as u32, stream, limit, share)?)?;
+    }
+    Ok(seats)
+}
+
+/// Cuts a part for the seat of each worker.
+fn work_seats<L: Ledger>(
+    alloc: Global,
+    rest: &mut Share<L>,
+    workers: usize,
+    limit: usize,
+) -> Result<Vec<WorkSeat<L>>, AllocError>
+    requires parts { workers ≤ rest.old.parts }
+    requires amount { rest.old.amount ≡ 0 }
+    requires few { workers ≤ 16 }
+    ensures seats { IfOk result (λ seats.
+        seats.items ≡ map (opened_worker limit) (range_with_len 0 workers)) }
+    ensures parts { OnOk result (rest.new.parts + workers ≡ rest.old.parts) }
+    ensures amount { rest.new.amount ≡ 0 }
+{
+    let mut seats = Vec::with_capacity(alloc, workers)?;
+    for w in 0..workers {
+        let share = rest.split_off(1, 0);
+        seats.push(WorkSeat::new(alloc, w as u32, limit, share)?)?;
+    }
+    Ok(seats)
+}

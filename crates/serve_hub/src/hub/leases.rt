@@ -1,0 +1,84 @@
+//! Leases that threads get and settle.
+ghost use Rattle.std.specs.Prelude.{◌≡◌, ◌≢◌, IfErr, IfOk, OnErr};
+ghost use Rattle.serve_core.specs.declared.refusal.Refusal.TheVariants.{NoneReady};
+ghost use Rattle.serve_hub.specs.declared.refusal.Refusal.TheVariants.{Core};
+ghost use Rattle.serve_hub.specs.Calls.{HasNumber, IsOutcome, IsSettleRefused, Leases, Settles};
+
+use super::Hub;
+use crate::entry::Settled;
+use crate::refusal::Refusal;
+use crate::refused::LeaseRefused;
+use crate::work_seat::WorkSeat;
+use lease::Lease;
+use serve_core::Refusal as CoreRefusal;
+use std::sync::Wait;
+use std::sync::ledger::Ledger;
+
+impl<L: Ledger> Hub<L> {
+    /// The front job of the ready stream that has the earliest deadline, with the lease. It waits for the lock
+    /// alone.
+    pub fn try_lease(&self, rt: &impl Wait, seat: &mut WorkSeat<L>) -> Result<Lease, Refusal>
+        ensures given { IfOk result (λ lease. Leases lease seat.old seat.new) }
+        ensures unused { IfOk result (λ lease. lease.used ≡ 0) }
+        ensures refused { OnErr result (seat.new ≡ seat.old) }
+    {
+        let mut shared = self.shared.lock(rt);
+        let answer = seat.lease(&mut shared);
+        let is_full = shared.is_full();
+        drop(shared);
+        self.wake_where(is_full);
+        answer
+    }
+
+    /// The front job of the ready stream that has the earliest deadline, with the lease. It waits for a ready
+    /// stream while there is more to lease.
+    pub fn lease<R: Wait>(&self, rt: &R, seat: &mut WorkSeat<L>) -> Result<Lease, Refusal>
+        ensures given { IfOk result (λ lease. Leases lease seat.old seat.new) }
+        ensures unused { IfOk result (λ lease. lease.used ≡ 0) }
+        ensures waited { IfErr result (λ e. e ≢ Core NoneReady) }
+        ensures refused { OnErr result (seat.new ≡ seat.old) }
+    {
+        let mut shared = self.shared.lock(rt);
+        for _ in rt.forever() {
+            match seat.lease(&mut shared) {
+                Err(Refusal::Core(CoreRefusal::NoneReady)) => {}
+                answer => {
+                    let is_full = shared.is_full();
+                    drop(shared);
+                    self.wake_where(is_full);
+                    return answer;
+                }
+            }
+            if let Some(end) = shared.end_of_work() {
+                // the others that wait find the same
+                self.for_workers.notify_all();
+                return Err(end);
+            }
+            shared = self.for_workers.wait(rt, shared);
+        }
+        unreachable!()
+    }
+
+    /// The worker gives its lease back, with its job and all bands that were done.
+    pub fn settle(
+        &self,
+        rt: &impl Wait,
+        seat: &mut WorkSeat<L>,
+        lease: Lease,
+    ) -> Result<Settled, LeaseRefused>
+        ensures settled { IfOk result (λ done. Settles lease done seat.old seat.new) }
+        ensures outcome { IfOk result (λ done. IsOutcome lease done × HasNumber lease done) }
+        ensures refused { IfErr result (λ e. IsSettleRefused lease e seat.old seat.new) }
+    {
+        let mut shared = self.shared.lock(rt);
+        let answer = seat.settle(&mut shared, lease);
+        let is_full = shared.is_full();
+        drop(shared);
+        self.for_workers.notify_one();
+        if is_full || matches!(answer, Ok(Settled::Finished(_))) {
+            self.for_streams.notify_all();
+        }
+        self.wake_where(is_full);
+        answer
+    }
+}

@@ -1,0 +1,149 @@
+//! Frames that threads offer.
+ghost use Rattle.std.specs.Prelude.{◌≡◌, ◌<◌, ◌^◌, IfErr, IfOk, IsErr, MatchOption};
+ghost use Rattle.std.specs.Arc.{arc_value};
+ghost use Rattle.filters.specs.ChainImage.{value_of};
+ghost use Rattle.serve_core.specs.declared.refusal.Refusal.TheVariants.{ClockEnd};
+ghost use Rattle.serve_core.specs.Lanes.{IsFresh, IsImageOf};
+ghost use Rattle.serve_hub.specs.declared.refusal.Refusal.TheVariants.{Core};
+ghost use Rattle.serve_hub.specs.Calls.{Accepts, AcceptsOther, AllowsOffer, IsOfferRefused, IsOverRefused, IsTold};
+
+use super::Hub;
+use crate::refusal::Refusal;
+use crate::refused::{OfferRefused, OverRefused};
+use crate::stream_seat::{LAST_MOMENT, StreamSeat};
+use frame_view::Frame;
+use lease::Job;
+use serve_core::Refusal as CoreRefusal;
+use std::alloc::Global;
+use std::sync::ledger::Ledger;
+use std::sync::{Arc, Wait};
+
+/// No memory was granted for a job.
+const NO_MEMORY: Refusal = Refusal::Core(CoreRefusal::NoMemory);
+
+const CLOCK_END: Refusal = Refusal::Core(CoreRefusal::ClockEnd);
+
+impl<L: Ledger> Hub<L> {
+    /// The seat's stream is offered a frame at a moment, or now if that is later. It answers the frame's number.
+    ///
+    /// It takes the memory for the frame's job before it takes the lock.
+    pub fn offer(
+        &self,
+        rt: &impl Wait,
+        alloc: Global,
+        seat: &mut StreamSeat<L>,
+        at: u64,
+        frame: Arc<Frame>,
+    ) -> Result<u64, OfferRefused>
+        ensures accepted { IfOk result (λ n. (n ≡ seat.old.accepted)
+            × Accepts (value_of (arc_value frame)) n seat.old seat.new) }
+        ensures refused { IfErr result (λ e. IsOfferRefused at (arc_value frame) e seat.old seat.new) }
+        ensures clock_end { 2 ^ 60 < at → IsErr result }
+        ensures ended { IfErr result (λ e. 2 ^ 60 < at → e.refusal ≡ Core ClockEnd) }
+    {
+        if at > LAST_MOMENT {
+            return Err(OfferRefused {
+                refusal: CLOCK_END,
+                frame: Some(frame),
+            });
+        }
+        match seat.job(alloc, frame) {
+            Err(frame) => Err(OfferRefused {
+                refusal: self.refusal(rt, seat, at, &frame),
+                frame: Some(frame),
+            }),
+            Ok((job, kept)) => match self.enter(rt, seat, at, job, kept) {
+                Ok(number) => Ok(number),
+                Err((refusal, None)) => Err(OfferRefused {
+                    refusal,
+                    frame: None,
+                }),
+                Err((refusal, Some(job))) => {
+                    let (frame, _image) = job.undo();
+                    Err(OfferRefused {
+                        refusal,
+                        frame: Some(frame),
+                    })
+                }
+            },
+        }
+    }
+
+    /// What [`Hub::offer`] does, in the memory of an image of the seat's stream that isn't needed any more. It takes
+    /// memory only for the frame's line, and only where the image has another.
+    pub fn offer_over(
+        &self,
+        rt: &impl Wait,
+        alloc: Global,
+        seat: &mut StreamSeat<L>,
+        at: u64,
+        frame: Arc<Frame>,
+        image: Frame,
+    ) -> Result<u64, OverRefused>
+        requires { IsImageOf seat.old.chain image }
+        ensures accepted { IfOk result (λ n. (n ≡ seat.old.accepted)
+            × Accepts (value_of (arc_value frame)) n seat.old seat.new) }
+        ensures refused { IfErr result (λ e. IsOverRefused at (arc_value frame) e seat.old seat.new) }
+        ensures clock_end { 2 ^ 60 < at → IsErr result }
+        ensures ended { IfErr result (λ e. 2 ^ 60 < at → e.refusal ≡ Core ClockEnd) }
+    {
+        if at > LAST_MOMENT {
+            return Err(OverRefused {
+                refusal: CLOCK_END,
+                back: Some((frame, image)),
+            });
+        }
+        match seat.job_over(alloc, frame, image) {
+            Err((frame, image)) => Err(OverRefused {
+                refusal: self.refusal(rt, seat, at, &frame),
+                back: Some((frame, image)),
+            }),
+            Ok((job, kept)) => match self.enter(rt, seat, at, job, kept) {
+                Ok(number) => Ok(number),
+                Err((refusal, None)) => Err(OverRefused {
+                    refusal,
+                    back: None,
+                }),
+                Err((refusal, Some(job))) => Err(OverRefused {
+                    refusal,
+                    back: Some(job.undo()),
+                }),
+            },
+        }
+    }
+
+    /// Offers a job, and wakes a worker for it.
+    fn enter(
+        &self,
+        rt: &impl Wait,
+        seat: &mut StreamSeat<L>,
+        at: u64,
+        job: Job,
+        kept: Arc<Frame>,
+    ) -> Result<u64, (Refusal, Option<Job>)>
+        requires fresh { IsFresh seat.old.chain job }
+        requires size { (arc_value kept).geometry ≡ seat.old.chain.geometry }
+        ensures accepted { IfOk result (λ n. (n ≡ seat.old.accepted)
+            × Accepts (value_of (arc_value kept)) n seat.old seat.new) }
+        ensures refused { IfErr result (λ e. MatchOption e.1
+            (AcceptsOther (value_of (arc_value kept)) e.0 seat.old seat.new)
+            (λ back. (back ≡ job) × (seat.new ≡ seat.old)
+            × IsTold (AllowsOffer seat.old at (arc_value kept).geometry) e.0)) }
+    {
+        let mut shared = self.shared.lock(rt);
+        let answer = seat.offer(&mut shared, at, job, kept);
+        let is_full = shared.is_full();
+        drop(shared);
+        self.for_workers.notify_one();
+        self.wake_where(is_full);
+        answer
+    }
+
+    /// What a frame is refused for whose job wasn't made.
+    fn refusal(&self, rt: &impl Wait, seat: &StreamSeat<L>, at: u64, frame: &Frame) -> Refusal
+        ensures { IsTold (AllowsOffer seat.now at frame.now.geometry) result }
+    {
+        let shared = self.shared.lock(rt);
+        seat.refusal(&shared, at, frame, NO_MEMORY)
+    }
+}

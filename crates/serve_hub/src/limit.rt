@@ -1,0 +1,17 @@
+//! How many entries a journal may have.
+ghost use Rattle.std.specs.Prelude.{◌↔◌, ◌≤◌, IsTrue};
+ghost use Rattle.serve_hub.specs.Books.{IsLimit};
+
+/// The fewest entries that a journal may be limited to.
+const LEAST_LIMIT: usize = 16;
+
+/// The most entries that a journal may be limited to.
+const MOST_LIMIT: usize = 1 << 20;
+
+/// Whether the journal of so many streams may be limited to so many entries.
+pub(crate) fn is_limit(streams: usize, limit: usize) -> bool
+    requires { streams ≤ 64 }
+    ensures { IsTrue result ↔ IsLimit streams limit }
+{
+    LEAST_LIMIT <= limit && limit <= MOST_LIMIT && streams + 2 <= limit
+}

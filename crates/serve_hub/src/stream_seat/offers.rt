@@ -1,0 +1,204 @@
+//! Frames that a seat offers.
+ghost use Rattle.std.specs.Prelude.{◌≡◌, ◌≢◌, ◌↔◌, ◌<◌, ◌^◌, IfErr, IfOk, IsTrue, MatchOption};
+ghost use Rattle.std.specs.Arc.{arc_value};
+ghost use Rattle.filters.specs.ChainImage.{value_of};
+ghost use Rattle.serve_core.specs.Lanes.{IsFresh, IsImageOf};
+ghost use Rattle.serve_core.specs.Schedule.{HasLane};
+ghost use Rattle.serve_hub.specs.Calls.{Accepts, AcceptsOther, AllowsOffer, IsTold};
+ghost use Rattle.serve_hub.specs.Seats.{HasPlace, kept_more};
+
+use super::StreamSeat;
+use crate::refusal::{Came, Refusal};
+use crate::same_frame::is_same_geometry;
+use crate::shared::Shared;
+use frame_view::{Frame, Geometry};
+use lease::{Job, JobRefused, OverRefused};
+use serve_core::Refusal as Core;
+use std::alloc::Global;
+use std::sync::Arc;
+use std::sync::ledger::Ledger;
+
+/// The last moment of a clock.
+pub(crate) const LAST_MOMENT: u64 = 1 << 60;
+
+impl<L: Ledger> StreamSeat<L> {
+    /// The job of a frame, and the frame for the seat to keep. A frame of another size comes back, and so does
+    /// one for whose job no memory is granted.
+    pub(crate) fn job(
+        &self,
+        alloc: Global,
+        frame: Arc<Frame>,
+    ) -> Result<(Job, Arc<Frame>), Arc<Frame>>
+        ensures fresh { IfOk result (λ made. IsFresh self.now.chain made.0) }
+        ensures source { IfOk result (λ made. made.0.source ≡ arc_value frame) }
+        ensures kept { IfOk result (λ made. arc_value made.1 ≡ arc_value frame) }
+        ensures size { IfOk result (λ made. (arc_value frame).geometry ≡ self.now.chain.geometry) }
+        ensures back { IfErr result (λ back. back ≡ frame) }
+    {
+        let (Ok(spec), Ok(kept)) = (Arc::try_clone(&self.spec), Arc::try_clone(&frame)) else {
+            return Err(frame);
+        };
+        match Job::new(alloc, spec, frame) {
+            Ok(job) => Ok((job, kept)),
+            Err(JobRefused::WrongSize(frame)) => Err(frame),
+            Err(JobRefused::NoMemory(frame)) => Err(frame),
+        }
+    }
+
+    /// The same, in the memory of an image of the seat's chain, which comes back with the frame.
+    pub(crate) fn job_over(
+        &self,
+        alloc: Global,
+        frame: Arc<Frame>,
+        image: Frame,
+    ) -> Result<(Job, Arc<Frame>), (Arc<Frame>, Frame)>
+        requires { IsImageOf self.now.chain image }
+        ensures fresh { IfOk result (λ made. IsFresh self.now.chain made.0) }
+        ensures source { IfOk result (λ made. made.0.source ≡ arc_value frame) }
+        ensures kept { IfOk result (λ made. arc_value made.1 ≡ arc_value frame) }
+        ensures size { IfOk result (λ made. (arc_value frame).geometry ≡ self.now.chain.geometry) }
+        ensures back { IfErr result (λ back. (back.0 ≡ frame) × IsImageOf self.now.chain back.1) }
+    {
+        let (Ok(spec), Ok(kept)) = (Arc::try_clone(&self.spec), Arc::try_clone(&frame)) else {
+            return Err((frame, image));
+        };
+        match Job::over(alloc, spec, frame, image) {
+            Ok(job) => Ok((job, kept)),
+            Err(OverRefused::WrongSize(frame, image)) => Err((frame, image)),
+            Err(OverRefused::NoMemory(frame, image)) => Err((frame, image)),
+        }
+    }
+
+    /// The seat's frame is offered with its job. A refused job comes back; there is none where it was accepted
+    /// with another number than the seat's next.
+    pub(crate) fn offer(
+        &mut self,
+        shared: &mut Shared<L>,
+        at: u64,
+        job: Job,
+        frame: Arc<Frame>,
+    ) -> Result<u64, (Refusal, Option<Job>)>
+        requires fresh { IsFresh self.old.chain job }
+        requires size { (arc_value frame).geometry ≡ self.old.chain.geometry }
+        ensures accepted { IfOk result (λ n. (n ≡ self.old.accepted)
+            × Accepts (value_of (arc_value frame)) n self.old self.new) }
+        ensures refused { IfErr result (λ e. MatchOption e.1
+            (AcceptsOther (value_of (arc_value frame)) e.0 self.old self.new)
+            (λ back. (back ≡ job) × (self.new ≡ self.old)
+            × IsTold (AllowsOffer self.old at (arc_value frame).geometry) e.0)) }
+    {
+        if !self.is_of(shared) {
+            return Err((Refusal::Torn(Came::Other), Some(job)));
+        }
+        if !self.has_place() {
+            let refusal = self.refusal(shared, at, &frame, Refusal::Torn(Came::Other));
+            return Err((refusal, Some(job)));
+        }
+        self.enter(shared, at, job, frame)
+    }
+
+    /// The same, where the book has the seat's stream, and the seat a place for the frame.
+    fn enter(
+        &mut self,
+        shared: &mut Shared<L>,
+        at: u64,
+        job: Job,
+        frame: Arc<Frame>,
+    ) -> Result<u64, (Refusal, Option<Job>)>
+        requires fresh { IsFresh self.old.chain job }
+        requires size { (arc_value frame).geometry ≡ self.old.chain.geometry }
+        requires limit { self.old.calls.limit ≡ shared.old.book.limit }
+        requires chain { HasLane shared.old.book.desk self.old.number (λ lane.
+            lane.state.spec.chain ≡ self.old.chain) }
+        requires place { HasPlace self.old }
+        ensures accepted { IfOk result (λ n. (n ≡ self.old.accepted)
+            × Accepts (value_of (arc_value frame)) n self.old self.new) }
+        ensures refused { IfErr result (λ e. MatchOption e.1
+            (AcceptsOther (value_of (arc_value frame)) e.0 self.old self.new)
+            (λ back. (back ≡ job) × (self.new ≡ self.old)
+            × IsTold (AllowsOffer self.old at (arc_value frame).geometry) e.0)) }
+    {
+        let Shared { book, total, .. } = shared;
+        let number = match book.offer_job(self.number, at, job) {
+            Ok(number) => number,
+            Err((refusal, job)) => return Err((self.told_offer(at, &frame, refusal), Some(job))),
+        };
+        self.calls.count(book, total);
+        let next = self.keep(frame);
+        if number != next {
+            return Err((Refusal::Torn(Came::Number(number)), None));
+        }
+        Ok(number)
+    }
+
+    /// Whether the seat can keep one frame more. There are places for as many as the stream can have.
+    fn has_place(&self) -> bool
+        ensures { IsTrue result ↔ HasPlace self.now }
+    {
+        self.kept.len() < self.kept.capacity() && self.accepted < self.frames
+    }
+
+    /// Keeps a frame that was accepted, and tells the number that it should have.
+    #[tactic(auto, using(crate::proofs::Keeping::sized_more, crate::proofs::Keeping::one_more_kept))]
+    fn keep(&mut self, frame: Arc<Frame>) -> u64
+        requires size { (arc_value frame).geometry ≡ self.old.chain.geometry }
+        requires place { HasPlace self.old }
+        ensures next { result ≡ self.old.accepted }
+        ensures seat { self.new ≡ kept_more (value_of (arc_value frame)) self.old }
+    {
+        let next = self.accepted;
+        self.kept.push_back_reserved(frame);
+        self.accepted += 1;
+        next
+    }
+
+    /// What the book refuses a frame for whose job wasn't made. Where it would accept it, the answer is `unmade`.
+    pub(crate) fn refusal(
+        &self,
+        shared: &Shared<L>,
+        at: u64,
+        frame: &Frame,
+        unmade: Refusal,
+    ) -> Refusal
+        ensures { IsTold (AllowsOffer self.now at frame.now.geometry) result }
+    {
+        if !self.is_of(shared) {
+            return Refusal::Torn(Came::Other);
+        }
+        let refusal = shared.book.offer_refusal(self.number, at, frame);
+        self.told_offer(at, frame, refusal.unwrap_or(unmade))
+    }
+
+    /// A refusal of a frame as the seat is told it.
+    fn told_offer(&self, at: u64, frame: &Frame, refusal: Refusal) -> Refusal
+        ensures { IsTold (AllowsOffer self.now at frame.now.geometry) result }
+    {
+        match refusal {
+            Refusal::HistoryFull => refusal,
+            Refusal::StrayLease | Refusal::Torn(_) => Refusal::Torn(Came::Other),
+            Refusal::Core(core) => {
+                if self.allows_offer(at, frame.geometry(), core) {
+                    refusal
+                } else {
+                    Refusal::Torn(Came::Refused(core))
+                }
+            }
+        }
+    }
+
+    /// Whether the seat can be refused so for a frame of this geometry.
+    fn allows_offer(&self, at: u64, geometry: Geometry, refusal: Core) -> bool
+        ensures { IsTrue result ↔ AllowsOffer self.now at geometry refusal }
+    {
+        let is_sized = is_same_geometry(geometry, self.spec.chain().geometry());
+        match refusal {
+            Core::ClockEnd => at > LAST_MOMENT,
+            Core::Closed => self.is_closed,
+            Core::WrongSize => !is_sized,
+            Core::TooManyFrames => self.accepted == self.frames,
+            Core::Full => self.kept.len() as u64 >= self.queue,
+            Core::NoMemory => is_sized,
+            _ => false,
+        }
+    }
+}
