@@ -20,10 +20,19 @@ use y4m_header::{Chroma, check_frame_line};
 /// The line of each frame here, and so of each image.
 const LINE: &[u8] = b"FRAME";
 
-/// What one stream is served with: mono frames of width 1.
+/// The size of a mono frame: one column.
+#[derive(Clone, Copy)]
+enum Size {
+    /// One sample.
+    Dot,
+    /// Four samples.
+    Tall,
+}
+
+/// What one stream is served with.
 #[derive(Clone, Copy)]
 struct Served<'a> {
-    height: u32,
+    size: Size,
     ops: &'a str,
     rows: u32,
     account: (u64, u64),
@@ -32,14 +41,18 @@ struct Served<'a> {
 
 /// A stream of single samples.
 const PLAIN: Served<'static> = Served {
-    height: 1,
+    size: Size::Dot,
     ops: "invert",
     rows: 16,
     account: (1, 4),
     queue: 16,
 };
 
-fn geometry_of(height: u32) -> Geometry {
+fn geometry_of(size: Size) -> Geometry {
+    let height = match size {
+        Size::Dot => 1,
+        Size::Tall => 4,
+    };
     Geometry {
         width: 1,
         height,
@@ -50,7 +63,7 @@ fn geometry_of(height: u32) -> Geometry {
 fn job_spec_of(alloc: Global, served: &Served<'_>) -> Result<Arc<JobSpec>, Fail> {
     let band_height = BandHeight::new(served.rows).ok_or("no height")?;
     let ops = parse_ops(alloc, served.ops.as_bytes())?;
-    let chain = Chain::new(alloc, ops, geometry_of(served.height), band_height)?;
+    let chain = Chain::new(alloc, ops, geometry_of(served.size), band_height)?;
     Ok(Arc::new(alloc, JobSpec::new(chain))?)
 }
 
@@ -59,7 +72,7 @@ fn setup_of(alloc: Global, workers: u64, streams: &[Served<'_>]) -> Result<Setup
     for served in streams {
         let (q, t) = served.account;
         specs.push(StreamSpec::new(
-            geometry_of(served.height),
+            geometry_of(served.size),
             job_spec_of(alloc, served)?,
             q,
             t,
@@ -78,12 +91,13 @@ fn book_of(alloc: Global, streams: &[Served<'_>]) -> Result<Book, Fail> {
 
 fn frame_of(alloc: Global, samples: &[u8]) -> Result<Arc<Frame>, Fail> {
     check_frame_line(LINE)?;
-    let height = samples.len() as u32;
-    if !(1..=16).contains(&height) {
-        return Err("no frame".into());
-    }
+    let size = match samples.len() {
+        1 => Size::Dot,
+        4 => Size::Tall,
+        _ => return Err("no frame".into()),
+    };
     let frame = Frame::new(
-        geometry_of(height),
+        geometry_of(size),
         LINE.to_vec(alloc)?,
         samples.to_vec(alloc)?,
     )?;

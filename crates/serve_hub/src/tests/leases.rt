@@ -1,6 +1,6 @@
 //! Leases that come back to the wrong worker or book.
 use super::{
-    Core, PLAIN, Served, book_of, collected, frame_of, offered, settled, setup_of, state_of,
+    Core, PLAIN, Served, Size, book_of, collected, frame_of, offered, settled, setup_of, state_of,
     stepped, told, worked,
 };
 use crate::{Book, Refusal, Settled};
@@ -10,7 +10,7 @@ use std::test::Fail;
 
 /// A frame of two bands.
 const TALL: Served<'static> = Served {
-    height: 4,
+    size: Size::Tall,
     rows: 2,
     account: (2, 4),
     ..PLAIN
