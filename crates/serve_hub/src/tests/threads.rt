@@ -1,7 +1,7 @@
 //! Hubs that threads call at once.
 ghost use Rattle.std.specs.Prelude.{◌≡◌};
 
-use super::{Core, LINE, PLAIN, Served, geometry_of, setup_of};
+use super::{Core, LINE, PLAIN, Served, Size, geometry_of, setup_of};
 use crate::{Hub, LeaseRefused, Refusal, StreamSeat, WorkSeat};
 use frame_view::Frame;
 use lease::Lease;
@@ -96,20 +96,27 @@ fn session<L: Ledger + Send + Sync, R: Threads + Wait + Abort + Sync>(
     let Ok(ended) = hub.finish(streams, workers) else {
         return Err("not ended".into());
     };
-    let calls = plan.streams as u64 * (4 * plan.frames + 1);
+    let streams = plan.streams as u64;
+    let calls = streams.saturating_mul(plan.frames.saturating_mul(4).saturating_add(1));
     assert_eq!(rt; ended.journal().len() as u64, calls);
-    for s in 0..plan.streams {
-        let counts = ended.counts(s as u32).ok_or("no counts")?;
+    for s in 0..64u32 {
+        if s as usize >= plan.streams {
+            break;
+        }
+        let counts = ended.counts(s).ok_or("no counts")?;
         assert_eq!(rt; counts.accepted, plan.frames);
         assert_eq!(rt; counts.collected, plan.frames);
         assert_eq!(rt; counts.charged, plan.frames);
     }
-    let mut bands = 0;
-    for w in 0..plan.workers {
-        bands += ended.bands(w as u32);
-        assert_eq!(rt; ended.units(w as u32), Some(ended.bands(w as u32)));
+    let mut bands = 0u64;
+    for w in 0..16u32 {
+        if w as u64 >= plan.workers {
+            break;
+        }
+        bands = u64::saturating_add(bands, ended.bands(w));
+        assert_eq!(rt; ended.units(w), Some(ended.bands(w)));
     }
-    assert_eq!(rt; bands, plan.streams as u64 * plan.frames);
+    assert_eq!(rt; bands, streams.saturating_mul(plan.frames));
     Ok(())
 }
 
@@ -137,10 +144,10 @@ fn serve<L: Ledger, R: Wait>(
     frames: u64,
 ) -> (StreamSeat<L>, u64) {
     let mut seat = seat;
-    let mut delivered = 0;
+    let mut delivered = 0u64;
     for n in 0..frames {
         for _ in rt.forever() {
-            let Some(frame) = dot(alloc, n as u8) else {
+            let Some(frame) = dot(alloc, sample_of(n)) else {
                 return (seat, delivered);
             };
             match hub.offer(rt, alloc, &mut seat, n, frame) {
@@ -151,7 +158,7 @@ fn serve<L: Ledger, R: Wait>(
             if !came(rt, hub, &mut seat, delivered) {
                 return (seat, delivered);
             }
-            delivered += 1;
+            delivered = u64::saturating_add(delivered, 1);
         }
     }
     if hub.close(rt, &mut seat).is_err() {
@@ -161,9 +168,14 @@ fn serve<L: Ledger, R: Wait>(
         if !came(rt, hub, &mut seat, delivered) {
             break;
         }
-        delivered += 1;
+        delivered = u64::saturating_add(delivered, 1);
     }
     (seat, delivered)
+}
+
+/// The one sample of frame `n`.
+fn sample_of(n: u64) -> u8 {
+    (n % 256) as u8
 }
 
 /// A frame of one sample.
@@ -171,16 +183,19 @@ fn dot(alloc: Global, sample: u8) -> Option<Arc<Frame>> {
     check_frame_line(LINE).ok()?;
     let line = LINE.to_vec(alloc).ok()?;
     let samples = [sample].to_vec(alloc).ok()?;
-    Arc::new(alloc, Frame::new(geometry_of(1), line, samples).ok()?).ok()
+    Arc::new(
+        alloc,
+        Frame::new(geometry_of(Size::Dot), line, samples).ok()?,
+    )
+    .ok()
 }
 
 /// Whether the next image came, and it is that of frame `n`.
 fn came<L: Ledger, R: Wait>(rt: &R, hub: &Hub<L>, seat: &mut StreamSeat<L>, n: u64) -> bool {
     match hub.collect(rt, seat) {
         Ok(pair) => {
-            let sample = n as u8;
-            pair.source.data() == [sample].as_slice()
-                && pair.image.data() == [255 - sample].as_slice()
+            let sample = sample_of(n);
+            pair.source.data() == [sample].as_slice() && pair.image.data() == [!sample].as_slice()
         }
         Err(_) => false,
     }
@@ -212,7 +227,7 @@ fn work_all<L: Ledger + Send + Sync, R: Threads + Wait + Sync>(
 /// Leases and settles until it is refused, or the first worker has settled so many.
 fn work<L: Ledger, R: Wait>(rt: &R, hub: &Hub<L>, seat: WorkSeat<L>, stop: u64) -> WorkSeat<L> {
     let mut seat = seat;
-    let mut settled = 0;
+    let mut settled = 0u64;
     for _ in rt.forever() {
         if seat.worker() == 0 && settled >= stop {
             break;
@@ -225,7 +240,7 @@ fn work<L: Ledger, R: Wait>(rt: &R, hub: &Hub<L>, seat: WorkSeat<L>, stop: u64) 
             end(lease);
             break;
         }
-        settled += 1;
+        settled = u64::saturating_add(settled, 1);
     }
     seat
 }
