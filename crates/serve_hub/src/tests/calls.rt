@@ -1,12 +1,11 @@
 //! One frame from its offer to its collection, with the refusals on its way.
 use super::{
-    Core, LINE, PLAIN, book_of, collected, frame_of, job_spec_of, lease_refused, offer_refused,
-    offered, settled, state_of, stepped, told, worked,
+    Core, PLAIN, book_of, collected, frame_of, lease_refused, offer_refused, offered, settled,
+    state_of, stepped, told,
 };
 use crate::Act::{Closed, Collected, Leased, Offered, Settled};
 use crate::Seat::{Stream, Worker};
 use crate::{Book, Entry, Refusal, Settled as Done};
-use lease::Job;
 use std::alloc::Global;
 use std::process::Abort;
 use std::test::Fail;
@@ -125,29 +124,5 @@ fn a_refused_offer_leaves_the_clock(rt: HostRuntime) -> Result<(), Fail> {
     let late = offer_refused(alloc, &mut book, 0, (1 << 60) + 1)?;
     assert_eq!(rt; late, Some(Refusal::Core(Core::ClockEnd)));
     assert_eq!(rt; (book.clock(), book.latest()), (0, None));
-    Ok(())
-}
-
-/// A job that is made outside, and one in the memory of an image that was written back.
-#[test]
-fn jobs_come_from_outside(rt: HostRuntime) -> Result<(), Fail> {
-    let alloc = rt.alloc();
-    let mut book = book_of(alloc, &[PLAIN])?;
-    let job = Job::new(
-        alloc,
-        job_spec_of(alloc, &PLAIN)?,
-        frame_of(alloc, &[0x01])?,
-    )?;
-    assert!(rt; matches!(book.offer_job(0, 0, job), Ok(0)));
-    assert_eq!(rt; worked(&mut book, 0, 1)?, ((0, 0, 1), Done::Finished(0)));
-    let pair = book.collect(0)?;
-    assert_eq!(rt;
-        (pair.image.line(), pair.image.data()),
-        (LINE, [0xFE].as_slice())
-    );
-    let frame = frame_of(alloc, &[0x5A])?;
-    assert!(rt; matches!(book.offer_over(alloc, 0, 0, frame, pair.image), Ok(1)));
-    assert_eq!(rt; worked(&mut book, 0, 1)?, ((0, 1, 1), Done::Finished(1)));
-    assert_eq!(rt; collected(&mut book, 0)?, (Some(0x5A), Some(0xA5)));
     Ok(())
 }
