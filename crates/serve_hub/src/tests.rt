@@ -1,9 +1,7 @@
 //! Books that are called in turn, with the answers that were worked out by hand.
 mod calls;
 mod full;
-mod hubs;
 mod leases;
-mod threads;
 
 use crate::{Book, Refusal, Settled};
 use filters::{Chain, parse_ops};
