@@ -12,7 +12,7 @@ pub fn closed_form()
     ensures { ClosedForm }
 {}
 
-/// The isolation of a server: from any idle arrival on, what it has asked for never exceeds its bandwidth
+/// The demand of a server: from any idle arrival on, what it has asked for never exceeds its bandwidth
 /// `Q / T` times the time up to its deadline.
 ///
 /// For `n` units since an idle arrival at `r`, with `c` and `d` the budget and the deadline now,

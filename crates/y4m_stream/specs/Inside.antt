@@ -9,7 +9,7 @@ use Rattle.row_bands.specs.declared.canvas.Canvas.{Canvas}
 use Rattle.row_bands.specs.Canvas.{frame_of}
 use Rattle.filters.specs.declared.error.FilterError.TheVariants.{NoMemory as NoFilterMemory}
 use Rattle.filters.specs.declared.op.Op.{Op}
-use Rattle.filters.specs.Chain.{ChainValue, format_of, last_format}
+use Rattle.filters.specs.Chain.{ChainValue}
 use Rattle.filters.specs.ChainImage.{AreCanvases, IsChainImage, last_canvas, value_of}
 use Rattle.filters.specs.Refusal.{IsChain}
 use Rattle.y4m_header.specs.Header.{HeaderValue}
@@ -32,7 +32,7 @@ use Rattle.y4m_stream.specs.Front.{IsCutLine, IsLongLine, HasOtherLine, HasGiven
 use Rattle.y4m_stream.specs.Reader.{ReaderState, IsOfHeader, TakesFrame, Answers, data_len_of}
 use Rattle.y4m_stream.specs.Writer.{WriterState, CutsShort, PutsFrame, write_failures_at}
 use Rattle.y4m_stream.specs.declared.passing.TheConstants.{MOST_FRAMES}
-use Rattle.y4m_stream.specs.Served.{IsAskedFor, IsImageText, AreImages, served_header}
+use Rattle.y4m_stream.specs.Served.{IsAskedFor, IsHeaderOfImages, IsImageText, AreImages}
 use Rattle.y4m_stream.specs.Filtered.{Progress, HasNext, StopsAt}
 
 -- the bytes that were read from a source and not yet taken, what it has left, and how many of its reads
@@ -116,13 +116,6 @@ abbrev pub HoldImage : ChainValue → List Canvas → Frame → Type 0
 HoldImage chain canvases source = IsSomeAnd (last_canvas canvases)
     (λ canvas. IsChainImage chain.ops (value_of source) (value_of (frame_of canvas)))
 
--- the header of the images that the chain makes of the header's frames
-pub record IsHeaderOfImages (chain : ChainValue) (header shown : HeaderValue) : Type 0 where
-  pub line : shown.line ≡ served_header chain header.line
-  pub width : shown.width ≡ (last_format chain.ops (format_of chain.geometry)).width
-  pub height : shown.height ≡ (last_format chain.ops (format_of chain.geometry)).height
-  pub chroma : shown.chroma ≡ (last_format chain.ops (format_of chain.geometry)).chroma
-
 -- the chain is that of these operations for the header's frames; a frame, an image and a header of their
 -- sizes are there
 pub record IsFilterFor (ops : List Op) (height : BandHeight) (header : HeaderValue)
@@ -133,12 +126,6 @@ pub record IsFilterFor (ops : List Op) (height : BandHeight) (header : HeaderVal
   pub of_chain : filter.frame.geometry ≡ filter.images.chain.geometry
   pub canvases : AreCanvases filter.images.chain filter.images.canvases.items
   pub shown : IsHeaderOfImages filter.images.chain header (unwrap_or filter.resized header)
-
--- the writer's frames are of the size of the chain's images
-pub record IsWriterFor (chain : ChainValue) (writer : WriterState) : Type 0 where
-  pub width : writer.width ≡ (last_format chain.ops (format_of chain.geometry)).width
-  pub height : writer.height ≡ (last_format chain.ops (format_of chain.geometry)).height
-  pub chroma : writer.chroma ≡ (last_format chain.ops (format_of chain.geometry)).chroma
 
 -- a frame was taken, and its image went out
 pub record PassesFrame (chain : ChainValue) (reader reader' : ReaderState) (writer writer' : WriterState)

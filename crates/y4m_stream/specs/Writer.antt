@@ -5,6 +5,7 @@ use Rattle.std.specs.Io.KnownBytes.{Appends}
 use Rattle.frame_view.specs.declared.geometry.Geometry.{Geometry}
 use Rattle.y4m_header.specs.declared.chroma.Chroma.{Chroma}
 use Rattle.y4m_header.specs.Header.{HeaderValue}
+use Rattle.filters.specs.Chain.{ChainValue, format_of, last_format}
 use Rattle.y4m_header.specs.StreamText.{FrameText, text_of}
 use Rattle.y4m_stream.specs.declared.fault.WriteFault.{WriteFault}
 use Rattle.y4m_stream.specs.declared.fault.WriteFault.TheVariants.{Device, Failed}
@@ -67,6 +68,12 @@ pub record IsOfSize (w : WriterState) (geometry : Geometry) : Type 0 where
   pub width : geometry.width ≡ w.width
   pub height : geometry.height ≡ w.height
   pub chroma : geometry.chroma ≡ w.chroma
+
+-- the writer's frames are of the size of the chain's images
+pub record IsWriterFor (chain : ChainValue) (writer : WriterState) : Type 0 where
+  pub width : writer.width ≡ (last_format chain.ops (format_of chain.geometry)).width
+  pub height : writer.height ≡ (last_format chain.ops (format_of chain.geometry)).height
+  pub chroma : writer.chroma ≡ (last_format chain.ops (format_of chain.geometry)).chroma
 
 -- the frame's text went out, and counts
 pub record PutsFrame (old new : WriterState) (frame : FrameText) : Type 0 where

@@ -2,11 +2,10 @@
 ghost use Rattle.std.specs.Prelude.{◌≡◌, ◌≢◌, ◌⊎◌, ℕ, List, Option, IfOk, IfErr, OnOk, Some, true, false};
 ghost use Rattle.std.specs.Prelude.{unwrap_or};
 ghost use Rattle.std.specs.Io.KnownBytes.{Keeps};
-ghost use Rattle.filters.specs.Chain.{format_of};
-ghost use Rattle.filters.specs.Refusal.{IsChain};
 ghost use Rattle.y4m_stream.specs.Filtered.{CountsWrites, IsFiltered, LacksChain, filter_reads_told};
-ghost use Rattle.y4m_stream.specs.Inside.{Closes, CountsClosing, IsHeaderOfImages};
-ghost use Rattle.y4m_stream.specs.Reader.{IsOpened};
+ghost use Rattle.y4m_stream.specs.Inside.{Closes, CountsClosing};
+ghost use Rattle.y4m_stream.specs.Reader.{IsOfHeader, IsOpened};
+ghost use Rattle.y4m_stream.specs.Served.{IsHeaderOfImages};
 ghost use Rattle.y4m_stream.specs.Writer.{FlushesOrFails};
 
 use crate::device::{Sink, Source};
@@ -30,19 +29,19 @@ pub struct Filter {
     resized: Option<Header>,
 }
 
-/// The header of the images, where the chain holds a crop.
-fn resized_header(
+/// The header of the images that the chain makes of the header's frames, where it holds a crop: the header with
+/// the size of the images.
+pub fn resized_header(
     alloc: Global,
     chain: &Chain,
     header: &Header,
 ) -> Result<Option<Header>, FilterError>
-    requires chain { IsChain chain.now }
-    requires size { format_of chain.now.geometry
-        ≡ record { width = header.now.width; height = header.now.height; chroma = header.now.chroma } }
+    requires { IsOfHeader header.now chain.now.geometry }
     ensures shown { IfOk result (λ resized.
         IsHeaderOfImages chain.now header.now (unwrap_or resized header.now)) }
     ensures memory { IfErr result (λ e. e ≡ FilterError.NoMemory) }
 {
+    chain.is_chain_law();
     if !chain.has_crop() {
         return Ok(None);
     }
@@ -80,8 +79,8 @@ impl Filter {
     }
 }
 
-/// The header that is written.
-fn shown_header<'a>(resized: &'a Option<Header>, header: &'a Header) -> &'a Header
+/// The header that is written: the resized one, where there is one.
+pub fn shown_header<'a>(resized: &'a Option<Header>, header: &'a Header) -> &'a Header
     ensures { result.now ≡ unwrap_or resized.now header.now }
 {
     match resized {

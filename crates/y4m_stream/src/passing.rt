@@ -3,9 +3,10 @@ ghost use Rattle.std.specs.Prelude.{◌≡◌, ◌+◌, ◌<◌, Ok, true, false
 ghost use Rattle.y4m_header.specs.StreamText.{FrameText};
 ghost use Rattle.y4m_stream.specs.Filtered.{filter_reads_told};
 ghost use Rattle.filters.specs.ChainImage.{AreCanvases};
-ghost use Rattle.y4m_stream.specs.Inside.{FailsToPass, HasFailedAt, IsWriterFor, PassesAll, PassesFrame};
+ghost use Rattle.y4m_stream.specs.Inside.{FailsToPass, HasFailedAt, PassesAll, PassesFrame};
 ghost use Rattle.y4m_stream.specs.Inside.{Stops, filter_writes_told};
 ghost use Rattle.y4m_stream.specs.Reader.{IsOfHeader, MeetsEnd, frame_text_of};
+ghost use Rattle.y4m_stream.specs.Writer.{IsWriterFor};
 ghost use Rattle.y4m_stream.specs.declared.passing.TheConstants.{MOST_FRAMES};
 
 use crate::device::{Sink, Source};

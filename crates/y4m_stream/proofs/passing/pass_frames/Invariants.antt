@@ -2,7 +2,7 @@ use Rattle.std.proofs.Common.{◌≡◌, List, length, false}
 use Rattle.y4m_header.specs.StreamText.{FrameText}
 use Rattle.y4m_stream.specs.declared.reader.Phase.TheVariants.{Open}
 use Rattle.filters.specs.ChainImage.{AreCanvases}
-use Rattle.y4m_stream.specs.Inside.{IsWriterFor}
+use Rattle.y4m_stream.specs.Writer.{IsWriterFor}
 use Rattle.y4m_stream.specs.Reader.{IsOfHeader}
 use Rattle.y4m_stream.proofs.MoreFrames.{PassesFrames}
 use Rattle.y4m_stream.proofs.passing.pass_frames.Given as goal
