@@ -42,6 +42,7 @@ gives pair old mid new x same oldest sized up =
             }) (sym kept);
       };
       oldest = sym same ∙ first_rest mid.kept (source_in pair) oldest ∙ ap (λ (k : List FrameValue). source_in pair ∷ k) (sym kept);
+      source = sized ∙ ap (λ (v : StreamSeatValue). v.chain.geometry) x.seat;
       size = image_format old.chain.ops (source_in pair) (value_of pair.image) x.image.by_all
           ∙ ap (λ (g : Geometry). last_format old.chain.ops (format_of g))
           (sized ∙ ap (λ (v : StreamSeatValue). v.chain.geometry) x.seat);

@@ -13,3 +13,6 @@ pub mod Giving
 pub mod Outcomes
 pub mod Seating
 pub mod Refusing
+pub mod Histories
+pub mod Collecting
+pub mod Sharing

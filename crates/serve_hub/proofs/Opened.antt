@@ -9,7 +9,7 @@ use Rattle.serve_core.specs.Bare.{Blank, measures_any, is_any_image}
 use Rattle.serve_core.specs.Desk.{desk_state}
 use Rattle.serve_core.specs.Lanes.{opened}
 use Rattle.serve_core.specs.Schedule.{ScheduleValue, opened_schedule}
-use Rattle.serve_core.specs.Setup.{IsWithin, Setup, StreamSpec}
+use Rattle.serve_core.specs.Setup.{IsSetup, IsWithin, Setup, StreamSpec}
 use Rattle.serve_core.specs.Sound.{Sound}
 use Rattle.serve_core.proofs.Desks.{desk_opened}
 use Rattle.serve_core.proofs.Kept.{opening_sound}
@@ -18,6 +18,7 @@ use Rattle.serve_hub.specs.declared.book.Book.TheInside.{Inside}
 use Rattle.serve_hub.specs.declared.entry.Entry.{Entry}
 use Rattle.serve_hub.specs.BookInside.{IsKept, book}
 use Rattle.serve_hub.specs.Books.{BookValue, IsBook, IsLimit, charges, one_open, one_out, opened_book, reserved, taken}
+use Rattle.serve_hub.specs.Ends.{IsOpened}
 
 all_open : (specs : List StreamSpec) → sum_by one_open (map opened specs) ≡ length specs
 all_open [] = refl
@@ -72,3 +73,20 @@ kept_opened z setup v l o d j u t room =
       few = λ w n e.
           let none : n ≡ 0 = no_units setup.workers w n (rw u at e) in omega (arith, none);
     }
+
+-- a book that is opened over the desk of a setup
+pub is_opened : (b : BookValue) (setup : Setup) (limit n w : ℕ) → IsSetup setup
+    → b ≡ opened_book (opened_schedule setup) limit → n ≡ length setup.streams → w ≡ setup.workers
+    → IsOpened b.opening n w
+is_opened b setup limit n w is made streams workers = record {
+  setup = setup;
+  is_setup = is;
+  desk = ap (λ (x : BookValue). x.opening) made;
+  each_stream = sym streams;
+  each_worker = sym workers;
+}
+
+-- and stays so, whatever is entered
+pub still_opened : (old new : BookValue) (n w : ℕ) → new.opening ≡ old.opening → IsOpened old.opening n w
+    → IsOpened new.opening n w
+still_opened old new n w same is = subst (λ (x : ScheduleValue). IsOpened x n w) (sym same) is

@@ -1,6 +1,6 @@
 -- Seats of streams, one after the other.
 use Rattle.std.proofs.Common.{ℕ, zero, suc, ◌+◌, ◌≡◌, ◌<◌, List, [], ◌∷◌, ◌++◌, length, take, Some, slice_get, sym, ap}
-use Rattle.std.proofs.Common.{◌∙◌, arith, add-one, subst}
+use Rattle.std.proofs.Common.{◌∙◌, ◌⊎◌, inl, inr, arith, add-one, subst}
 use Rattle.std.proofs.lemmas.Option.{slice_get_within}
 use Rattle.serve_core.specs.Setup.{StreamSpec}
 use Rattle.serve_hub.specs.Seats.{StreamSeatValue, opened_stream, opened_streams}
@@ -26,3 +26,13 @@ pub one_more_seat : (limit : ℕ) (specs : List StreamSpec) (s : ℕ) (x : Strea
     → opened_streams limit 0 (take (s + 1) specs)
     ≡ opened_streams limit 0 (take s specs) ++ opened_stream limit s x ∷ []
 one_more_seat limit specs s x e = rw add-one (seats_from limit 0 specs s s x e (omega arith))
+
+less_or_same : (n k : ℕ) → n < k + 1 → (n < k) ⊎ (n ≡ k)
+less_or_same n k l = grind arith
+
+-- one number more, where each before it has what it wants
+pub one_more_number : (P : ℕ → Type 0) (k : ℕ) → ((n : ℕ) → n < k → P n) → P k → (n : ℕ) → n < k + 1 → P n
+one_more_number P k before here n l = elim (less_or_same n k l) [
+  | inl p ↦ before n p
+  | inr e ↦ subst P (sym e) here
+]

@@ -1,6 +1,6 @@
 -- How the calls of a hub leave the seats, and which refusals a seat can be told.
-use Rattle.std.specs.Prelude.{ℕ, ◌+◌, ◌≡◌, ◌≢◌, ◌≤◌, ◌<◌, ◌^◌, ◌↔◌, ⊤, Bool, true, IsTrue, List, [], ◌∷◌, ◌++◌}
-use Rattle.std.specs.Prelude.{drop, length, slice_get, Option, Some, None, MatchOption, IfSome}
+use Rattle.std.specs.Prelude.{ℕ, ◌+◌, ◌≡◌, ◌≢◌, ◌≤◌, ◌<◌, ◌^◌, ◌↔◌, ⊤, Bool, true, IsTrue, List, [], ◌∷◌}
+use Rattle.std.specs.Prelude.{◌++◌, drop, length, slice_get, Option, Some, None, MatchOption, IfSome}
 use Rattle.std.specs.Arc.{arc_value}
 use Rattle.frame_view.specs.declared.frame.Frame.{Frame}
 use Rattle.frame_view.specs.declared.geometry.Geometry.{Geometry}
@@ -57,6 +57,7 @@ AllowsCollect seat e = ⊥
 -- a frame of the seat was accepted, with this number, and is the last that the seat keeps
 pub record Accepts (frame : FrameValue) (number : ℕ) (old new : StreamSeatValue) : Type 0 where
   pub tick : Option ℕ
+  pub few : old.accepted < old.frames
   pub seat : new ≡ record old {
     calls = with_call (acts.Offered tick number) old.calls;
     accepted = old.accepted + 1;
@@ -108,6 +109,7 @@ IsOther pair e seat =
 pub record Gives (pair : Collected) (old new : StreamSeatValue) : Type 0 where
   pub collects : Collects pair old new
   pub oldest : old.kept ≡ source_in pair ∷ new.kept
+  pub source : (source_in pair).geometry ≡ old.chain.geometry
   pub size : IsImageOf old.chain pair.image
 
 abbrev pub gives_up : StreamSeatValue → StreamSeatValue

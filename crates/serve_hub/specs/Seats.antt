@@ -83,7 +83,8 @@ opened_worker limit number = record { number = number; calls = no_calls limit }
 -- a seat for each of these streams, numbered from `first` on
 abbrev pub opened_streams : (limit first : ℕ) → List StreamSpec → List StreamSeatValue
 opened_streams limit first [] = []
-opened_streams limit first (spec ∷ specs) = opened_stream limit first spec ∷ opened_streams limit (suc first) specs
+opened_streams limit first (spec ∷ specs) =
+    opened_stream limit first spec ∷ opened_streams limit (suc first) specs
 
 -- what stands under the lock of a hub: the book, and how many seats there are
 pub record SharedValue : Type 0 where

@@ -1,8 +1,11 @@
-//! Whether the lists of seats are the journal's.
+//! Whether the seats are all there, and tell what the book has of them.
 ghost use Rattle.std.specs.Prelude.{◌≡◌, IsTrue};
+ghost use Rattle.std.specs.List.{Any};
 ghost use Rattle.serve_hub.specs.Ends as rules;
-ghost use Rattle.serve_hub.specs.Ends.{AreStreamCalls, AreWorkCalls, acts_of};
+ghost use Rattle.serve_hub.specs.Ends.{AreLanes, AreStreamCalls, AreWorkCalls, HaveStreams, HaveWorkers};
+ghost use Rattle.serve_hub.specs.Ends.{acts_of};
 
+use crate::book::Book;
 use crate::entry::{Act, Entry, Seat};
 use crate::stream_seat::StreamSeat;
 use crate::work_seat::WorkSeat;
@@ -50,6 +53,59 @@ pub(crate) fn workers_agree<L: Ledger>(journal: &[Entry], seats: &Vec<WorkSeat<L
 {
     for seat in seats {
         if !agrees(journal, Seat::Worker(seat.worker()), seat.calls()) {
+            return false;
+        }
+    }
+    true
+}
+
+/// Whether each of so many streams has its seat.
+pub(crate) fn have_streams<L: Ledger>(count: usize, seats: &Vec<StreamSeat<L>>) -> bool
+    ensures { IsTrue result → HaveStreams count seats.now.items }
+{
+    for number in 0..count {
+        if !has_stream(seats, number) {
+            return false;
+        }
+    }
+    true
+}
+
+fn has_stream<L: Ledger>(seats: &Vec<StreamSeat<L>>, number: usize) -> bool
+    ensures { IsTrue result → Any (λ s. s.number ≡ number) seats.now.items }
+{
+    for seat in seats {
+        if seat.number() as usize == number {
+            return true;
+        }
+    }
+    false
+}
+
+/// Whether each of so many workers has its seat.
+pub(crate) fn have_workers<L: Ledger>(count: usize, seats: &Vec<WorkSeat<L>>) -> bool
+    ensures { IsTrue result → HaveWorkers count seats.now.items }
+{
+    for number in 0..count {
+        if !has_worker(seats, number) {
+            return false;
+        }
+    }
+    true
+}
+
+fn has_worker<L: Ledger>(seats: &Vec<WorkSeat<L>>, number: usize) -> bool
+    ensures { IsTrue result → Any (λ s. s.number ≡ number) seats.now.items }
+{
+    seats.iter().any(|seat| seat.worker() as usize == number)
+}
+
+/// Whether each seat's stream is in the book as the seat tells of it.
+pub(crate) fn are_lanes<L: Ledger>(book: &Book, seats: &Vec<StreamSeat<L>>) -> bool
+    ensures { IsTrue result → AreLanes book.now.desk seats.now.items }
+{
+    for seat in seats {
+        if !seat.has_lane(book) {
             return false;
         }
     }

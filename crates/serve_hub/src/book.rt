@@ -12,18 +12,13 @@ mod leases;
 mod offers;
 
 use crate::entry::{Act, Entry, Seat};
+use crate::limit::is_limit;
 use lease::JobSpec;
 use serve_core::{Counts, Desk, Setup};
 use std::alloc::{AllocError, Global};
 use std::marker::Model;
 use std::snapshot::Snapshot;
 use thiserror::Error;
-
-/// The fewest entries that a journal may be limited to.
-const LEAST_LIMIT: usize = 16;
-
-/// The most entries that a journal may be limited to.
-const MOST_LIMIT: usize = 1 << 20;
 
 /// Why there is no book.
 #[derive(Clone, Copy, Debug, PartialEq, Eq, Error)]
@@ -83,12 +78,12 @@ impl Book {
         ensures limit { IfOk result (λ _. IsLimit (length setup.streams) limit) }
         ensures bad_limit { IsErrOf result BookError.BadLimit ↔ ¬ IsLimit (length setup.streams) limit }
     {
+        setup.limits_law();
         let streams = setup.streams().len();
         let workers = setup.workers();
-        if limit < LEAST_LIMIT || limit > MOST_LIMIT || limit < streams + 2 {
+        if !is_limit(streams, limit) {
             return Err(BookError::BadLimit);
         }
-        setup.limits_law();
         let desk = Desk::new(alloc, setup)?;
         let journal = Vec::with_capacity(alloc, limit)?;
         let units = vec![in alloc; 0; workers as usize]?;

@@ -1,5 +1,7 @@
 //! The calls that a seat made.
-ghost use Rattle.std.specs.Prelude.{◌≡◌, ◌+◌, ◌<◌, ◌≤◌, [], ◌∷◌, ◌++◌, length, IfOk, IsSomeAnd, slice_get};
+ghost use Rattle.std.specs.Prelude.{◌≡◌, ◌+◌, ◌<◌, ◌≤◌, [], ◌∷◌, ◌++◌, length, sum_by};
+ghost use Rattle.std.specs.Prelude.{IfOk, IsSomeAnd, slice_get};
+ghost use Rattle.serve_hub.specs.Ends.{one_collection};
 ghost use Rattle.serve_hub.specs.Seats.{no_calls, with_call};
 
 use crate::book::Book;
@@ -8,8 +10,8 @@ use std::alloc::{AllocError, Global};
 use std::marker::Model;
 use std::sync::ledger::{Book as Total, Ledger, Share};
 
-/// The accepted calls of a seat, the oldest first, each of which is counted in the seat's share of the ledger.
-/// There is room for as many as the hub's journal has.
+/// The accepted calls of a seat, the oldest first, each of which is counted in the seat's share of the
+/// ledger. There is room for as many as the hub's journal has.
 #[derive(Drop)]
 pub(crate) struct Calls<L: Ledger> {
     list: Vec<Act>,
@@ -51,6 +53,13 @@ impl<L: Ledger> Calls<L> {
         self.limit
     }
 
+    /// How many images were collected.
+    pub(crate) fn collections(&self) -> u64
+        ensures { result ≡ sum_by one_collection self.now.list }
+    {
+        collections_in(&self.list)
+    }
+
     /// The part of the ledger that counted the calls.
     pub(crate) fn into_share(self) -> Share<L>
         ensures parts { result.parts ≡ 1 }
@@ -73,4 +82,17 @@ impl<L: Ledger> Calls<L> {
         total.add(&mut self.share, 1);
         self.list.push_reserved(entry.act);
     }
+}
+
+/// How many of the calls collected an image.
+fn collections_in(calls: &[Act]) -> u64
+    ensures { result ≡ sum_by one_collection calls.now }
+{
+    let mut sum = 0;
+    for call in calls {
+        if let Act::Collected(_) = call {
+            sum += 1;
+        }
+    }
+    sum
 }

@@ -14,8 +14,8 @@ use serve_core::Counts;
 use std::marker::Model;
 use std::sync::ledger::Ledger;
 
-/// The journal of a hub whose seats are all back, with what the streams and the workers had. Contracts see the
-/// `BookValue` of `specs/Books.antt`.
+/// The journal of a hub whose seats are all back, with what the streams and the workers had. Contracts see
+/// the `BookValue` of `specs/Books.antt`.
 #[derive(Drop)]
 pub struct Ended {
     book: Book,
@@ -75,7 +75,8 @@ impl Ended {
     /// How many units the bands cost that worker `w` settled.
     pub fn units(&self, w: u32) -> Option<u64>
         ensures value { result ≡ slice_get self.now.units w }
-        ensures units { IfSome result (λ n. n ≡ units_from (opening_of self.now) w (book_transcript self.now)) }
+        ensures units { IfSome result (λ n.
+            n ≡ units_from (opening_of self.now) w (book_transcript self.now)) }
     {
         self.book.units(w)
     }
@@ -88,7 +89,7 @@ pub enum Fault {
     SeatMissing,
     /// A worker holds a lease.
     LeaseOut,
-    /// A seat's list of calls isn't the journal's.
+    /// What a seat keeps of its calls, or of its stream, isn't what the book has.
     Differs,
 }
 

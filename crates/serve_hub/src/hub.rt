@@ -1,11 +1,12 @@
 //! A book that threads share.
-ghost use Rattle.std.specs.Prelude.{◌≡◌, ◌+◌, ◌≤◌, ◌↔◌, [], All, IfErr, IfOk, IsErrOf, MatchResult, OnOk, length, map};
-ghost use Rattle.std.specs.Prelude.{IfNone, IsFalse, IsTrue, Some, reverse, vec_len};
+ghost use Rattle.std.specs.Prelude.{◌≡◌, ◌+◌, ◌≤◌, ◌↔◌, [], All, IfErr, IfNone, IfOk, IsErrOf, IsFalse};
+ghost use Rattle.std.specs.Prelude.{IsTrue, MatchResult, OnOk, Some, length, map, reverse, vec_len};
 ghost use Rattle.std.specs.List.{range_with_len};
 ghost use Rattle.serve_core.specs.Setup.{IsWithinLimits};
 ghost use Rattle.serve_hub.specs.declared.ended.Fault.TheVariants as faults;
-ghost use Rattle.serve_hub.specs.Books.{IsLimit};
-ghost use Rattle.serve_hub.specs.Ends.{AreCalls, AreStreamCalls, AreWorkCalls, HasLeaseOut, IsMissing};
+ghost use Rattle.serve_hub.specs.Books.{IsBook, IsLimit};
+ghost use Rattle.serve_hub.specs.Ends.{AreCalls, AreLanes, AreStreamCalls, AreWorkCalls, HasLeaseOut};
+ghost use Rattle.serve_hub.specs.Ends.{HaveStreams, HaveWorkers, IsCharged, IsHistory, IsMissing, IsOpened};
 ghost use Rattle.serve_hub.specs.Seats.{hub_of, opened_streams, opened_worker};
 
 mod images;
@@ -27,9 +28,9 @@ use thiserror::Error;
 
 /// A book under one lock, for the seats of its streams and workers, whose calls wait for the lock.
 ///
-/// `L` is the name of the ledger that counts the journal's entries, and tells which hub a seat belongs to. A call
-/// that is accepted wakes those whom it may help: a worker where a stream may be ready, and the streams where an
-/// image may be there. Contracts see how many seats there are.
+/// `L` is the name of the ledger that counts the journal's entries, and tells which hub a seat belongs to. A
+/// call that is accepted wakes those whom it may help: a worker where a stream may be ready, and the streams
+/// where an image may be there. Contracts see how many seats there are.
 #[derive(Drop)]
 pub struct Hub<L: Ledger> {
     shared: Mutex<Shared<L>>,
@@ -72,8 +73,9 @@ impl From<AllocError> for HubError {
 pub type Opened<L> = (Hub<L>, Vec<StreamSeat<L>>, Vec<WorkSeat<L>>);
 
 impl<L: Ledger> Hub<L> {
-    /// A hub without entries, for at most `limit`, with a seat for each stream and each worker. The ledger's 80
-    /// parts are enough for these: a seat has one.
+    /// A hub without entries, for at most `limit`, with a seat for each stream and each worker. The ledger's
+    /// 80 parts are enough for these: a seat has one.
+    #[tactic(auto, using(crate::proofs::Opened::is_opened))]
     pub fn new(
         alloc: Global,
         blank: Blank,
@@ -118,14 +120,23 @@ impl<L: Ledger> Hub<L> {
         }
     }
 
-    /// What the hub did, where all seats are back, no lease is out, and the seats' lists are the journal's. A hub
-    /// that can't be ended comes back with the seats.
+    /// What the hub did, where all seats are back, no lease is out, and what the seats keep of their calls
+    /// and their streams is what the book has. A hub that can't be ended comes back with the seats.
+    ///
+    /// No contract can name what is under a lock, so what the end tells of the hub's setup and its streams'
+    /// chains is compared with the seats here.
     pub fn finish(
         self,
         streams: Vec<StreamSeat<L>>,
         workers: Vec<WorkSeat<L>>,
     ) -> Result<Ended, Mismatch<L>>
         ensures calls { IfOk result (λ ended. AreCalls ended streams.items workers.items) }
+        ensures each_stream { OnOk result (HaveStreams self.streams streams.items) }
+        ensures each_worker { OnOk result (HaveWorkers self.workers workers.items) }
+        ensures history { IfOk result (λ ended. IsHistory ended self) }
+        ensures book { IfOk result IsBook }
+        ensures lanes { IfOk result (λ ended. AreLanes ended.desk streams.items) }
+        ensures charges { IfOk result (λ ended. All IsCharged ended.desk.lanes) }
         ensures missing { MatchResult result (λ _. ¬ IsMissing self (vec_len streams) (vec_len workers))
             (λ m. (m.fault ≡ faults.SeatMissing) ↔ IsMissing self (vec_len streams) (vec_len workers)) }
         ensures out { IfErr result (λ m. m.fault ≡ faults.LeaseOut
@@ -179,6 +190,11 @@ fn fault<L: Ledger>(
         (AreStreamCalls (reverse shared.now.book.past) streams.now.items) }
     ensures of_workers { IfNone result
         (AreWorkCalls (reverse shared.now.book.past) workers.now.items) }
+    ensures each_stream { IfNone result (HaveStreams counts.0 streams.now.items) }
+    ensures each_worker { IfNone result (HaveWorkers counts.1 workers.now.items) }
+    ensures lanes { IfNone result (AreLanes shared.now.book.desk streams.now.items) }
+    ensures opened { IfNone result (IsOpened shared.now.book.opening counts.0 counts.1) }
+    ensures book { IfNone result (IsBook shared.now.book) }
 {
     let (stream_count, worker_count) = counts;
     if streams.len() != stream_count || workers.len() != worker_count {

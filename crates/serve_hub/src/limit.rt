@@ -8,7 +8,7 @@ const LEAST_LIMIT: usize = 16;
 /// The most entries that a journal may be limited to.
 const MOST_LIMIT: usize = 1 << 20;
 
-/// Whether the journal of so many streams may be limited to so many entries.
+/// Whether the journal of so many streams may have so many entries at most.
 pub(crate) fn is_limit(streams: usize, limit: usize) -> bool
     requires { streams ≤ 64 }
     ensures { IsTrue result ↔ IsLimit streams limit }

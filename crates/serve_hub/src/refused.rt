@@ -6,8 +6,8 @@ use lease::Lease;
 use serve_core::Collected;
 use std::sync::Arc;
 
-/// An offer was refused, and the frame comes back. There is none where it was accepted after all, with a number
-/// that contradicts the seat.
+/// An offer was refused, and the frame comes back. There is none where it was accepted after all, with a
+/// number that contradicts the seat.
 #[derive(Debug, Drop)]
 pub struct OfferRefused {
     pub refusal: Refusal,

@@ -1,8 +1,8 @@
 //! Whether two chains are the same.
 ghost use Rattle.std.specs.Prelude.{◌≡◌, ◌↔◌, IsTrue};
 
+use crate::same_frame::is_same_geometry;
 use filters::Op;
-use frame_view::Geometry;
 use lease::JobSpec;
 use row_bands::BandHeight;
 
@@ -19,12 +19,6 @@ pub(crate) fn is_same_spec(one: &JobSpec, other: &JobSpec) -> bool
         return false;
     }
     is_same_height(one.band_height(), other.band_height())
-}
-
-fn is_same_geometry(one: Geometry, other: Geometry) -> bool
-    ensures { IsTrue result ↔ (one ≡ other) }
-{
-    one.width == other.width && one.height == other.height && one.chroma == other.chroma
 }
 
 fn is_same_height(one: BandHeight, other: BandHeight) -> bool

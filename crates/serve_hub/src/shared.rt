@@ -1,13 +1,14 @@
 //! What stands under the lock of a hub.
-ghost use Rattle.std.specs.Prelude.{◌≡◌, ◌+◌, ◌<◌, ◌≤◌, ◌↔◌, ◌⊎◌, [], All, IfNone, IfSome, IsTrue, length, reverse};
-ghost use Rattle.std.specs.Prelude.{sum_by, vec_len};
+ghost use Rattle.std.specs.Prelude.{◌≡◌, ◌+◌, ◌<◌, ◌≤◌, ◌↔◌, ◌⊎◌, [], All, IfNone, IfSome, IsTrue, length};
+ghost use Rattle.std.specs.Prelude.{reverse, sum_by, vec_len};
 ghost use Rattle.serve_core.specs.declared.refusal.Refusal.TheVariants.{Drained};
 ghost use Rattle.serve_core.specs.Lanes.{IsOver};
 ghost use Rattle.serve_hub.specs.declared.refusal.Refusal.TheVariants.{Core, HistoryFull};
-ghost use Rattle.serve_hub.specs.Books.{room};
-ghost use Rattle.serve_hub.specs.Ends.{AreStreamCalls, AreWorkCalls, calls_in};
+ghost use Rattle.serve_hub.specs.Books.{IsBook, room};
+ghost use Rattle.serve_hub.specs.Ends.{AreLanes, AreStreamCalls, AreWorkCalls, HaveStreams, HaveWorkers};
+ghost use Rattle.serve_hub.specs.Ends.{IsOpened, calls_in};
 
-use crate::agree::{streams_agree, workers_agree};
+use crate::agree::{are_lanes, have_streams, have_workers, streams_agree, workers_agree};
 use crate::book::Book;
 use crate::refusal::Refusal;
 use crate::stream_seat::StreamSeat;
@@ -15,8 +16,8 @@ use crate::work_seat::WorkSeat;
 use std::marker::Model;
 use std::sync::ledger::{Book as Total, Ledger, Share};
 
-/// The book, its limit, the total of the ledger that counts its entries, and the parts that have no seat, of so
-/// many streams and workers.
+/// The book, its limit, the total of the ledger that counts its entries, and the parts that have no seat, of
+/// so many streams and workers.
 #[derive(Drop)]
 pub(crate) struct Shared<L: Ledger> {
     pub(crate) book: Book,
@@ -29,6 +30,7 @@ pub(crate) struct Shared<L: Ledger> {
 
 impl<L: Ledger> Model for Shared<L> {
     ghost use Rattle.std.specs.Prelude.{◌≡◌, ◌+◌, length};
+    ghost use Rattle.serve_hub.specs.Ends.{IsOpened};
     ghost use Rattle.serve_hub.specs.Seats.{SharedValue};
 
     ghost Value = { SharedValue };
@@ -36,7 +38,8 @@ impl<L: Ledger> Model for Shared<L> {
     ghost view = { λ a. record { book = a.book; streams = a.streams; workers = a.workers } };
 
     ghost invariant = { λ a. (a.total.total ≡ length a.book.past) × (a.limit ≡ a.book.limit)
-        × (a.spare.parts + a.streams + a.workers ≡ L.parts) × (a.spare.amount ≡ 0) };
+        × (a.spare.parts + a.streams + a.workers ≡ L.parts) × (a.spare.amount ≡ 0)
+        × IsOpened a.book.opening a.streams a.workers };
 }
 
 impl<L: Ledger> Shared<L> {
@@ -52,6 +55,7 @@ impl<L: Ledger> Shared<L> {
         requires limit { limit ≡ book.limit }
         requires parts { spare.parts + streams + workers ≡ L.parts }
         requires amount { spare.amount ≡ 0 }
+        requires opened { IsOpened book.opening streams workers }
     {
         Shared {
             book,
@@ -85,26 +89,35 @@ impl<L: Ledger> Shared<L> {
         None
     }
 
-    /// Whether a stream that has no image need not wait for one: no lease can be given any more, and none of it
-    /// is out.
+    /// Whether a stream that has no image need not wait for one: no lease can be given any more, and none of
+    /// it is out.
     pub(crate) fn is_stuck(&self, stream: u32) -> bool {
         self.is_full() && !self.book.is_out(stream)
     }
 
-    /// Whether the seats are all there, and their lists are the journal's.
+    /// Whether the seats are all there, their lists are the journal's, and what they tell of their streams is
+    /// what the book has.
     pub(crate) fn agrees(&self, streams: &Vec<StreamSeat<L>>, workers: &Vec<WorkSeat<L>>) -> bool
+        ensures book { IsBook self.now.book }
+        ensures opened { IsOpened self.now.book.opening self.now.streams self.now.workers }
         ensures streams { IsTrue result → vec_len streams.now ≡ self.now.streams }
         ensures workers { IsTrue result → vec_len workers.now ≡ self.now.workers }
         ensures of_streams { IsTrue result
             → AreStreamCalls (reverse self.now.book.past) streams.now.items }
         ensures of_workers { IsTrue result
             → AreWorkCalls (reverse self.now.book.past) workers.now.items }
+        ensures each_stream { IsTrue result → HaveStreams self.now.streams streams.now.items }
+        ensures each_worker { IsTrue result → HaveWorkers self.now.workers workers.now.items }
+        ensures lanes { IsTrue result → AreLanes self.now.book.desk streams.now.items }
     {
         let journal = self.book.journal();
         streams.len() == self.streams
             && workers.len() == self.workers
             && streams_agree(journal, streams)
             && workers_agree(journal, workers)
+            && have_streams(self.streams, streams)
+            && have_workers(self.workers, workers)
+            && are_lanes(&self.book, streams)
     }
 
     /// The book. It has as many entries as the seats made calls.

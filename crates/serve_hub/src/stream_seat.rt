@@ -1,12 +1,14 @@
 //! The seat of a stream.
-ghost use Rattle.std.specs.Prelude.{◌≡◌, length, IfOk, IsTrue};
+ghost use Rattle.std.specs.Prelude.{◌≡◌, ◌≤◌, ◌^◌, length, IfOk, IsTrue};
 ghost use Rattle.serve_core.specs.Schedule.{HasLane};
 ghost use Rattle.serve_core.specs.Setup.{IsWithinLimits};
+ghost use Rattle.serve_hub.specs.Ends.{IsLaneOf};
 ghost use Rattle.serve_hub.specs.Seats.{opened_stream};
 
 mod images;
 mod offers;
 
+use crate::book::Book;
 use crate::calls::Calls;
 use crate::entry::Act;
 use crate::same::is_same_spec;
@@ -23,8 +25,8 @@ use std::sync::ledger::{Ledger, Share};
 
 /// Who offers the frames of one stream of a hub, closes it, and collects its images.
 ///
-/// The seat keeps each frame until its image is collected, and its calls that were accepted. It is a seat of the
-/// hub whose ledger has the name `L`. Contracts see the `StreamSeatValue` of `specs/Seats.antt`.
+/// The seat keeps each frame until its image is collected, and its calls that were accepted. It is a seat of
+/// the hub whose ledger has the name `L`. Contracts see the `StreamSeatValue` of `specs/Seats.antt`.
 #[derive(Drop)]
 pub struct StreamSeat<L: Ledger> {
     number: u32,
@@ -38,6 +40,7 @@ pub struct StreamSeat<L: Ledger> {
 }
 
 impl<L: Ledger> Model for StreamSeat<L> {
+    ghost use Rattle.std.specs.Prelude.{◌≤◌, ◌^◌};
     ghost use Rattle.std.specs.Arc.{arc_value};
     ghost use Rattle.std.specs.VecDeque.{deque_capacity};
     ghost use Rattle.serve_hub.specs.Seats.{AreSized, StreamSeatValue, kept_in};
@@ -56,7 +59,8 @@ impl<L: Ledger> Model for StreamSeat<L> {
       places = deque_capacity a.kept;
     } };
 
-    ghost invariant = { λ a. AreSized (arc_value a.spec).geometry (kept_in a.kept.items) };
+    ghost invariant = { λ a. AreSized (arc_value a.spec).geometry (kept_in a.kept.items)
+        × (a.frames ≤ 2 ^ 24) };
 }
 
 impl<L: Ledger> StreamSeat<L> {
@@ -99,11 +103,40 @@ impl<L: Ledger> StreamSeat<L> {
         &self.spec
     }
 
+    /// How many frames were accepted.
+    pub fn accepted(&self) -> u64
+        ensures { result ≡ self.now.accepted }
+    {
+        self.accepted
+    }
+
+    /// Whether the stream was closed, by this seat.
+    pub fn is_closed(&self) -> bool
+        ensures { result ≡ self.now.is_closed }
+    {
+        self.is_closed
+    }
+
     /// How many frames it keeps: they were accepted and aren't collected.
     pub fn kept(&self) -> usize
         ensures { result ≡ length self.now.kept }
     {
         self.kept.len()
+    }
+
+    /// How many frames it can keep.
+    pub fn places(&self) -> usize
+        ensures { result ≡ self.now.places }
+    {
+        self.kept.capacity()
+    }
+
+    /// How many frames it may have accepted: at most 16,777,216.
+    pub fn frames(&self) -> u64
+        ensures value { result ≡ self.now.frames }
+        ensures most { result ≤ 2 ^ 24 }
+    {
+        self.frames
     }
 
     /// Its calls that were accepted, the oldest first.
@@ -119,6 +152,19 @@ impl<L: Ledger> StreamSeat<L> {
         ensures amount { result.amount ≡ length self.calls.list }
     {
         self.calls.into_share()
+    }
+
+    /// Whether the book has its stream, with its chain, and as many frames accepted and collected as the seat
+    /// tells.
+    pub(crate) fn has_lane(&self, book: &Book) -> bool
+        ensures { IsTrue result → HasLane book.now.desk self.now.number (IsLaneOf self.now) }
+    {
+        let (Some(spec), Some(counts)) = (book.spec(self.number), book.counts(self.number)) else {
+            return false;
+        };
+        counts.accepted == self.accepted
+            && counts.collected == self.calls.collections()
+            && is_same_spec(spec, &self.spec)
     }
 
     /// Whether the book has its stream, with its chain, and a journal of its limit.

@@ -1,7 +1,12 @@
-//! Books that are called in turn, with the answers that were worked out by hand.
+//! Books and hubs that are called in turn, with the answers that were worked out by hand.
 mod calls;
 mod full;
+mod hubs;
+mod jobs;
 mod leases;
+mod seated;
+mod seats;
+mod twins;
 
 use crate::{Book, Refusal, Settled};
 use filters::{Chain, parse_ops};

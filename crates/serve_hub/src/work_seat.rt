@@ -16,8 +16,8 @@ use std::sync::ledger::{Ledger, Share};
 
 /// Who leases jobs of a hub, and settles them.
 ///
-/// The seat keeps its calls that were accepted. It is a seat of the hub whose ledger has the name `L`. Contracts
-/// see the `WorkSeatValue` of `specs/Seats.antt`.
+/// The seat keeps its calls that were accepted. It is a seat of the hub whose ledger has the name `L`.
+/// Contracts see the `WorkSeatValue` of `specs/Seats.antt`.
 #[derive(Drop)]
 pub struct WorkSeat<L: Ledger> {
     number: u32,

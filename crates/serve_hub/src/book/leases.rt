@@ -133,6 +133,7 @@ impl Book {
         ensures pair { IfOk result (λ pair. HasLane self.old.desk s (λ lane. IsFirst pair lane
             × (self.new.desk ≡ with_lane s (taken lane) self.old.desk))) }
         ensures answer { OnOk result (IsCollectAnswer self.old s None) }
+        ensures opening { self.new.opening ≡ self.old.opening }
         ensures refused { IfErr result (λ e. IsCollectAnswer self.old s (Some e) × (self.new ≡ self.old)) }
     {
         if let Some(refusal) = self.collect_refusal(s) {

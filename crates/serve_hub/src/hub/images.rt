@@ -45,8 +45,8 @@ impl<L: Ledger> Hub<L> {
         seat.compare(answer)
     }
 
-    /// The oldest image of the seat's stream, with its source. It waits for one while the stream isn't drained and
-    /// one can come.
+    /// The oldest image of the seat's stream, with its source. It waits for one while the stream isn't
+    /// drained and one can come.
     #[tactic(auto, using(crate::proofs::Giving::gives))]
     pub fn collect<R: Wait>(
         &self,

@@ -15,8 +15,8 @@ use std::sync::Wait;
 use std::sync::ledger::Ledger;
 
 impl<L: Ledger> Hub<L> {
-    /// The front job of the ready stream that has the earliest deadline, with the lease. It waits for the lock
-    /// alone.
+    /// The front job of the ready stream that has the earliest deadline, with the lease. It waits for the
+    /// lock alone.
     pub fn try_lease(&self, rt: &impl Wait, seat: &mut WorkSeat<L>) -> Result<Lease, Refusal>
         ensures given { IfOk result (λ lease. Leases lease seat.old seat.new) }
         ensures unused { IfOk result (λ lease. lease.used ≡ 0) }

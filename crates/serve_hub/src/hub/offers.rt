@@ -5,7 +5,8 @@ ghost use Rattle.filters.specs.ChainImage.{value_of};
 ghost use Rattle.serve_core.specs.declared.refusal.Refusal.TheVariants.{ClockEnd};
 ghost use Rattle.serve_core.specs.Lanes.{IsFresh, IsImageOf};
 ghost use Rattle.serve_hub.specs.declared.refusal.Refusal.TheVariants.{Core};
-ghost use Rattle.serve_hub.specs.Calls.{Accepts, AcceptsOther, AllowsOffer, IsOfferRefused, IsOverRefused, IsTold};
+ghost use Rattle.serve_hub.specs.Calls.{Accepts, AcceptsOther, AllowsOffer, IsTold};
+ghost use Rattle.serve_hub.specs.Calls.{IsOfferRefused, IsOverRefused};
 
 use super::Hub;
 use crate::refusal::Refusal;
@@ -24,7 +25,8 @@ const NO_MEMORY: Refusal = Refusal::Core(CoreRefusal::NoMemory);
 const CLOCK_END: Refusal = Refusal::Core(CoreRefusal::ClockEnd);
 
 impl<L: Ledger> Hub<L> {
-    /// The seat's stream is offered a frame at a moment, or now if that is later. It answers the frame's number.
+    /// The seat's stream is offered a frame at a moment, or now if that is later. It answers the frame's
+    /// number.
     ///
     /// It takes the memory for the frame's job before it takes the lock.
     pub fn offer(
@@ -69,8 +71,8 @@ impl<L: Ledger> Hub<L> {
         }
     }
 
-    /// What [`Hub::offer`] does, in the memory of an image of the seat's stream that isn't needed any more. It takes
-    /// memory only for the frame's line, and only where the image has another.
+    /// What [`Hub::offer`] does, in the memory of an image of the seat's stream that isn't needed any more.
+    /// It takes memory only for the frame's line, and only where the image has another.
     pub fn offer_over(
         &self,
         rt: &impl Wait,

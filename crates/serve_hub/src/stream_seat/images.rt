@@ -4,8 +4,8 @@ ghost use Rattle.std.specs.Arc.{arc_value};
 ghost use Rattle.std.specs.Option.{option_map};
 ghost use Rattle.filters.specs.ChainImage.{value_of};
 ghost use Rattle.serve_core.specs.Lanes.{source_in};
-ghost use Rattle.serve_hub.specs.Calls.{AllowsClose, AllowsCollect, Closes, Collects, IsOldest, IsOther, IsTold};
-ghost use Rattle.serve_hub.specs.Calls.{after_refusal, gives_up};
+ghost use Rattle.serve_hub.specs.Calls.{AllowsClose, AllowsCollect, Closes, Collects, IsOldest, IsOther};
+ghost use Rattle.serve_hub.specs.Calls.{IsTold, after_refusal, gives_up};
 
 use super::StreamSeat;
 use crate::refusal::{Came, Refusal};
@@ -46,13 +46,12 @@ impl<L: Ledger> StreamSeat<L> {
             return Err(Refusal::Torn(Came::Other));
         }
         let Shared { book, total, .. } = shared;
-        match book.collect(self.number) {
-            Err(refusal) => Err(self.told_collect(refusal)),
-            Ok(pair) => {
-                self.calls.count(book, total);
-                Ok(pair)
-            }
-        }
+        let pair = match book.collect(self.number) {
+            Ok(pair) => pair,
+            Err(refusal) => return Err(self.told_collect(refusal)),
+        };
+        self.calls.count(book, total);
+        Ok(pair)
     }
 
     /// Takes the oldest frame that the seat keeps off, and compares it with the source of the image that was

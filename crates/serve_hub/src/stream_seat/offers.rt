@@ -22,8 +22,8 @@ use std::sync::ledger::Ledger;
 pub(crate) const LAST_MOMENT: u64 = 1 << 60;
 
 impl<L: Ledger> StreamSeat<L> {
-    /// The job of a frame, and the frame for the seat to keep. A frame of another size comes back, and so does
-    /// one for whose job no memory is granted.
+    /// The job of a frame, and the frame for the seat to keep. A frame of another size comes back, and so
+    /// does one for whose job no memory is granted.
     pub(crate) fn job(
         &self,
         alloc: Global,
@@ -69,8 +69,8 @@ impl<L: Ledger> StreamSeat<L> {
         }
     }
 
-    /// The seat's frame is offered with its job. A refused job comes back; there is none where it was accepted
-    /// with another number than the seat's next.
+    /// The seat's frame is offered with its job. A refused job comes back; there is none where it was
+    /// accepted with another number than the seat's next.
     pub(crate) fn offer(
         &mut self,
         shared: &mut Shared<L>,
@@ -152,7 +152,8 @@ impl<L: Ledger> StreamSeat<L> {
         next
     }
 
-    /// What the book refuses a frame for whose job wasn't made. Where it would accept it, the answer is `unmade`.
+    /// What the book refuses a frame for whose job wasn't made. Where it would accept it, the answer is
+    /// `unmade`.
     pub(crate) fn refusal(
         &self,
         shared: &Shared<L>,

@@ -9,7 +9,7 @@ use std::alloc::Global;
 use std::test::Fail;
 
 /// A frame of two bands.
-const TALL: Served<'static> = Served {
+pub(super) const TALL: Served<'static> = Served {
     size: Size::Tall,
     rows: 2,
     account: (2, 4),
@@ -17,7 +17,7 @@ const TALL: Served<'static> = Served {
 };
 
 /// A lease that no book gave, over the same frame and chain.
-fn stray(alloc: Global, seq: u64, grant: u32) -> Result<Lease, Fail> {
+pub(super) fn stray(alloc: Global, seq: u64, grant: u32) -> Result<Lease, Fail> {
     let spec = super::job_spec_of(alloc, &TALL)?;
     let scratch = lease::Scratch::new(alloc, &spec)?;
     let mut job = Job::new(alloc, spec, frame_of(alloc, &[1, 2, 3, 4])?)?;

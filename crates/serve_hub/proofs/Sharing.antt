@@ -1,0 +1,33 @@
+-- What threads may share, and what may go from one to another. The search stops within a book, so it is told
+-- type by type.
+use denote.RattleType.{RattleType}
+use denote.Param.Send.{IsSend, IsSync, sendable}
+use Rattle.std.proofs.Crossing.{crosses}
+use Rattle.std.proofs.sync.ledger.Book.TheSendSync as total
+use Rattle.std.proofs.sync.ledger.Share.TheSendSync as share
+use Rattle.std.specs.declared.sync.ledger.Ledger.{Ghosts}
+use Rattle.serve_core.proofs.desk.Desk.TheSendSync as desk
+use Rattle.serve_hub.specs.contracts.book.Book as Book
+use Rattle.serve_hub.specs.contracts.hub.Hub as Hub
+use Rattle.serve_hub.specs.contracts.hub.Hub.TheInside as inside
+use Rattle.serve_hub.specs.contracts.shared.Shared as Shared
+use Rattle.serve_hub.specs.contracts.work_seat.WorkSeat as WorkSeat
+use Rattle.serve_hub.specs.contracts.entry.Entry as Entry
+
+entry_send : IsSend Entry.the_row
+entry_send = search (sendable, crosses) depth 20
+
+book_send : IsSend Book.the_row
+book_send = search (sendable, crosses, entry_send, desk.the_send) depth 20
+
+shared_send : (L : RattleType) (l : Ghosts L.Denot) → IsSend L → IsSend (Shared.the_row L l)
+shared_send L l s = search (sendable, crosses, book_send, total.the_send, share.the_send) depth 20
+
+inside_sync : (L : RattleType) (l : Ghosts L.Denot) → IsSend L → IsSync L → IsSync (inside.the_row L l)
+inside_sync L l s y = search (sendable, crosses, shared_send) depth 20
+
+pub hub_sync : (L : RattleType) (l : Ghosts L.Denot) → IsSend L → IsSync L → IsSync (Hub.the_row L l)
+hub_sync L l s y = search (sendable, crosses, inside_sync) depth 20
+
+pub work_seat_send : (L : RattleType) (l : Ghosts L.Denot) → IsSend L → IsSend (WorkSeat.the_row L l)
+work_seat_send L l s = search (sendable, crosses, share.the_send) depth 20

@@ -1,0 +1,9 @@
+use Rattle.std.proofs.Common.{◌≡◌, ◌≤◌, sum_by, take}
+use Rattle.serve_hub.specs.Ends.{one_collection}
+use Rattle.serve_hub.proofs.calls.collections_in.Given as goal
+
+abbrev pub invariant-loop-call : goal.invariant-loop-call
+invariant-loop-call l = record {
+  sum : l.sum ≡ sum_by one_collection (take l.call-index l.calls);
+  few : l.sum ≤ l.call-index;
+}
