@@ -1,0 +1,6 @@
+pub mod Ending
+pub mod Fronts
+pub mod Moving
+pub mod Serving
+pub mod Texts
+pub mod Working

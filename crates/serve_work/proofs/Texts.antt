@@ -1,0 +1,90 @@
+-- From a reader's opening to a client's end.
+use Rattle.std.proofs.Common.{◌≡◌, ◌⊎◌, ℕ, ◌+◌, ◌≤◌, List, [], ◌∷◌, ◌++◌, length, take, Option, Some, None, IfSome, refl, sym, ap, ◌∙◌, append_assoc, append-nil, length-append, arith, subst, inl, inr}
+use Rattle.std.proofs.KnownBytes.{Appends-kept, Appends-nil, Consumes-trans, Consumes-whole}
+use Rattle.std.proofs.Math.Seq.{take-append-add, take-append_seam}
+use Rattle.std.proofs.lemmas.List.{take-append-le}
+use Rattle.std.specs.Io.KnownBytes.{Appends, Consumes, IsAtEnd, Keeps}
+use Rattle.y4m_header.specs.StreamText.{FrameText, frames_text, stream_text, text_of}
+use Rattle.filters.specs.Chain.{ChainValue}
+use Rattle.y4m_stream.specs.Reader.{IsOpened, data_len_of}
+use Rattle.y4m_stream.specs.Served.{AreImages, IsImageText, IsServedText, served_header}
+use Rattle.y4m_stream.proofs.Puts.{behind_line}
+use Rattle.serve_hub.specs.Seats.{StreamSeatValue}
+use Rattle.serve_work.specs.declared.stop.Cause.TheVariants.{NoMemory}
+use Rattle.serve_work.specs.declared.stop.Stop.{Stop}
+use Rattle.serve_work.specs.declared.stop.Stop.TheVariants.{Whole, Write, Refused}
+use Rattle.serve_work.specs.Clients.{ClientEnds, ClientOutcome, ClientStart, CutsHeader, EndsWithin, StopsAt}
+use Rattle.serve_work.specs.Clients.{WroteImages, WroteNothing}
+use Rattle.serve_work.specs.Laws.{InputIsServed, ServesAll, ServesInput}
+
+-- all known bytes were read, and none is left
+all_read : (a b c : Option (List ℕ)) (text : List ℕ) → Consumes a b text → IsAtEnd b → Keeps b c
+    → IfSome a (λ _. c ≡ Some [])
+all_read None b c text p q k = tt
+all_read (Some xs) None c text p q k = absurd p
+all_read (Some xs) (Some ys) None text p q k = absurd k
+all_read (Some xs) (Some ys) (Some zs) text p q k = ap Some (k ∙ q)
+
+none_left : (xs : List FrameText) → length xs ≡ 0 → xs ≡ []
+none_left [] e = refl
+none_left (x ∷ xs) e = absurd (omega (arith, e))
+
+-- where no image is left, all that was begun was written
+no_part : (chain : ChainValue) (part : List ℕ) (old new : ℕ) → EndsWithin chain [] part old new → part ≡ []
+no_part chain part old new (inl a) = a.0
+no_part chain part old new (inr a) = let both : [] ≡ a.0.next ∷ a.0.later = a.0.first in absurd (cc)
+
+module _ (input : Option (List ℕ)) (text : List ℕ) (start : ClientStart) (seat : StreamSeatValue) (end : ClientOutcome)
+    (e : ClientEnds start seat end) (taken : Consumes input e.rest text) (is : end.stop ≡ Whole) where
+  at_end : IsAtEnd e.rest × Keeps e.rest end.left
+  at_end = subst (λ s. StopsAt s (record {
+    len = data_len_of start.reader.header;
+    count = end.accepted;
+    most = start.seat.frames;
+    rest = e.rest;
+    left = end.left;
+  })) is e.stops
+
+  serves_all : WroteNothing start end ⊎ CutsHeader start end ⊎ WroteImages e.frames start end
+      → ServesAll input text e.frames start end
+  serves_all (inl a) = let both : Whole ≡ Refused NoMemory = sym is ∙ a.stop in absurd (cc)
+  serves_all (inr (inl a)) = let both : Whole ≡ Write a.fault = sym is ∙ a.stop in absurd (cc)
+  serves_all (inr (inr a)) =
+      let later : a.later ≡ [] = none_left a.later
+      (omega (arith, ap length a.first, length-append a.sent a.later, a.count, (e.whole is).all, e.count)) in
+      let sent : a.sent ≡ e.frames = sym (a.first ∙ ap (λ l. a.sent ++ l) later ∙ append-nil a.sent) in
+      let part : a.part ≡ [] = no_part start.seat.chain a.part start.failures end.failures
+      (subst (λ l. EndsWithin start.seat.chain l a.part start.failures end.failures) later a.ends) in
+      record {
+        whole = Consumes-whole input e.rest text (λ bytes. bytes ≡ text) taken at_end.0 refl;
+        all_read = all_read input e.rest end.left text taken at_end.0 at_end.1;
+        served = a.served;
+        is_served = subst (λ l. IsServedText start.seat.chain start.reader.header.line l a.served) sent a.is_served;
+        wrote = subst (Appends start.before end.after) (ap (λ l. a.served ++ l) part ∙ append-nil a.served) a.wrote;
+      }
+
+pub input_is_served : InputIsServed
+input_is_served input failures start seat end opened e =
+    let text : List ℕ = stream_text start.reader.header.line e.frames in
+    let taken : Consumes input e.rest text =
+    subst (Consumes input e.rest) (behind_line start.reader.header.line (frames_text e.frames))
+    (Consumes-trans input start.reader.rest e.rest (start.reader.header.line ++ 10 ∷ []) (frames_text e.frames)
+    opened.taken e.taken) in
+    record {
+      text = text;
+      frames = e.frames;
+      rest = e.rest;
+      is_text = record {
+        w = start.reader.header.width;
+        h = start.reader.header.height;
+        chroma = start.reader.header.chroma;
+        is_header = opened.header;
+        each = e.each;
+        is_text = refl;
+      };
+      count = e.count;
+      taken = taken;
+      stops = e.stops;
+      out = e.out;
+      whole = λ is. serves_all input text start seat end e taken is e.out;
+    }

@@ -1,0 +1,46 @@
+use Rattle.std.proofs.Common.{[], refl}
+use Rattle.serve_work.proofs.Moving.{GivesUp-trans, Moves-none, Moves-trans, StopsWith-later, Tallies-none, Tallies-trans}
+use Rattle.serve_work.proofs.Moving.{few_later, size_later, writing_later}
+use Rattle.serve_work.proofs.delivery.drain.Goals as goal
+
+pub loop-init : goal.loop-init
+loop-init g c = record { moved = Moves-none _ _ _ _ refl refl; up = refl; tally = Tallies-none _ _ }
+
+pub deliver-requires-clause-size : goal.deliver-requires-clause-size
+deliver-requires-clause-size g c = size_later _ _ _ _ [] c.loop.invariant.moved c.requires.size
+
+pub deliver-requires-clause-few : goal.deliver-requires-clause-few
+deliver-requires-clause-few g c = few_later _ _ _ _ c.loop.invariant.moved c.requires.few
+
+pub deliver-requires-clause-writing : goal.deliver-requires-clause-writing
+deliver-requires-clause-writing g c = writing_later _ _ _ _ [] c.loop.invariant.moved c.requires.writing
+
+pub loop-preserved : goal.loop-preserved
+loop-preserved g c =
+    let so_far = c.loop.invariant in
+    record {
+      moved = Moves-trans _ _ _ _ _ _ [] [] so_far.moved c.in-Ok.ensures.answer;
+      up = GivesUp-trans c.args.seat.now c.loop.seat c.deliver.new.seat so_far.up c.deliver.ensures.kept;
+      tally = Tallies-trans _ _ _ _ _ _ so_far.tally c.deliver.ensures.tally;
+    }
+
+pub loop-preserved-in-Ok : goal.loop-preserved-in-Ok
+loop-preserved-in-Ok g c =
+    let so_far = c.loop.invariant in
+    record {
+      moved = Moves-trans _ _ _ _ _ _ [] [] so_far.moved c.in-Ok.ensures.answer;
+      up = GivesUp-trans c.args.seat.now c.loop.seat c.deliver.new.seat so_far.up c.deliver.ensures.kept;
+      tally = Tallies-trans _ _ _ _ _ _ so_far.tally c.deliver.ensures.tally;
+    }
+
+pub returns-in-Err-clause-answer : goal.returns-in-Err-clause-answer
+returns-in-Err-clause-answer g c = StopsWith-later _ _ _ _ _ _ _ [] [] c.loop.invariant.moved c.in-Err.ensures.answer
+
+pub returns-in-Err-clause-drained : goal.returns-in-Err-clause-drained
+returns-in-Err-clause-drained g c = λ is. let left = c.in-Err.ensures.drained is in rw left.1 left.0
+
+pub returns-in-Err-clause-tally : goal.returns-in-Err-clause-tally
+returns-in-Err-clause-tally g c = Tallies-trans _ _ _ _ _ _ c.loop.invariant.tally c.deliver.ensures.tally
+
+pub returns-in-Err-clause-kept : goal.returns-in-Err-clause-kept
+returns-in-Err-clause-kept g c = GivesUp-trans c.args.seat.now c.loop.seat c.deliver.new.seat c.loop.invariant.up c.deliver.ensures.kept

@@ -1,0 +1,16 @@
+use Rattle.std.proofs.Common.{ap}
+use Rattle.serve_work.proofs.Working.{works_on, works_refused}
+use Rattle.serve_work.proofs.workers.work.Goals as goal
+
+pub loop-preserved : goal.loop-preserved
+loop-preserved g c =
+    let so_far = c.loop.invariant in
+    works_on c.args.seat c.loop.seat c.lease.new.seat c.settle.new.seat so_far.0 _ _ _ _ _ so_far.1 so_far.2
+    c.in-Ok.ensures.given c.in_default.ensures.settled (ap (λ lease. lease.used) c.spend.ensures)
+
+pub returns-in-Err-settle : goal.returns-in-Err-settle
+returns-in-Err-settle g c =
+    let so_far = c.loop.invariant in
+    works_refused c.args.seat c.loop.seat c.lease.new.seat c.settle.new.seat so_far.0 _ _ _ c.spend.new.lease
+    c.in-Err-settle.refused.refusal c.in-Err-settle.refused.lease so_far.1 so_far.2 c.in-Ok.ensures.given
+    c.in-Err-settle.ensures.refused (ap (λ lease. lease.used) c.spend.ensures)

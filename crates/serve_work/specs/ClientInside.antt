@@ -1,0 +1,282 @@
+-- What contracts inside the crate say of a client.
+use Rattle.std.specs.Prelude.{ℕ, ◌+◌, ◌≡◌, ◌≢◌, ◌≤◌, ◌⊎◌, ⊤, IsTrue, true, false, List, [], ◌∷◌}
+use Rattle.std.specs.Prelude.{◌++◌, All, Result, Ok, Err}
+use Rattle.std.specs.Prelude.{Option, IfSome, length, map, replicate}
+use Rattle.std.specs.declared.alloc.Global.{Global}
+use Rattle.std.specs.declared.sync.Arc.{Arc}
+use Rattle.std.specs.Arc.{arc_value}
+use Rattle.std.specs.Io.KnownBytes.{Appends, Consumes, IsAtEnd, Keeps}
+use Rattle.y4m_header.specs.StreamText.{FrameText, IsFrameOf, frames_text}
+use Rattle.frame_view.specs.declared.frame.Frame.{Frame}
+use Rattle.filters.specs.Chain.{ChainValue}
+use Rattle.filters.specs.ChainImage.{FrameValue, value_of}
+use Rattle.y4m_stream.specs.declared.fault.WriteFault.{WriteFault}
+use Rattle.y4m_stream.specs.declared.reader.Phase.TheVariants.{Open}
+use Rattle.y4m_stream.specs.declared.passing.TheConstants.{MOST_FRAMES}
+use Rattle.y4m_stream.specs.Reader.{FailsAtFrame, IsOfHeader, ReaderState, TakesFrame}
+use Rattle.y4m_stream.specs.Reader.{data_len_of, frame_text_of}
+use Rattle.y4m_stream.specs.Served.{AreImages, IsImageText}
+use Rattle.y4m_stream.specs.Writer.{FailsToPut, WriterState}
+use Rattle.serve_core.specs.declared.refusal.Refusal.TheVariants as cores
+use Rattle.serve_core.specs.Lanes.{IsImageOf}
+use Rattle.serve_hub.specs.declared.refusal.Refusal.{Refusal}
+use Rattle.serve_hub.specs.declared.refusal.Refusal.TheVariants.{Core, HistoryFull}
+use Rattle.serve_hub.specs.Calls.{Accepts}
+use Rattle.serve_hub.specs.Seats.{StreamSeatValue}
+use Rattle.serve_work.specs.declared.buffers.Buffers.{Buffers}
+use Rattle.serve_work.specs.declared.feeding.Offered.{Offered}
+use Rattle.serve_work.specs.declared.feeding.Offered.TheVariants as offered
+use Rattle.serve_work.specs.declared.stop.Cause.TheVariants as causes
+use Rattle.serve_work.specs.declared.stop.Stop.{Stop}
+use Rattle.serve_work.specs.declared.stop.Stop.TheVariants.{Whole, Read, Write, Refused, Torn}
+use Rattle.serve_work.specs.Clients.{Progress, StopsAt, collections_in, offers_in, reads_at}
+
+abbrev pub stop_of : Refusal → Stop
+stop_of HistoryFull = Refused causes.HistoryFull
+stop_of (Core cores.TooManyFrames) = Refused causes.TooManyFrames
+stop_of (Core cores.ClockEnd) = Refused causes.ClockEnd
+stop_of (Core cores.NoMemory) = Refused causes.NoMemory
+stop_of (Core cores.Drained) = Whole
+stop_of e = Torn
+
+-- after it a client still collects and writes
+abbrev pub IsUseful : Stop → Type 0
+IsUseful Whole = ⊤
+IsUseful (Read fault) = ⊤
+IsUseful (Refused cause) = ⊤
+IsUseful (Write fault) = ⊥
+IsUseful Torn = ⊥
+
+-- the first of two stops that is a fault
+abbrev pub IsFirst : Stop → Stop → Stop → Type 0
+IsFirst Whole later first = first ≡ later
+IsFirst stop later first = first ≡ stop
+
+-- a stop by a seat, or by the writer, while frames are offered
+abbrev pub IsOfSeat : Stop → Type 0
+IsOfSeat Whole = ⊥
+IsOfSeat (Read fault) = ⊥
+IsOfSeat (Refused cause) = ⊤
+IsOfSeat (Write fault) = ⊤
+IsOfSeat Torn = ⊤
+
+-- a stop by a seat, or by the writer, while images are collected; whole where none is left
+abbrev pub IsOfCollection : Stop → Type 0
+IsOfCollection Whole = ⊤
+IsOfCollection (Read fault) = ⊥
+IsOfCollection (Refused causes.HistoryFull) = ⊤
+IsOfCollection (Refused cause) = ⊥
+IsOfCollection (Write fault) = ⊤
+IsOfCollection Torn = ⊤
+
+-- the frames that a seat keeps, as a stream has them
+abbrev pub texts_of : List FrameValue → List FrameText
+texts_of frames = map (λ f. record { line = f.line; samples = f.samples }) frames
+
+pub record IsDrained (seat : StreamSeatValue) : Type 0 where
+  pub closed : IsTrue seat.is_closed
+  pub none : seat.kept ≡ []
+
+-- memory for the chain's frames and images
+pub record AreBuffersFor (chain : ChainValue) (buffers : Buffers) : Type 0 where
+  pub sources : All (λ (f : Arc Frame Global). (arc_value f).geometry ≡ chain.geometry) buffers.sources.items
+  pub images : All (IsImageOf chain) buffers.images.items
+
+-- the frames that were accepted are those whose images went out and those that the seat keeps
+pub record Accounted (seat : StreamSeatValue) (writer : WriterState) : Type 0 where
+  pub balanced : writer.frames + length seat.kept ≡ seat.accepted
+  pub within : seat.accepted ≤ seat.frames
+  pub most : seat.frames ≤ MOST_FRAMES
+  pub is_open : seat.is_closed ≡ false
+  pub writing : writer.failed ≡ false
+
+-- each offer and each collection that was accepted is among the seat's calls
+pub record TalliesSeat (old new : StreamSeatValue) : Type 0 where
+  pub number : new.number ≡ old.number
+  pub offers : offers_in new.calls.list + old.accepted ≡ offers_in old.calls.list + new.accepted
+  pub collections : collections_in old.calls.list ≤ collections_in new.calls.list
+
+-- and the writer has put no more images than were collected
+pub record Tallies (old new : StreamSeatValue) (writer writer' : WriterState) : Type 0 where
+  pub seat : TalliesSeat old new
+  pub images : writer'.frames + collections_in old.calls.list ≤ writer.frames + collections_in new.calls.list
+
+-- nothing but the seat's calls and what it keeps may have changed
+abbrev pub GivesUp : StreamSeatValue → StreamSeatValue → Type 0
+GivesUp old new = new ≡ record old { calls = new.calls; kept = new.kept }
+
+-- these frames were accepted; the oldest that the seat then kept went out as their images, and it keeps the
+-- others
+pub record Moves (seat seat' : StreamSeatValue) (writer writer' : WriterState)
+    (accepted : List FrameText) : Type 0 where
+  pub sent : List FrameText
+  pub images : List FrameText
+  pub order : texts_of seat.kept ++ accepted ≡ sent ++ texts_of seat'.kept
+  pub made : AreImages seat.chain sent images
+  pub wrote : Appends writer.contents writer'.contents (frames_text images)
+  pub bytes : writer'.bytes ≡ writer.bytes + length (frames_text images)
+  pub frames : writer'.frames ≡ writer.frames + length sent
+  pub count : seat'.accepted ≡ seat.accepted + length accepted
+  pub within : seat.accepted ≤ seat.frames → seat'.accepted ≤ seat'.frames
+  pub seat_stays : seat' ≡ record seat { calls = seat'.calls; accepted = seat'.accepted; kept = seat'.kept }
+  pub writer_stays : writer' ≡ record writer {
+    contents = writer'.contents;
+    frames = writer'.frames;
+    bytes = writer'.bytes;
+  }
+
+-- the same, but the image of the oldest frame that was left didn't go out whole
+pub record Cuts (seat : StreamSeatValue) (writer writer' : WriterState) (accepted : List FrameText)
+    (fault : WriteFault) : Type 0 where
+  pub mid : StreamSeatValue
+  pub between : WriterState
+  pub moved : Moves seat mid writer between accepted
+  pub next : FrameText
+  pub lost : List FrameText
+  pub image : FrameText
+  pub oldest : texts_of mid.kept ≡ next ∷ lost
+  pub made : IsImageText seat.chain next image
+  pub cut : FailsToPut between writer' image fault
+
+-- what has moved where a client stops; after a write fault, and where an answer contradicts the seat, what it
+-- keeps is of no use
+abbrev pub StopsWith : Stop → StreamSeatValue → StreamSeatValue → WriterState → WriterState
+    → List FrameText → Type 0
+StopsWith Whole seat seat' writer writer' accepted = Moves seat seat' writer writer' accepted
+StopsWith (Read fault) seat seat' writer writer' accepted = Moves seat seat' writer writer' accepted
+StopsWith (Refused cause) seat seat' writer writer' accepted = Moves seat seat' writer writer' accepted
+StopsWith (Write fault) seat seat' writer writer' accepted = Cuts seat writer writer' accepted fault
+StopsWith Torn seat seat' writer writer' accepted =
+    (mid : StreamSeatValue) × Moves seat mid writer writer' accepted
+
+-- the frames were accepted, or none was and the client stops
+abbrev pub Answers : {T : Type 0} → Result T Stop → StreamSeatValue → StreamSeatValue → WriterState
+    → WriterState → List FrameText → Type 0
+Answers (Ok t) seat seat' writer writer' frames = Moves seat seat' writer writer' frames
+Answers (Err stop) seat seat' writer writer' frames = StopsWith stop seat seat' writer writer' []
+
+-- one offer of a frame: it was accepted; or it comes back, the queue being full; or the client stops
+abbrev pub IsOffered : Offered → Frame → StreamSeatValue → StreamSeatValue → Type 0
+IsOffered offered.Accepted frame old new = (n : ℕ) × Accepts (value_of frame) n old new
+IsOffered (offered.Full back image) frame old new =
+    (arc_value back ≡ frame) × IfSome image (IsImageOf old.chain) × (new ≡ old)
+IsOffered (offered.Stopped (Refused cause)) frame old new =
+    (cause ≡ causes.TooManyFrames → old.accepted ≡ old.frames) × (new ≡ old)
+IsOffered (offered.Stopped Torn) frame old new = (new ≡ old) ⊎ ((n : ℕ) × Accepts (value_of frame) n old new)
+IsOffered (offered.Stopped stop) frame old new = ⊥
+
+-- the frame wasn't accepted, and the client stops
+pub record Refuses (stop : Stop) (seat seat' : StreamSeatValue) (writer writer' : WriterState) : Type 0 where
+  pub of_seat : IsOfSeat stop
+  pub moved : StopsWith stop seat seat' writer writer' []
+  pub stays : GivesUp seat seat'
+  pub limit : stop ≡ Refused causes.TooManyFrames → seat'.accepted ≡ seat.frames
+
+-- the frame was accepted with another number than the seat's next
+pub record AcceptsTorn (stop : Stop) (frame : FrameText) (seat seat' : StreamSeatValue)
+    (writer writer' : WriterState) : Type 0 where
+  pub torn : stop ≡ Torn
+  pub moved : Moves seat seat' writer writer' (frame ∷ [])
+
+-- the frame was accepted, or the client stops
+abbrev pub Offers : {T : Type 0} → Result T Stop → FrameText → StreamSeatValue → StreamSeatValue → WriterState
+    → WriterState → Type 0
+Offers (Ok t) frame seat seat' writer writer' = Moves seat seat' writer writer' (frame ∷ [])
+Offers (Err stop) frame seat seat' writer writer' =
+    Refuses stop seat seat' writer writer' ⊎ AcceptsTorn stop frame seat seat' writer writer'
+
+-- no frame was read, or no memory was granted for one that was
+abbrev pub IsUnread : ReaderState → ReaderState → Stop → Type 0
+IsUnread old new Whole = ⊥
+IsUnread old new (Read fault) = FailsAtFrame old new fault
+IsUnread old new (Refused causes.NoMemory) = (frame : FrameText) × TakesFrame old new frame
+IsUnread old new (Refused cause) = ⊥
+IsUnread old new (Write fault) = ⊥
+IsUnread old new Torn = ⊥
+
+-- these frames were taken off the front of the reader, and each was accepted
+pub record Passes (reader reader' : ReaderState) (seat seat' : StreamSeatValue) (writer writer' : WriterState)
+    (frames : List FrameText) : Type 0 where
+  pub each : All (IsFrameOf (data_len_of reader.header)) frames
+  pub taken : Consumes reader.rest reader'.rest (frames_text frames)
+  pub moved : Moves seat seat' writer writer' frames
+  pub is_open : reader'.phase ≡ Open
+  pub header : reader'.header ≡ reader.header
+  pub no_failure : reader'.failures ≡ reader.failures
+
+-- why a client reads no more, and how far it came
+pub record StopsReading (stop : Stop) (reader reader' : ReaderState) (seat : StreamSeatValue)
+    (frames : List FrameText) : Type 0 where
+  pub rest : Option (List ℕ)
+  pub each : All (IsFrameOf (data_len_of reader.header)) frames
+  pub taken : Consumes reader.rest rest (frames_text frames)
+  pub stops : StopsAt stop (record {
+    len = data_len_of reader.header;
+    count = seat.accepted + length frames;
+    most = seat.frames;
+    rest = rest;
+    left = reader'.left;
+  })
+  pub reads : reader'.failures ≡ reads_at stop reader.failures
+
+-- some frames were taken and accepted, and then the client stopped
+pub record Feeds (stop : Stop) (reader reader' : ReaderState) (seat seat' : StreamSeatValue)
+    (writer writer' : WriterState) : Type 0 where
+  pub frames : List FrameText
+  pub read : StopsReading stop reader reader' seat frames
+  pub moved : StopsWith stop seat seat' writer writer' frames
+  pub count : seat'.accepted ≡ seat.accepted + length frames
+  -- but for an answer that contradicts it, the seat stays as it is
+  pub seat_stays : seat' ≡ record seat { calls = seat'.calls; accepted = seat'.accepted; kept = seat'.kept }
+
+-- the images of the first of these frames went out, whole
+pub record GoesOut (chain : ChainValue) (frames : List FrameText) (writer writer' : WriterState)
+    : Type 0 where
+  pub sent : List FrameText
+  pub later : List FrameText
+  pub images : List FrameText
+  pub first : frames ≡ sent ++ later
+  pub made : AreImages chain sent images
+  pub wrote : Appends writer.contents writer'.contents (frames_text images)
+  pub bytes : writer'.bytes ≡ writer.bytes + length (frames_text images)
+  pub frames_out : writer'.frames ≡ writer.frames + length sent
+
+-- the images of the first of these frames went out, whole, and nothing failed
+pub record SendsWhole (chain : ChainValue) (frames : List FrameText) (writer writer' : WriterState)
+    : Type 0 where
+  pub out : GoesOut chain frames writer writer'
+  pub writing : writer'.failed ≡ false
+  pub no_failure : writer'.failures ≡ writer.failures
+
+-- the same, and the image of the next frame didn't go out whole
+pub record BreaksOff (chain : ChainValue) (frames : List FrameText) (writer writer' : WriterState)
+    (fault : WriteFault) : Type 0 where
+  pub between : WriterState
+  pub whole : SendsWhole chain frames writer between
+  pub next : FrameText
+  pub later : List FrameText
+  pub oldest : whole.out.later ≡ next ∷ later
+  pub image : FrameText
+  pub made : IsImageText chain next image
+  pub cut : FailsToPut between writer' image fault
+
+-- what went out until a client stopped: a write fault is its stop, but where another came first
+abbrev pub IsSent : Stop → ChainValue → List FrameText → WriterState → WriterState → Type 0
+IsSent stop chain frames writer writer' =
+    SendsWhole chain frames writer writer' × ((fault : WriteFault) → stop ≢ Write fault)
+    ⊎ ((fault : WriteFault) × BreaksOff chain frames writer writer' fault
+    × ((f : WriteFault) → stop ≡ Write f → f ≡ fault))
+
+-- a client's frames, why there are no more, and what went out
+pub record Serves (stop : Stop) (reader reader' : ReaderState) (seat seat' : StreamSeatValue)
+    (writer writer' : WriterState) : Type 0 where
+  pub frames : List FrameText
+  pub read : StopsReading stop reader reader' seat frames
+  pub count : seat'.accepted ≡ seat.accepted + length frames
+  pub sent : IsSent stop seat.chain frames writer writer'
+  pub whole : stop ≡ Whole → (writer'.frames ≡ writer.frames + length frames) × (writer'.failed ≡ false)
+
+-- the stop, or the fault of the flush where all went well before
+abbrev pub Flushes : {T : Type 0} → Stop → Result T WriteFault → Stop → Type 0
+Flushes Whole (Err fault) stop = stop ≡ Write fault
+Flushes first flush stop = stop ≡ first

@@ -1,0 +1,161 @@
+-- What a client comes to.
+use Rattle.std.specs.Prelude.{ℕ, ◌+◌, ◌≡◌, ◌≤◌, ◌<◌, ◌⊎◌, ⊤, Bool, true, false, List, [], ◌∷◌, ◌++◌, All}
+use Rattle.std.specs.Prelude.{Option, filter, length, take}
+use Rattle.std.specs.Io.KnownBytes.{Appends, Consumes, IsAtEnd, Keeps}
+use Rattle.y4m_header.specs.StreamText.{FrameText, IsFrameOf, frames_text, text_of}
+use Rattle.filters.specs.Chain.{ChainValue}
+use Rattle.y4m_stream.specs.declared.fault.WriteFault.{WriteFault}
+use Rattle.y4m_stream.specs.declared.fault.WriteFault.TheVariants.{Device}
+use Rattle.y4m_stream.specs.Failures.{one_more}
+use Rattle.y4m_stream.specs.Filtered.{HasNext}
+use Rattle.y4m_stream.specs.Front.{StandsAtFrame}
+use Rattle.y4m_stream.specs.Reader.{ReaderState, data_len_of, failures_at}
+use Rattle.y4m_stream.specs.Served.{IsImageText, IsServedText, served_header}
+use Rattle.y4m_stream.specs.Writer.{CutsShort}
+use Rattle.serve_hub.specs.declared.entry.Act.{Act}
+use Rattle.serve_hub.specs.declared.entry.Act.TheVariants.{Collected, Offered}
+use Rattle.serve_hub.specs.Seats.{StreamSeatValue}
+use Rattle.serve_work.specs.declared.stop.Cause.TheVariants.{NoMemory, TooManyFrames}
+use Rattle.serve_work.specs.declared.stop.Stop.{Stop}
+use Rattle.serve_work.specs.declared.stop.Stop.TheVariants.{Whole, Read, Write, Refused, Torn}
+
+-- what a client begins with: its seat, its reader, and what its writer holds, where that is known, and how
+-- many of its calls failed
+pub record ClientStart : Type 0 where
+  pub seat : StreamSeatValue
+  pub reader : ReaderState
+  pub before : Option (List ℕ)
+  pub failures : ℕ
+
+-- what a client tells and gives back: what its source has left, where that is known, and how many of its
+-- reads have failed; what its writer holds, where that is known, how many of its calls have failed, and
+-- whether all that it took is flushed
+pub record ClientOutcome : Type 0 where
+  pub stop : Stop
+  pub accepted : ℕ
+  pub delivered : ℕ
+  pub left : Option (List ℕ)
+  pub read_failures : ℕ
+  pub after : Option (List ℕ)
+  pub failures : ℕ
+  pub is_flushed : Bool
+
+-- the seat made no call
+pub record IsNewSeat (seat : StreamSeatValue) : Type 0 where
+  pub calls : seat.calls.list ≡ []
+  pub accepted : seat.accepted ≡ 0
+  pub kept : seat.kept ≡ []
+  pub is_open : seat.is_closed ≡ false
+
+abbrev pub is_offer : Act → Bool
+is_offer (Offered tick number) = true
+is_offer act = false
+
+abbrev pub is_collection : Act → Bool
+is_collection (Collected number) = true
+is_collection act = false
+
+abbrev pub offers_in : List Act → ℕ
+offers_in calls = length (filter is_offer calls)
+
+abbrev pub collections_in : List Act → ℕ
+collections_in calls = length (filter is_collection calls)
+
+-- how far an input was read: the bytes of a frame's data, how many frames were accepted and how many may be,
+-- what stands behind them, and what the source has left
+pub record Progress : Type 0 where
+  pub len : ℕ
+  pub count : ℕ
+  pub most : ℕ
+  pub rest : Option (List ℕ)
+  pub left : Option (List ℕ)
+
+-- why no more frames were accepted
+abbrev pub StopsAt : Stop → Progress → Type 0
+StopsAt Whole at = IsAtEnd at.rest × Keeps at.rest at.left
+StopsAt (Read fault) at = StandsAtFrame at.len fault at.rest at.left
+StopsAt (Refused TooManyFrames) at = (at.count ≡ at.most) × HasNext at.len at.rest at.left
+StopsAt (Refused cause) at = ⊤
+StopsAt (Write fault) at = ⊤
+StopsAt Torn at = ⊤
+
+-- a read failed where that is why the client stopped
+abbrev pub reads_at : Stop → ℕ → ℕ
+reads_at (Read fault) n = failures_at fault n
+reads_at stop n = n
+
+-- no memory was granted before anything was written
+pub record WroteNothing (start : ClientStart) (end : ClientOutcome) : Type 0 where
+  pub stop : end.stop ≡ Refused NoMemory
+  pub none : end.delivered ≡ 0
+  pub kept : Keeps start.before end.after
+  pub no_failure : end.failures ≡ start.failures
+
+-- the header line of the images didn't go out whole
+pub record CutsHeader (start : ClientStart) (end : ClientOutcome) : Type 0 where
+  pub fault : WriteFault
+  pub stop : end.stop ≡ Write fault
+  pub none : end.delivered ≡ 0
+  pub cut : CutsShort start.before end.after
+      (served_header start.seat.chain start.reader.header.line ++ 10 ∷ []) 0 fault
+  pub failure : end.failures ≡ one_more start.failures
+
+-- these bytes are a front of the image of the first of these frames, and not all of it
+pub record BeginsImage (chain : ChainValue) (frames : List FrameText) (part : List ℕ) : Type 0 where
+  pub next : FrameText
+  pub later : List FrameText
+  pub first : frames ≡ next ∷ later
+  pub image : FrameText
+  pub made : IsImageText chain next image
+  pub n : ℕ
+  pub partly : n < length (text_of image)
+  pub front : part ≡ take n (text_of image)
+
+-- all that was begun was written, and at most the flush failed; or a write failed within the next image
+abbrev pub EndsWithin : ChainValue → List FrameText → List ℕ → ℕ → ℕ → Type 0
+EndsWithin chain frames part old new =
+    (part ≡ []) × ((new ≡ old) ⊎ (new ≡ one_more old)) ⊎ BeginsImage chain frames part × (new ≡ one_more old)
+
+-- the text went out that the first of these frames are served as, and perhaps a front of the next one's image
+pub record WroteImages (frames : List FrameText) (start : ClientStart) (end : ClientOutcome) : Type 0 where
+  pub sent : List FrameText
+  pub later : List FrameText
+  pub served : List ℕ
+  pub part : List ℕ
+  pub first : frames ≡ sent ++ later
+  pub count : length sent ≡ end.delivered
+  pub is_served : IsServedText start.seat.chain start.reader.header.line sent served
+  pub ends : EndsWithin start.seat.chain later part start.failures end.failures
+  pub wrote : Appends start.before end.after (served ++ part)
+  -- a write fault comes where a write or the flush failed, with the number of bytes that went out
+  pub told : (fault : WriteFault) → end.stop ≡ Write fault
+      → (end.failures ≡ one_more start.failures) × (fault ≡ Device (length (served ++ part)))
+
+-- all images were written and flushed, and nothing failed
+pub record IsWhole (start : ClientStart) (end : ClientOutcome) : Type 0 where
+  pub all : end.delivered ≡ end.accepted
+  pub no_failure : end.failures ≡ start.failures
+  pub flushed : end.is_flushed ≡ true
+
+-- what a client comes to: the frames that it took off the front of its reader and that were accepted, why
+-- there are no more, and what went out
+pub record ClientEnds (start : ClientStart) (seat : StreamSeatValue) (end : ClientOutcome) : Type 0 where
+  pub frames : List FrameText
+  pub rest : Option (List ℕ)
+  pub each : All (IsFrameOf (data_len_of start.reader.header)) frames
+  pub taken : Consumes start.reader.rest rest (frames_text frames)
+  pub count : length frames ≡ end.accepted
+  pub stops : StopsAt end.stop (record {
+    len = data_len_of start.reader.header;
+    count = end.accepted;
+    most = start.seat.frames;
+    rest = rest;
+    left = end.left;
+  })
+  pub reads : end.read_failures ≡ reads_at end.stop start.reader.failures
+  pub out : WroteNothing start end ⊎ CutsHeader start end ⊎ WroteImages frames start end
+  pub whole : end.stop ≡ Whole → IsWhole start end
+  -- the seat's calls
+  pub number : seat.number ≡ start.seat.number
+  pub offers : offers_in seat.calls.list ≡ end.accepted
+  pub collections : end.delivered ≤ collections_in seat.calls.list

@@ -1,0 +1,57 @@
+-- What follows from the definitions alone.
+use Rattle.std.specs.Prelude.{ℕ, ◌≡◌, ◌≤◌, ◌⊎◌, List, [], length, take, Option, Some, IfSome}
+use Rattle.std.specs.Io.KnownBytes.{Appends, Consumes}
+use Rattle.y4m_header.specs.StreamText.{FrameText, IsStreamText}
+use Rattle.y4m_stream.specs.Reader.{IsOpened, data_len_of}
+use Rattle.y4m_stream.specs.Served.{IsServedText}
+use Rattle.serve_hub.specs.Seats.{StreamSeatValue}
+use Rattle.serve_work.specs.declared.stop.Stop.TheVariants.{Whole}
+use Rattle.serve_work.specs.Clients.{ClientEnds, ClientOutcome, ClientStart, CutsHeader, StopsAt, WroteImages}
+use Rattle.serve_work.specs.Clients.{WroteNothing}
+
+-- the text is the whole input, all of it was read, and what it is served as was written
+pub record ServesAll (input : Option (List ℕ)) (text : List ℕ) (frames : List FrameText)
+    (start : ClientStart) (end : ClientOutcome) : Type 0 where
+  pub whole : IfSome input (λ bytes. bytes ≡ text)
+  pub all_read : IfSome input (λ _. end.left ≡ Some [])
+  pub served : List ℕ
+  pub is_served : IsServedText start.seat.chain start.reader.header.line frames served
+  pub wrote : Appends start.before end.after served
+
+-- a stream text of the frames that were accepted stands at the front of the input, and behind it what stopped
+-- the client; what went out is what they are served as, or a front of it
+pub record ServesInput (input : Option (List ℕ)) (start : ClientStart) (end : ClientOutcome) : Type 0 where
+  pub text : List ℕ
+  pub frames : List FrameText
+  pub rest : Option (List ℕ)
+  pub is_text : IsStreamText text start.reader.header.line frames
+  pub count : length frames ≡ end.accepted
+  pub taken : Consumes input rest text
+  pub stops : StopsAt end.stop (record {
+    len = data_len_of start.reader.header;
+    count = end.accepted;
+    most = start.seat.frames;
+    rest = rest;
+    left = end.left;
+  })
+  pub out : WroteNothing start end ⊎ CutsHeader start end ⊎ WroteImages frames start end
+  pub whole : end.stop ≡ Whole → ServesAll input text frames start end
+
+-- where a reader was opened on an input, and a client has ended, the input was served
+abbrev pub InputIsServed : Type 0
+InputIsServed =
+    (input : Option (List ℕ)) (failures : ℕ) (start : ClientStart) (seat : StreamSeatValue)
+    (end : ClientOutcome)
+    → IsOpened input failures start.reader → ClientEnds start seat end → ServesInput input start end
+
+-- a front of the text was written
+pub record WroteFront (served : List ℕ) (start : ClientStart) (end : ClientOutcome) : Type 0 where
+  pub n : ℕ
+  pub within : n ≤ length served
+  pub front : Appends start.before end.after (take n served)
+
+-- where these frames were accepted, what went out is a front of what they are served as
+abbrev pub AFrontWentOut : Type 0
+AFrontWentOut = (start : ClientStart) (end : ClientOutcome) (frames : List FrameText) (served : List ℕ)
+    → WroteNothing start end ⊎ CutsHeader start end ⊎ WroteImages frames start end
+    → IsServedText start.seat.chain start.reader.header.line frames served → WroteFront served start end

@@ -1,0 +1,4 @@
+pub mod Clients
+pub mod ClientInside
+pub mod Laws
+pub mod Workers

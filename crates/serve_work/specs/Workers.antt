@@ -1,0 +1,30 @@
+-- What a worker adds to its seat's calls.
+use Rattle.std.specs.Prelude.{ℕ, ◌≡◌, ◌⊎◌, List, [], ◌∷◌, ◌++◌, ⊤}
+use Rattle.serve_hub.specs.declared.entry.Act.{Act}
+use Rattle.serve_hub.specs.declared.entry.Act.TheVariants.{Leased, Settled}
+use Rattle.serve_hub.specs.Seats.{WorkSeatValue}
+
+-- leases, each followed by the settlement of its whole grant
+abbrev pub AreSpent : List Act → Type 0
+AreSpent [] = ⊤
+AreSpent (Leased stream seq grant ∷ Settled bands finished ∷ calls) = (bands ≡ grant) × AreSpent calls
+AreSpent calls = ⊥
+
+-- the same, and then one more lease, which wasn't settled
+pub record HasLast (calls : List Act) : Type 0 where
+  pub spent : List Act
+  pub stream : ℕ
+  pub seq : ℕ
+  pub grant : ℕ
+  pub are_spent : AreSpent spent
+  pub last : calls ≡ spent ++ Leased stream seq grant ∷ []
+
+-- a seat after these calls more
+abbrev pub adding : List Act → WorkSeatValue → WorkSeatValue
+adding calls seat = record seat { calls = record seat.calls { list = seat.calls.list ++ calls } }
+
+-- a worker leased and settled, and all else of its seat stays
+pub record Works (old new : WorkSeatValue) : Type 0 where
+  pub added : List Act
+  pub seat : new ≡ adding added old
+  pub spent : AreSpent added ⊎ HasLast added

@@ -1,0 +1,23 @@
+//! Streams that are served by threads: a worker leases and settles, and a client reads, offers, collects and
+//! writes.
+//!
+//! `specs/Clients.antt` says what a client comes to, `specs/Workers.antt` what a worker adds to its seat's
+//! calls.
+#![tactic(auto)]
+
+mod buffers;
+pub mod clients;
+mod delivery;
+mod feeding;
+pub mod gate;
+pub mod laws;
+pub mod stop;
+pub mod workers;
+
+pub use clients::{ClientEnd, client};
+pub use gate::{Clock, Gate};
+pub use stop::{Cause, Stop};
+pub use workers::work;
+
+#[cfg(test)]
+mod tests;

@@ -1,0 +1,71 @@
+//! Why a client stops.
+ghost use Rattle.std.specs.Prelude.{◌≡◌, ◌↔◌, IsFalse};
+ghost use Rattle.serve_work.specs.ClientInside.{IsFirst, IsUseful, stop_of};
+
+use serve_core::Refusal as Core;
+use serve_hub::Refusal;
+use thiserror::Error;
+use y4m_stream::{ReadFault, WriteFault};
+
+/// Why a frame, or an image, is refused to a client.
+#[derive(Clone, Copy, Debug, PartialEq, Eq, Error)]
+pub enum Cause {
+    /// The stream has accepted as many frames as it may.
+    #[error("TooManyFrames")]
+    TooManyFrames,
+    /// The moment of the offer was past 2^60.
+    #[error("ClockEnd")]
+    ClockEnd,
+    /// The journal is full.
+    #[error("HistoryFull")]
+    HistoryFull,
+    /// Memory was refused for the frame, for its job, or for the header of the images.
+    #[error("NoMemory")]
+    NoMemory,
+}
+
+/// Why a client stopped: the first fault, or none.
+#[derive(Clone, Copy, Debug, PartialEq, Eq)]
+pub enum Stop {
+    /// The input was read to its end, and the images of all its frames were written.
+    Whole,
+    /// The reader failed.
+    Read(ReadFault),
+    /// The writer failed, after so many bytes.
+    Write(WriteFault),
+    /// The hub refused a frame or an image.
+    Refused(Cause),
+    /// What the hub answered contradicts the client's seat.
+    Torn,
+}
+
+impl Stop {
+    /// What a refusal of the hub is to a client: it has collected all, or it stops. A refusal that
+    /// contradicts its seat is `Torn`.
+    pub(crate) fn of(refusal: Refusal) -> Stop
+        ensures { result ≡ stop_of refusal }
+    {
+        match refusal {
+            Refusal::HistoryFull => Stop::Refused(Cause::HistoryFull),
+            Refusal::Core(Core::TooManyFrames) => Stop::Refused(Cause::TooManyFrames),
+            Refusal::Core(Core::ClockEnd) => Stop::Refused(Cause::ClockEnd),
+            Refusal::Core(Core::NoMemory) => Stop::Refused(Cause::NoMemory),
+            Refusal::Core(Core::Drained) => Stop::Whole,
+            _ => Stop::Torn,
+        }
+    }
+
+    /// Whether nothing more is written after it.
+    pub(crate) fn is_spoilt(self) -> bool
+        ensures useful { IsFalse result ↔ IsUseful self }
+    {
+        matches!(self, Stop::Write(_) | Stop::Torn)
+    }
+
+    /// The first of two stops that is a fault.
+    pub(crate) fn or(self, later: Stop) -> Stop
+        ensures { IsFirst self later result }
+    {
+        if self == Stop::Whole { later } else { self }
+    }
+}

@@ -1,0 +1,73 @@
+//! A worker: it leases jobs, does what is granted, and settles.
+ghost use Rattle.std.specs.Prelude.{◌≡◌, ◌<◌, ◌+◌};
+ghost use Rattle.serve_work.specs.Workers.{Works};
+
+use crate::gate::Gate;
+use lease::Lease;
+use serve_hub::{Hub, LeaseRefused, Refusal, WorkSeat};
+use std::sync::Wait;
+use std::sync::ledger::Ledger;
+use std::thread::Threads;
+
+/// Does the next band of a lease, by two threads where the gate says so.
+fn step<G: Gate + Sync, T: Threads>(rt: &T, worker: u32, lease: &mut Lease, gate: &G)
+    requires { lease.old.used < lease.old.granted }
+    ensures { lease.new ≡ record lease.old { job = lease.new.job; used = lease.old.used + 1 } }
+{
+    gate.before_band(worker, lease.stream(), lease.seq());
+    let samples = lease.spec().chain().geometry().bytes();
+    if gate.in_halves(samples) {
+        let _ = lease.step_halves(rt, &|half| gate.in_half(worker, half));
+    } else {
+        let _ = lease.step();
+    }
+}
+
+/// Does all bands that were granted.
+fn spend<G: Gate + Sync, T: Threads>(rt: &T, worker: u32, lease: &mut Lease, gate: &G)
+    requires { lease.old.used ≡ 0 }
+    ensures { lease.new ≡ record lease.old { job = lease.new.job; used = lease.old.granted } }
+{
+    let granted = lease.granted();
+    for _done in 0..granted {
+        step(rt, worker, lease, gate);
+    }
+}
+
+/// Why a settlement was refused. A lease that came back is given up, with its job.
+fn given_up(refused: LeaseRefused) -> Refusal
+    ensures { result ≡ refused.refusal }
+{
+    let LeaseRefused { refusal, lease } = refused;
+    if let Some(lease) = lease {
+        let _job = lease.into_job();
+    }
+    refusal
+}
+
+/// Leases jobs, does all bands that are granted, and settles, until a call is refused: `Drained` where all
+/// streams are closed and done, and `HistoryFull` where the journal has no place for another lease.
+///
+/// Before each band it tells the gate. It holds no lock while it filters. A lease whose settlement is refused
+/// is given up, with its job.
+pub fn work<L: Ledger, G: Gate + Sync, T: Threads + Wait>(
+    rt: &T,
+    hub: &Hub<L>,
+    seat: WorkSeat<L>,
+    gate: &G,
+) -> (WorkSeat<L>, Refusal)
+    ensures { Works seat result.0 }
+{
+    let mut seat = seat;
+    for _ in rt.forever() {
+        let mut lease = match hub.lease(rt, &mut seat) {
+            Ok(lease) => lease,
+            Err(refusal) => return (seat, refusal),
+        };
+        spend(rt, seat.worker(), &mut lease, gate);
+        if let Err(refused) = hub.settle(rt, &mut seat, lease) {
+            return (seat, given_up(refused));
+        }
+    }
+    unreachable!()
+}
