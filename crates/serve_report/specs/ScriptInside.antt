@@ -61,13 +61,16 @@ pub record Answers (Gives : Given → Type 0) (kept : Script) (before after : Li
   pub printed : after ≡ before ++ line_text answer
 
 -- a run has printed the answers of such a report, and this is its stop
-pub record Reports (IsSuch : Report → Type 0) (stop : Option ScriptStop) (before after : List ℕ) : Type 0 where
+pub record Reports (IsSuch : Report → Type 0) (stop : Option ScriptStop)
+    (before after : List ℕ) : Type 0 where
   pub answers : List (List ℕ)
   pub printed : after ≡ before ++ text_of_lines answers
   pub report : IsSuch (report_of answers (option_map stop_told stop))
 
 -- a report of this text and this stop was written, and the answer is the report's; or a front of it was
 abbrev pub IsWritten :
-    (old new : Option (List ℕ)) (printed : List ℕ) (stop : Option Stop) (answer : Result Bool ReplayFault) → Type 0
+    (old new : Option (List ℕ)) (printed : List ℕ) (stop : Option Stop) (answer : Result Bool ReplayFault)
+    → Type 0
 IsWritten old new printed stop (Err Write) = AppendsFront old new (printed ++ stop_text stop)
-IsWritten old new printed stop answer = Appends old new (printed ++ stop_text stop) × (answer ≡ answer_of stop)
+IsWritten old new printed stop answer =
+    Appends old new (printed ++ stop_text stop) × (answer ≡ answer_of stop)

@@ -39,8 +39,8 @@ pub record IsTableOf (streams : Streams) (specs : List StreamSpec) : Type 0 wher
   pub names : length streams.names ≡ length specs
   pub geometries : streams.geometries ≡ geometries_of specs
 
--- the fault of a stream's line, which asks for such a thing: it is what the line asks for, or there is no memory
--- for what it asks for
+-- the fault of a stream's line, which asks for such a thing: it is what the line asks for, or there is no
+-- memory for what it asks for
 abbrev pub IsLate : Result StreamSpec Fault → Type 0
 IsLate (Ok spec) = ⊤
 IsLate (Err fault) = ComesLate fault
@@ -62,8 +62,8 @@ pub record IsAt (kept : SessionValue) (session : Session) : Type 0 where
   pub legal : IsLegal measures is_image session.setup session.past
   pub machine : kept.machine ≡ state_of session.setup session.past
 
--- a session's line that gives such a thing was answered so, the answer was printed, and this is kept of what it
--- led to
+-- a session's line that gives such a thing was answered so, the answer was printed, and this is kept of what
+-- it led to
 pub record AnswersIn (Gives : Given → Type 0) (kept : SessionValue) (before after : List ℕ) : Type 0 where
   pub answer : List ℕ
   pub next : Session

@@ -49,7 +49,8 @@ pub record IsSingleRow (count : ℕ) (geometry : Geometry) : Type 0 where
   pub height : geometry.height ≡ 1
   pub chroma : geometry.chroma ≡ Mono
 
--- the frame of these samples that arrives at a stream: of its geometry where they fill that, else a single row
+-- the frame of these samples that arrives at a stream: of its geometry where they fill that, else a single
+-- row
 pub record IsArrival (stream : Option StreamSpec) (sent : List ℕ) (frame : FrameValue) : Type 0 where
   pub geometry :
       MatchBool (fills stream (length sent)) (IsSomeAnd stream (λ spec. frame.geometry ≡ spec.geometry))
@@ -88,7 +89,8 @@ RunGives session (Lease worker) given = EventGives session (events.Lease worker)
 RunGives session (Step worker) given = EventGives session (events.Band worker) given
 RunGives session (Settle worker) given = EventGives session (events.Settle worker) given
 RunGives session (Tick moment) given = EventGives session (events.Tick moment) given
-RunGives session (Close name) given = EventGives session (events.Close (stream_named session.names name)) given
+RunGives session (Close name) given =
+    EventGives session (events.Close (stream_named session.names name)) given
 RunGives session (Collect name) given =
     EventGives session (events.Collect (stream_named session.names name)) given
 RunGives session (State name) given = StateGives session name given

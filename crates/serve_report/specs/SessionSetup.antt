@@ -50,8 +50,8 @@ spec_with p form chain = record {
   frames = p.frames;
 }
 
--- what a line's stream is served with where its operations and its frames' geometry are these, or why they make
--- no chain
+-- what a line's stream is served with where its operations and its frames' geometry are these, or why they
+-- make no chain
 abbrev pub AsksOfChain : Preparation → StreamForm → ChainValue → Result StreamSpec Fault → Type 0
 AsksOfChain p form chain asked =
     (IsChain chain × (asked ≡ Ok (spec_with p form chain)))
@@ -67,7 +67,8 @@ AsksOfHeader p form ops asked =
     ⊎ ((error : HeaderError) × (error ≢ header.NoMemory) × IsRefusedAs error form.header
     × (asked ≡ Err (faults.BadHeader error)))
 
--- what a line's stream is served with, or the first thing that is wrong: its operations, its header, its chain
+-- what a line's stream is served with, or the first thing that is wrong: its operations, its header, its
+-- chain
 abbrev pub AsksFor : Preparation → StreamForm → Result StreamSpec Fault → Type 0
 AsksFor p form asked =
     MatchOption (ops_of form.operations) (asked ≡ Err (faults.BadChain filter.BadOp)) (λ ops.

@@ -113,19 +113,22 @@ happens and no time passes but by a command.";
 
 /// The commands, the limits and the faults of `replay`.
 pub const REPLAY_PAGE: &str =
-    "A script has at most 1048576 bytes, one command a line, with single spaces. An
-empty line and a line that begins with '#' do nothing. A number is 1 to 19
-digits. NAME is 1 to 32 letters, digits, '_' or '-'; W is the number of a worker,
-from 0, at most 4294967295; HEX is one or more pairs of hexadecimal digits.
-Where the first command is 'account' it is an account script, else a session
-script.
+    "A script has at most 1048576 bytes, one command a line, with single spaces; a
+line ends with a line feed alone, which the last one may lack. An empty line and
+a line that begins with '#' do nothing. A number is 1 to 19 digits. NAME is 1 to
+32 letters, digits, '_' or '-'; W is the number of a worker, from 0, at most
+4294967295; HEX is one or more pairs of hexadecimal digits. Where the first
+command is 'account' it is an account script, else a session script.
 
 Commands of an account script, each printing 'budget C deadline D':
   account Q T    A new account of maximum budget Q and period T, where
-                 1 <= Q <= T <= 1048576.
+                 1 <= Q <= T <= 1048576: C is Q, and D is 0.
   idle R         A job arrives at the moment R, at most 1152921504606846976, and
-                 finds the server idle.
-  charge K       K units of work were done.
+                 finds the server idle: where C * T >= (D - R) * Q, C becomes Q
+                 and D becomes R + T.
+  charge K       K units of work were done, at most 1099511627776. Each takes 1
+                 from C; where none is left, C becomes Q and D becomes D + T,
+                 which stays below 4611686018427387904.
 
 Commands of a session script before 'start'; a setting prints 'ok':
   workers N      There are N workers, 1 to 16; at first 1.
@@ -149,24 +152,28 @@ Commands of a session script before 'start'; a setting prints 'ok':
 Commands of a session script after 'start':
   arrive NAME HEX  A frame arrives; HEX is its samples, the planes one after
                  another: 'accepted SEQ', SEQ counted from 0 in its stream.
+                 Where no frame of the stream was unfinished, its account moves
+                 as by 'idle' at the moment that the clock shows.
   lease W        The worker asks for a lease: 'leased NAME SEQ grant G'. It goes
                  to the ready stream with the earliest deadline, then the lowest
                  number, for at most the quantum, the bands that are left, and
                  what the budget pays for, but for one at least. A stream is
                  ready where it has an unfinished frame, none of its frames is
                  leased, and its outbox has room.
-  band W         It does the next band of its lease: 'stepped'. A band of blur:R
-                 costs the stream's account 1 + R units, any other 1.
+  band W         It does the next band of its lease: 'stepped'. The stream's
+                 account is charged 1 + R units for a band of blur:R, else 1.
   settle W       It gives its lease back: 'finished SEQ' where the frame's last
-                 band is done, else 'returned'.
-  tick N         The clock goes on from 0 to N, at most 1152921504606846976:
-                 'ticked'.
+                 band is done, else 'returned': the frame is next again, with
+                 the bands that are done.
+  tick N         The clock, 0 at first, goes on to N, at most
+                 1152921504606846976: 'ticked'.
   close NAME     The stream gets no more frames: 'closing'.
-  collect NAME   The stream's oldest image is given out: 'image HEX'.
+  collect NAME   The stream's oldest image is given out: 'image HEX', in upper
+                 case.
   state NAME     Shows the stream: 'budget C deadline D accepted A finished F
                  collected K charged U'.
 
-Refusals, 'refused N WORD'; the lowest that holds, and the script goes on:
+Refusals change nothing, and the script goes on: 'refused N WORD', the lowest N:
   1 NoStream       No stream has the name.
   2 Closed         A frame arrives, and the stream was closed.
   3 WrongSize      A frame of the stream has another number of samples.
@@ -196,9 +203,9 @@ Faults of the script, printed as the last line, 'line N: WORD'; status 1:
   BadLine        The line has none of these forms, or not one for its place: of
                  the other kind of script, or on the wrong side of 'start'. Also
                  an arrival of more than 16384 samples that are no frame of
-                 the stream.
+                 the stream, or where no stream has the name.
   BadName        A stream has the name.
-  Range          More units than can be charged.
+  Range          At 'charge': K, or D afterwards, is over its limit.
   BadOp          A part of OPS has none of the forms of an operation.
   TooManyOps     OPS has more than 8 parts.
   NotY4m         HEADER is refused, here and by the next six as after 'read

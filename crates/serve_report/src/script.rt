@@ -19,7 +19,8 @@
 //! | Command | What is set up | What it prints |
 //! |---|---|---|
 //! | `workers N`, `quantum K` | how many workers, and the most bands of a lease; at first 1 and 4 | `ok` |
-//! | `band B`, `frames N` | for the streams that follow: the luma rows of a band, the most frames; at first 16 and 16,777,216 | `ok` |
+//! | `band B` | for the streams that follow: the luma rows of a band; at first 16 | `ok` |
+//! | `frames N` | for the streams that follow: the most frames; at first 16,777,216 | `ok` |
 //! | `stream NAME Q T QUEUE OUTBOX OPS HEADER` | one more stream; `HEADER` is all that follows | `stream S` |
 //! | `start` | the machine is made | `started` |
 //!
@@ -127,8 +128,8 @@ fn replay_through<R: Source, W: Sink>(
     tell(output, &printed, stop)
 }
 
-/// Writes a report: what was printed, and then the line of the stop, if there is one. It answers what a replay
-/// answers then.
+/// Writes a report: what was printed, and then the line of the stop, if there is one. It answers what a
+/// replay answers then.
 fn tell<W: Sink>(
     output: &mut W,
     printed: &[u8],

@@ -335,6 +335,7 @@ fn an_idle_arrival_after_a_long_silence_recharges(rt: HostRuntime) -> Result<(),
         &rt,
         rt.alloc(),
         "account 2 10\nidle 0\ncharge 1\ncharge 1\nidle 30\n",
-        "budget 2 deadline 0\nbudget 2 deadline 10\nbudget 1 deadline 10\nbudget 2 deadline 20\nbudget 2 deadline 40\n",
+        "budget 2 deadline 0\nbudget 2 deadline 10\nbudget 1 deadline 10\nbudget 2 deadline 20\n\
+         budget 2 deadline 40\n",
     )
 }

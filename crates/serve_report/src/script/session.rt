@@ -6,6 +6,8 @@ pub mod line;
 #[cfg(test)]
 mod line_tests;
 pub mod pieces;
+#[cfg(test)]
+mod prefix_tests;
 pub mod preparation;
 pub mod run_command;
 pub mod running;

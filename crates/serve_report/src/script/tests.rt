@@ -59,7 +59,8 @@ fn budgets_and_deadlines_follow_the_published_rules(rt: HostRuntime) {
         ),
         (
             "account 2 10\nidle 0\ncharge 1\ncharge 1\nidle 30\n",
-            "budget 2 deadline 0\nbudget 2 deadline 10\nbudget 1 deadline 10\nbudget 2 deadline 20\nbudget 2 deadline 40\n",
+            "budget 2 deadline 0\nbudget 2 deadline 10\nbudget 1 deadline 10\nbudget 2 deadline 20\n\
+             budget 2 deadline 40\n",
         ),
         (
             "account 3 10\nidle 0\ncharge 7\n",
@@ -122,9 +123,11 @@ fn numbers_reach_their_limits(rt: HostRuntime) {
     for (script, lines) in [
         // Each charge puts the deadline off by 2^60; the fourth would put it at 2^62.
         (
-            "account 1 1048576\ncharge 1099511627776\ncharge 1099511627776\ncharge 1099511627776\ncharge 1099511627776\n",
-            "budget 1 deadline 0\nbudget 1 deadline 1152921504606846976\nbudget 1 deadline 2305843009213693952\n\
-             budget 1 deadline 3458764513820540928\nline 5: Range\n",
+            "account 1 1048576\ncharge 1099511627776\ncharge 1099511627776\ncharge 1099511627776\n\
+             charge 1099511627776\n",
+            "budget 1 deadline 0\nbudget 1 deadline 1152921504606846976\n\
+             budget 1 deadline 2305843009213693952\nbudget 1 deadline 3458764513820540928\n\
+             line 5: Range\n",
         ),
         (
             "account 1 1\ncharge 9999999999999999999\n",

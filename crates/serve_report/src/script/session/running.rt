@@ -65,7 +65,8 @@ impl<'a> Session<'a> {
     ) -> Result<(), ScriptFault<'a>>
         requires { HasHex (run_told command) }
         ensures ran { OnOk result ((session : Begun) → IsAt self.old session
-            → AnswersIn (RunGives session (run_told command.entry)) self.new printed.old.items printed.new.items) }
+            → AnswersIn (RunGives session (run_told command.entry)) self.new
+            printed.old.items printed.new.items) }
         ensures fault { IfErr result (λ fault. (session : Begun) → IsAt self.old session
             → MayFault (RunGives session (run_told command.entry)) (fault_told fault)) }
         ensures kept { OnErr result (printed.new.items ≡ printed.old.items) }
