@@ -1,4 +1,4 @@
-"""What the bench scripts share: the program, streams made by ffmpeg, and timed runs."""
+"""What the bench scripts share: what they need, the program, streams made by ffmpeg, and timed runs."""
 
 import os
 import shutil
@@ -9,29 +9,102 @@ import tempfile
 import time
 
 TOP = os.path.dirname(os.path.dirname(os.path.abspath(__file__)))
-PROGRAM = os.path.join(TOP, "crates", "y4mserve", "out", "y4mserve")
+MEMORY = "/dev/shm"
 RUNS = 5
+# where a program is to be had that a script needs
+BRINGS = {
+    "rt": "the Rattle kit brings it; put its folder `bin` on the path",
+    "ffmpeg": "`apt-get install ffmpeg` brings it",
+    "x264": "`apt-get install x264` brings it",
+    "mpeg2enc": "`apt-get install mjpegtools` brings it",
+    "mandoc": "`apt-get install mandoc` brings it",
+    "cc": "`apt-get install gcc` brings it",
+}
+
+
+def need(*names):
+    """Ends the script with one line where one of these programs is missing."""
+    for name in names:
+        if not shutil.which(name):
+            sys.exit(f"{name} is missing: {BRINGS[name]}")
+
+
+def takes(form, said):
+    """Whether the words have this form: in it a word in capitals stands for any one, and with two dots for any number."""
+    parts = form.split()
+    if parts and parts[-1].endswith(".."):
+        parts = parts[:-1] + ["WORD"] * (len(said) - len(parts) + 1)
+    return len(parts) == len(said) and all(part.isupper() or part == word for part, word in zip(parts, said))
+
+
+def words(*forms):
+    """The script's words. Words of none of the forms end it with status 2."""
+    said = sys.argv[1:]
+    if any(takes(form, said) for form in forms):
+        return said
+    name = os.path.basename(sys.argv[0])
+    print("usage: " + " | ".join(f"{name} {form}".strip() for form in forms), file=sys.stderr)
+    sys.exit(2)
+
+
+def sources():
+    """Each file that the program or a test is made of."""
+    yield os.path.join(TOP, "crates.txt")
+    for crate in os.listdir(os.path.join(TOP, "crates")):
+        for folder, _, names in os.walk(os.path.join(TOP, "crates", crate, "src")):
+            yield from (os.path.join(folder, name) for name in names)
+
+
+def built(crate, made, command):
+    """What rt makes of a crate by this command, made again where it is missing or older than its sources."""
+    folder = os.path.join(TOP, "crates", crate)
+    path = os.path.join(folder, "out", made)
+    if os.path.exists(path) and os.stat(path).st_mtime >= max(os.stat(source).st_mtime for source in sources()):
+        return path
+    need("rt")
+    print(f"building {made} ..", file=sys.stderr)
+    started = time.time()
+    given = os.path.join(folder, "stdin")
+    with open(given if os.path.exists(given) else os.devnull, "rb") as stream:
+        run = subprocess.run(["rt", *command], cwd=folder, stdin=stream, stdout=subprocess.PIPE, stderr=subprocess.STDOUT)
+    if run.returncode != 0 or not os.path.exists(path):
+        said = run.stdout.decode(errors="replace").strip().splitlines() or ["rt said nothing"]
+        sys.exit(f"{made} was not built: {said[-1]}")
+    # where nothing of what it is made of has changed, rt leaves it as it was
+    os.utime(path, (started, started))
+    return path
 
 
 def program():
-    """The proved program, built where it is missing."""
-    if not os.path.exists(PROGRAM):
-        print("building y4mserve ..", file=sys.stderr)
-        subprocess.run(["rt", "run", "--", "filter", "invert"], cwd=os.path.join(TOP, "crates", "y4mserve"),
-                       stdin=subprocess.DEVNULL, stdout=subprocess.DEVNULL, stderr=subprocess.DEVNULL)
-    if not os.path.exists(PROGRAM):
-        sys.exit("crates/y4mserve/out/y4mserve is missing: run `rt ci` first")
-    return PROGRAM
+    """The proved program."""
+    return built("y4mserve", "y4mserve", ["run", "--", "filter", "invert"])
 
 
-def need_ffmpeg():
-    if not shutil.which("ffmpeg"):
-        sys.exit("ffmpeg is missing: `apt-get install ffmpeg` (Debian's package) brings the peer")
+def has_tests(crate):
+    folder = os.path.join(TOP, "crates", crate, "src")
+    for source in (source for source in sources() if source.startswith(folder + os.sep)):
+        with open(source) as file:
+            if "#[test]" in file.read():
+                return True
+    return False
 
 
-def workspace():
-    """A folder in memory that goes when the script ends."""
-    return tempfile.TemporaryDirectory(prefix="y4mserve-bench-", dir="/dev/shm")
+def tests(crate):
+    """The proved tests of a crate, as a program that runs those that it is given by name."""
+    return built(crate, f"{crate}_tests", ["test"])
+
+
+def workspace(megabytes):
+    """A folder in memory with room for so much, which goes when the script ends."""
+    if not os.path.isdir(MEMORY):
+        sys.exit(f"{MEMORY} is missing: the streams stand in memory there")
+    room = os.statvfs(MEMORY)
+    with open("/proc/meminfo") as told:
+        free = [int(line.split()[1]) for line in told if line.startswith("MemAvailable:")]
+    left = min([room.f_bavail * room.f_frsize // 1000000] + [kibibytes * 1024 // 1000000 for kibibytes in free])
+    if left < megabytes:
+        sys.exit(f"room in memory is missing: {left} MB are left in {MEMORY}, and {megabytes} MB are wanted")
+    return tempfile.TemporaryDirectory(prefix="y4mserve-bench-", dir=MEMORY)
 
 
 def make_stream(path, frames, pixels, size="1920x1080"):
