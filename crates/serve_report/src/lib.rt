@@ -1,16 +1,15 @@
-// The program over any readers and writers, and the replay of scripts.
+// The program over any readers and writers.
 #![tactic(auto)]
 
 mod frame_count;
 mod help;
 pub mod program;
 pub mod progress;
-pub mod script;
 mod tell;
 pub mod watch;
 mod watched;
 mod words;
 
 pub use program::{main_on, run_on};
-pub use script::{ReplayFault, replay};
+pub use serve_script::{ReplayFault, replay};
 pub use watch::{Unwatched, Watch};

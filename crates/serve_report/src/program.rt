@@ -2,13 +2,13 @@
 ghost use Rattle.std.specs.Prelude.{◌≡◌, ◌≤◌};
 ghost use Rattle.std.specs.Io.KnownBytes.{Keeps};
 
-use crate::script::replay;
 use crate::tell::tell;
 use crate::watch::{Unwatched, Watch};
 use crate::watched::{WatchedSink, WatchedSource};
 use crate::words::{FilterWords, NoRequest, Request, read_words};
 use filters::{FilterError, Op, parse_ops};
 use row_bands::BandHeight;
+use serve_script::replay;
 use std::alloc::Global;
 use std::io::{Read, Write};
 use thiserror::Error;
