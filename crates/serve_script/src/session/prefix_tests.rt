@@ -12,8 +12,8 @@ enum Told {
     Fault(&'static str),
 }
 
-/// What is told of a line that is cut short, up to this text and from the text above it in the table on. Other
-/// cut lines are bad lines.
+/// What is told of a line that is cut short: up to this text, and from the text above it in the table on. All
+/// others are bad lines.
 type Cut<'a> = (&'a str, Told);
 
 /// What a line prints that was cut to this.
