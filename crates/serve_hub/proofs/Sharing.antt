@@ -1,6 +1,12 @@
 -- What threads may share, and what may go from one to another. The search stops within a book, so it is told
 -- type by type.
+use mathlib.Core.List.{[], ◌∷◌}
+use base.Fml.{Lft}
+use mir.Syntax.{named}
+use denote.Builtin.{u64}
 use denote.RattleType.{RattleType}
+use denote.Ref.{ShrRef}
+use denote.Struct.Tuple.{Tuple}
 use denote.Param.Send.{IsSend, IsSync, sendable}
 use Rattle.std.proofs.Crossing.{crosses}
 use Rattle.std.proofs.sync.ledger.Book.TheSendSync as total
@@ -31,3 +37,8 @@ hub_sync L l s y = search (sendable, crosses, inside_sync) depth 20
 
 pub work_seat_send : (L : RattleType) (l : Ghosts L.Denot) → IsSend L → IsSend (WorkSeat.the_row L l)
 work_seat_send L l s = search (sendable, crosses, share.the_send) depth 20
+
+-- a closure that has references to a handle, a hub and a number
+pub references_sync : (L R : RattleType) (l : Ghosts L.Denot) (κ κ' : Lft) → IsSend L → IsSync L → IsSync R
+    → IsSync (Tuple (ShrRef (named 0) κ R ∷ ShrRef (named 0) κ' (Hub.the_row L l) ∷ ShrRef (named 0) κ u64 ∷ []))
+references_sync L R l κ κ' s y r = search (sendable, hub_sync) depth 20

@@ -1,11 +1,14 @@
-//! Books and hubs that are called in turn, with the answers that were worked out by hand.
+//! Books and hubs that are called in turn, with the answers that were worked out by hand, and hubs that
+//! threads call at once.
 mod calls;
+mod clients;
 mod full;
 mod hubs;
 mod jobs;
 mod leases;
 mod seated;
 mod seats;
+mod threads;
 mod twins;
 
 use crate::{Book, Refusal, Settled};
