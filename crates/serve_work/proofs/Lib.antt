@@ -2,5 +2,6 @@ pub mod Ending
 pub mod Fronts
 pub mod Moving
 pub mod Serving
+pub mod SessionTurns
 pub mod Texts
 pub mod Working
