@@ -1,5 +1,6 @@
 //! The threads of a session: one for each worker, and one for each client where it is granted.
 ghost use Rattle.std.specs.Prelude.{◌≡◌, IfErr, IfOk, vec_len};
+ghost use Rattle.std.specs.Thread.{IsSend, IsSync};
 ghost use Rattle.serve_work.specs.SessionInside.{AllRun, Runs};
 
 use super::SessionFault;
@@ -92,6 +93,8 @@ pub(super) fn run_threads<
         thread::scope_env(),
         rt,
         |scope| -> Result<(Vec<WorkSeat<L>>, Vec<Turn<L, R, W>>), SessionFault>
+            requires { IsSync T.row × IsSync G.row × IsSync K.row × IsSync L.row × IsSend L.row
+                × IsSend R.row × IsSend W.row }
             ensures count { IfOk result (λ r. vec_len r.1 ≡ vec_len turns) }
             ensures run { IfOk result (λ r. AllRun turns.items r.1.items) }
             ensures refused { IfErr result (λ e. e ≡ SessionFault.NoMemory) }
