@@ -1,17 +1,1 @@
-pub mod ScriptText
-pub mod ScriptCommand
-pub mod ScriptFault
-pub mod ScriptState
-pub mod AccountScript
-pub mod SessionWords
-pub mod SessionCommand
-pub mod SessionLine
-pub mod SessionSetup
-pub mod SessionRun
-pub mod ScriptReport
-pub mod Writing
-pub mod ScriptReplay
-pub mod ScriptDevices
-pub mod SessionInside
-pub mod ScriptInside
 pub mod ServeReport

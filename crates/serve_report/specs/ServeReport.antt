@@ -6,7 +6,7 @@ use Rattle.y4m_stream.specs.declared.fault.WriteFault.{WriteFault}
 use Rattle.y4m_stream.specs.declared.fault.WriteFault.TheVariants as writes
 use Rattle.serve_work.specs.declared.stop.Cause.{Cause}
 use Rattle.serve_work.specs.declared.stop.Cause.TheVariants as causes
-use Rattle.serve_report.specs.ScriptFault.{filter_word, header_word}
+use Rattle.serve_script.specs.ScriptFault.{filter_word, header_word}
 use Rattle.serve_report.specs.declared.serve.report.StreamRow.{StreamRow}
 use Rattle.serve_report.specs.declared.serve.report.StreamStop.{StreamStop}
 use Rattle.serve_report.specs.declared.serve.report.StreamStop.TheVariants as stops

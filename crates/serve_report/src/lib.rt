@@ -1,4 +1,4 @@
-// The program over any readers and writers, and the replay of scripts.
+// The program over any readers and writers.
 #![tactic(auto)]
 
 pub mod files;
@@ -6,7 +6,6 @@ mod frame_count;
 mod help;
 pub mod program;
 pub mod progress;
-pub mod script;
 mod serve;
 mod tell;
 pub mod watch;
@@ -15,5 +14,5 @@ mod words;
 
 pub use files::Files;
 pub use program::{main_on, run_on};
-pub use script::{ReplayFault, replay};
+pub use serve_script::{ReplayFault, replay};
 pub use watch::{Unwatched, Watch};

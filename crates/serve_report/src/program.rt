@@ -3,7 +3,6 @@ ghost use Rattle.std.specs.Prelude.{◌≡◌, ◌≤◌};
 ghost use Rattle.std.specs.Io.KnownBytes.{Keeps};
 
 use crate::files::Files;
-use crate::script::replay;
 use crate::serve::run_serve;
 use crate::tell::tell;
 use crate::watch::{Unwatched, Watch};
@@ -11,6 +10,7 @@ use crate::watched::{WatchedSink, WatchedSource};
 use crate::words::{FilterWords, NoRequest, Request, read_words};
 use filters::{FilterError, Op, parse_ops};
 use row_bands::BandHeight;
+use serve_script::replay;
 use std::alloc::Global;
 use std::io::{Read, Write};
 use std::sync::Wait;

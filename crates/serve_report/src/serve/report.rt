@@ -1,8 +1,8 @@
 //! What is reported of the streams of a run.
 ghost use Rattle.std.specs.Prelude.{◌≡◌, OnOk};
 ghost use Rattle.std.specs.Io.KnownBytes.{Appends};
-ghost use Rattle.serve_report.specs.ScriptFault.{filter_word, header_word};
-ghost use Rattle.serve_report.specs.ScriptReport.{line_text};
+ghost use Rattle.serve_script.specs.ScriptFault.{filter_word, header_word};
+ghost use Rattle.serve_script.specs.ScriptReport.{line_text};
 ghost use Rattle.serve_report.specs.ServeReport.{cause_word, read_word, row_text};
 
 use filters::FilterError;

@@ -1,6 +1,0 @@
-use Rattle.serve_report.proofs.ScriptParts.{script_lines-more}
-use Rattle.serve_report.proofs.script.lines.first_line.Goals as goal
-
-pub returns-in-Some-clause-lines : goal.returns-in-Some-clause-lines
-returns-in-Some-clause-lines c =
-    script_lines-more c.args.text.now c.cut.result.0.now c.in-Some.rest.now (rw c.in-Some.is at c.cut.ensures.parts)

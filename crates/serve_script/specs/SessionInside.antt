@@ -1,0 +1,104 @@
+-- What the program keeps of a session script.
+use Rattle.std.specs.Prelude.{ℕ, ◌≡◌, ◌≤◌, ◌<◌, ◌/◌, ◌⊎◌, ⊤, Bool, false, true, nat_eq, List, [], ◌∷◌, ◌++◌, length, map}
+use Rattle.std.specs.Prelude.{codes, slice_get, Option, Some, MatchBool, Result, Ok, Err}
+use Rattle.hex.specs.Hex.{decode_of}
+use Rattle.serve_core.specs.Events.{Event, Arrive}
+use Rattle.std.specs.Option.{option_map_or}
+use Rattle.filters.specs.ChainImage.{FrameValue}
+use Rattle.frame_view.specs.Places.{frame_len}
+use Rattle.frame_view.specs.declared.geometry.Geometry.{Geometry}
+use Rattle.serve_core.specs.Frames.{is_image, measures}
+use Rattle.serve_core.specs.Rules.{IsLegal}
+use Rattle.serve_core.specs.Setup.{IsSetup, StreamSpec}
+use Rattle.serve_core.specs.States.{State, state_of}
+use Rattle.serve_script.specs.ScriptFault as faults
+use Rattle.serve_script.specs.ScriptFault.{Fault}
+use Rattle.serve_script.specs.ScriptState.{ComesLate, Given, InSession, Prints, Session}
+use Rattle.serve_script.specs.ScriptReport.{line_text}
+use Rattle.serve_script.specs.SessionRun.{IsArrival, IsSingleRow, is_too_wide, stream_named}
+
+-- the streams by number: their names, and the geometries of their frames
+pub record Streams : Type 0 where
+  pub names : List (List ℕ)
+  pub geometries : List Geometry
+
+abbrev pub no_streams : Streams
+no_streams = record { names = []; geometries = [] }
+
+abbrev pub with_named : List ℕ → Geometry → Streams → Streams
+with_named name geometry streams = record {
+  names = streams.names ++ name ∷ [];
+  geometries = streams.geometries ++ geometry ∷ [];
+}
+
+abbrev pub geometries_of : List StreamSpec → List Geometry
+geometries_of specs = map (λ spec. spec.geometry) specs
+
+-- the table has a name and the geometry of each stream
+pub record IsTableOf (streams : Streams) (specs : List StreamSpec) : Type 0 where
+  pub names : length streams.names ≡ length specs
+  pub geometries : streams.geometries ≡ geometries_of specs
+
+-- the fault of a stream's line, which asks for such a thing: it is what the line asks for, or there is no
+-- memory for what it asks for
+abbrev pub IsLate : Result StreamSpec Fault → Type 0
+IsLate (Ok spec) = ⊤
+IsLate (Err fault) = ComesLate fault
+
+abbrev pub MayLack : (Result StreamSpec Fault → Type 0) → Fault → Type 0
+MayLack Asks faults.NoMemory = (asked : Result StreamSpec Fault) → Asks asked → IsLate asked
+MayLack Asks fault = Asks (Err fault)
+
+-- what the program keeps of a session: the streams, and the machine
+pub record SessionValue : Type 0 where
+  pub streams : Streams
+  pub machine : State FrameValue
+
+-- this is kept of a session
+pub record IsAt (kept : SessionValue) (session : Session) : Type 0 where
+  pub names : kept.streams.names ≡ session.names
+  pub table : IsTableOf kept.streams session.setup.streams
+  pub setup : IsSetup session.setup
+  pub legal : IsLegal measures is_image session.setup session.past
+  pub machine : kept.machine ≡ state_of session.setup session.past
+
+-- a session's line that gives such a thing was answered so, the answer was printed, and this is kept of what
+-- it led to
+pub record AnswersIn (Gives : Given → Type 0) (kept : SessionValue) (before after : List ℕ) : Type 0 where
+  pub answer : List ℕ
+  pub next : Session
+  pub gives : Gives (Prints answer (InSession next))
+  pub stands : IsAt kept next
+  pub printed : after ≡ before ++ line_text answer
+
+-- so many samples fill a frame of this geometry, if there is one
+abbrev pub fills_geometry : Option Geometry → ℕ → Bool
+fills_geometry geometry count = option_map_or (λ g. nat_eq count (frame_len g)) geometry false
+
+-- the geometry of a frame of so many samples that arrives where frames have this one
+abbrev pub IsArriving : Option Geometry → ℕ → Geometry → Type 0
+IsArriving geometry count g =
+    MatchBool (fills_geometry geometry count) (geometry ≡ Some g) (IsSingleRow count g)
+
+-- the frame of hexadecimal digits that arrives where frames have this geometry
+pub record IsFrameOf (served : Option Geometry) (hex : List ℕ) (frame : FrameValue) : Type 0 where
+  pub decoded : decode_of hex ≡ Ok frame.samples
+  pub narrow : (fills_geometry served (length frame.samples) ≡ true) ⊎ (length frame.samples ≤ 16384)
+  pub geometry : IsArriving served (length frame.samples) frame.geometry
+  pub line : frame.line ≡ codes "FRAME"
+
+-- why there is no such frame: its samples are too many for a row, or there is no memory for one that isn't so
+abbrev pub IsNoFrame : Option Geometry → List ℕ → Fault → Type 0
+IsNoFrame geometry hex faults.BadLine =
+    (fills_geometry geometry (length hex / 2) ≡ false) × (16384 < length hex / 2)
+IsNoFrame geometry hex faults.NoMemory =
+    (fills_geometry geometry (length hex / 2) ≡ true) ⊎ (length hex / 2 ≤ 16384)
+IsNoFrame geometry hex fault = ⊥
+
+-- the event of a line `arrive NAME HEX`
+abbrev pub IsArrivalEvent : Session → List ℕ → List ℕ → Event FrameValue → Type 0
+IsArrivalEvent session name hex event =
+    let number = stream_named session.names name in
+    (frame : FrameValue) × (event ≡ Arrive number frame) × (decode_of hex ≡ Ok frame.samples)
+    × (is_too_wide (slice_get session.setup.streams number) (length frame.samples) ≡ false)
+    × IsArrival (slice_get session.setup.streams number) frame.samples frame

@@ -1,0 +1,57 @@
+//! An account script: its commands are run in order on one account.
+ghost use Rattle.std.specs.Prelude.{◌≡◌, ◌++◌, Ok, Err, IfErr, IfOk, OnErr};
+ghost use Rattle.serve_script.specs.AccountScript.{balance_line};
+ghost use Rattle.serve_script.specs.ScriptCommand.{IsOnClock};
+ghost use Rattle.serve_script.specs.ScriptFault.{fault_told};
+ghost use Rattle.serve_script.specs.ScriptInside.{MayEnd, outcome_by, outcome_of};
+ghost use Rattle.serve_script.specs.ScriptReport.{line_text};
+
+use super::command::{AccountCommand, parse_command};
+use super::fault::ScriptFault;
+use super::print::push_balance;
+use cbs_account::Account;
+
+/// Runs the command of a line and appends its answer. It answers the account that the command leaves.
+pub fn run_account_line<'a>(
+    account: Option<Account>,
+    line: &'a [u8],
+    printed: &mut Vec<u8>,
+) -> Result<Account, ScriptFault<'a>>
+    ensures ran { IfOk result (λ next. outcome_of account line.now ≡ Ok next) }
+    ensures printed { IfOk result
+        (λ next. printed.new.items ≡ printed.old.items ++ line_text (balance_line next)) }
+
+    ensures fault { IfErr result (λ fault. MayEnd (outcome_of account line.now) (fault_told fault)) }
+    ensures kept { OnErr result (printed.new.items ≡ printed.old.items) }
+{
+    let command = parse_command(line).ok_or(ScriptFault::BadLine)?;
+    let next = run_command(account, command)?;
+    push_balance(printed, &next)?;
+    Ok(next)
+}
+
+/// The account after one command.
+fn run_command<'a>(
+    account: Option<Account>,
+    command: AccountCommand,
+) -> Result<Account, ScriptFault<'a>>
+    requires { IsOnClock command }
+    ensures next { IfOk result (λ next. outcome_by account command ≡ Ok next) }
+    ensures fault { IfErr result (λ fault. outcome_by account command ≡ Err (fault_told fault)) }
+{
+    match (command, account) {
+        (AccountCommand::Open { q, t }, _) => Ok(Account::new(q, t)?),
+        (_, None) => Err(ScriptFault::BadLine),
+        (AccountCommand::ArriveIdle { moment }, Some(mut account)) => {
+            account.arrive_idle(moment);
+            Ok(account)
+        }
+        (AccountCommand::Charge { units }, Some(mut account)) => {
+            if !account.can_charge(units) {
+                return Err(ScriptFault::Range);
+            }
+            account.charge(units);
+            Ok(account)
+        }
+    }
+}

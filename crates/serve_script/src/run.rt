@@ -1,0 +1,152 @@
+//! The run of a script: its lines in order, up to the first fault.
+ghost use Rattle.std.specs.Prelude.{◌≡◌, ◌≤◌, ◌++◌, IfErr, IfOk, OnErr, OnOk, codes, length};
+ghost use Rattle.std.specs.Result.{result_err};
+ghost use Rattle.serve_script.specs.ScriptFault.{fault_told};
+ghost use Rattle.serve_script.specs.ScriptInside.{Answers, Reports, Stands};
+ghost use Rattle.serve_script.specs.ScriptReport.{CommandGives, IsOfLines, SetupLineGives, begins_account, line_text};
+ghost use Rattle.serve_script.specs.ScriptState.{MayFault, ScriptState};
+ghost use Rattle.serve_script.specs.ScriptText.{script_lines};
+
+use super::account::run_account_line;
+use super::fault::{ScriptFault, ScriptStop};
+use super::lines::{first_line, is_silent};
+use super::session::line::push_stream;
+use super::session::pieces::push_line;
+use super::session::preparation::Preparation;
+use super::session::run_command::parse_run;
+use super::session::running::Session;
+use super::session::setup_command::{SetupCommand, parse_setup};
+use cbs_account::Account;
+use std::alloc::Global;
+use y4m_header::text::cut;
+
+/// What the lines of a script so far have begun.
+#[derive(Drop)]
+pub enum Script<'a> {
+    /// No line was a command.
+    Fresh,
+    /// An account script.
+    Account(Account),
+    /// A session script before its `start`.
+    Preparation(Preparation<'a>),
+    /// A session script after its `start`.
+    Session(Session<'a>),
+}
+
+/// Runs the lines of a script in order, up to the first fault, and appends what each command prints. The line
+/// of the stop isn't appended.
+pub fn run_lines<'a>(
+    alloc: Global,
+    script: &'a [u8],
+    printed: &mut Vec<u8>,
+) -> Result<(), ScriptStop<'a>>
+    requires { length script.now ≤ 1048576 }
+    ensures { Reports (IsOfLines (script_lines script.now))
+        (result_err result) printed.old.items printed.new.items }
+{
+    let mut state = Script::Fresh;
+    let mut rest = script;
+    let mut number = 0u64;
+    while !rest.is_empty() {
+        number += 1;
+        let (line, more) = first_line(rest);
+        if !is_silent(line) {
+            match run_line(alloc, state, line, printed) {
+                Ok(next) => state = next,
+                Err(fault) => return Err(ScriptStop {
+                    line: number,
+                    fault,
+                }),
+            }
+        }
+        rest = more;
+    }
+    Ok(())
+}
+
+/// Runs the command of a line and appends its answer. It answers what the command leaves.
+fn run_line<'a>(
+    alloc: Global,
+    script: Script<'a>,
+    line: &'a [u8],
+    printed: &mut Vec<u8>,
+) -> Result<Script<'a>, ScriptFault<'a>>
+    ensures ran { IfOk result (λ next. (state : ScriptState) → Stands script.entry state
+        → Answers (CommandGives state line.now) next printed.old.items printed.new.items) }
+    ensures fault { IfErr result (λ fault. (state : ScriptState) → Stands script.entry state
+        → MayFault (CommandGives state line.now) (fault_told fault)) }
+    ensures kept { OnErr result (printed.new.items ≡ printed.old.items) }
+{
+    match script {
+        Script::Fresh => {
+            if begins_account(line) {
+                Ok(Script::Account(run_account_line(None, line, printed)?))
+            } else {
+                run_setup_line(alloc, Preparation::new(alloc), line, printed)
+            }
+        }
+        Script::Account(account) => {
+            Ok(Script::Account(run_account_line(Some(account), line, printed)?))
+        }
+        Script::Preparation(preparation) => run_setup_line(alloc, preparation, line, printed),
+        Script::Session(mut session) => {
+            let command = parse_run(line).ok_or(ScriptFault::BadLine)?;
+            session.run(alloc, command, printed)?;
+            Ok(Script::Session(session))
+        }
+    }
+}
+
+/// Whether a script whose first command is this line is an account script.
+fn begins_account(line: &[u8]) -> bool
+    ensures { result ≡ begins_account line.now }
+{
+    let (word, _) = cut(b' ', line);
+    word == b"account".as_slice()
+}
+
+/// Runs the command of a line before `start`.
+fn run_setup_line<'a>(
+    alloc: Global,
+    preparation: Preparation<'a>,
+    line: &'a [u8],
+    printed: &mut Vec<u8>,
+) -> Result<Script<'a>, ScriptFault<'a>>
+    ensures ran { IfOk result (λ next.
+        Answers (SetupLineGives preparation.entry line.now) next printed.old.items printed.new.items) }
+    ensures fault { IfErr result (λ fault.
+        MayFault (SetupLineGives preparation.entry line.now) (fault_told fault)) }
+    ensures kept { OnErr result (printed.new.items ≡ printed.old.items) }
+{
+    match parse_setup(line).ok_or(ScriptFault::BadLine)? {
+        SetupCommand::Workers { count } => settled(preparation.with_workers(count), printed),
+        SetupCommand::Quantum { bands } => settled(preparation.with_quantum(bands), printed),
+        SetupCommand::Band { rows } => settled(preparation.with_band(rows)?, printed),
+        SetupCommand::Frames { most } => settled(preparation.with_frames(most), printed),
+        SetupCommand::Stream(stream) => {
+            let number = preparation.count();
+            let next = preparation.with_stream(alloc, stream)?;
+            push_stream(printed, number)?;
+            Ok(Script::Preparation(next))
+        }
+        SetupCommand::Start => {
+            let session = preparation.start(alloc)?;
+            push_line(printed, b"started".as_slice())?;
+            Ok(Script::Session(session))
+        }
+    }
+}
+
+/// Appends the answer of a setting.
+fn settled<'a>(
+    preparation: Preparation<'a>,
+    printed: &mut Vec<u8>,
+) -> Result<Script<'a>, ScriptFault<'a>>
+    ensures script { IfOk result (λ next. next ≡ Script.Preparation preparation.entry) }
+    ensures printed { OnOk result (printed.new.items ≡ printed.old.items ++ line_text (codes "ok")) }
+    ensures fault { IfErr result (λ fault. fault ≡ ScriptFault.NoMemory) }
+    ensures kept { OnErr result (printed.new.items ≡ printed.old.items) }
+{
+    push_line(printed, b"ok".as_slice())?;
+    Ok(Script::Preparation(preparation))
+}

@@ -1,0 +1,62 @@
+//! The words of a session script's lines.
+ghost use Rattle.std.specs.Prelude.{◌≡◌};
+ghost use Rattle.std.specs.List.{list_all};
+ghost use Rattle.std.specs.Char.{is_ascii_hexdigit};
+ghost use Rattle.std.specs.Option.{option_copied};
+ghost use Rattle.serve_script.specs.SessionWords.{is_hex, is_name, is_name_byte, name_of, worker_of};
+
+use crate::command::parse_number;
+
+/// The longest name, in bytes.
+const NAME_LIMIT: usize = 32;
+
+/// Whether a word is 1 to 32 letters, digits, `_` or `-`.
+pub fn is_name(word: &[u8]) -> bool
+    ensures { result ≡ is_name word.now }
+{
+    !word.is_empty() && word.len() <= NAME_LIMIT && are_name_bytes(word)
+}
+
+fn are_name_bytes(word: &[u8]) -> bool
+    ensures { result ≡ list_all is_name_byte word.now }
+{
+    word.iter().all(|byte| is_name_byte(*byte))
+}
+
+fn is_name_byte(byte: u8) -> bool
+    ensures { result ≡ is_name_byte byte }
+{
+    byte.is_ascii_alphanumeric() || byte == b'_' || byte == b'-'
+}
+
+/// Whether a word is one or more pairs of hexadecimal digits, of either case.
+pub fn is_hex(word: &[u8]) -> bool
+    ensures { result ≡ is_hex word.now }
+{
+    !word.is_empty() && word.len() % 2 == 0 && are_hex_digits(word)
+}
+
+fn are_hex_digits(word: &[u8]) -> bool
+    ensures { result ≡ list_all is_ascii_hexdigit word.now }
+{
+    word.iter().all(|byte| byte.is_ascii_hexdigit())
+}
+
+/// The word, if it is a name.
+pub fn parse_name(word: &[u8]) -> Option<&[u8]>
+    ensures { option_copied result ≡ name_of word.now }
+{
+    if is_name(word) { Some(word) } else { None }
+}
+
+/// The worker whose number a word writes.
+pub fn parse_worker(word: &[u8]) -> Option<u32>
+    ensures { result ≡ worker_of word.now }
+{
+    let number = parse_number(word)?;
+    if number < 1 << 32 {
+        Some(number as u32)
+    } else {
+        None
+    }
+}
