@@ -6,6 +6,8 @@ use Rattle.y4m_stream.specs.declared.fault.WriteFault.{WriteFault}
 use Rattle.y4m_stream.specs.declared.fault.WriteFault.TheVariants as writes
 use Rattle.serve_work.specs.declared.stop.Cause.{Cause}
 use Rattle.serve_work.specs.declared.stop.Cause.TheVariants as causes
+use Rattle.serve_work.specs.declared.stop.Stop.{Stop}
+use Rattle.serve_work.specs.declared.stop.Stop.TheVariants as clients
 use Rattle.serve_script.specs.ScriptFault.{filter_word, header_word}
 use Rattle.serve_report.specs.declared.serve.report.StreamRow.{StreamRow}
 use Rattle.serve_report.specs.declared.serve.report.StreamStop.{StreamStop}
@@ -54,3 +56,11 @@ row_text row =
     ++ codes " delivered " ++ decimal row.delivered
     ++ codes " charged " ++ decimal row.charged
     ++ codes " stop " ++ stop_text row.stop
+
+-- how a client stopped
+abbrev pub stop_told : Stop → StreamStop
+stop_told clients.Whole = stops.Whole
+stop_told (clients.Read fault) = stops.Read fault
+stop_told (clients.Write fault) = stops.Write fault
+stop_told (clients.Refused cause) = stops.Refused cause
+stop_told clients.Torn = stops.Torn

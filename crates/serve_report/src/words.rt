@@ -1,4 +1,6 @@
 // The words of the command line.
+ghost use Rattle.std.specs.Prelude.{◌≤◌};
+
 use crate::help;
 use clap::error::ErrorKind;
 use clap::{Arg, ArgAction, ArgMatches, Command, value_parser};
@@ -35,6 +37,7 @@ pub struct ServeWords<'a> {
     pub quantum: u32,
     /// The words that name the streams.
     pub streams: Vec<&'a str>,
+    ghost in_range: { (1 ≤ workers) × (workers ≤ 16) × (1 ≤ quantum) × (quantum ≤ 64) },
 }
 
 /// Why the words ask for nothing that is run.
@@ -147,17 +150,22 @@ fn stream_words<'a>(alloc: Global, matches: &ArgMatches<'a>) -> Result<Vec<&'a s
     Ok(streams)
 }
 
+/// The number of an option.
+fn number_of(matches: &ArgMatches<'_>, name: &str, default: u32) -> u32 {
+    matches.get_one::<u32>(name).unwrap_or(default)
+}
+
 fn request_of<'a>(alloc: Global, matches: &ArgMatches<'a>) -> Result<Request<'a>, AllocError> {
     match matches.subcommand() {
         Some(("filter", inner)) => Ok(Request::Filter(FilterWords {
             operations: inner.get_str("OPS").unwrap_or(""),
-            band: inner.get_one::<u32>("band").unwrap_or(0),
+            band: number_of(inner, "band", 16),
             is_quiet: inner.get_flag("quiet"),
         })),
         Some(("serve", inner)) => Ok(Request::Serve(ServeWords {
-            workers: inner.get_one::<u32>("workers").unwrap_or(0),
-            band: inner.get_one::<u32>("band").unwrap_or(0),
-            quantum: inner.get_one::<u32>("quantum").unwrap_or(0),
+            workers: number_of(inner, "workers", 2).clamp(1, 16),
+            band: number_of(inner, "band", 16),
+            quantum: number_of(inner, "quantum", 8).clamp(1, 64),
             streams: stream_words(alloc, inner)?,
         })),
         _ => Ok(Request::Replay),

@@ -1,14 +1,14 @@
 //! Opening the streams of a run, each in its turn.
-ghost use Rattle.std.specs.Prelude.{◌≡◌, IfOk};
+ghost use Rattle.std.specs.Prelude.{◌≡◌, ◌++◌, ◌∷◌, [], IfOk, OnOk, map};
 ghost use Rattle.std.specs.Arc.{arc_value};
 ghost use Rattle.serve_work.specs.Sessions.{AreInputs, IsInput};
+ghost use Rattle.serve_report.specs.Entrants.{entered, stopped};
 
 use super::checks::Asked;
 use super::report::StreamStop;
 use crate::files::Files;
 use filters::{Chain, FilterError, Op};
 use frame_view::Geometry;
-use indexmap::IndexMap;
 use lease::JobSpec;
 use row_bands::BandHeight;
 use serve_core::StreamSpec;
@@ -45,35 +45,62 @@ pub struct Opened<'a, R: Read, W: Write> {
     pub inputs: Vec<Input<R, W>>,
 }
 
+impl<'a, R: Read, W: Write> Opened<'a, R, W> {
+    /// A stream of which nothing was opened, or which stopped there.
+    fn add_stopped(&mut self, name: &'a str, stop: StreamStop) -> Result<(), AllocError>
+        ensures entrants { OnOk result
+            (self.new.entrants.items ≡ self.old.entrants.items ++ stopped name.entry stop ∷ []) }
+        ensures others { (self.new.specs ≡ self.old.specs) × (self.new.inputs ≡ self.old.inputs) }
+    {
+        let stop = Some(stop);
+        self.entrants.push(Entrant { name, stop })?;
+        Ok(())
+    }
+
+    /// A stream that takes part.
+    fn add_open(
+        &mut self,
+        name: &'a str,
+        spec: StreamSpec,
+        input: Input<R, W>,
+    ) -> Result<(), AllocError>
+        where R: Drop, W: Drop,
+        ensures entrants { OnOk result
+            (self.new.entrants.items ≡ self.old.entrants.items ++ entered name.entry ∷ []) }
+        ensures specs { OnOk result (self.new.specs.items ≡ self.old.specs.items ++ spec ∷ []) }
+        ensures inputs { OnOk result (self.new.inputs.items ≡ self.old.inputs.items ++ input ∷ []) }
+    {
+        self.specs.push(spec)?;
+        self.inputs.push(input)?;
+        self.entrants.push(Entrant { name, stop: None })?;
+        Ok(())
+    }
+}
+
 /// Opens the streams in order. One that stops here leaves the others as they are.
 pub fn open_all<'a, F: Files>(
     alloc: Global,
-    streams: IndexMap<&'a str, Asked<'a>>,
+    streams: Vec<Asked<'a>>,
     height: BandHeight,
     files: &F,
 ) -> Result<Opened<'a, F::Reader, F::Writer>, AllocError>
-    ensures { IfOk result (λ opened.
-        AreInputs opened.specs.items opened.inputs.items) }
+    ensures inputs { IfOk result (λ opened. AreInputs opened.specs.items opened.inputs.items) }
+    ensures names { IfOk result (λ opened. map (λ entrant. entrant.name) opened.entrants.items
+        ≡ map (λ asked. asked.word.name) streams.entry.items) }
 {
-    let mut entrants = Vec::new(alloc);
-    let mut specs = Vec::new(alloc);
-    let mut inputs = Vec::new(alloc);
-    for (name, asked) in streams {
-        let stop = match open_stream(alloc, asked, height, files) {
-            Ok((spec, input)) => {
-                specs.push(spec)?;
-                inputs.push(input)?;
-                None
-            }
-            Err(stop) => Some(stop),
-        };
-        entrants.push(Entrant { name, stop })?;
+    let mut opened = Opened {
+        entrants: Vec::new(alloc),
+        specs: Vec::new(alloc),
+        inputs: Vec::new(alloc),
+    };
+    for asked in streams {
+        let name = asked.word.name;
+        match open_stream(alloc, asked, height, files) {
+            Ok((spec, input)) => opened.add_open(name, spec, input)?,
+            Err(stop) => opened.add_stopped(name, stop)?,
+        }
     }
-    Ok(Opened {
-        entrants,
-        specs,
-        inputs,
-    })
+    Ok(opened)
 }
 
 /// Opens the input, reads its header, makes the chain, and makes the output.

@@ -1,14 +1,11 @@
 //! What is reported of the streams of a run.
-ghost use Rattle.std.specs.Prelude.{◌≡◌, OnOk};
-ghost use Rattle.std.specs.Io.KnownBytes.{Appends};
+ghost use Rattle.std.specs.Prelude.{◌≡◌};
 ghost use Rattle.serve_script.specs.ScriptFault.{filter_word, header_word};
-ghost use Rattle.serve_script.specs.ScriptReport.{line_text};
-ghost use Rattle.serve_report.specs.ServeReport.{cause_word, read_word, row_text};
+ghost use Rattle.serve_report.specs.ServeReport.{cause_word, read_word};
 
 use filters::FilterError;
 use serve_work::{Cause, Stop};
 use std::fmt;
-use std::io::{self, Write};
 use y4m_header::HeaderError;
 use y4m_stream::{ReadFault, WriteFault};
 
@@ -34,6 +31,10 @@ pub enum StreamStop {
 }
 
 impl From<Stop> for StreamStop {
+    ghost use Rattle.serve_report.specs.ServeReport.{stop_told};
+
+    ghost from_gives = { λ stop told. told ≡ stop_told stop };
+
     fn from(stop: Stop) -> StreamStop {
         match stop {
             Stop::Whole => StreamStop::Whole,
@@ -168,17 +169,4 @@ impl fmt::Display for StreamRow<'_> {
             "{name} accepted {accepted} delivered {delivered} charged {charged} stop {stop}"
         )
     }
-}
-
-/// Writes the line of a stream.
-pub fn write_row<W: Write>(output: &mut W, row: &StreamRow<'_>) -> io::Result<()>
-    ensures { OnOk result
-        (Appends (W.contents output.old) (W.contents output.new) (line_text (row_text row.now))) }
-{
-    writeln!(output, "{row}")
-}
-
-/// Writes the line behind those of the streams.
-pub fn write_units<W: Write>(output: &mut W, units: u64) -> io::Result<()> {
-    writeln!(output, "units {units}")
 }
