@@ -252,6 +252,8 @@ module _ (start : ClientStart) (end : ClientOutcome) (shown : HeaderValue) (writ
               flushed = this.flushed;
             };
         number = tally.seat.number;
+        chain = tally.seat.chain;
+        accepted = sym accepted;
         offers = omega (arith, tally.seat.offers, ap offers_in fresh.calls, fresh.accepted, accepted);
         collections = omega (arith, tally.images, ap collections_in fresh.calls, opened.frames, delivered);
       }
@@ -302,6 +304,8 @@ module _ (start : ClientStart) (end : ClientOutcome) where
     out = wrote_no_image [] out;
     whole = λ is. absurd (not_whole out is);
     number = tally.number;
+    chain = tally.chain;
+    accepted = omega (arith, same, fresh.accepted, accepted);
     offers = omega (arith, tally.offers, ap offers_in fresh.calls, fresh.accepted, same, accepted);
     collections = omega (arith, delivered_none out);
   }

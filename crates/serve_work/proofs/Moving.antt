@@ -105,10 +105,11 @@ none_offered : (pair : Collected) (old new : StreamSeatValue) → Collects pair 
 none_offered pair old new c =
     ap (λ (v : StreamSeatValue). offers_in v.calls.list) c.seat ∙ counted is_offer old.calls.list (acts.Collected c.number)
 
-pub TalliesSeat-same : (old new : StreamSeatValue) → new.number ≡ old.number → new.calls ≡ old.calls → new.accepted ≡ old.accepted
-    → TalliesSeat old new
-TalliesSeat-same old new number calls accepted = record {
+pub TalliesSeat-same : (old new : StreamSeatValue) → new.number ≡ old.number → new.chain ≡ old.chain → new.calls ≡ old.calls
+    → new.accepted ≡ old.accepted → TalliesSeat old new
+TalliesSeat-same old new number chain calls accepted = record {
   number = number;
+  chain = chain;
   offers = omega (arith, ap (λ (c : CallsValue). offers_in c.list) calls, accepted);
   collections = omega (arith, ap (λ (c : CallsValue). collections_in c.list) calls);
 }
@@ -116,6 +117,7 @@ TalliesSeat-same old new number calls accepted = record {
 pub TalliesSeat-trans : (a b c : StreamSeatValue) → TalliesSeat a b → TalliesSeat b c → TalliesSeat a c
 TalliesSeat-trans a b c p q = record {
   number = q.number ∙ p.number;
+  chain = q.chain ∙ p.chain;
   offers = omega (arith, p.offers, q.offers);
   collections = omega (arith, p.collections, q.collections);
 }
@@ -123,6 +125,7 @@ TalliesSeat-trans a b c p q = record {
 pub TalliesSeat-accept : (frame : FrameValue) (n : ℕ) (old new : StreamSeatValue) → Accepts frame n old new → TalliesSeat old new
 TalliesSeat-accept frame n old new a = rw a.seat (record {
   number = refl;
+  chain = refl;
   offers = omega (arith, counted is_offer old.calls.list (acts.Offered a.tick n));
   collections = omega (arith, counted is_collection old.calls.list (acts.Offered a.tick n));
 })
@@ -130,6 +133,7 @@ TalliesSeat-accept frame n old new a = rw a.seat (record {
 pub TalliesSeat-collect : (pair : Collected) (old new : StreamSeatValue) → Collects pair old new → TalliesSeat old new
 TalliesSeat-collect pair old new c = record {
   number = ap (λ (v : StreamSeatValue). v.number) c.seat;
+  chain = ap (λ (v : StreamSeatValue). v.chain) c.seat;
   offers = omega (arith, none_offered pair old new c, ap (λ (v : StreamSeatValue). v.accepted) c.seat);
   collections = omega (arith, one_collected pair old new c);
 }
@@ -140,7 +144,7 @@ pub Tallies-seat : (old new : StreamSeatValue) (writer writer' : WriterState) �
 Tallies-seat old new writer writer' t same = record { seat = t; images = omega (arith, t.collections, same) }
 
 pub Tallies-none : (seat : StreamSeatValue) (writer : WriterState) → Tallies seat seat writer writer
-Tallies-none seat writer = Tallies-seat seat seat writer writer (TalliesSeat-same seat seat refl refl refl) refl
+Tallies-none seat writer = Tallies-seat seat seat writer writer (TalliesSeat-same seat seat refl refl refl refl) refl
 
 pub Tallies-trans : (a b c : StreamSeatValue) (writer between writer' : WriterState) → Tallies a b writer between
     → Tallies b c between writer' → Tallies a c writer writer'
@@ -434,7 +438,8 @@ collected_none None e old new m =
     let same = kept_alone e.refusal old new m.1 in
     record {
       up = same ∙ ap (λ (k : CallsValue). record old { calls = k; kept = new.kept }) (sym (ap (λ (v : StreamSeatValue). v.calls) same));
-      tally = TalliesSeat-same old new (ap (λ (v : StreamSeatValue). v.number) same) (ap (λ (v : StreamSeatValue). v.calls) same)
+      tally = TalliesSeat-same old new (ap (λ (v : StreamSeatValue). v.number) same)
+    (ap (λ (v : StreamSeatValue). v.chain) same) (ap (λ (v : StreamSeatValue). v.calls) same)
           (ap (λ (v : StreamSeatValue). v.accepted) same);
     }
 collected_none (Some pair) e old new m = collected_pair pair old new m.collects
@@ -447,7 +452,8 @@ collected (Err e) old new given refused = collected_none e.pair e old new refuse
 -- offers
 
 seat_same : (old new : StreamSeatValue) → new ≡ old → TalliesSeat old new
-seat_same old new same = TalliesSeat-same old new (ap (λ (v : StreamSeatValue). v.number) same) (ap (λ (v : StreamSeatValue). v.calls) same)
+seat_same old new same = TalliesSeat-same old new (ap (λ (v : StreamSeatValue). v.number) same)
+    (ap (λ (v : StreamSeatValue). v.chain) same) (ap (λ (v : StreamSeatValue). v.calls) same)
     (ap (λ (v : StreamSeatValue). v.accepted) same)
 
 same_cause : (a b : Cause) → Refused a ≡ Refused b → a ≡ b

@@ -110,10 +110,11 @@ pub close_tally : {T : Type 0} (old new : StreamSeatValue) (result : Result T Re
     → IfErr result (λ e. IsTold (AllowsClose old) e × (new ≡ old)) → TalliesSeat old new
 close_tally old new (Ok t) closed refused = rw closed (record {
   number = refl;
+  chain = refl;
   offers = omega (arith, closes_among is_offer old.calls.list);
   collections = omega (arith, closes_among is_collection old.calls.list);
 })
-close_tally old new (Err e) closed refused = rw refused.1 (TalliesSeat-same old old refl refl refl)
+close_tally old new (Err e) closed refused = rw refused.1 (TalliesSeat-same old old refl refl refl refl)
 
 -- what a closed seat moves, an open one would
 module _ (seat : StreamSeatValue) (calls : CallsValue) (is_closed : Bool) (writer : WriterState) (frames : List FrameText) where

@@ -93,6 +93,7 @@ pub record Accounted (seat : StreamSeatValue) (writer : WriterState) : Type 0 wh
 -- each offer and each collection that was accepted is among the seat's calls
 pub record TalliesSeat (old new : StreamSeatValue) : Type 0 where
   pub number : new.number ≡ old.number
+  pub chain : new.chain ≡ old.chain
   pub offers : offers_in new.calls.list + old.accepted ≡ offers_in old.calls.list + new.accepted
   pub collections : collections_in old.calls.list ≤ collections_in new.calls.list
 

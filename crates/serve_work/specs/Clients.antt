@@ -155,7 +155,9 @@ pub record ClientEnds (start : ClientStart) (seat : StreamSeatValue) (end : Clie
   pub reads : end.read_failures ≡ reads_at end.stop start.reader.failures
   pub out : WroteNothing start end ⊎ CutsHeader start end ⊎ WroteImages frames start end
   pub whole : end.stop ≡ Whole → IsWhole start end
-  -- the seat's calls
+  -- the seat, and its calls
   pub number : seat.number ≡ start.seat.number
+  pub chain : seat.chain ≡ start.seat.chain
+  pub accepted : seat.accepted ≡ end.accepted
   pub offers : offers_in seat.calls.list ≡ end.accepted
   pub collections : end.delivered ≤ collections_in seat.calls.list

@@ -1,4 +1,6 @@
 pub mod Clients
 pub mod ClientInside
 pub mod Laws
+pub mod SessionInside
+pub mod Sessions
 pub mod Workers

@@ -2,7 +2,7 @@
 //! writes.
 //!
 //! `specs/Clients.antt` says what a client comes to, `specs/Workers.antt` what a worker adds to its seat's
-//! calls.
+//! calls, `specs/Sessions.antt` what the streams of a session come to.
 #![tactic(auto)]
 
 mod buffers;
@@ -11,11 +11,13 @@ mod delivery;
 mod feeding;
 pub mod gate;
 pub mod laws;
+pub mod session;
 pub mod stop;
 pub mod workers;
 
 pub use clients::{ClientEnd, client};
 pub use gate::{Clock, Gate};
+pub use session::{Served, SessionFault, serve_session};
 pub use stop::{Cause, Stop};
 pub use workers::work;
 

@@ -1,6 +1,8 @@
 //! Streams of two by two samples that a worker and a client serve, with bytes that were worked out by hand.
 mod clients;
 mod faults;
+mod many;
 mod sessions;
+mod stops;
 
-use sessions::{HEADER, PLAIN, Plan, Told, served};
+use sessions::{HEADER, Open, PLAIN, Plan, Room, Still, Told, served, stream_of};

@@ -55,9 +55,9 @@ pub(super) struct Told {
 
 /// Keeps so many bytes more, and then fails.
 #[derive(Drop)]
-struct Room {
-    taken: Vec<u8>,
-    left: usize,
+pub(super) struct Room {
+    pub(super) taken: Vec<u8>,
+    pub(super) left: usize,
 }
 
 impl Write for Room {
@@ -78,7 +78,7 @@ impl Write for Room {
 
 /// Bands are done at once, and whole.
 #[derive(Drop)]
-struct Open;
+pub(super) struct Open;
 
 impl Gate for Open {
     fn before_band(&self, _worker: u32, _stream: u32, _seq: u64) {}
@@ -92,7 +92,7 @@ impl Gate for Open {
 
 /// Always the same moment.
 #[derive(Drop)]
-struct Still(u64);
+pub(super) struct Still(pub(super) u64);
 
 impl Clock for Still {
     fn moment(&self) -> u64 {
@@ -104,7 +104,7 @@ impl Clock for Still {
 type Seated<L> = (Hub<L>, StreamSeat<L>, WorkSeat<L>);
 
 /// A stream of frames of this header.
-fn stream_of(alloc: Global, header: &Header, plan: Plan<'_>) -> Result<StreamSpec, Fail>
+pub(super) fn stream_of(alloc: Global, header: &Header, plan: Plan<'_>) -> Result<StreamSpec, Fail>
     ensures { IfOk result (λ stream. IsOfHeader header.now stream.chain.geometry) }
 {
     let band_height = BandHeight::new(16).ok_or("no height")?;

@@ -40,7 +40,7 @@ returns-clause-tally g c =
     let drained : StreamSeatValue = c.drain-last.new.seat in
     let left : TalliesSeat drained c.if-is_spoilt-2.seat = elim c.if-is_spoilt-2.branch [
       | then-is_spoilt-2 w ↦ subst (TalliesSeat drained) (sym w.seat-is) w.discard-then-is_spoilt-2.ensures.tally
-      | else-is_spoilt-2 w ↦ subst (TalliesSeat drained) (sym w.seat-is) (TalliesSeat-same drained drained refl refl refl)
+      | else-is_spoilt-2 w ↦ subst (TalliesSeat drained) (sym w.seat-is) (TalliesSeat-same drained drained refl refl refl refl)
     ] in
     Tallies-trans _ _ _ _ _ _ c.feed-stop.ensures.tally
     (Tallies-trans _ _ _ _ _ _ (Tallies-seat _ _ _ _ closed refl)

@@ -1,0 +1,4 @@
+use Rattle.serve_work.proofs.session.serve_session.Given as goal
+
+abbrev pub ghosts-serve_named-L-Ledger : goal.ghosts-serve_named-L-Ledger
+ghosts-serve_named-L-Ledger g a = record { name = a.blank.name; parts = a.blank.parts }

@@ -1,0 +1,76 @@
+-- What the streams of a session come to.
+use Rattle.std.specs.Prelude.{ℕ, ◌*◌, ◌≡◌, ◌≤◌, Bool, List, [], ◌∷◌, Option}
+use Rattle.std.specs.List.{AllZip}
+use Rattle.filters.specs.Costs.{cost_of}
+use Rattle.y4m_stream.specs.declared.reader.Phase.TheVariants.{Open}
+use Rattle.y4m_stream.specs.Reader.{IsOfHeader, ReaderState}
+use Rattle.serve_core.specs.Setup.{StreamSpec}
+use Rattle.serve_hub.specs.Seats.{StreamSeatValue}
+use Rattle.serve_work.specs.declared.session.Served.{Served}
+use Rattle.serve_work.specs.declared.stop.Stop.TheVariants.{Whole}
+use Rattle.serve_work.specs.Clients.{ClientEnds, ClientOutcome, ClientStart}
+
+-- nothing was read of a stream's frames, and its header has the size of the stream's chain
+pub record IsInput {W : Type 0} (spec : StreamSpec) (input : ReaderState × W) : Type 0 where
+  pub header : IsOfHeader input.0.header spec.chain.geometry
+  pub is_open : input.0.phase ≡ Open
+
+-- an input for each stream
+abbrev pub AreInputs : {W : Type 0} → List StreamSpec → List (ReaderState × W) → Type 0
+AreInputs specs inputs = AllZip IsInput specs inputs
+
+-- what a stream begins with, by what is known of its writer
+abbrev pub start_of : {W : Type 0} (contents : W → Option (List ℕ)) (failures : W → ℕ) → StreamSeatValue
+    → ReaderState × W → ClientStart
+start_of contents failures seat input = record {
+  seat = seat;
+  reader = input.0;
+  before = contents input.1;
+  failures = failures input.1;
+}
+
+abbrev pub starts_of : {W : Type 0} (contents : W → Option (List ℕ)) (failures : W → ℕ)
+    → List StreamSeatValue → List (ReaderState × W) → List ClientStart
+starts_of contents failures (seat ∷ seats) (input ∷ inputs) =
+    start_of contents failures seat input ∷ starts_of contents failures seats inputs
+starts_of contents failures seats inputs = []
+
+-- what is told of a stream: what its client came to, and how many units it was charged
+pub record ServedValue : Type 0 where
+  pub outcome : ClientOutcome
+  pub charged : ℕ
+
+-- the same, by what is known of the stream's source and its writer
+abbrev pub outcome_of : {R W : Type 0} (left : R → Option (List ℕ)) (read_failures : R → ℕ)
+    (after : W → Option (List ℕ)) (failures : W → ℕ) (is_flushed : W → Bool) → Served R W → ClientOutcome
+outcome_of left read_failures after failures is_flushed served = record {
+  stop = served.stop;
+  accepted = served.accepted;
+  delivered = served.delivered;
+  left = left served.source;
+  read_failures = read_failures served.source;
+  after = after served.writer;
+  failures = failures served.writer;
+  is_flushed = is_flushed served.writer;
+}
+
+abbrev pub served_of : {R W : Type 0} (left : R → Option (List ℕ)) (read_failures : R → ℕ)
+    (after : W → Option (List ℕ)) (failures : W → ℕ) (is_flushed : W → Bool) → Served R W → ServedValue
+served_of left read_failures after failures is_flushed served = record {
+  outcome = outcome_of left read_failures after failures is_flushed served;
+  charged = served.charged;
+}
+
+-- a client came from this beginning to what is told, and the stream was charged for all images that were
+-- delivered, and for no more than the frames that were accepted
+pub record IsServed (start : ClientStart) (served : ServedValue) : Type 0 where
+  pub seat : StreamSeatValue
+  pub ends : ClientEnds start seat served.outcome
+  pub least : served.outcome.delivered * cost_of start.seat.chain ≤ served.charged
+  pub most : served.charged ≤ served.outcome.accepted * cost_of start.seat.chain
+  pub whole : served.outcome.stop ≡ Whole
+      → served.charged ≡ served.outcome.accepted * cost_of start.seat.chain
+
+-- each stream was served from the beginning at its place
+abbrev pub AreServed : List ClientStart → List ServedValue → Type 0
+AreServed starts served = AllZip IsServed starts served
