@@ -65,7 +65,7 @@ mod lines;
 mod output;
 mod print;
 mod run;
-pub mod session;
+mod session;
 #[cfg(test)]
 mod tests;
 
