@@ -7,7 +7,7 @@ use Rattle.serve_work.specs.Sessions.{AreInputs, IsInput}
 
 -- one input more
 pub inputs_more : {W : Type 0} (specs : List StreamSpec) (inputs : List (ReaderState × W)) (spec : StreamSpec)
-    (input : ReaderState × W) → AreInputs specs inputs → IsInput spec input.0
+    (input : ReaderState × W) → AreInputs specs inputs → IsInput spec input
     → AreInputs (specs ++ spec ∷ []) (inputs ++ input ∷ [])
 inputs_more [] [] spec input are is = (is, tt)
 inputs_more [] (other ∷ inputs) spec input are is = absurd are

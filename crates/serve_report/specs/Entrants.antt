@@ -1,17 +1,19 @@
 -- The streams of a run, and what is reported of them.
 use Rattle.std.specs.Prelude.{ℕ, ◌+◌, ◌-◌, ◌^◌, min, Bool, true, false, List, [], ◌∷◌, ◌++◌, codes, decimal, fold, map, ◌≡◌}
-use Rattle.std.specs.Prelude.{Option, Some, None, option_and_then}
+use Rattle.std.specs.Prelude.{Option, Some, None, Ok, option_and_then}
 use Rattle.std.specs.Borrow.{Bor}
 use Rattle.std.specs.Io.KnownBytes.{Appends}
 use Rattle.std.specs.List.{flat_map, list_all}
 use Rattle.std.specs.Option.{option_map}
 use Rattle.serve_script.specs.ScriptReport.{line_text}
+use Rattle.serve_report.specs.ServeChecks.{ChecksGive, all_told}
 use Rattle.serve_report.specs.ServeReport.{row_text, stop_told}
 use Rattle.serve_report.specs.declared.serve.checks.Asked.{Asked}
 use Rattle.serve_report.specs.declared.serve.opening.Entrant.{Entrant}
 use Rattle.serve_report.specs.declared.serve.report.StreamRow.{StreamRow}
 use Rattle.serve_report.specs.declared.serve.report.StreamStop.{StreamStop}
 use Rattle.serve_report.specs.declared.serve.report.StreamStop.TheVariants as stops
+use Rattle.serve_report.specs.declared.words.ServeWords.{ServeWords}
 use Rattle.serve_work.specs.declared.session.Served.{Served}
 
 -- a stream that takes part in the session
@@ -82,3 +84,9 @@ pub record Reports (streams : List Asked) (old new : Option (List ℕ)) (whole :
   pub names : map (λ row. row.name) rows ≡ map (λ asked. asked.word.name) streams
   pub all : whole ≡ list_all is_whole rows
   pub wrote : Appends old new (report_text rows)
+
+-- the streams that the words ask for are all whole, and what is reported of them went out
+pub record ServesAll (words : ServeWords) (old new : Option (List ℕ)) : Type 0 where
+  pub streams : List Asked
+  pub asked : ChecksGive words (Ok (all_told streams))
+  pub reported : Reports streams old new true

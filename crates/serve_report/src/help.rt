@@ -234,7 +234,8 @@ Other faults, each one line on standard error behind 'y4mserve: '; status 1:
 pub const SERVE: &str = "Filters many streams at once, which share some workers";
 
 /// The same, for the long help.
-pub const SERVE_LONG: &str = "Filters many streams at once. Each is read from its file IN and written to
+pub const SERVE_LONG: &str =
+    "Filters many streams at once. Each is read from its file IN and written to
 its file OUT as by 'filter'; worker threads do the filtering for all of them,
 and Q:T is a stream's share of these. When all streams have ended, a line for
 each is printed.";
@@ -257,7 +258,8 @@ and encoders stand on both sides, and IN may be /dev/stdin";
 pub const WORKERS: &str = "Threads that filter, 1 to 16";
 
 /// The same, for the long help.
-pub const WORKERS_LONG: &str = "Threads that filter, 1 to 16. Each stream has one more, which reads and
+pub const WORKERS_LONG: &str =
+    "Threads that filter, 1 to 16. Each stream has one more, which reads and
 writes. As many as the machine has processors is a good number; more
 shares can be given with more workers";
 
@@ -279,18 +281,19 @@ pub const SERVE_PAGE: &str = "Shares:
   A stream with the share Q:T may use Q units in every T moments. All shares
   together, Q / T each, are at most the number of workers.
   A worker that is free goes to the stream with the earliest deadline that has a
-  frame waiting. A stream's deadline moves back by T each time it has used Q
-  units. So a greedy stream only moves its own deadline back: it goes on while
-  nobody else has work, and the others keep their shares.
+  frame waiting and room for its image. A deadline moves back by T each time its
+  stream has used Q units. So a stream that asks for more than its share moves
+  its own deadline back: it goes on where nobody else has work, and comes later
+  where somebody has.
   A lease of a worker is no longer than the units that are left of Q, so a Q
   below the quantum makes leases short.
 
 Example: fast has half of one worker, and slow a sixth.
   y4mserve serve --workers 1 \\
     fast:a.y4m:a.out:30:60:invert slow:b.y4m:b.out:10:60:blur:2
-While both have frames waiting, the worker does 3 units for fast to each one for
-slow; when one has none, the other has all of it. For three frames of 1920x1080
-each it prints:
+While both have frames waiting, the worker does about 3 units for fast to each
+one for slow; when one has none, the other has all of it. For three frames of
+1920x1080 each it prints:
   fast accepted 3 delivered 3 charged 204 stop whole
   slow accepted 3 delivered 3 charged 612 stop whole
   units 816
@@ -299,7 +302,9 @@ Report, a line for each stream in the order of the words:
   NAME accepted A delivered D charged U stop STOP
 A frames were taken in, D images were written whole, and U units were done. The
 last line, 'units N', has the sum. A fault of one stream leaves the others as
-they are. STOP is:
+they are.
+
+Stops, the ends of these lines:
   whole          All frames were read, and all images written.
   open           IN can't be opened. OUT is not made, at the next two neither.
   read F         F as for 'filter'. A header that is refused stops before OUT.
@@ -312,7 +317,7 @@ they are. STOP is:
                  for all streams: a frame takes 2, and 2 for each lease. By
                  invert with the quantum 8 a frame of 1080 rows takes about 20,
                  so that some 50000 of these are served. Fewer and longer
-                 leases, by a higher --quantum or --band, make it last.
+                 leases, by a higher --quantum, --band or Q, make it last.
   refused NoMemory       There was no memory for a frame or its image.
   torn           An answer of the server contradicts the stream's own count.
 

@@ -2,7 +2,7 @@
 //! workers.
 ghost use Rattle.std.specs.Prelude.{◌≡◌, ◌≤◌, IfOk};
 ghost use Rattle.std.specs.Io.KnownBytes.{Keeps};
-ghost use Rattle.serve_report.specs.Entrants.{Reports};
+ghost use Rattle.serve_report.specs.Entrants.{Reports, ServesAll};
 ghost use Rattle.serve_work.specs.Sessions.{AreInputs};
 
 use self::checks::{Checked, check};
@@ -74,6 +74,7 @@ pub fn run_serve<W: Write, E: Write, F: Files, T: Threads + Wait + Sync>(
 ) -> u8
     ensures status { result ≤ 2 }
     ensures untouched { result ≡ 2 → Keeps (W.contents output.old) (W.contents output.new) }
+    ensures well { result ≡ 0 → ServesAll words.entry (W.contents output.old) (W.contents output.new) }
 {
     let checked = match check(alloc, &words) {
         Ok(checked) => checked,

@@ -64,7 +64,12 @@ fn runs(
 }
 
 /// Runs `filter invert` on an input whose header is refused.
-fn refuses_header(rt: &(impl Abort + Threads + Wait + Sync), alloc: Global, input: &[u8], errors: &str) -> Result<(), Fail> {
+fn refuses_header(
+    rt: &(impl Abort + Threads + Wait + Sync),
+    alloc: Global,
+    input: &[u8],
+    errors: &str,
+) -> Result<(), Fail> {
     runs(rt, alloc, "filter invert", input, b"", errors, 1)
 }
 
@@ -296,7 +301,12 @@ fn a_script_prints_its_lines_and_tells_a_fault_by_its_status(rt: HostRuntime) ->
 }
 
 /// Replays a script whose commands all run.
-fn replays(rt: &(impl Abort + Threads + Wait + Sync), alloc: Global, script: &str, lines: &str) -> Result<(), Fail> {
+fn replays(
+    rt: &(impl Abort + Threads + Wait + Sync),
+    alloc: Global,
+    script: &str,
+    lines: &str,
+) -> Result<(), Fail> {
     runs(
         rt,
         alloc,

@@ -62,7 +62,8 @@ pub enum WordFault<'a> {
 impl WordFault<'_> {
     /// The program's status after it.
     pub fn status(self) -> u8
-        ensures { result ≤ 2 }
+        ensures fault { 1 ≤ result }
+        ensures most { result ≤ 2 }
     {
         match self {
             WordFault::Admission(..) | WordFault::NoMemory => 1,
@@ -175,7 +176,7 @@ fn admit_all<'a>(workers: u64, streams: &[Asked<'a>]) -> Result<(), WordFault<'a
     ensures { MatchResult result
         (λ _. AdmissionGives (load_of workers []) (all_told streams.now) None)
         (λ fault. MayTell fault
-            (λ told. AdmissionGives (load_of workers []) (all_told streams.now) (Some told))) }
+        (λ told. AdmissionGives (load_of workers []) (all_told streams.now) (Some told))) }
 {
     let mut admission = Admission::new(workers);
     for asked in streams {

@@ -64,7 +64,9 @@ impl<'a, R: Read, W: Write> Opened<'a, R, W> {
         spec: StreamSpec,
         input: Input<R, W>,
     ) -> Result<(), AllocError>
-        where R: Drop, W: Drop,
+    where
+        R: Drop,
+        W: Drop,
         ensures entrants { OnOk result
             (self.new.entrants.items ≡ self.old.entrants.items ++ entered name.entry ∷ []) }
         ensures specs { OnOk result (self.new.specs.items ≡ self.old.specs.items ++ spec ∷ []) }
@@ -110,7 +112,7 @@ fn open_stream<F: Files>(
     height: BandHeight,
     files: &F,
 ) -> Result<(StreamSpec, Input<F::Reader, F::Writer>), StreamStop>
-    ensures { IfOk result (λ opened. IsInput opened.0 opened.1.0) }
+    ensures { IfOk result (λ opened. IsInput opened.0 opened.1) }
 {
     let word = asked.word;
     let input = match files.open(word.input) {

@@ -78,7 +78,7 @@ fn word_parts(word: &str) -> Option<WordParts<'_>>
 fn cut_at_colon(text: &str) -> Option<(&str, &str)>
     ensures { MatchOption result (text_after 58 text.now ≡ None)
         (λ cut. (cut.0.now ≡ before_first (λ byte. byte == 58) text.now)
-            × (text_after 58 text.now ≡ Some cut.1.now)) }
+        × (text_after 58 text.now ≡ Some cut.1.now)) }
 {
     text.split_once(':')
 }

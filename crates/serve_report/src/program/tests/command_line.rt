@@ -68,7 +68,15 @@ fn no_words_are_wrong_words(rt: HostRuntime) {
     let mut output = [0; 0];
     let mut room = output.as_mut_slice();
     let words = Vec::new(rt.alloc());
-    let status = main_on(&rt, rt.alloc(), &words, b"".as_slice(), &mut room, &mut rest, &NoFiles);
+    let status = main_on(
+        &rt,
+        rt.alloc(),
+        &words,
+        b"".as_slice(),
+        &mut room,
+        &mut rest,
+        &NoFiles,
+    );
     let left = rest.len();
     assert_eq!(rt; status, 2);
     assert!(rt; written(&errors, left).starts_with(b"error: 'y4mserve' requires a subcommand"));
@@ -232,7 +240,13 @@ fn the_help_of_serve_is_a_page_to_work_from(rt: HostRuntime) -> Result<(), Fail>
         "session Mismatch",
     ];
     for line in ["serve --help", "help serve"] {
-        helps(&rt, rt.alloc(), line, "Filters many streams at once", &words)?;
+        helps(
+            &rt,
+            rt.alloc(),
+            line,
+            "Filters many streams at once",
+            &words,
+        )?;
     }
     Ok(())
 }
@@ -299,7 +313,15 @@ fn what_is_said_goes_out_in_one_write(rt: HostRuntime) -> Result<(), Fail> {
         let words = words_of(rt.alloc(), line)?;
         let mut errors = Counted { writes: 0 };
         let mut output = Counted { writes: 0 };
-        main_on(&rt, rt.alloc(), &words, b"".as_slice(), &mut output, &mut errors, &NoFiles);
+        main_on(
+            &rt,
+            rt.alloc(),
+            &words,
+            b"".as_slice(),
+            &mut output,
+            &mut errors,
+            &NoFiles,
+        );
         assert_eq!(rt; errors.writes, lines, "{line}");
         assert_eq!(rt; output.writes, 1 - lines, "{line}");
     }

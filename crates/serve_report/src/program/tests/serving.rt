@@ -13,10 +13,12 @@ mod faults;
 mod many;
 
 /// Three frames of four samples, behind a header of 22 bytes.
-pub const A: &[u8] = b"YUV4MPEG2 W2 H2 Cmono\nFRAME\n\x00\x01\xFE\xFFFRAME\n\x10\x20\x30\x40FRAME\n\x7F\x80\x81\x82";
+pub const A: &[u8] =
+    b"YUV4MPEG2 W2 H2 Cmono\nFRAME\n\x00\x01\xFE\xFFFRAME\n\x10\x20\x30\x40FRAME\n\x7F\x80\x81\x82";
 
 /// The same by `invert`.
-pub const A_INVERTED: &[u8] = b"YUV4MPEG2 W2 H2 Cmono\nFRAME\n\xFF\xFE\x01\x00FRAME\n\xEF\xDF\xCF\xBFFRAME\n\x80\x7F\x7E\x7D";
+pub const A_INVERTED: &[u8] =
+    b"YUV4MPEG2 W2 H2 Cmono\nFRAME\n\xFF\xFE\x01\x00FRAME\n\xEF\xDF\xCF\xBFFRAME\n\x80\x7F\x7E\x7D";
 
 /// Three frames of four samples.
 pub const B: &[u8] = b"YUV4MPEG2 W2 H2 Cmono\nFRAME\n1234FRAME\n5678FRAME\nabcd";

@@ -98,7 +98,9 @@ fn watched<R: Read + Drop>(
     let mut rest = faults.as_mut_slice();
     let mut output = [0; 8192];
     let mut room = output.as_mut_slice();
-    let answer = run_on(rt, alloc, &words, input, &mut room, &mut rest, &NoFiles, watch);
+    let answer = run_on(
+        rt, alloc, &words, input, &mut room, &mut rest, &NoFiles, watch,
+    );
     let left = rest.len();
     assert_eq!(rt;
         str::from_utf8(written(&faults, left)).ok(),

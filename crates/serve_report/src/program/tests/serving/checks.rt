@@ -32,10 +32,22 @@ fn refuses<R: Abort + Threads + Wait + Sync>(
 fn words_are_checked_in_order(rt: HostRuntime) -> Result<(), Fail> {
     for (line, said) in [
         ("serve --band 3 a:i:o:1", "y4mserve: bad band\n"),
-        ("serve a:i:o:1:invert b:i:o:1:2:sepia", "y4mserve: bad stream a:i:o:1:invert\n"),
-        ("serve a:i:o:1:2:invert a:i:o:1:2:sepia", "y4mserve: repeated name a\n"),
-        ("serve a:i:o:1:2:sepia a:i:o:1:2:invert", "y4mserve: BadOp a\n"),
-        ("serve a:i:o:5:4:invert b:i:o:1:2:blur:9", "y4mserve: BadOp b\n"),
+        (
+            "serve a:i:o:1:invert b:i:o:1:2:sepia",
+            "y4mserve: bad stream a:i:o:1:invert\n",
+        ),
+        (
+            "serve a:i:o:1:2:invert a:i:o:1:2:sepia",
+            "y4mserve: repeated name a\n",
+        ),
+        (
+            "serve a:i:o:1:2:sepia a:i:o:1:2:invert",
+            "y4mserve: BadOp a\n",
+        ),
+        (
+            "serve a:i:o:5:4:invert b:i:o:1:2:blur:9",
+            "y4mserve: BadOp b\n",
+        ),
         (
             "serve a:i:o:5:4:invert+invert+invert+invert+invert+invert+invert+invert+invert",
             "y4mserve: TooManyOps a\n",
@@ -84,7 +96,10 @@ fn shares_are_given_in_order(rt: HostRuntime) -> Result<(), Fail> {
             "serve --workers 1 a:i:o:1:3:invert b:i:o:1:3:invert c:i:o:1:3:invert",
             "y4mserve: Overload c\n",
         ),
-        ("serve a:i:o:5:4:invert b:i:o:0:4:invert", "y4mserve: BadBandwidth a\n"),
+        (
+            "serve a:i:o:5:4:invert b:i:o:0:4:invert",
+            "y4mserve: BadBandwidth a\n",
+        ),
         ("serve a:i:o:1:1048577:invert", "y4mserve: BadBandwidth a\n"),
         (
             "serve --workers 1 a:i:o:4:4:invert b:i:o:1:1048576:invert c:i:o:0:4:invert",
@@ -108,9 +123,21 @@ fn formless(alloc: Global, count: u64) -> Result<String, AllocError> {
 #[test]
 fn there_are_at_most_64_streams(rt: HostRuntime) -> Result<(), Fail> {
     let line = formless(rt.alloc(), 65)?;
-    refuses(&rt, rt.alloc(), line.as_str(), "y4mserve: too many streams\n", 2)?;
+    refuses(
+        &rt,
+        rt.alloc(),
+        line.as_str(),
+        "y4mserve: too many streams\n",
+        2,
+    )?;
     let line = formless(rt.alloc(), 64)?;
-    refuses(&rt, rt.alloc(), line.as_str(), "y4mserve: bad stream x\n", 2)
+    refuses(
+        &rt,
+        rt.alloc(),
+        line.as_str(),
+        "y4mserve: bad stream x\n",
+        2,
+    )
 }
 
 #[test]

@@ -105,7 +105,10 @@ fn a_stream_that_stops_before_its_output_makes_none(rt: HostRuntime) -> Result<(
     let back = "\nb accepted 3 delivered 3 charged 6 stop whole\nunits 6\n";
     for (text, stop) in [
         (b"".as_slice(), "read Truncated"),
-        (b"YUV4MPEG2 W2 H2 C420p10\n".as_slice(), "read Header UnknownChroma"),
+        (
+            b"YUV4MPEG2 W2 H2 C420p10\n".as_slice(),
+            "read Header UnknownChroma",
+        ),
         (b"YUV4MPEG2 W0 H2\n".as_slice(), "read Header BadNumber"),
         (A, "ops BadCrop"),
     ] {
@@ -118,7 +121,8 @@ fn a_stream_that_stops_before_its_output_makes_none(rt: HostRuntime) -> Result<(
 #[test]
 fn a_chain_may_cost_too_much_for_its_frames(rt: HostRuntime) -> Result<(), Fail> {
     // Five times 8,192 bands of 2 rows.
-    let line = "serve --band 2 a:a.y4m:a.out:1:2:hflip+hflip+hflip+hflip+hflip b:b.y4m:b.out:1:2:hflip+vflip";
+    let line =
+        "serve --band 2 a:a.y4m:a.out:1:2:hflip+hflip+hflip+hflip+hflip b:b.y4m:b.out:1:2:hflip+vflip";
     let report = "a accepted 0 delivered 0 charged 0 stop ops TooManySteps\n\
                   b accepted 3 delivered 3 charged 6 stop whole\n\
                   units 6\n";
