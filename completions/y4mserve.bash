@@ -5,17 +5,22 @@ _y4mserve() {
     local current=$2 previous=$3 command="" at words
     for ((at = 1; at < COMP_CWORD; at++)); do
         case ${COMP_WORDS[at]} in
-            filter | replay | help) command=${COMP_WORDS[at]} && break ;;
+            filter | replay | serve | help) command=${COMP_WORDS[at]} && break ;;
         esac
     done
     case $command in
-        "") words="filter replay help -h --help -V --version" ;;
-        help) words="filter replay help" ;;
+        "") words="filter replay serve help -h --help -V --version" ;;
+        help) words="filter replay serve help" ;;
         replay) words="-h --help" ;;
         filter) words="--band -q --quiet -h --help" ;;
+        serve) words="--workers --band --quantum -h --help" ;;
     esac
-    if [[ $command == filter && $previous == --band ]]; then
+    if [[ ($command == filter || $command == serve) && $previous == --band ]]; then
         words="2 4 8 16 32 64 128"
+    elif [[ $command == serve && $previous == --workers ]]; then
+        words="1 2 4 8 16"
+    elif [[ $command == serve && $previous == --quantum ]]; then
+        words="1 2 4 8 16 32 64"
     elif [[ $command == filter && $current != -* ]]; then
         # Only the operation behind the last + is completed.
         local before=${current%"${current##*+}"}

@@ -1,17 +1,19 @@
 //! The texts of the help.
 
 /// What the program is.
-pub const ABOUT: &str = "Filters YUV4MPEG2 streams (.y4m) frame by frame, in a pipe";
+pub const ABOUT: &str =
+    "Filters YUV4MPEG2 streams (.y4m) frame by frame: one in a pipe, or many at once";
 
 /// More of the program, for the long help.
 pub const PAGE: &str = "Examples:
   ffmpeg -i film.mkv -f yuv4mpegpipe - | y4mserve filter invert > negative.y4m
   y4mserve filter crop:16,8,1888,1064+hflip < film.y4m > mirrored.y4m
+  y4mserve serve a:a.y4m:negative.y4m:1:2:invert b:b.y4m:soft.y4m:1:2:blur:2
   printf 'account 2 10\\nidle 0\\ncharge 2\\n' | y4mserve replay
 
 Status:
   0  all went well
-  1  a fault of the stream or of the script, or no memory
+  1  a fault of a stream or of the script, or no memory
   2  wrong words, or a stream that would go to a terminal
 
 Each command has a page of its own, as 'y4mserve help filter'.";
@@ -227,3 +229,116 @@ Faults of the script, printed as the last line, 'line N: WORD'; status 1:
 Other faults, each one line on standard error behind 'y4mserve: '; status 1:
   read           Reading failed. Nothing was run.
   write          Writing failed, or nobody reads on.";
+
+/// What `serve` does.
+pub const SERVE: &str = "Filters many streams at once, which share some workers";
+
+/// The same, for the long help.
+pub const SERVE_LONG: &str =
+    "Filters many streams at once. Each is read from its file IN and written to
+its file OUT as by 'filter'; worker threads do the filtering for all of them,
+and Q:T is a stream's share of these. When all streams have ended, a line for
+each is printed.";
+
+/// What a word of a stream is.
+pub const STREAM: &str = "A stream: its name, its two files, its share and its operations";
+
+/// The same, for the long help.
+pub const STREAM_LONG: &str = "A stream, in six parts; there may be 64:
+  NAME  1 to 32 letters, digits, '_' or '-', each stream's its own
+  IN    the file that is read
+  OUT   the file that is written; it is made, or emptied
+  Q, T  the stream's share: Q units in every T moments (see below), where
+        1 <= Q <= T <= 1048576
+  OPS   its operations, as for 'filter'
+IN and OUT hold no colon. Either may be a FIFO (see mkfifo), so that decoders
+and encoders stand on both sides, and IN may be /dev/stdin";
+
+/// What `--workers` is.
+pub const WORKERS: &str = "Threads that filter, 1 to 16";
+
+/// The same, for the long help.
+pub const WORKERS_LONG: &str =
+    "Threads that filter, 1 to 16. Each stream has one more, which reads and
+writes. As many as the machine has processors is a good number; more
+shares can be given with more workers";
+
+/// What `--quantum` is.
+pub const QUANTUM: &str = "Most bands that a worker does at a time, 1 to 64";
+
+/// The same, for the long help.
+pub const QUANTUM_LONG: &str = "Most bands of a frame that a worker does before it looks again which
+stream comes first, 1 to 64. A lower one lets a stream that is behind its
+share come sooner, a higher one costs less";
+
+/// The shares, the report and the faults of `serve`.
+pub const SERVE_PAGE: &str = "Shares:
+  A unit is one band of an operation of cost 1, such as invert; a band of blur:R
+  costs 1 + R units. So in bands of 16 rows a frame of 1080 rows costs 68 units
+  by invert, and 204 by blur:2.
+  A moment passes with each offer of a frame, by any stream, and with nothing
+  else; a frame that finds its stream's queue full is offered again.
+  A stream with the share Q:T may use Q units in every T moments. All shares
+  together, Q / T each, are at most the number of workers.
+  A worker that is free goes to the stream with the earliest deadline that has a
+  frame waiting and room for its image. A deadline moves back by T each time its
+  stream has used Q units. So a stream that asks for more than its share moves
+  its own deadline back: it goes on where nobody else has work, and comes later
+  where somebody has.
+  A lease of a worker is no longer than the units that are left of Q, so a Q
+  below the quantum makes leases short.
+
+Example: fast has half of one worker, and slow a sixth.
+  y4mserve serve --workers 1 \\
+    fast:a.y4m:a.out:30:60:invert slow:b.y4m:b.out:10:60:blur:2
+While both have frames waiting, the worker does about 3 units for fast to each
+one for slow; when one has none, the other has all of it. For three frames of
+1920x1080 each it prints:
+  fast accepted 3 delivered 3 charged 204 stop whole
+  slow accepted 3 delivered 3 charged 612 stop whole
+  units 816
+
+Report, a line for each stream in the order of the words:
+  NAME accepted A delivered D charged U stop STOP
+A frames were taken in, D images were written whole, and U units were done. The
+last line, 'units N', has the sum. A fault of one stream leaves the others as
+they are.
+
+Stops, the ends of these lines:
+  whole          All frames were read, and all images written.
+  open           IN can't be opened. OUT is not made, at the next two neither.
+  read F         F as for 'filter'. A header that is refused stops before OUT.
+  ops E          E is BadCrop, TooManySteps or NoMemory, as for 'filter'.
+  create         OUT can't be made.
+  write N        Writing failed, or nobody reads on; N bytes went out.
+  refused TooManyFrames  One more frame follows the last that is read.
+  refused ClockEnd       No moment is left.
+  refused HistoryFull    The journal of the run is full. It has 1048576 entries
+                 for all streams: a frame takes 2, and 2 for each lease. By
+                 invert with the quantum 8 a frame of 1080 rows takes about 20,
+                 so that some 50000 of these are served. Fewer and longer
+                 leases, by a higher --quantum, --band or Q, make it last.
+  refused NoMemory       There was no memory for a frame or its image.
+  torn           An answer of the server contradicts the stream's own count.
+
+The files are opened stream by stream: IN, whose header is read, and then OUT.
+What writes to a FIFO that is IN must be started before, or beside, what waits
+for a later one. At most 4 frames of a stream wait to be filtered, and 4 images
+to be written.
+
+Faults, each one line on standard error behind 'y4mserve: '; status 2:
+  bad band              B is odd.
+  too many streams      There are more than 64.
+  bad stream WORD       WORD has not the six parts above.
+  repeated name NAME    Two streams have the name.
+  BadOp NAME            A part of the stream's OPS is no operation.
+  TooManyOps NAME       Its OPS has more than 8 parts.
+Status 1, before any file is opened:
+  BadBandwidth NAME     Q and T are not 1 <= Q <= T <= 1048576.
+  Overload NAME         The streams before it leave it less than its share.
+  NoMemory              No memory was left.
+Status 1, in place of the report:
+  session NoMemory      There was no memory, or no thread, to serve with.
+  session Mismatch      What streams and workers did isn't what was recorded.
+  write                 The report couldn't be written.
+Status 1 also where a stop is not whole.";

@@ -2,6 +2,8 @@
 ghost use Rattle.std.specs.Prelude.{◌≡◌, ◌≤◌};
 ghost use Rattle.std.specs.Io.KnownBytes.{Keeps};
 
+use crate::files::Files;
+use crate::serve::run_serve;
 use crate::tell::tell;
 use crate::watch::{Unwatched, Watch};
 use crate::watched::{WatchedSink, WatchedSource};
@@ -11,6 +13,8 @@ use row_bands::BandHeight;
 use serve_script::replay;
 use std::alloc::Global;
 use std::io::{Read, Write};
+use std::sync::Wait;
+use std::thread::Threads;
 use thiserror::Error;
 use y4m_stream::{OverRead, OverWrite, filter_stream};
 
@@ -45,20 +49,28 @@ impl WordFault {
 }
 
 /// Runs the program with these words, which follow its name, and answers its status: 0 where all went well, 1
-/// after a fault of the stream or of the script or for want of memory, 2 for wrong words. A fault is one line
-/// on `errors`; that of a script is the last line on `output`. Help that is asked for is written to `output`.
-/// Where the words are wrong, nothing is.
-pub fn main_on<R: Read + Drop, W: Write, E: Write>(
+/// after a fault of a stream or of the script or for want of memory, 2 for wrong words. A fault is one line
+/// on `errors`; that of a script is the last line on `output`, and that of a stream among others ends its line
+/// there. Help that is asked for is written to `output`. Where the words are wrong, nothing is.
+pub fn main_on<R, W, E, F, T>(
+    rt: &T,
     alloc: Global,
     words: &[String],
     input: R,
     output: &mut W,
     errors: &mut E,
+    files: &F,
 ) -> u8
+where
+    R: Read + Drop,
+    W: Write,
+    E: Write,
+    F: Files,
+    T: Threads + Wait + Sync,
     ensures status { result ≤ 2 }
     ensures untouched { result ≡ 2 → Keeps (W.contents output.old) (W.contents output.new) }
 {
-    run_on(alloc, words, input, output, errors, &Unwatched)
+    run_on(rt, alloc, words, input, output, errors, files, &Unwatched)
 }
 
 /// The same, under a watch.
@@ -66,20 +78,30 @@ pub fn main_on<R: Read + Drop, W: Write, E: Write>(
 /// `filter` asks it for terminals once the words are right and before anything is read. It takes no terminal
 /// as its output, status 2. Where its input is one it says what it waits for, and it tells the watch of each
 /// frame, unless the words have `--quiet`.
-pub fn run_on<R: Read + Drop, W: Write, E: Write, V: Watch>(
+pub fn run_on<R, W, E, F, V, T>(
+    rt: &T,
     alloc: Global,
     words: &[String],
     input: R,
     output: &mut W,
     errors: &mut E,
+    files: &F,
     watch: &V,
 ) -> u8
+where
+    R: Read + Drop,
+    W: Write,
+    E: Write,
+    F: Files,
+    V: Watch,
+    T: Threads + Wait + Sync,
     ensures status { result ≤ 2 }
     ensures untouched { result ≡ 2 → Keeps (W.contents output.old) (W.contents output.new) }
 {
     match read_words(alloc, words) {
         Ok(Request::Filter(asked)) => run_filter(alloc, asked, input, output, errors, watch),
         Ok(Request::Replay) => run_replay(alloc, input, output, errors),
+        Ok(Request::Serve(asked)) => run_serve(rt, alloc, asked, output, errors, files),
         Err(NoRequest::Help(text)) => write_help(&text, output, errors),
         Err(NoRequest::Wrong(text)) => {
             let _ = errors.write_all(text.as_bytes());

@@ -1,16 +1,20 @@
 // The words of the command line.
+ghost use Rattle.std.specs.Prelude.{◌≤◌};
+
 use crate::help;
 use clap::error::ErrorKind;
 use clap::{Arg, ArgAction, ArgMatches, Command, value_parser};
 use std::alloc::{AllocError, Global};
 
 /// What the words ask for.
-#[derive(Clone, Copy, Debug, PartialEq, Eq)]
+#[derive(Debug, Drop)]
 pub enum Request<'a> {
     /// To filter a stream.
     Filter(FilterWords<'a>),
     /// To run a script.
     Replay,
+    /// To serve streams.
+    Serve(ServeWords<'a>),
 }
 
 /// What a stream is filtered by, as the words say it.
@@ -21,6 +25,19 @@ pub struct FilterWords<'a> {
     pub band: u32,
     /// Nothing is shown of the run while it goes on.
     pub is_quiet: bool,
+}
+
+/// The streams that are served, and by what, as the words say it.
+#[derive(Debug, Drop)]
+pub struct ServeWords<'a> {
+    pub workers: u32,
+    /// The luma rows of a band.
+    pub band: u32,
+    /// The most bands of one lease.
+    pub quantum: u32,
+    /// The words that name the streams.
+    pub streams: Vec<&'a str>,
+    ghost in_range: { (1 ≤ workers) × (workers ≤ 16) × (1 ≤ quantum) × (quantum ≤ 64) },
 }
 
 /// Why the words ask for nothing that is run.
@@ -40,19 +57,22 @@ impl From<AllocError> for NoRequest {
     }
 }
 
-fn filter_command<'a>(alloc: Global) -> Result<Command<'a>, AllocError> {
-    let operations = Arg::new(alloc, "OPS")
-        .required(true)
-        .action(ArgAction::Set)
-        .help(help::OPERATIONS);
-    let band = Arg::new(alloc, "band")
+fn band_option<'a>(alloc: Global) -> Arg<'a> {
+    Arg::new(alloc, "band")
         .long("band")
         .action(ArgAction::Set)
         .value_name("B")
         .value_parser(value_parser!(u32).range(2..=128))
         .default_value("16")
         .help(help::BAND)
-        .long_help(help::BAND_LONG);
+        .long_help(help::BAND_LONG)
+}
+
+fn filter_command<'a>(alloc: Global) -> Result<Command<'a>, AllocError> {
+    let operations = Arg::new(alloc, "OPS")
+        .required(true)
+        .action(ArgAction::Set)
+        .help(help::OPERATIONS);
     let quiet = Arg::new(alloc, "quiet")
         .short('q')
         .long("quiet")
@@ -63,7 +83,7 @@ fn filter_command<'a>(alloc: Global) -> Result<Command<'a>, AllocError> {
         .long_about(help::FILTER_LONG)
         .after_long_help(help::FILTER_PAGE)
         .arg(operations)?
-        .arg(band)?
+        .arg(band_option(alloc))?
         .arg(quiet)
 }
 
@@ -72,6 +92,40 @@ fn replay_command<'a>(alloc: Global) -> Command<'a> {
         .about(help::REPLAY)
         .long_about(help::REPLAY_LONG)
         .after_long_help(help::REPLAY_PAGE)
+}
+
+fn serve_command<'a>(alloc: Global) -> Result<Command<'a>, AllocError> {
+    let workers = Arg::new(alloc, "workers")
+        .long("workers")
+        .action(ArgAction::Set)
+        .value_name("N")
+        .value_parser(value_parser!(u32).range(1..=16))
+        .default_value("2")
+        .help(help::WORKERS)
+        .long_help(help::WORKERS_LONG);
+    let quantum = Arg::new(alloc, "quantum")
+        .long("quantum")
+        .action(ArgAction::Set)
+        .value_name("K")
+        .value_parser(value_parser!(u32).range(1..=64))
+        .default_value("8")
+        .help(help::QUANTUM)
+        .long_help(help::QUANTUM_LONG);
+    let streams = Arg::new(alloc, "STREAM")
+        .required(true)
+        .action(ArgAction::Append)
+        .num_args(1..)
+        .value_name("NAME:IN:OUT:Q:T:OPS")
+        .help(help::STREAM)
+        .long_help(help::STREAM_LONG);
+    Command::new(alloc, "serve")
+        .about(help::SERVE)
+        .long_about(help::SERVE_LONG)
+        .after_long_help(help::SERVE_PAGE)
+        .arg(workers)?
+        .arg(band_option(alloc))?
+        .arg(quantum)?
+        .arg(streams)
 }
 
 fn command<'a>(alloc: Global) -> Result<Command<'a>, AllocError> {
@@ -83,24 +137,45 @@ fn command<'a>(alloc: Global) -> Result<Command<'a>, AllocError> {
         .bin_name("y4mserve")?
         .subcommand_required(true)
         .subcommand(filter_command(alloc)?)?
-        .subcommand(replay_command(alloc))
+        .subcommand(replay_command(alloc))?
+        .subcommand(serve_command(alloc)?)
 }
 
-fn request_of<'a>(matches: &ArgMatches<'a>) -> Request<'a> {
+/// The words that name the streams.
+fn stream_words<'a>(alloc: Global, matches: &ArgMatches<'a>) -> Result<Vec<&'a str>, AllocError> {
+    let mut streams = Vec::new(alloc);
+    for word in matches.get_strs("STREAM").unwrap_or(&[]) {
+        streams.push(*word)?;
+    }
+    Ok(streams)
+}
+
+/// The number of an option.
+fn number_of(matches: &ArgMatches<'_>, name: &str, default: u32) -> u32 {
+    matches.get_one::<u32>(name).unwrap_or(default)
+}
+
+fn request_of<'a>(alloc: Global, matches: &ArgMatches<'a>) -> Result<Request<'a>, AllocError> {
     match matches.subcommand() {
-        Some(("filter", inner)) => Request::Filter(FilterWords {
+        Some(("filter", inner)) => Ok(Request::Filter(FilterWords {
             operations: inner.get_str("OPS").unwrap_or(""),
-            band: inner.get_one::<u32>("band").unwrap_or(0),
+            band: number_of(inner, "band", 16),
             is_quiet: inner.get_flag("quiet"),
-        }),
-        _ => Request::Replay,
+        })),
+        Some(("serve", inner)) => Ok(Request::Serve(ServeWords {
+            workers: number_of(inner, "workers", 2).clamp(1, 16),
+            band: number_of(inner, "band", 16),
+            quantum: number_of(inner, "quantum", 8).clamp(1, 64),
+            streams: stream_words(alloc, inner)?,
+        })),
+        _ => Ok(Request::Replay),
     }
 }
 
 /// Reads the words behind the program's name.
 pub fn read_words(alloc: Global, words: &[String]) -> Result<Request<'_>, NoRequest> {
     let error = match command(alloc)?.try_get_matches_from(words) {
-        Ok(matches) => return Ok(request_of(&matches)),
+        Ok(matches) => return Ok(request_of(alloc, &matches)?),
         Err(error) => error,
     };
     if error.kind() == ErrorKind::OutOfMemory {

@@ -1,8 +1,10 @@
-// Filters YUV4MPEG2 streams, and runs scripts on accounts, from standard input to standard output.
+// Filters YUV4MPEG2 streams, one in a pipe or many from file to file, and runs scripts.
 #![tactic(auto)]
 
+mod host_files;
 mod terminals;
 
+use host_files::HostFiles;
 use serve_report::run_on;
 use std::alloc::AllocError;
 use std::io::{ErrorKind, Lock, Write};
@@ -27,11 +29,13 @@ fn main(rt: HostRuntime) -> ExitCode {
         return ExitCode::from(1);
     };
     let status = run_on(
+        &rt,
         rt.alloc(),
         &words,
         rt.stdin().lock(),
         &mut output,
         &mut errors,
+        &HostFiles::new(&rt),
         &Terminals::new(&rt),
     );
     ExitCode::from(status)

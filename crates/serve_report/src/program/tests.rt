@@ -1,10 +1,15 @@
+use self::memory::NoFiles;
 use super::main_on;
 use std::alloc::{AllocError, Global};
 use std::io::{self, ErrorKind, Read};
 use std::process::Abort;
+use std::sync::Wait;
 use std::test::Fail;
+use std::thread::Threads;
 
 mod command_line;
+mod memory;
+mod serving;
 mod watches;
 
 fn words_of(alloc: Global, line: &str) -> Result<Vec<String>, AllocError> {
@@ -23,7 +28,7 @@ fn written(room: &[u8], left: usize) -> &[u8] {
 /// Runs the program with these words, compares what it says of faults and its status, and answers how much is
 /// left of the room for its output.
 fn says<R: Read + Drop>(
-    rt: &impl Abort,
+    rt: &(impl Abort + Threads + Wait + Sync),
     alloc: Global,
     line: &str,
     input: R,
@@ -34,7 +39,7 @@ fn says<R: Read + Drop>(
     let words = words_of(alloc, line)?;
     let mut faults = [0; 512];
     let mut rest = faults.as_mut_slice();
-    let answer = main_on(alloc, &words, input, &mut room, &mut rest);
+    let answer = main_on(rt, alloc, &words, input, &mut room, &mut rest, &NoFiles);
     let left = rest.len();
     let said = str::from_utf8(written(&faults, left));
     assert_eq!(rt; said.ok(), Some(errors), "{line}");
@@ -44,7 +49,7 @@ fn says<R: Read + Drop>(
 
 /// Runs the program with these words, and compares what it writes.
 fn runs(
-    rt: &impl Abort,
+    rt: &(impl Abort + Threads + Wait + Sync),
     alloc: Global,
     line: &str,
     input: &[u8],
@@ -59,7 +64,12 @@ fn runs(
 }
 
 /// Runs `filter invert` on an input whose header is refused.
-fn refuses_header(rt: &impl Abort, alloc: Global, input: &[u8], errors: &str) -> Result<(), Fail> {
+fn refuses_header(
+    rt: &(impl Abort + Threads + Wait + Sync),
+    alloc: Global,
+    input: &[u8],
+    errors: &str,
+) -> Result<(), Fail> {
     runs(rt, alloc, "filter invert", input, b"", errors, 1)
 }
 
@@ -291,7 +301,12 @@ fn a_script_prints_its_lines_and_tells_a_fault_by_its_status(rt: HostRuntime) ->
 }
 
 /// Replays a script whose commands all run.
-fn replays(rt: &impl Abort, alloc: Global, script: &str, lines: &str) -> Result<(), Fail> {
+fn replays(
+    rt: &(impl Abort + Threads + Wait + Sync),
+    alloc: Global,
+    script: &str,
+    lines: &str,
+) -> Result<(), Fail> {
     runs(
         rt,
         alloc,

@@ -1,9 +1,12 @@
+use super::memory::NoFiles;
 use super::{runs, says, words_of, written};
 use crate::main_on;
 use std::alloc::Global;
 use std::io::{self, Write};
 use std::process::Abort;
+use std::sync::Wait;
 use std::test::Fail;
+use std::thread::Threads;
 
 #[test]
 fn the_parser_tells_wrong_words_in_its_own(rt: HostRuntime) -> Result<(), Fail> {
@@ -65,7 +68,15 @@ fn no_words_are_wrong_words(rt: HostRuntime) {
     let mut output = [0; 0];
     let mut room = output.as_mut_slice();
     let words = Vec::new(rt.alloc());
-    let status = main_on(rt.alloc(), &words, b"".as_slice(), &mut room, &mut rest);
+    let status = main_on(
+        &rt,
+        rt.alloc(),
+        &words,
+        b"".as_slice(),
+        &mut room,
+        &mut rest,
+        &NoFiles,
+    );
     let left = rest.len();
     assert_eq!(rt; status, 2);
     assert!(rt; written(&errors, left).starts_with(b"error: 'y4mserve' requires a subcommand"));
@@ -103,7 +114,7 @@ fn bands_have_the_rows_of_the_words(rt: HostRuntime) -> Result<(), Fail> {
 
 /// Asks for help, and compares the front of what comes.
 fn helps(
-    rt: &impl Abort,
+    rt: &(impl Abort + Threads + Wait + Sync),
     alloc: Global,
     line: &str,
     front: &str,
@@ -201,11 +212,52 @@ fn the_help_of_replay_has_its_commands_and_faults(rt: HostRuntime) -> Result<(),
 }
 
 #[test]
+fn the_help_of_serve_is_a_page_to_work_from(rt: HostRuntime) -> Result<(), Fail> {
+    let words = [
+        "Usage: y4mserve serve [OPTIONS] <NAME:IN:OUT:Q:T:OPS>...\n",
+        "--workers <N>",
+        "1 to 16",
+        "[default: 2]",
+        "--quantum <K>",
+        "1 to 64",
+        "[default: 8]",
+        "--band <B>",
+        "blur:R",
+        "deadline",
+        "units 816",
+        "open",
+        "ops E",
+        "create",
+        "write N",
+        "TooManyFrames",
+        "ClockEnd",
+        "HistoryFull",
+        "torn",
+        "bad stream WORD",
+        "repeated name NAME",
+        "BadBandwidth NAME",
+        "Overload NAME",
+        "session Mismatch",
+    ];
+    for line in ["serve --help", "help serve"] {
+        helps(
+            &rt,
+            rt.alloc(),
+            line,
+            "Filters many streams at once",
+            &words,
+        )?;
+    }
+    Ok(())
+}
+
+#[test]
 fn the_program_helps_and_tells_its_version(rt: HostRuntime) -> Result<(), Fail> {
     let words = [
         "Usage: y4mserve <COMMAND>\n",
         "filter",
         "replay",
+        "serve",
         "help",
         "--version",
     ];
@@ -261,7 +313,15 @@ fn what_is_said_goes_out_in_one_write(rt: HostRuntime) -> Result<(), Fail> {
         let words = words_of(rt.alloc(), line)?;
         let mut errors = Counted { writes: 0 };
         let mut output = Counted { writes: 0 };
-        main_on(rt.alloc(), &words, b"".as_slice(), &mut output, &mut errors);
+        main_on(
+            &rt,
+            rt.alloc(),
+            &words,
+            b"".as_slice(),
+            &mut output,
+            &mut errors,
+            &NoFiles,
+        );
         assert_eq!(rt; errors.writes, lines, "{line}");
         assert_eq!(rt; output.writes, 1 - lines, "{line}");
     }

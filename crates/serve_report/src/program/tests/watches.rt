@@ -1,10 +1,13 @@
+use super::memory::NoFiles;
 use super::{words_of, written};
 use crate::{Watch, run_on};
 use std::alloc::Global;
 use std::cell::Cell;
 use std::io::{self, Read};
 use std::process::Abort;
+use std::sync::Wait;
 use std::test::Fail;
+use std::thread::Threads;
 
 /// Tells of terminals, and keeps what it is told and how often it is asked.
 #[derive(Drop)]
@@ -82,7 +85,7 @@ impl Read for Few<'_> {
 
 /// Runs the program under a watch, compares what it says, and answers how much it wrote.
 fn watched<R: Read + Drop>(
-    rt: &impl Abort,
+    rt: &(impl Abort + Threads + Wait + Sync),
     alloc: Global,
     line: &str,
     input: R,
@@ -95,7 +98,9 @@ fn watched<R: Read + Drop>(
     let mut rest = faults.as_mut_slice();
     let mut output = [0; 8192];
     let mut room = output.as_mut_slice();
-    let answer = run_on(alloc, &words, input, &mut room, &mut rest, watch);
+    let answer = run_on(
+        rt, alloc, &words, input, &mut room, &mut rest, &NoFiles, watch,
+    );
     let left = rest.len();
     assert_eq!(rt;
         str::from_utf8(written(&faults, left)).ok(),

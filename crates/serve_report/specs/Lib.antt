@@ -1,0 +1,4 @@
+pub mod StreamWords
+pub mod ServeChecks
+pub mod ServeReport
+pub mod Entrants

@@ -1,0 +1,172 @@
+//! What is reported of the streams of a run.
+ghost use Rattle.std.specs.Prelude.{◌≡◌};
+ghost use Rattle.serve_script.specs.ScriptFault.{filter_word, header_word};
+ghost use Rattle.serve_report.specs.ServeReport.{cause_word, read_word};
+
+use filters::FilterError;
+use serve_work::{Cause, Stop};
+use std::fmt;
+use y4m_header::HeaderError;
+use y4m_stream::{ReadFault, WriteFault};
+
+/// Why a stream ended.
+#[derive(Clone, Copy, Debug, PartialEq, Eq)]
+pub enum StreamStop {
+    /// The input was read to its end, and the images of all its frames were written.
+    Whole,
+    /// The input couldn't be opened.
+    Open,
+    /// The input couldn't be read on.
+    Read(ReadFault),
+    /// The operations make no chain for the input's frames.
+    Ops(FilterError),
+    /// The output couldn't be made.
+    Create,
+    /// The output couldn't be written on.
+    Write(WriteFault),
+    /// A frame or an image was refused.
+    Refused(Cause),
+    /// What was answered contradicts what was asked.
+    Torn,
+}
+
+impl From<Stop> for StreamStop {
+    ghost use Rattle.serve_report.specs.ServeReport.{stop_told};
+
+    ghost from_gives = { λ stop told. told ≡ stop_told stop };
+
+    fn from(stop: Stop) -> StreamStop {
+        match stop {
+            Stop::Whole => StreamStop::Whole,
+            Stop::Read(fault) => StreamStop::Read(fault),
+            Stop::Write(fault) => StreamStop::Write(fault),
+            Stop::Refused(cause) => StreamStop::Refused(cause),
+            Stop::Torn => StreamStop::Torn,
+        }
+    }
+}
+
+impl fmt::Display for StreamStop {
+    ghost use Rattle.std.specs.Prelude.{Some};
+    ghost use Rattle.serve_report.specs.ServeReport.{stop_text};
+
+    ghost output = { λ stop. Some (stop_text stop) };
+
+    fn fmt<W: fmt::Write>(&self, f: &mut fmt::Formatter<W>) -> fmt::Result {
+        match *self {
+            StreamStop::Whole => write!(f, "whole"),
+            StreamStop::Open => write!(f, "open"),
+            StreamStop::Read(ReadFault::Header(error)) => {
+                let word = header_word(error);
+                write!(f, "read Header {word}")
+            }
+            StreamStop::Read(fault) => {
+                let word = read_word(fault);
+                write!(f, "read {word}")
+            }
+            StreamStop::Ops(error) => {
+                let word = filter_word(error);
+                write!(f, "ops {word}")
+            }
+            StreamStop::Create => write!(f, "create"),
+            StreamStop::Write(WriteFault::Device(bytes)) => write!(f, "write {bytes}"),
+            StreamStop::Write(WriteFault::Failed) => write!(f, "write Failed"),
+            StreamStop::Refused(cause) => {
+                let word = cause_word(cause);
+                write!(f, "refused {word}")
+            }
+            StreamStop::Torn => write!(f, "torn"),
+        }
+    }
+}
+
+/// The word of a fault of the reader.
+fn read_word(fault: ReadFault) -> &'static str
+    ensures { result.now ≡ read_word fault }
+{
+    match fault {
+        ReadFault::Device => "Device",
+        ReadFault::LineTooLong => "LineTooLong",
+        ReadFault::Header(_) => "Header",
+        ReadFault::NotFrame => "NotFrame",
+        ReadFault::Truncated => "Truncated",
+        ReadFault::NoMemory => "NoMemory",
+        ReadFault::Failed => "Failed",
+    }
+}
+
+/// The word of a refused header.
+fn header_word(error: HeaderError) -> &'static str
+    ensures { result.now ≡ header_word error }
+{
+    match error {
+        HeaderError::NotY4m => "NotY4m",
+        HeaderError::BadNumber => "BadNumber",
+        HeaderError::RepeatedTag => "RepeatedTag",
+        HeaderError::MissingSize => "MissingSize",
+        HeaderError::UnknownChroma => "UnknownChroma",
+        HeaderError::NotDivisible => "NotDivisible",
+        HeaderError::TooLarge => "TooLarge",
+        HeaderError::NoMemory => "NoMemory",
+        HeaderError::NotFrame => "NotFrame",
+    }
+}
+
+/// The word of operations that make no chain.
+fn filter_word(error: FilterError) -> &'static str
+    ensures { result.now ≡ filter_word error }
+{
+    match error {
+        FilterError::BadOp => "BadOp",
+        FilterError::TooManyOps => "TooManyOps",
+        FilterError::BadCrop => "BadCrop",
+        FilterError::TooManySteps => "TooManySteps",
+        FilterError::NoMemory => "NoMemory",
+    }
+}
+
+/// The word of a refusal.
+fn cause_word(cause: Cause) -> &'static str
+    ensures { result.now ≡ cause_word cause }
+{
+    match cause {
+        Cause::TooManyFrames => "TooManyFrames",
+        Cause::ClockEnd => "ClockEnd",
+        Cause::HistoryFull => "HistoryFull",
+        Cause::NoMemory => "NoMemory",
+    }
+}
+
+/// What is reported of one stream.
+#[derive(Clone, Copy, Debug, PartialEq, Eq)]
+pub struct StreamRow<'a> {
+    pub name: &'a str,
+    /// How many of its frames were accepted.
+    pub accepted: u64,
+    /// How many images were written whole.
+    pub delivered: u64,
+    /// The units that were done for it.
+    pub charged: u64,
+    pub stop: StreamStop,
+}
+
+impl fmt::Display for StreamRow<'_> {
+    ghost use Rattle.std.specs.Prelude.{Some};
+    ghost use Rattle.serve_report.specs.ServeReport.{row_text};
+
+    ghost output = { λ row. Some (row_text row) };
+
+    fn fmt<W: fmt::Write>(&self, f: &mut fmt::Formatter<W>) -> fmt::Result {
+        let StreamRow {
+            name,
+            accepted,
+            delivered,
+            charged,
+            stop,
+        } = *self;
+        write!(
+            f,
+            "{name} accepted {accepted} delivered {delivered} charged {charged} stop {stop}"
+        )
+    }
+}

@@ -1,0 +1,51 @@
+// The files of the system.
+use serve_report::Files;
+use std::fs::{self, File};
+use std::io;
+use std::os::fd::AsRawFd;
+
+/// The number of the last standard descriptor.
+const LAST_STANDARD: i32 = 2;
+
+/// The files of the system, by path.
+///
+/// Where the caller closed a standard descriptor, its number is kept from the files of streams, which would
+/// else take it, so that a report would land in one of them. What is read from or written to it still fails.
+#[derive(Drop)]
+pub struct HostFiles<'a> {
+    rt: &'a HostRuntime,
+    /// The folders that stand at the numbers of those that were closed.
+    _kept: [Option<File>; 3],
+}
+
+impl<'a> HostFiles<'a> {
+    pub fn new(rt: &'a HostRuntime) -> HostFiles<'a> {
+        HostFiles {
+            rt,
+            _kept: [keep(rt), keep(rt), keep(rt)],
+        }
+    }
+}
+
+/// A folder at the lowest number that is free, if that is a standard descriptor's.
+fn keep(rt: &HostRuntime) -> Option<File> {
+    let folder = fs::open(rt, "/").ok()?;
+    if folder.as_raw_fd() > LAST_STANDARD {
+        return None;
+    }
+    Some(folder)
+}
+
+impl Files for HostFiles<'_> {
+    type Reader = File;
+
+    type Writer = File;
+
+    fn open(&self, name: &str) -> io::Result<File> {
+        fs::open(self.rt, name)
+    }
+
+    fn create(&self, name: &str) -> io::Result<File> {
+        fs::create(self.rt, name)
+    }
+}
