@@ -1,5 +1,5 @@
 -- What a client's frames come to: those that are accepted, why there are no more, and what went out.
-use Rattle.std.proofs.Common.{◌≡◌, ◌≢◌, ℕ, ◌+◌, ◌⊎◌, ◌≤◌, List, [], ◌∷◌, ◌++◌, length, map, refl, sym, ap, ◌∙◌, append-nil, length-append, arith, subst, inl, inr, Bool, false, filter, Result, Ok, Err, OnOk, IfErr}
+use Rattle.std.proofs.Common.{◌≡◌, ◌≢◌, ◌+◌, ◌⊎◌, ◌≤◌, List, [], ◌∷◌, ◌++◌, length, refl, sym, ap, ◌∙◌, append-nil, length-append, arith, subst, inl, inr, Bool, false, filter, Result, Ok, Err, OnOk, IfErr}
 use Rattle.std.proofs.lemmas.List.Elements.{filter-append}
 use Rattle.std.specs.Bool.{⊤}
 use Rattle.filters.specs.ChainImage.{FrameValue}
@@ -17,7 +17,7 @@ use Rattle.serve_work.specs.declared.stop.Cause.TheVariants.{TooManyFrames, Cloc
 use Rattle.serve_work.specs.declared.stop.Stop.{Stop}
 use Rattle.serve_work.specs.declared.stop.Stop.TheVariants.{Whole, Read, Write, Refused, Torn}
 use Rattle.serve_work.specs.Clients.{is_collection, is_offer}
-use Rattle.serve_work.specs.ClientInside.{Accounted, BreaksOff, Cuts, Feeds, GivesUp, IsDrained, IsFirst, IsOfCollection, IsSent, IsUseful}
+use Rattle.serve_work.specs.ClientInside.{Accounted, BreaksOff, Cuts, Feeds, IsDrained, IsFirst, IsOfCollection, IsSent, IsUseful}
 use Rattle.serve_work.specs.ClientInside.{Moves, SendsWhole, Serves, StopsReading, StopsWith, TalliesSeat, texts_of}
 use Rattle.serve_work.proofs.Moving.{Accounted-later, StopsWith-later, TalliesSeat-same, few_of, size_later}
 

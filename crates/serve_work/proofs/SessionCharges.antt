@@ -15,10 +15,9 @@ use Rattle.serve_hub.specs.declared.entry.Act.{Act}
 use Rattle.serve_hub.specs.declared.entry.Act.TheVariants.{Closed, Collected, Leased, Offered, Settled}
 use Rattle.serve_hub.specs.Ends.{AreLanes, IsCharged, IsLaneOf, one_collection}
 use Rattle.serve_hub.specs.Seats.{StreamSeatValue, opened_streams}
-use Rattle.serve_work.specs.declared.session.Served.{Served}
 use Rattle.serve_work.specs.Clients.{ClientEnds, ClientOutcome, ClientStart, collections_in}
 use Rattle.serve_work.specs.Sessions.{AreServed, IsServed, ServedValue, starts_of}
-use Rattle.serve_work.specs.SessionInside.{AllLeave, AreTold, ClientLeft, Leaves}
+use Rattle.serve_work.specs.SessionInside.{AllLeave, ClientLeft}
 
 -- streams whose seats have the numbers from this one on
 abbrev pub AreFrom : ℕ → List ClientStart → Type 0

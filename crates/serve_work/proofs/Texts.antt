@@ -1,21 +1,18 @@
 -- From a reader's opening to a client's end.
-use Rattle.std.proofs.Common.{◌≡◌, ◌⊎◌, ℕ, ◌+◌, ◌≤◌, List, [], ◌∷◌, ◌++◌, length, take, Option, Some, None, IfSome, refl, sym, ap, ◌∙◌, append_assoc, append-nil, length-append, arith, subst, inl, inr}
-use Rattle.std.proofs.KnownBytes.{Appends-kept, Appends-nil, Consumes-trans, Consumes-whole}
-use Rattle.std.proofs.Math.Seq.{take-append-add, take-append_seam}
-use Rattle.std.proofs.lemmas.List.{take-append-le}
+use Rattle.std.proofs.Common.{◌≡◌, ◌⊎◌, ℕ, List, [], ◌∷◌, ◌++◌, length, Option, Some, None, IfSome, refl, sym, ap, ◌∙◌, append-nil, length-append, arith, subst, inl, inr}
+use Rattle.std.proofs.KnownBytes.{Consumes-trans, Consumes-whole}
 use Rattle.std.specs.Io.KnownBytes.{Appends, Consumes, IsAtEnd, Keeps}
-use Rattle.y4m_header.specs.StreamText.{FrameText, frames_text, stream_text, text_of}
+use Rattle.y4m_header.specs.StreamText.{FrameText, frames_text, stream_text}
 use Rattle.filters.specs.Chain.{ChainValue}
-use Rattle.y4m_stream.specs.Reader.{IsOpened, data_len_of}
-use Rattle.y4m_stream.specs.Served.{AreImages, IsImageText, IsServedText, served_header}
+use Rattle.y4m_stream.specs.Reader.{data_len_of}
+use Rattle.y4m_stream.specs.Served.{IsServedText}
 use Rattle.y4m_stream.proofs.Puts.{behind_line}
 use Rattle.serve_hub.specs.Seats.{StreamSeatValue}
 use Rattle.serve_work.specs.declared.stop.Cause.TheVariants.{NoMemory}
-use Rattle.serve_work.specs.declared.stop.Stop.{Stop}
 use Rattle.serve_work.specs.declared.stop.Stop.TheVariants.{Whole, Write, Refused}
 use Rattle.serve_work.specs.Clients.{ClientEnds, ClientOutcome, ClientStart, CutsHeader, EndsWithin, StopsAt}
 use Rattle.serve_work.specs.Clients.{WroteImages, WroteNothing}
-use Rattle.serve_work.specs.Laws.{InputIsServed, ServesAll, ServesInput}
+use Rattle.serve_work.specs.Laws.{InputIsServed, ServesAll}
 
 -- all known bytes were read, and none is left
 all_read : (a b c : Option (List ℕ)) (text : List ℕ) → Consumes a b text → IsAtEnd b → Keeps b c

@@ -1,5 +1,5 @@
 -- What a worker adds to its seat's calls.
-use Rattle.std.proofs.Common.{◌≡◌, ℕ, Bool, true, List, [], ◌∷◌, ◌++◌, Option, Some, None, MatchOption, refl, sym, ap, ◌∙◌, append_assoc, inl, inr}
+use Rattle.std.proofs.Common.{◌≡◌, ℕ, Bool, true, List, [], ◌∷◌, ◌++◌, Option, Some, None, MatchOption, refl, ap, ◌∙◌, append_assoc, inl, inr}
 use Rattle.lease.specs.Lease.{LeaseValue}
 use Rattle.serve_hub.specs.declared.entry.Act.{Act}
 use Rattle.serve_hub.specs.declared.entry.Act.TheVariants.{Closed, Collected, Leased, Offered, Settled}
@@ -7,8 +7,8 @@ use Rattle.serve_hub.specs.declared.refusal.Came.TheVariants as came
 use Rattle.serve_hub.specs.declared.refusal.Refusal.{Refusal}
 use Rattle.serve_hub.specs.declared.refusal.Refusal.TheVariants.{Core, HistoryFull, StrayLease, Torn}
 use Rattle.serve_hub.specs.Calls.{FinishesOther}
-use Rattle.serve_hub.specs.Seats.{CallsValue, WorkSeatValue, with_call}
-use Rattle.serve_work.specs.Workers.{AreSpent, HasLast, Works, adding}
+use Rattle.serve_hub.specs.Seats.{WorkSeatValue}
+use Rattle.serve_work.specs.Workers.{AreSpent, Works, adding}
 
 pub spent_then : (calls : List Act) (stream seq grant bands : ℕ) (finished : Bool) → AreSpent calls → bands ≡ grant
     → AreSpent (calls ++ Leased stream seq grant ∷ Settled bands finished ∷ [])

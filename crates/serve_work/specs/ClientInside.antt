@@ -1,11 +1,11 @@
 -- What contracts inside the crate say of a client.
-use Rattle.std.specs.Prelude.{ℕ, ◌+◌, ◌≡◌, ◌≢◌, ◌≤◌, ◌⊎◌, ⊤, IsTrue, true, false, List, [], ◌∷◌}
+use Rattle.std.specs.Prelude.{ℕ, ◌+◌, ◌≡◌, ◌≢◌, ◌≤◌, ◌⊎◌, ⊤, IsTrue, false, List, [], ◌∷◌}
 use Rattle.std.specs.Prelude.{◌++◌, All, Result, Ok, Err}
-use Rattle.std.specs.Prelude.{Option, IfSome, length, map, replicate}
+use Rattle.std.specs.Prelude.{Option, IfSome, length, map}
 use Rattle.std.specs.declared.alloc.Global.{Global}
 use Rattle.std.specs.declared.sync.Arc.{Arc}
 use Rattle.std.specs.Arc.{arc_value}
-use Rattle.std.specs.Io.KnownBytes.{Appends, Consumes, IsAtEnd, Keeps}
+use Rattle.std.specs.Io.KnownBytes.{Appends, Consumes}
 use Rattle.y4m_header.specs.StreamText.{FrameText, IsFrameOf, frames_text}
 use Rattle.frame_view.specs.declared.frame.Frame.{Frame}
 use Rattle.filters.specs.Chain.{ChainValue}
@@ -13,8 +13,8 @@ use Rattle.filters.specs.ChainImage.{FrameValue, value_of}
 use Rattle.y4m_stream.specs.declared.fault.WriteFault.{WriteFault}
 use Rattle.y4m_stream.specs.declared.reader.Phase.TheVariants.{Open}
 use Rattle.y4m_stream.specs.declared.passing.TheConstants.{MOST_FRAMES}
-use Rattle.y4m_stream.specs.Reader.{FailsAtFrame, IsOfHeader, ReaderState, TakesFrame}
-use Rattle.y4m_stream.specs.Reader.{data_len_of, frame_text_of}
+use Rattle.y4m_stream.specs.Reader.{FailsAtFrame, ReaderState, TakesFrame}
+use Rattle.y4m_stream.specs.Reader.{data_len_of}
 use Rattle.y4m_stream.specs.Served.{AreImages, IsImageText}
 use Rattle.y4m_stream.specs.Writer.{FailsToPut, WriterState}
 use Rattle.serve_core.specs.declared.refusal.Refusal.TheVariants as cores
@@ -29,7 +29,7 @@ use Rattle.serve_work.specs.declared.feeding.Offered.TheVariants as offered
 use Rattle.serve_work.specs.declared.stop.Cause.TheVariants as causes
 use Rattle.serve_work.specs.declared.stop.Stop.{Stop}
 use Rattle.serve_work.specs.declared.stop.Stop.TheVariants.{Whole, Read, Write, Refused, Torn}
-use Rattle.serve_work.specs.Clients.{Progress, StopsAt, collections_in, offers_in, reads_at}
+use Rattle.serve_work.specs.Clients.{StopsAt, collections_in, offers_in, reads_at}
 
 abbrev pub stop_of : Refusal → Stop
 stop_of HistoryFull = Refused causes.HistoryFull

@@ -1,12 +1,9 @@
 //! Sessions of several streams.
-ghost use Rattle.std.specs.Prelude.{◌≡◌};
-
-use super::{Open, PLAIN, Plan, Room, Still, stream_of};
-use crate::{Served, SessionFault, Stop, serve_session};
-use serve_core::{Setup, StreamSpec};
+use super::{Open, Plan, Room, Still, stream_of};
+use crate::{Served, SessionFault, serve_session};
+use serve_core::Setup;
 use std::alloc::Global;
 use std::io::{self, ErrorKind, Read};
-use std::process::Abort;
 use std::sync::Wait;
 use std::test::Fail;
 use std::thread::Threads;

@@ -1,7 +1,6 @@
 use Rattle.std.proofs.Common.{◌≡◌, ◌∙◌, ℕ, ap, arith, sym}
 use Rattle.std.specs.Prelude.{slice_get}
 use Rattle.serve_core.specs.Schedule.{HasLane}
-use Rattle.serve_work.specs.declared.session.Served.{Served}
 use Rattle.serve_work.specs.Sessions.{outcome_of}
 use Rattle.serve_work.proofs.SessionCharges.{charge_told, map_set, told_more}
 use Rattle.serve_work.proofs.session.charge.Goals as goal

@@ -1,4 +1,4 @@
-use Rattle.std.proofs.Common.{◌≡◌, ◌∙◌, List, length, map, subst, sym, ap, arith}
+use Rattle.std.proofs.Common.{◌∙◌, List, length, map, subst, sym, ap, arith}
 use Rattle.serve_hub.specs.Seats.{StreamSeatValue}
 use Rattle.serve_hub.specs.Ends.{AreLanes}
 use Rattle.serve_work.specs.Sessions.{AreServed, outcome_of, served_of, starts_of}

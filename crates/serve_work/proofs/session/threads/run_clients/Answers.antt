@@ -1,7 +1,7 @@
 use denote.Param.Send.{sendable}
 use Rattle.std.proofs.Crossing.{crosses, sync}
 use Rattle.serve_hub.proofs.Sharing.{hub_sync}
-use Rattle.std.proofs.Common.{◌≡◌, sym}
+use Rattle.std.proofs.Common.{sym}
 use Rattle.serve_work.proofs.SessionTurns.{all_run}
 use Rattle.serve_work.proofs.session.threads.run_clients.Goals as goal
 

@@ -1,7 +1,7 @@
 use Rattle.std.proofs.Common.{◌≡◌, ◌∙◌, None, Option, Some, ap, subst, sym}
 use Rattle.std.specs.Prelude.{unwrap_or}
 use Rattle.serve_work.specs.Clients.{ClientStart}
-use Rattle.serve_work.specs.SessionInside.{ClientLeft, Leaves, TurnValue, has_ended}
+use Rattle.serve_work.specs.SessionInside.{ClientLeft, Leaves, TurnValue}
 use Rattle.serve_work.proofs.session.turn.Turn.run.Goals.{in-Some-1, in-None-1}
 use Rattle.serve_work.proofs.session.turn.Turn.run.Goals as goal
 
