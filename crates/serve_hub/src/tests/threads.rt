@@ -24,14 +24,6 @@ struct Plan {
     stop: u64,
 }
 
-/// 2,000 frames.
-const MANY: Plan = Plan {
-    streams: 16,
-    workers: 8,
-    frames: 125,
-    stop: u64::MAX,
-};
-
 /// As many frames as a client offers before it collects: it passes also where no thread is granted.
 #[test]
 fn two_streams_and_two_workers(rt: HostRuntime) -> Result<(), Fail> {
@@ -44,15 +36,28 @@ fn two_streams_and_two_workers(rt: HostRuntime) -> Result<(), Fail> {
     session::<Brand, _>(&rt, rt.alloc(), Blank::new(80), plan)
 }
 
+/// 2,000 frames.
 #[test]
 fn sixteen_streams_and_eight_workers(rt: HostRuntime) -> Result<(), Fail> {
-    session::<Brand, _>(&rt, rt.alloc(), Blank::new(80), MANY)
+    let plan = Plan {
+        streams: 16,
+        workers: 8,
+        frames: 125,
+        stop: u64::MAX,
+    };
+    session::<Brand, _>(&rt, rt.alloc(), Blank::new(80), plan)
 }
 
+/// 2,000 frames each time. The other workers do what the first leaves.
 #[test]
 fn a_worker_stops_early(rt: HostRuntime) -> Result<(), Fail> {
     for stop in 0..21 {
-        let plan = Plan { stop, ..MANY };
+        let plan = Plan {
+            streams: 4,
+            workers: 3,
+            frames: 500,
+            stop,
+        };
         session::<Brand, _>(&rt, rt.alloc(), Blank::new(80), plan)?;
     }
     Ok(())
