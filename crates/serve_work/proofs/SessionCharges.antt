@@ -33,6 +33,10 @@ are_from contents failures limit first (spec ∷ specs) [] = tt
 are_from contents failures limit first (spec ∷ specs) (input ∷ inputs) =
     (refl, are_from contents failures limit (suc first) specs inputs)
 
+pub opened_length : (limit first : ℕ) (specs : List StreamSpec) → length (opened_streams limit first specs) ≡ length specs
+opened_length limit first [] = refl
+opened_length limit first (spec ∷ specs) = ap suc (opened_length limit (suc first) specs)
+
 -- how much a stream was charged
 
 collections_counted : (calls : List Act) → collections_in calls ≡ sum_by one_collection calls

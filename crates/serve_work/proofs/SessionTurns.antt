@@ -1,10 +1,13 @@
 -- From the inputs of a session to what its clients leave.
-use Rattle.std.specs.Prelude.{MatchOption, unwrap_or, ⊤}
+use Rattle.std.specs.Prelude.{IsErrAnd, MatchOption, drop, take, unwrap_or, ⊤}
 use Rattle.std.specs.List.{AllByRecursion}
-use Rattle.std.proofs.Common.{append_assoc, ◌≡◌, ℕ, suc, ◌≤◌, ◌<◌, List, [], ◌∷◌, ◌++◌, length, get_or, map, Option, Some, None, append-nil, inl, inr, ◌⊎◌, refl, sym, ap, ◌∙◌, subst, arith}
+use Rattle.std.proofs.Common.{append_assoc, ◌≡◌, ℕ, suc, ◌≤◌, ◌<◌, List, [], ◌∷◌, ◌++◌, length, get_or, map, Option, Some, None, append-nil, take_all, Result, Ok, Err, inl, inr, ◌⊎◌, refl, sym, ap, ◌∙◌, subst, arith}
+use Rattle.std.proofs.lemmas.List.{drop_all}
 use Rattle.y4m_stream.specs.Reader.{ReaderState}
 use Rattle.serve_core.specs.Setup.{StreamSpec}
 use Rattle.serve_hub.specs.Seats.{StreamSeatValue, opened_streams}
+use Rattle.serve_work.specs.declared.session.SessionFault.{SessionFault}
+use Rattle.serve_work.specs.declared.session.SessionFault.TheVariants.{BadLimit, NoMemory}
 use Rattle.serve_work.specs.Clients.{ClientOutcome, ClientStart}
 use Rattle.serve_work.specs.Sessions.{AreInputs, starts_of}
 use Rattle.serve_work.specs.SessionInside.{AllLeave, AllRun, ClientLeft, IsReady, Leaves, Runs, TurnValue, has_ended, waits}
@@ -57,6 +60,25 @@ all_run old new len each starts e = all_run_from starts new
     (len ∙ ap length e ∙ same_length waits starts)
     (λ i d less. subst (λ (turns : List TurnValue). Runs (get_or turns i d) (get_or new i d)) e
     (each i d (omega (arith, less, ap length e, same_length waits starts))))
+
+-- each stream that begins leaves something
+pub all_left : (starts : List ClientStart) (lefts : List ClientLeft) → AllLeave starts lefts → length lefts ≡ length starts
+all_left [] [] p = refl
+all_left [] (left ∷ lefts) p = absurd p
+all_left (start ∷ starts) [] p = absurd p
+all_left (start ∷ starts) (left ∷ lefts) p = ap suc (all_left starts lefts p.1)
+
+-- turns that ran in the places of a list, which are all of it
+pub all_run_whole : (items new : List TurnValue) (len : ℕ) → len ≡ length items → AllRun items new
+    → AllRun items (take len (new ++ drop (length new) items))
+all_run_whole items new len is ran starts e =
+    let run = ran starts e in
+    let same : length new ≡ length items =
+    ap length run.1 ∙ same_length has_ended run.0 ∙ all_left starts run.0 run.2 ∙ sym (ap length e ∙ same_length waits starts) in
+    let whole : take len (new ++ drop (length new) items) ≡ new =
+    ap (λ z. take len (new ++ z)) (drop_all (length new) items (omega (arith, same)))
+    ∙ ap (take len) (append-nil new) ∙ take_all len new (omega (arith, is, same)) in
+    (run.0, whole ∙ run.1, run.2)
 
 -- the first of some ends
 pub first_ended : (turn : TurnValue) (turns : List TurnValue) (lefts : List ClientLeft)
@@ -145,3 +167,9 @@ parted_all told all items seats served parted len lefts p =
 pub has_end : (turn : TurnValue) (left : ClientLeft) → turn ≡ has_ended left → turn.ended ≡ None → ⊥
 has_end turn left e none =
     subst (λ (o : Option ClientLeft). MatchOption o ⊥ (λ _. ⊤)) (sym (ap (λ (t : TurnValue). t.ended) e) ∙ none) tt
+
+-- want of memory is no wrong limit
+pub no_bad_limit : {T : Type 0} (r : Result T SessionFault) (e : SessionFault) → IsErrAnd r (λ told. told ≡ e)
+    → e ≡ NoMemory → r ≡ Err BadLimit → ⊥
+no_bad_limit (Ok t) e p memory is = absurd p
+no_bad_limit (Err told) e p memory is = absurd (cc)

@@ -32,16 +32,13 @@ pub(super) fn run_clients<
     turns: &mut [Turn<L, R, W>],
     clock: &K,
 )
+    requires sharing { IsSync T.row × IsSync K.row × IsSync L.row × IsSend L.row }
     ensures { AllRun turns.old turns.new }
 {
-    thread::for_each_mut(
-        rt,
-        turns,
-        MOST_STREAMS,
-        &|_: usize, turn: &mut Turn<L, R, W>|
-            ensures { Runs turn.old turn.new }
-        { turn.run(rt, alloc, hub, clock) },
-    );
+    let serve = move |_: usize, turn: &mut Turn<L, R, W>|
+        ensures { Runs turn.old turn.new }
+    { turn.run(rt, alloc, hub, clock) };
+    thread::for_each_mut(rt, turns, MOST_STREAMS, &serve);
 }
 
 /// Closes each stream that waits. No frame of it was offered.

@@ -1,4 +1,4 @@
 use Rattle.serve_work.proofs.session.serve_session.Given as goal
 
-abbrev pub ghosts-serve_named-L-Ledger : goal.ghosts-serve_named-L-Ledger
-ghosts-serve_named-L-Ledger g a = record { name = a.blank.name; parts = a.blank.parts }
+abbrev pub ghosts-serve_named : goal.ghosts-serve_named
+ghosts-serve_named g a = record { name = a.blank.name; parts = a.blank.parts }
