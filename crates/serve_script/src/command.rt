@@ -12,7 +12,7 @@ const MOST_DIGITS: usize = 19;
 const CLOCK_END: u64 = 1 << 60;
 
 /// A command of an account script.
-#[derive(Clone, Copy, Debug, PartialEq, Eq)]
+#[derive(Clone, Copy)]
 pub enum AccountCommand {
     /// `account Q T`: a new account of maximum budget `q` and period `t` takes the place of the one before.
     Open { q: u64, t: u64 },

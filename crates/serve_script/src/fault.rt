@@ -38,7 +38,7 @@ impl From<AllocError> for ReplayFault {
 }
 
 /// What is wrong with a line of a script, or with the script as a whole. Names are the script's own bytes.
-#[derive(Clone, Copy, Debug, PartialEq, Eq)]
+#[derive(Clone, Copy, PartialEq, Eq)]
 pub enum ScriptFault<'a> {
     /// The line has no form that a script knows there.
     BadLine,
@@ -174,7 +174,7 @@ impl<'a> From<FilterError> for ScriptFault<'a> {
 
 /// The line at which a script stops, and its fault. Lines are numbered from 1; 0 stands for the script as a
 /// whole.
-#[derive(Clone, Copy, Debug, PartialEq, Eq)]
+#[derive(Clone, Copy)]
 pub struct ScriptStop<'a> {
     pub line: u64,
     pub fault: ScriptFault<'a>,

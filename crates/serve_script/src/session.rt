@@ -17,6 +17,4 @@ pub mod setup_command;
 #[cfg(test)]
 mod start_tests;
 pub mod streams;
-#[cfg(test)]
-mod tests;
 mod word;

@@ -1,10 +1,9 @@
-use super::{ReplayFault, replay};
+use crate::{ReplayFault, replay};
 use std::alloc::{AllocError, Global};
-use std::io;
 use std::io::{Read, Write};
-use std::ops::Range;
 use std::process::Abort;
 use std::test::Fail;
+use std::{io, str};
 use y4m_stream::{OverRead, OverWrite};
 
 /// Replays what a reader gives into a writer.
@@ -17,16 +16,6 @@ fn replay_into<R: Read + Drop, W: Write>(
     (output.into_inner(), outcome)
 }
 
-/// What was written into a room of which so much is left.
-fn written(room: &[u8], left: usize) -> &[u8] {
-    &room[..room.len() - left.min(room.len())]
-}
-
-/// Replays a script that is held in memory, and compares what it prints and answers.
-fn expect_lines(rt: &impl Abort, alloc: Global, script: &[u8], lines: &str, whole: bool) {
-    expect_replay(rt, alloc, script, lines, whole);
-}
-
 /// Replays what a reader gives, and compares what it prints and answers.
 fn expect_replay<R: Read + Drop>(
     rt: &impl Abort,
@@ -35,122 +24,144 @@ fn expect_replay<R: Read + Drop>(
     lines: &str,
     whole: bool,
 ) {
-    let mut room = [0; 256];
-    let (rest, outcome) = replay_into(alloc, script, room.as_mut_slice());
-    let left = rest.len();
+    let (printed, outcome) = replay_into(alloc, script, Vec::new(alloc));
     assert_eq!(rt; outcome, Ok(whole));
-    assert_eq!(rt; written(&room, left), lines.as_bytes());
+    assert_eq!(rt; str::from_utf8(&printed), Ok(lines));
+}
+
+/// Replays a script that is held in memory, and compares what it prints and answers.
+pub fn expect_lines(rt: &impl Abort, alloc: Global, script: &[u8], lines: &str, whole: bool) {
+    expect_replay(rt, alloc, script, lines, whole);
+}
+
+/// Each of these scripts prints these lines, and is run to its end or has a fault.
+pub fn expect_each(rt: &impl Abort, alloc: Global, scripts: &[(&str, &str)], whole: bool) {
+    for (script, lines) in scripts {
+        expect_lines(rt, alloc, script.as_bytes(), lines, whole);
+    }
 }
 
 #[test]
 fn budgets_and_deadlines_follow_the_published_rules(rt: HostRuntime) {
-    for (script, lines) in [
-        (
-            "account 2 10\nidle 0\ncharge 1\ncharge 1\n",
-            "budget 2 deadline 0\nbudget 2 deadline 10\nbudget 1 deadline 10\nbudget 2 deadline 20\n",
-        ),
-        (
-            "account 2 10\nidle 0\ncharge 1\nidle 5\n",
-            "budget 2 deadline 0\nbudget 2 deadline 10\nbudget 1 deadline 10\nbudget 2 deadline 15\n",
-        ),
-        (
-            "account 2 10\nidle 0\ncharge 1\nidle 4\n",
-            "budget 2 deadline 0\nbudget 2 deadline 10\nbudget 1 deadline 10\nbudget 1 deadline 10\n",
-        ),
-        (
-            "account 2 10\nidle 0\ncharge 1\ncharge 1\nidle 30\n",
-            "budget 2 deadline 0\nbudget 2 deadline 10\nbudget 1 deadline 10\nbudget 2 deadline 20\n\
+    expect_each(
+        &rt,
+        rt.alloc(),
+        &[
+            (
+                "account 2 10\nidle 0\ncharge 1\ncharge 1\n",
+                "budget 2 deadline 0\nbudget 2 deadline 10\nbudget 1 deadline 10\nbudget 2 deadline 20\n",
+            ),
+            (
+                "account 2 10\nidle 0\ncharge 1\nidle 5\n",
+                "budget 2 deadline 0\nbudget 2 deadline 10\nbudget 1 deadline 10\nbudget 2 deadline 15\n",
+            ),
+            (
+                "account 2 10\nidle 0\ncharge 1\nidle 4\n",
+                "budget 2 deadline 0\nbudget 2 deadline 10\nbudget 1 deadline 10\nbudget 1 deadline 10\n",
+            ),
+            (
+                "account 2 10\nidle 0\ncharge 1\ncharge 1\nidle 30\n",
+                "budget 2 deadline 0\nbudget 2 deadline 10\nbudget 1 deadline 10\nbudget 2 deadline 20\n\
              budget 2 deadline 40\n",
-        ),
-        (
-            "account 3 10\nidle 0\ncharge 7\n",
-            "budget 3 deadline 0\nbudget 3 deadline 10\nbudget 2 deadline 30\n",
-        ),
-        (
-            "account 2 10\ncharge 3\naccount 4 4\ncharge 0\n",
-            "budget 2 deadline 0\nbudget 1 deadline 10\nbudget 4 deadline 0\nbudget 4 deadline 0\n",
-        ),
-        ("", ""),
-    ] {
-        expect_lines(&rt, rt.alloc(), script.as_bytes(), lines, true);
-    }
+            ),
+            (
+                "account 3 10\nidle 0\ncharge 7\n",
+                "budget 3 deadline 0\nbudget 3 deadline 10\nbudget 2 deadline 30\n",
+            ),
+            (
+                "account 2 10\ncharge 3\naccount 4 4\ncharge 0\n",
+                "budget 2 deadline 0\nbudget 1 deadline 10\nbudget 4 deadline 0\nbudget 4 deadline 0\n",
+            ),
+            ("", ""),
+        ],
+        true,
+    );
 }
 
 #[test]
 fn a_fault_is_the_last_line(rt: HostRuntime) {
-    for (script, lines) in [
-        ("account 5 4", "line 1: BadBandwidth\n"),
-        ("account 0 4", "line 1: BadBandwidth\n"),
-        ("account 1 1048577", "line 1: BadBandwidth\n"),
-        (
-            "account 2 10\ncharge 1099511627777\ncharge 1\n",
-            "budget 2 deadline 0\nline 2: Range\n",
-        ),
-        (
-            "account 2 10\nidle 1152921504606846977\nidle 1\n",
-            "budget 2 deadline 0\nline 2: BadLine\n",
-        ),
-        ("idle 0\naccount 2 10\n", "line 1: BadLine\n"),
-        ("charge 1\n", "line 1: BadLine\n"),
-        (
-            "account 2 10\nstart\n",
-            "budget 2 deadline 0\nline 2: BadLine\n",
-        ),
-        ("account\n", "line 1: BadLine\n"),
-    ] {
-        expect_lines(&rt, rt.alloc(), script.as_bytes(), lines, false);
-    }
+    expect_each(
+        &rt,
+        rt.alloc(),
+        &[
+            ("account 5 4", "line 1: BadBandwidth\n"),
+            ("account 0 4", "line 1: BadBandwidth\n"),
+            ("account 1 1048577", "line 1: BadBandwidth\n"),
+            (
+                "account 2 10\ncharge 1099511627777\ncharge 1\n",
+                "budget 2 deadline 0\nline 2: Range\n",
+            ),
+            (
+                "account 2 10\nidle 1152921504606846977\nidle 1\n",
+                "budget 2 deadline 0\nline 2: BadLine\n",
+            ),
+            ("idle 0\naccount 2 10\n", "line 1: BadLine\n"),
+            ("charge 1\n", "line 1: BadLine\n"),
+            (
+                "account 2 10\nstart\n",
+                "budget 2 deadline 0\nline 2: BadLine\n",
+            ),
+            ("account\n", "line 1: BadLine\n"),
+        ],
+        false,
+    );
 }
 
 #[test]
 fn numbers_reach_their_limits(rt: HostRuntime) {
-    for (script, lines) in [
-        (
-            "account 1 1048576\nidle 1152921504606846976\n",
-            "budget 1 deadline 0\nbudget 1 deadline 1152921504607895552\n",
-        ),
-        (
-            "account 1048576 1048576\ncharge 1099511627776\n",
-            "budget 1048576 deadline 0\nbudget 1048576 deadline 1099511627776\n",
-        ),
-        (
-            "account 0000000000000000002 0010\nidle 0000000000000000000\n",
-            "budget 2 deadline 0\nbudget 2 deadline 10\n",
-        ),
-    ] {
-        expect_lines(&rt, rt.alloc(), script.as_bytes(), lines, true);
-    }
-    for (script, lines) in [
-        // Each charge puts the deadline off by 2^60; the fourth would put it at 2^62.
-        (
-            "account 1 1048576\ncharge 1099511627776\ncharge 1099511627776\ncharge 1099511627776\n\
+    expect_each(
+        &rt,
+        rt.alloc(),
+        &[
+            (
+                "account 1 1048576\nidle 1152921504606846976\n",
+                "budget 1 deadline 0\nbudget 1 deadline 1152921504607895552\n",
+            ),
+            (
+                "account 1048576 1048576\ncharge 1099511627776\n",
+                "budget 1048576 deadline 0\nbudget 1048576 deadline 1099511627776\n",
+            ),
+            (
+                "account 0000000000000000002 0010\nidle 0000000000000000000\n",
+                "budget 2 deadline 0\nbudget 2 deadline 10\n",
+            ),
+        ],
+        true,
+    );
+    expect_each(
+        &rt,
+        rt.alloc(),
+        &[
+            // Each charge puts the deadline off by 2^60; the fourth would put it at 2^62.
+            (
+                "account 1 1048576\ncharge 1099511627776\ncharge 1099511627776\ncharge 1099511627776\n\
              charge 1099511627776\n",
-            "budget 1 deadline 0\nbudget 1 deadline 1152921504606846976\n\
+                "budget 1 deadline 0\nbudget 1 deadline 1152921504606846976\n\
              budget 1 deadline 2305843009213693952\nbudget 1 deadline 3458764513820540928\n\
              line 5: Range\n",
-        ),
-        (
-            "account 1 1\ncharge 9999999999999999999\n",
-            "budget 1 deadline 0\nline 2: Range\n",
-        ),
-        (
-            "account 1 1\nidle 9999999999999999999\n",
-            "budget 1 deadline 0\nline 2: BadLine\n",
-        ),
-        ("account 00000000000000000002 10\n", "line 1: BadLine\n"),
-        ("account 2 18446744073709551616\n", "line 1: BadLine\n"),
-    ] {
-        expect_lines(&rt, rt.alloc(), script.as_bytes(), lines, false);
-    }
+            ),
+            (
+                "account 1 1\ncharge 9999999999999999999\n",
+                "budget 1 deadline 0\nline 2: Range\n",
+            ),
+            (
+                "account 1 1\nidle 9999999999999999999\n",
+                "budget 1 deadline 0\nline 2: BadLine\n",
+            ),
+            ("account 00000000000000000002 10\n", "line 1: BadLine\n"),
+            ("account 2 18446744073709551616\n", "line 1: BadLine\n"),
+        ],
+        false,
+    );
 }
 
 #[test]
 fn comments_and_empty_lines_are_counted(rt: HostRuntime) {
-    let script = b"# a server\n\naccount 2 10\n#\n\n\ncharge 1\n\n#idle 3\nidle 2 2";
+    let script = "# a server\n\naccount 2 10\n#\n\n\ncharge 1\n\n#idle 3\nidle 2 2";
     let lines = "budget 2 deadline 0\nbudget 1 deadline 0\nline 10: BadLine\n";
-    expect_lines(&rt, rt.alloc(), script, lines, false);
-    expect_lines(&rt, rt.alloc(), b"#\n\n# account 5 4", "", true);
-    expect_lines(&rt, rt.alloc(), b"\n", "", true);
+    expect_each(&rt, rt.alloc(), &[(script, lines)], false);
+    let silent = [("#\n\n# account 5 4", ""), ("\n", "")];
+    expect_each(&rt, rt.alloc(), &silent, true);
 }
 
 #[test]
@@ -270,51 +281,30 @@ fn a_failed_read_prints_nothing(rt: HostRuntime) {
     let input = Torn {
         rest: b"account 2 10\ncharge 1\n",
     };
-    let mut room = [0; 64];
-    let (rest, outcome) = replay_into(rt.alloc(), input, room.as_mut_slice());
+    let (printed, outcome) = replay_into(rt.alloc(), input, Vec::new(rt.alloc()));
     assert_eq!(rt; outcome, Err(ReplayFault::Read));
-    assert_eq!(rt; rest.len(), 64);
+    assert!(rt; printed.is_empty());
 }
 
 /// Its report has three lines, of 20, 20 and 16 bytes.
 const THREE_LINES: &[u8] = b"account 2 10\ncharge 1\nstart\n";
 
 /// Replays the script into outputs that take so many bytes, and then fail or take none.
-fn cut_outputs_are_told(rt: &impl Abort, alloc: Global, rooms: Range<usize>, fails: bool) {
-    for room in rooms {
+fn cut_outputs_are_told(rt: &impl Abort, alloc: Global, fails: bool) {
+    for room in 0..56 {
         let (_, outcome) = replay_into(alloc, THREE_LINES, Narrow { room, fails });
         assert_eq!(rt; outcome, Err(ReplayFault::Write));
     }
 }
 
 #[test]
-fn a_failed_write_of_the_first_line_is_told(rt: HostRuntime) {
-    cut_outputs_are_told(&rt, rt.alloc(), 0..20, true);
+fn a_failed_write_of_each_byte_is_told(rt: HostRuntime) {
+    cut_outputs_are_told(&rt, rt.alloc(), true);
 }
 
 #[test]
-fn a_failed_write_of_the_second_line_is_told(rt: HostRuntime) {
-    cut_outputs_are_told(&rt, rt.alloc(), 20..40, true);
-}
-
-#[test]
-fn a_failed_write_of_the_faults_line_is_told(rt: HostRuntime) {
-    cut_outputs_are_told(&rt, rt.alloc(), 40..56, true);
-}
-
-#[test]
-fn a_first_line_that_is_not_taken_is_told(rt: HostRuntime) {
-    cut_outputs_are_told(&rt, rt.alloc(), 0..20, false);
-}
-
-#[test]
-fn a_second_line_that_is_not_taken_is_told(rt: HostRuntime) {
-    cut_outputs_are_told(&rt, rt.alloc(), 20..40, false);
-}
-
-#[test]
-fn a_faults_line_that_is_not_taken_is_told(rt: HostRuntime) {
-    cut_outputs_are_told(&rt, rt.alloc(), 40..56, false);
+fn each_byte_that_is_not_taken_is_told(rt: HostRuntime) {
+    cut_outputs_are_told(&rt, rt.alloc(), false);
 }
 
 #[test]
@@ -331,10 +321,7 @@ fn a_failed_flush_is_told(rt: HostRuntime) {
 
 /// So many empty lines, and then one `account`.
 fn after_empty_lines(alloc: Global, count: usize) -> Result<Vec<u8>, AllocError> {
-    let mut script = Vec::new(alloc);
-    for _ in 0..count {
-        script.push(b'\n')?;
-    }
+    let mut script = Vec::from_elem(alloc, b'\n', count)?;
     script.extend_from_slice(b"account 2 10")?;
     Ok(script)
 }
@@ -363,13 +350,11 @@ fn a_longer_script_is_too_long_and_is_not_read_on(rt: HostRuntime) -> Result<(),
 
 #[test]
 fn a_long_script_of_great_charges_is_run_to_its_end(rt: HostRuntime) -> Result<(), Fail> {
-    let mut script = Vec::from_slice(rt.alloc(), b"account 1048576 1048576\n")?;
-    for _ in 0..49_931 {
-        script.extend_from_slice(b"charge 1099511627776\n")?;
-    }
+    let mut script = String::from_str(rt.alloc(), "account 1048576 1048576\n")?;
+    let charges = "charge 1099511627776\n".repeat(rt.alloc(), 49_931)?;
+    script.push_str(charges.as_str())?;
     assert_eq!(rt; script.len(), 1_048_575);
-    let room = Vec::with_capacity(rt.alloc(), 4_000_000)?;
-    let (printed, outcome) = replay_into(rt.alloc(), script.as_slice(), room);
+    let (printed, outcome) = replay_into(rt.alloc(), script.as_bytes(), Vec::new(rt.alloc()));
     assert_eq!(rt; outcome, Ok(true));
     // Each charge of 2^40 units puts the deadline off by 2^40.
     let end = b"\nbudget 1048576 deadline 54899715086483456\n".as_slice();
@@ -378,29 +363,22 @@ fn a_long_script_of_great_charges_is_run_to_its_end(rt: HostRuntime) -> Result<(
 }
 
 #[test]
-fn a_refused_growth_is_told_in_the_last_line(rt: HostRuntime) {
+fn a_refused_growth_is_told_in_the_last_line(rt: HostRuntime) -> Result<(), Fail> {
     let mut room = [0; 64];
     let script = b"account 2 10\ncharge 1\n".as_slice();
     let (rest, outcome) = replay_into(rt.alloc(), script, room.as_mut_slice());
     let left = rest.len();
-    let printed = &room[..64 - left.min(64)];
-    match outcome {
+    let printed = str::from_utf8(&room[..64 - left.min(64)])?;
+    let told = match outcome {
         Err(ReplayFault::NoMemory) => {
-            let told = [
-                "line 0: NoMemory\n",
-                "line 1: NoMemory\n",
-                "budget 2 deadline 0\nline 2: NoMemory\n",
-            ];
-            assert!(rt; told.iter().any(|lines| lines.as_bytes() == printed));
+            printed == "line 0: NoMemory\n"
+                || printed == "line 1: NoMemory\n"
+                || printed == "budget 2 deadline 0\nline 2: NoMemory\n"
         }
-        _ => {
-            assert_eq!(rt;
-                printed,
-                b"budget 2 deadline 0\nbudget 1 deadline 0\n".as_slice()
-            );
-            assert_eq!(rt; outcome, Ok(true));
-        }
-    }
+        _ => printed == "budget 2 deadline 0\nbudget 1 deadline 0\n" && outcome == Ok(true),
+    };
+    assert!(rt; told);
+    Ok(())
 }
 
 #[test]

@@ -1,31 +1,19 @@
 use super::line::{push_reply, push_state};
-use frame_view::{Frame, Geometry};
 use serve_core::{Counts, Refusal, Reply};
-use std::alloc::Global;
+use std::alloc::{AllocError, Global};
 use std::process::Abort;
-use std::sync::Arc;
 use std::test::Fail;
-use y4m_header::{Chroma, check_frame_line};
 
-const PAIR: Geometry = Geometry {
-    width: 2,
-    height: 1,
-    chroma: Chroma::Mono,
-};
-
-fn pair(alloc: Global, samples: &[u8]) -> Result<Frame, Fail> {
-    let line = b"FRAME".as_slice();
-    check_frame_line(line)?;
-    Ok(Frame::new(PAIR, line.to_vec(alloc)?, samples.to_vec(alloc)?)?)
-}
-
-/// Appends the line of a reply behind another line, and compares both.
-fn expect_line(rt: &impl Abort, alloc: Global, reply: &Reply, line: &str) -> Result<(), Fail> {
-    let mut printed = b"ok\n".as_slice().to_vec(alloc)?;
+/// Compares the line of a reply. A lease is of a stream `b`.
+fn expect_line(
+    rt: &impl Abort,
+    alloc: Global,
+    reply: &Reply,
+    line: &str,
+) -> Result<(), AllocError> {
+    let mut printed = Vec::new(alloc);
     push_reply(alloc, &mut printed, b"b".as_slice(), reply)?;
-    let (before, after) = printed.as_slice().split_at(3.min(printed.len()));
-    assert_eq!(rt; before, b"ok\n".as_slice());
-    assert_eq!(rt; after, line.as_bytes());
+    assert_eq!(rt; printed.as_slice(), line.as_bytes());
     Ok(())
 }
 
@@ -44,11 +32,7 @@ fn each_reply_has_its_line(rt: HostRuntime) -> Result<(), Fail> {
     expect_line(&rt, alloc, &Reply::Finished(7), "finished 7\n")?;
     expect_line(&rt, alloc, &Reply::Ticked, "ticked\n")?;
     expect_line(&rt, alloc, &Reply::Closing, "closing\n")?;
-    let image = Reply::Image(pair(alloc, &[0x0a, 0xf0])?);
-    expect_line(&rt, alloc, &image, "image 0AF0\n")?;
-    let frame = Arc::new(alloc, pair(alloc, &[1, 2])?)?;
-    let back = Reply::GivenBack(Refusal::WrongSize, frame);
-    expect_line(&rt, alloc, &back, "refused 3 WrongSize\n")
+    Ok(())
 }
 
 #[test]

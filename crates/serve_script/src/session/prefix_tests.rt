@@ -1,4 +1,4 @@
-use super::script_tests::expect_lines;
+use crate::tests::expect_lines;
 use std::alloc::Global;
 use std::process::Abort;
 use std::test::Fail;
@@ -12,53 +12,18 @@ enum Told {
     Fault(&'static str),
 }
 
-/// What is left of a line that is cut short: up to a text of this table, and from the text above it on, it is
-/// told so. Others are bad lines.
-const CUTS: [(&str, Told); 16] = [
-    ("account 2 ", Told::Fault("BadLine")),
-    ("account 2 1", Told::Fault("BadBandwidth")),
-    ("band ", Told::Fault("BadLine")),
-    ("band 1", Told::Fault("BadLimits")),
-    ("frames ", Told::Fault("BadLine")),
-    ("frames 1677721", Told::Answer("ok\n")),
-    ("stream a 2 10 4 1 invert", Told::Fault("BadLine")),
-    ("stream a 2 10 4 1 invert YUV4MPEG", Told::Fault("NotY4m")),
-    (
-        "stream a 2 10 4 1 invert YUV4MPEG2 ",
-        Told::Fault("MissingSize"),
-    ),
-    (
-        "stream a 2 10 4 1 invert YUV4MPEG2 W",
-        Told::Fault("BadNumber"),
-    ),
-    (
-        "stream a 2 10 4 1 invert YUV4MPEG2 W1 ",
-        Told::Fault("MissingSize"),
-    ),
-    (
-        "stream a 2 10 4 1 invert YUV4MPEG2 W1 H",
-        Told::Fault("BadNumber"),
-    ),
-    (
-        "stream a 2 10 4 1 invert YUV4MPEG2 W1 H1 ",
-        Told::Fault("NotDivisible"),
-    ),
-    (
-        "stream a 2 10 4 1 invert YUV4MPEG2 W1 H1 Cmon",
-        Told::Fault("UnknownChroma"),
-    ),
-    ("tick ", Told::Fault("BadLine")),
-    ("tick 1", Told::Answer("refused 12 Past\n")),
-];
+/// What is told of a line that is cut short: up to this text, and from the text above it in the table on. All
+/// others are bad lines.
+type Cut<'a> = (&'a str, Told);
 
 /// What a line prints that was cut to this.
-fn told_of_cut(cut: &[u8]) -> Told {
+fn told_of_cut(cuts: &[Cut<'_>], cut: &[u8]) -> Told {
     if cut.is_empty() || cut.starts_with(b"#".as_slice()) {
         return Told::Answer("");
     }
-    for (text, told) in CUTS {
+    for (text, told) in cuts {
         if text.as_bytes().starts_with(cut) {
-            return told;
+            return *told;
         }
     }
     Told::Fault("BadLine")
@@ -72,12 +37,13 @@ fn expect_cuts(
     printed: &str,
     number: usize,
     line: &str,
+    cuts: &[Cut<'_>],
 ) -> Result<(), Fail> {
     for length in 0..line.len() {
         let (cut, _) = line.as_bytes().split_at(length);
         let mut script = Vec::from_slice(alloc, before)?;
         script.extend_from_slice(cut)?;
-        let (lines, whole) = match told_of_cut(cut) {
+        let (lines, whole) = match told_of_cut(cuts, cut) {
             Told::Answer(answer) => (format!(in alloc; "{printed}{answer}")?, true),
             Told::Fault(word) => (
                 format!(in alloc; "{printed}line {number}: {word}\n")?,
@@ -90,11 +56,16 @@ fn expect_cuts(
 }
 
 /// Replays each prefix of a script of these lines, each with what it prints.
-fn expect_prefixes(rt: &impl Abort, alloc: Global, lines: &[(&str, &str)]) -> Result<(), Fail> {
+fn expect_prefixes(
+    rt: &impl Abort,
+    alloc: Global,
+    lines: &[(&str, &str)],
+    cuts: &[Cut<'_>],
+) -> Result<(), Fail> {
     let mut script = Vec::new(alloc);
     let mut printed = String::new(alloc);
     for (place, (line, told)) in lines.iter().enumerate() {
-        expect_cuts(rt, alloc, &script, printed.as_str(), place + 1, line)?;
+        expect_cuts(rt, alloc, &script, printed.as_str(), place + 1, line, cuts)?;
         script.extend_from_slice(line.as_bytes())?;
         printed.push_str(told)?;
         expect_lines(rt, alloc, &script, printed.as_str(), true);
@@ -134,7 +105,41 @@ fn each_prefix_of_a_session_script_is_a_script(rt: HostRuntime) -> Result<(), Fa
         ("close a", "closing\n"),
         ("tick 11", "ticked\n"),
     ];
-    expect_prefixes(&rt, rt.alloc(), &lines)
+    let cuts = [
+        ("band ", Told::Fault("BadLine")),
+        ("band 1", Told::Fault("BadLimits")),
+        ("frames ", Told::Fault("BadLine")),
+        ("frames 1677721", Told::Answer("ok\n")),
+        ("stream a 2 10 4 1 invert", Told::Fault("BadLine")),
+        ("stream a 2 10 4 1 invert YUV4MPEG", Told::Fault("NotY4m")),
+        (
+            "stream a 2 10 4 1 invert YUV4MPEG2 ",
+            Told::Fault("MissingSize"),
+        ),
+        (
+            "stream a 2 10 4 1 invert YUV4MPEG2 W",
+            Told::Fault("BadNumber"),
+        ),
+        (
+            "stream a 2 10 4 1 invert YUV4MPEG2 W1 ",
+            Told::Fault("MissingSize"),
+        ),
+        (
+            "stream a 2 10 4 1 invert YUV4MPEG2 W1 H",
+            Told::Fault("BadNumber"),
+        ),
+        (
+            "stream a 2 10 4 1 invert YUV4MPEG2 W1 H1 ",
+            Told::Fault("NotDivisible"),
+        ),
+        (
+            "stream a 2 10 4 1 invert YUV4MPEG2 W1 H1 Cmon",
+            Told::Fault("UnknownChroma"),
+        ),
+        ("tick ", Told::Fault("BadLine")),
+        ("tick 1", Told::Answer("refused 12 Past\n")),
+    ];
+    expect_prefixes(&rt, rt.alloc(), &lines, &cuts)
 }
 
 #[test]
@@ -145,5 +150,9 @@ fn each_prefix_of_an_account_script_is_a_script(rt: HostRuntime) -> Result<(), F
         ("charge 1", "budget 1 deadline 10\n"),
         ("charge 1", "budget 2 deadline 20\n"),
     ];
-    expect_prefixes(&rt, rt.alloc(), &lines)
+    let cuts = [
+        ("account 2 ", Told::Fault("BadLine")),
+        ("account 2 1", Told::Fault("BadBandwidth")),
+    ];
+    expect_prefixes(&rt, rt.alloc(), &lines, &cuts)
 }

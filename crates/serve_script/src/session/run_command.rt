@@ -8,7 +8,7 @@ use crate::command::parse_number;
 use y4m_header::text::cut;
 
 /// A command that a session script may have after its `start`.
-#[derive(Clone, Copy, Debug, PartialEq, Eq)]
+#[derive(Clone, Copy)]
 pub enum RunCommand<'a> {
     /// `arrive NAME HEX`: a frame arrives, whose data are pairs of hexadecimal digits.
     Arrive { name: &'a [u8], hex: &'a [u8] },

@@ -1,30 +1,9 @@
+use crate::tests::{expect_each, expect_lines};
 use crate::{ReplayFault, replay};
 use std::alloc::{AllocError, Global};
-use std::process::Abort;
 use std::str;
 use std::test::Fail;
 use y4m_stream::{OverRead, OverWrite};
-
-/// Replays a script, and answers what it prints.
-fn replayed(alloc: Global, script: &[u8]) -> (Vec<u8>, Result<bool, ReplayFault>) {
-    let output = OverWrite::new(Vec::new(alloc));
-    let (output, outcome) = replay(alloc, OverRead::new(script), output);
-    (output.into_inner(), outcome)
-}
-
-/// Replays a script, and compares what it prints and answers.
-pub fn expect_lines(rt: &impl Abort, alloc: Global, script: &[u8], lines: &str, whole: bool) {
-    let (printed, outcome) = replayed(alloc, script);
-    assert_eq!(rt; outcome, Ok(whole));
-    assert_eq!(rt; str::from_utf8(&printed), Ok(lines));
-}
-
-/// Each of these scripts is run to its end, and prints these lines.
-pub fn expect_each(rt: &impl Abort, alloc: Global, scripts: &[(&str, &str)]) {
-    for (script, lines) in scripts {
-        expect_lines(rt, alloc, script.as_bytes(), lines, true);
-    }
-}
 
 #[test]
 fn an_arrival_behind_another_leaves_the_account(rt: HostRuntime) {
@@ -158,7 +137,7 @@ const DRAINED: (&str, &str) = (
 
 #[test]
 fn a_closed_stream_is_drained(rt: HostRuntime) {
-    expect_each(&rt, rt.alloc(), &[DRAINED]);
+    expect_each(&rt, rt.alloc(), &[DRAINED], true);
 }
 
 #[test]
@@ -275,6 +254,7 @@ fn a_band_of_a_blur_costs_its_radius_more(rt: HostRuntime) {
                  image 5A\n",
             ),
         ],
+        true,
     );
     let costly = "band 2\n\
                   stream a 1 4 4 4 blur:3 YUV4MPEG2 W1 H16384 Cmono\n\
@@ -331,19 +311,31 @@ fn a_name_that_no_stream_has_is_no_stream(rt: HostRuntime) {
 #[test]
 fn digits_have_either_case(rt: HostRuntime) {
     let script = "stream a 1 4 4 4 invert YUV4MPEG2 W2 H1 Cmono\n\
+                  stream B-1 1 4 4 4 hflip YUV4MPEG2 W4 H1 Cmono\n\
                   start\n\
                   arrive a aB0c\n\
                   lease 0\n\
                   band 0\n\
                   settle 0\n\
-                  collect a\n";
+                  collect a\n\
+                  arrive B-1 DEadbeEF\n\
+                  lease 0\n\
+                  band 0\n\
+                  settle 0\n\
+                  collect B-1\n";
     let lines = "stream 0\n\
+                 stream 1\n\
                  started\n\
                  accepted 0\n\
                  leased a 0 grant 1\n\
                  stepped\n\
                  finished 0\n\
-                 image 54F3\n";
+                 image 54F3\n\
+                 accepted 0\n\
+                 leased B-1 0 grant 1\n\
+                 stepped\n\
+                 finished 0\n\
+                 image EFBEADDE\n";
     expect_lines(&rt, rt.alloc(), script.as_bytes(), lines, true);
 }
 
@@ -355,9 +347,8 @@ fn arrival_of(alloc: Global, name: &str, samples: usize) -> Result<Vec<u8>, Allo
     script.extend_from_slice(b"start\narrive ")?;
     script.extend_from_slice(name.as_bytes())?;
     script.push(b' ')?;
-    for _ in 0..samples {
-        script.extend_from_slice(b"00")?;
-    }
+    let digits = "00".repeat(alloc, samples)?;
+    script.extend_from_slice(digits.as_bytes())?;
     Ok(script)
 }
 
@@ -388,25 +379,24 @@ fn many_samples_are_a_frame_of_their_stream_alone(rt: HostRuntime) -> Result<(),
 }
 
 #[test]
-fn a_session_that_lacks_memory_says_so(rt: HostRuntime) {
+fn a_session_that_lacks_memory_says_so(rt: HostRuntime) -> Result<(), Fail> {
     let (script, lines) = DRAINED;
     let mut room = [0; 512];
     let output = OverWrite::new(room.as_mut_slice());
     let (output, outcome) = replay(rt.alloc(), OverRead::new(script.as_bytes()), output);
     let left = output.into_inner().len();
-    let printed = &room[..512 - left.min(512)];
-    match outcome {
-        Err(ReplayFault::NoMemory) => {
-            assert!(rt; printed.ends_with(b": NoMemory\n".as_slice()));
+    let printed = str::from_utf8(&room[..512 - left.min(512)])?;
+    let is_refused = printed.contains("refused 6 NoMemory\n");
+    match printed.rsplit_once("line ") {
+        Some((told, fault)) => {
+            assert_eq!(rt; outcome, Err(ReplayFault::NoMemory));
+            assert!(rt; fault.ends_with(": NoMemory\n"));
+            assert!(rt; is_refused || lines.starts_with(told));
         }
-        _ => assert_eq!(rt; outcome, Ok(true)),
+        None => {
+            assert_eq!(rt; outcome, Ok(true));
+            assert!(rt; is_refused || printed == lines);
+        }
     }
-    let is_refused = printed
-        .split(|byte| *byte == b'\n')
-        .any(|line| line == b"refused 6 NoMemory".as_slice());
-    let wanted = lines.as_bytes().split(|byte| *byte == b'\n');
-    for (line, wanted) in printed.split(|byte| *byte == b'\n').zip(wanted) {
-        let is_told = line == wanted || line.starts_with(b"line ".as_slice());
-        assert!(rt; is_told || is_refused);
-    }
+    Ok(())
 }

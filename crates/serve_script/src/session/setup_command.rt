@@ -10,7 +10,7 @@ use crate::command::parse_number;
 use y4m_header::text::cut;
 
 /// A command that a session script may have before its `start`.
-#[derive(Clone, Copy, Debug, PartialEq, Eq)]
+#[derive(Clone, Copy)]
 pub enum SetupCommand<'a> {
     /// `workers N`: there are so many workers.
     Workers { count: u64 },
@@ -29,7 +29,7 @@ pub enum SetupCommand<'a> {
 /// `stream NAME Q T QUEUE OUTBOX OPS HEADER`: one more stream, of maximum budget `q` and period `t`.
 ///
 /// The header is all that follows the space behind the operations. Neither of both is read yet.
-#[derive(Clone, Copy, Debug, PartialEq, Eq)]
+#[derive(Clone, Copy)]
 pub struct StreamCommand<'a> {
     pub name: &'a [u8],
     pub q: u64,

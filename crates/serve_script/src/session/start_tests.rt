@@ -1,14 +1,7 @@
-use super::script_tests::{expect_each, expect_lines};
+use crate::tests::{expect_each, expect_lines};
 use std::alloc::{AllocError, Global};
 use std::process::Abort;
 use std::test::Fail;
-
-/// Each of these scripts stops at a fault, and prints these lines.
-fn expect_faults(rt: &impl Abort, alloc: Global, scripts: &[(&str, &str)]) {
-    for (script, lines) in scripts {
-        expect_lines(rt, alloc, script.as_bytes(), lines, false);
-    }
-}
 
 #[test]
 fn streams_are_admitted_to_their_workers(rt: HostRuntime) {
@@ -86,23 +79,85 @@ fn settings_are_for_the_streams_that_follow(rt: HostRuntime) {
                  leased b 0 grant 1\n",
             ),
         ],
+        true,
     );
 }
 
 #[test]
-fn lines_have_their_place_in_a_script(rt: HostRuntime) -> Result<(), Fail> {
-    expect_faults(
+fn lines_have_their_place_in_a_script(rt: HostRuntime) {
+    expect_each(
         &rt,
         rt.alloc(),
         &[
             ("tick 1\n", "line 1: BadLine\n"),
             ("lease 0\n", "line 1: BadLine\n"),
             ("state a\n", "line 1: BadLine\n"),
+            (" start\n", "line 1: BadLine\n"),
             ("workers 2\naccount 1 3\n", "ok\nline 2: BadLine\n"),
             ("workers 2\ncharge 1\n", "ok\nline 2: BadLine\n"),
+            ("workers 2\nlease 0\n", "ok\nline 2: BadLine\n"),
         ],
+        false,
     );
-    for line in [
+}
+
+/// Each of these lines ends a script that begins so, and the script prints these lines.
+fn expect_behind(
+    rt: &impl Abort,
+    alloc: Global,
+    front: &str,
+    ends: &[&str],
+    lines: &str,
+    whole: bool,
+) -> Result<(), Fail> {
+    for end in ends {
+        let mut script = String::from_str(alloc, front)?;
+        script.push_str(end)?;
+        expect_lines(rt, alloc, script.as_bytes(), lines, whole);
+    }
+    Ok(())
+}
+
+#[test]
+fn a_setting_is_a_word_and_a_number(rt: HostRuntime) -> Result<(), Fail> {
+    let settings = ["workers 2", "quantum 04", "band 16", "frames 16777216"];
+    let lines = "ok\nok\n";
+    expect_behind(&rt, rt.alloc(), "band 2\n", &settings, lines, true)?;
+    let others = [
+        "start ",
+        " start",
+        "starts",
+        "workers",
+        "workers ",
+        "workers  2",
+        "workers 2 ",
+        "workers x",
+        "workers 12345678901234567890",
+        "stream a 1 3 4 5 invert",
+        "stream a 1 3 4 5  YUV4MPEG2",
+        "stream  1 3 4 5 invert x",
+        "stream a/b 1 3 4 5 invert x",
+    ];
+    let lines = "ok\nline 2: BadLine\n";
+    expect_behind(&rt, rt.alloc(), "band 2\n", &others, lines, false)
+}
+
+/// A script of a stream `a`, up to its `start`.
+const STARTED: &str = "stream a 1 4 4 4 invert YUV4MPEG2 W1 H1 Cmono\nstart\n";
+
+#[test]
+fn an_event_is_a_word_and_what_it_names(rt: HostRuntime) -> Result<(), Fail> {
+    let workers = ["lease 4294967295", "settle 1"];
+    let lines = "stream 0\nstarted\nrefused 7 NoWorker\n";
+    expect_behind(&rt, rt.alloc(), STARTED, &workers, lines, true)?;
+    let longest = ["collect abcdefghijklmnopqrstuvwxyz_-0123"];
+    let lines = "stream 0\nstarted\nrefused 1 NoStream\n";
+    expect_behind(&rt, rt.alloc(), STARTED, &longest, lines, true)
+}
+
+#[test]
+fn other_lines_are_no_events(rt: HostRuntime) -> Result<(), Fail> {
+    let others = [
         "start",
         "workers 2",
         "quantum 2",
@@ -113,32 +168,28 @@ fn lines_have_their_place_in_a_script(rt: HostRuntime) -> Result<(), Fail> {
         "charge 0",
         "band",
         "band 4294967296",
+        "lease",
+        "lease 1 ",
+        "lease 4294967296",
         "arrive a 0",
         "arrive a 0g",
         "arrive a ",
         "arrive a",
+        "arrive a 00 ",
         "arrive a 00 00",
         "close a ",
+        "close a b",
+        "state ",
         "collect a.b",
-    ] {
-        expect_bad_run(&rt, rt.alloc(), line)?;
-    }
-    Ok(())
-}
-
-/// The line is none behind a `start`.
-fn expect_bad_run(rt: &impl Abort, alloc: Global, line: &str) -> Result<(), AllocError> {
-    let mut script = Vec::new(alloc);
-    script.extend_from_slice(b"stream a 1 4 4 4 invert YUV4MPEG2 W1 H1 Cmono\nstart\n")?;
-    script.extend_from_slice(line.as_bytes())?;
+        "collect abcdefghijklmnopqrstuvwxyz_-01234",
+    ];
     let lines = "stream 0\nstarted\nline 3: BadLine\n";
-    expect_lines(rt, alloc, &script, lines, false);
-    Ok(())
+    expect_behind(&rt, rt.alloc(), STARTED, &others, lines, false)
 }
 
 #[test]
 fn numbers_of_a_setup_have_limits(rt: HostRuntime) {
-    expect_faults(
+    expect_each(
         &rt,
         rt.alloc(),
         &[
@@ -174,6 +225,7 @@ fn numbers_of_a_setup_have_limits(rt: HostRuntime) {
                 "stream 0\nstream 1\nline 3: BadBandwidth b-2\n",
             ),
         ],
+        false,
     );
 }
 
