@@ -52,11 +52,12 @@ impl<'a, T: Wait + Sync> Memory<'a, T> {
             asked: Mutex::new(0),
         }
     }
+}
 
-    fn note(&self) {
-        let mut asked = self.asked.lock(self.rt);
-        *asked = asked.saturating_add(1);
-    }
+/// One more file was asked for.
+fn count<T: Wait>(rt: &T, asked: &Mutex<u64>) {
+    let mut asked = asked.lock(rt);
+    *asked = asked.saturating_add(1);
 }
 
 /// Reads what a file gives.
@@ -107,7 +108,7 @@ impl<'a, T: Wait + Sync> Files for Memory<'a, T> {
     type Writer = Output<'a, T>;
 
     fn open(&self, name: &str) -> io::Result<Input<'a>> {
-        self.note();
+        count(self.rt, &self.asked);
         for file in self.given {
             if file.name == name {
                 return Ok(Input {
@@ -120,7 +121,7 @@ impl<'a, T: Wait + Sync> Files for Memory<'a, T> {
     }
 
     fn create(&self, name: &str) -> io::Result<Output<'a, T>> {
-        self.note();
+        count(self.rt, &self.asked);
         for file in self.made {
             if file.name == name {
                 *file.is_made.lock(self.rt) = true;
