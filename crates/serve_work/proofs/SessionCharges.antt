@@ -57,7 +57,7 @@ cost_between start seat end charged lane ends of same bounds =
     omega (
       arith,
       mul-le end.delivered cost lane.state.collected cost
-      (omega (arith, ends.collections, of.collected, collections_counted seat.calls.list)) (omega arith),
+          (omega (arith, ends.collections, of.collected, collections_counted seat.calls.list)) (omega arith),
       ap (λ n. lane.state.collected * n) own,
       bounds.least,
       same,
@@ -92,11 +92,11 @@ record LaneAt (desk : ScheduleValue) (n : ℕ) (P Q : Lane → Type 0) : Type 0 
 lane_at : (desk : ScheduleValue) (n : ℕ) (P Q : Lane → Type 0) → HasLane desk n P → HasLane desk n Q → LaneAt desk n P Q
 lane_at desk n P Q p q = elim (slice_get_cases desk.lanes n).1 [
   | inl here ↦ record {
-      lane = here.0;
-      first = subst (λ o. IsSomeAnd o P) here.2 p;
-      second = subst (λ o. IsSomeAnd o Q) here.2 q;
-      among = λ all. subst IsCharged here.3 (all n here.0 here.1);
-    }
+    lane = here.0;
+    first = subst (λ o. IsSomeAnd o P) here.2 p;
+    second = subst (λ o. IsSomeAnd o Q) here.2 q;
+    among = λ all. subst IsCharged here.3 (all n here.0 here.1);
+  }
   | inr past ↦ absurd (subst (λ o. IsSomeAnd o P) past.1 p)
 ]
 

@@ -20,13 +20,13 @@ are_ready contents failures limit first [] [] p = tt
 are_ready contents failures limit first [] (input ∷ inputs) p = absurd p
 are_ready contents failures limit first (spec ∷ specs) [] p = absurd p
 are_ready contents failures limit first (spec ∷ specs) (input ∷ inputs) p = (
-      record {
-        header = p.0.header;
-        fresh = record { calls = refl; accepted = refl; kept = refl; is_open = refl };
-        is_open = p.0.is_open;
-      },
-      are_ready contents failures limit (suc first) specs inputs p.1,
-    )
+  record {
+    header = p.0.header;
+    fresh = record { calls = refl; accepted = refl; kept = refl; is_open = refl };
+    is_open = p.0.is_open;
+  },
+  are_ready contents failures limit (suc first) specs inputs p.1,
+)
 
 -- no more streams begin than there are seats
 pub few_starts : {W : Type 0} (contents : W → Option (List ℕ)) (failures : W → ℕ) (seats : List StreamSeatValue)
@@ -118,11 +118,11 @@ pub parted_none : {S : Type 0} (told : S → ClientOutcome) (all items : List Tu
     (seats : List StreamSeatValue) (served : List S) → seats ≡ [] → served ≡ [] → items ≡ all
     → Parted told all items seats served
 parted_none told all items seats served e f i lefts p = (
-      lefts,
-      i ∙ p,
-      ap (λ (z : List StreamSeatValue). z ++ map (λ (left : ClientLeft). left.seat) lefts) e,
-      ap (λ (z : List _). map told z ++ map (λ (left : ClientLeft). left.outcome) lefts) f,
-    )
+  lefts,
+  i ∙ p,
+  ap (λ (z : List StreamSeatValue). z ++ map (λ (left : ClientLeft). left.seat) lefts) e,
+  ap (λ (z : List _). map told z ++ map (λ (left : ClientLeft). left.outcome) lefts) f,
+)
 
 pub parted_more : {S : Type 0} (told : S → ClientOutcome) (all items later : List TurnValue) (turn : TurnValue)
     (seats seats' : List StreamSeatValue) (served served' : List S) (left : ClientLeft) (s : S)

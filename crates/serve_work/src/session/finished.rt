@@ -42,14 +42,14 @@ impl<L: Ledger, R: Source + Drop, W: Sink + Drop> Finished<L, R, W> {
     pub(super) fn new(end: ClientEnd<L, R, W>) -> Finished<L, R, W>
         ensures seat { result.seat ≡ end.seat }
         ensures outcome { result.outcome ≡ record {
-            stop = end.stop;
-            accepted = end.accepted;
-            delivered = end.delivered;
-            left = R.remaining end.source;
-            read_failures = R.failures end.source;
-            after = W.contents end.writer;
-            failures = W.failures end.writer;
-            is_flushed = W.is_flushed end.writer;
+          stop = end.stop;
+          accepted = end.accepted;
+          delivered = end.delivered;
+          left = R.remaining end.source;
+          read_failures = R.failures end.source;
+          after = W.contents end.writer;
+          failures = W.failures end.writer;
+          is_flushed = W.is_flushed end.writer;
         } }
     {
         Finished { end }

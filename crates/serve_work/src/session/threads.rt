@@ -25,13 +25,7 @@ pub(super) fn run_clients<
     W: Sink + Drop + Send,
     K: Clock + Sync,
     T: Threads + Wait + Sync,
->(
-    rt: &T,
-    alloc: Global,
-    hub: &Hub<L>,
-    turns: &mut [Turn<L, R, W>],
-    clock: &K,
-)
+>(rt: &T, alloc: Global, hub: &Hub<L>, turns: &mut [Turn<L, R, W>], clock: &K)
     requires sharing { IsSync T.row × IsSync K.row × IsSync L.row × IsSend L.row }
     ensures { AllRun turns.old turns.new }
 {

@@ -95,13 +95,7 @@ impl<L: Ledger, R: Source + Drop, W: Sink + Drop> Turn<L, R, W> {
     }
 
     /// Serves the stream, if it waits.
-    pub(super) fn run<K: Clock, T: Wait>(
-        &mut self,
-        rt: &T,
-        alloc: Global,
-        hub: &Hub<L>,
-        clock: &K,
-    )
+    pub(super) fn run<K: Clock, T: Wait>(&mut self, rt: &T, alloc: Global, hub: &Hub<L>, clock: &K)
         ensures { Runs self.old self.new }
     {
         if let Some(input) = self.waiting.take() {

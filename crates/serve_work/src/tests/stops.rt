@@ -21,8 +21,7 @@ const TURNED: &[u8] =
 /// The first image of the three, and the first two.
 const FIRST: &[u8] = b"YUV4MPEG2 W2 H2 Cmono\nFRAME\n\xff\xfe\x01\x00";
 
-const FIRST_TWO: &[u8] =
-    b"YUV4MPEG2 W2 H2 Cmono\nFRAME\n\xff\xfe\x01\x00FRAME\n\xef\xdf\xcf\xbf";
+const FIRST_TWO: &[u8] = b"YUV4MPEG2 W2 H2 Cmono\nFRAME\n\xff\xfe\x01\x00FRAME\n\xef\xdf\xcf\xbf";
 
 /// The first image, and the beginning of the second.
 const BROKEN: &[u8] = b"YUV4MPEG2 W2 H2 Cmono\nFRAME\n\xff\xfe\x01\x00FRAME\n\xef";
@@ -50,7 +49,10 @@ fn were_served(rt: &impl Abort, all: AllServed<'_>, wanted: &[Told<'_>]) {
     assert_eq!(rt; all.len(), wanted.len());
     for (served, told) in all.into_iter().zip(wanted) {
         assert_eq!(rt; served.stop, told.stop);
-        assert_eq!(rt; (served.accepted, served.delivered, served.charged), told.counts);
+        assert_eq!(rt;
+            (served.accepted, served.delivered, served.charged),
+            told.counts
+        );
         assert_eq!(rt; served.writer.into_inner().taken.as_slice(), told.written);
     }
 }
@@ -112,7 +114,10 @@ fn thirty_two_streams_and_sixteen_workers(rt: HostRuntime) -> Result<(), Fail> {
     assert_eq!(rt; all.len(), 32);
     for served in all {
         assert_eq!(rt; served.stop, Stop::Whole);
-        assert_eq!(rt; (served.accepted, served.delivered, served.charged), (3, 3, 9));
+        assert_eq!(rt;
+            (served.accepted, served.delivered, served.charged),
+            (3, 3, 9)
+        );
     }
     Ok(())
 }

@@ -12,7 +12,7 @@ loop-n-preserved g c =
     let inv = c.loop-n.invariant in
     record {
       outcomes = map_set told c.loop-n.served.items c.loop-n.n c.index_mut.result.now _ (ap told c.index_mut.ensures.value)
-      ∙ inv.outcomes;
+          ∙ inv.outcomes;
       len = inv.len;
       told = told_more (λ (k : ℕ) s. HasLane desk k (λ lane. s.charged ≡ lane.state.charged)) c.loop-n.served.items
           c.loop-n.n _ (omega arith) inv.told

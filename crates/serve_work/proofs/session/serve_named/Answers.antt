@@ -14,8 +14,8 @@ seated-requires g c =
     let failures = g.W.Sink.failures in
     record {
       ready = subst (λ (seats : List StreamSeatValue). AllByRecursion IsReady (starts_of contents failures seats c.args.inputs.items))
-      (sym c.in_ok-hub.ensures.streams)
-      (are_ready contents failures c.args.limit 0 c.args.setup.streams c.args.inputs.items c.requires.inputs);
+          (sym c.in_ok-hub.ensures.streams)
+          (are_ready contents failures c.args.limit 0 c.args.setup.streams c.args.inputs.items c.requires.inputs);
     }
 
 pub fill-requires : goal.fill-requires

@@ -27,10 +27,10 @@ loop-turn-preserved g c =
     let places = c.loop-turn.self in
     record {
       parts = parted_more _ c.args.turns.items _ _ c.in-Some.turn places.seats.items _ places.served.items _
-      c.in-Some-into_ended.finished c.part-seat.result.1 inv.parts steps.0
-      (sym c.into_ended.ensures ∙ c.in-Some-into_ended.is)
-      (c.push_reserved.ensures.items ∙ ap (λ z. places.seats.items ++ z ∷ []) c.part-seat.ensures.seat)
-      c.push_reserved-in-loop-turn.ensures.items c.part-seat.ensures.outcome;
+          c.in-Some-into_ended.finished c.part-seat.result.1 inv.parts steps.0
+          (sym c.into_ended.ensures ∙ c.in-Some-into_ended.is)
+          (c.push_reserved.ensures.items ∙ ap (λ z. places.seats.items ++ z ∷ []) c.part-seat.ensures.seat)
+          c.push_reserved-in-loop-turn.ensures.items c.part-seat.ensures.outcome;
       left = omega (arith, inv.left, ap length steps.0, steps.1);
       seats = omega (arith, inv.seats, steps.1, c.push_reserved.ensures.len, c.push_reserved.ensures.capacity);
       served = omega (arith, inv.served, steps.1, c.push_reserved-in-loop-turn.ensures.len, c.push_reserved-in-loop-turn.ensures.capacity);
