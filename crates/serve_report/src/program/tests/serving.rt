@@ -29,9 +29,6 @@ pub const B_TURNED: &[u8] = b"YUV4MPEG2 W2 H2 Cmono\nFRAME\n4321FRAME\n8765FRAME
 /// Two streams.
 pub const TWO: &str = "serve --workers 2 a:a.y4m:a.out:1:2:invert b:b.y4m:b.out:1:2:hflip+vflip";
 
-/// The line of the second of them, where nothing goes wrong with it.
-pub const B_LINE: &str = "b accepted 3 delivered 3 charged 6 stop whole";
-
 /// A file that gives this text, and then ends.
 pub fn given<'a>(name: &'a str, text: &'a [u8]) -> Given<'a> {
     Given {
@@ -110,41 +107,28 @@ pub fn serves_two<R: Abort + Threads + Wait + Sync>(
 
 #[test]
 fn two_streams_are_served_at_once(rt: HostRuntime) -> Result<(), Fail> {
-    let report = "a accepted 3 delivered 3 charged 3 stop whole\n\
-                  b accepted 3 delivered 3 charged 6 stop whole\n\
-                  units 9\n";
-    serves_two(
-        &rt,
-        rt.alloc(),
-        given("a.y4m", A),
-        4096,
-        A_INVERTED,
-        Expected {
-            report,
+    let header = b"YUV4MPEG2 W2 H2 F25:1 Ip A1:1 Cmono XA=b\n".as_slice();
+    for (text, inverted, row, units) in [
+        (A, A_INVERTED, "accepted 3 delivered 3 charged 3", 9),
+        (header, header, "accepted 0 delivered 0 charged 0", 6),
+    ] {
+        let other = "b accepted 3 delivered 3 charged 6 stop whole";
+        let report = format!(in rt.alloc(); "a {row} stop whole\n{other}\nunits {units}\n")?;
+        let expected = Expected {
+            report: report.as_str(),
             errors: "",
             status: 0,
-        },
-    )
-}
-
-#[test]
-fn a_header_alone_is_a_whole_stream(rt: HostRuntime) -> Result<(), Fail> {
-    let header = b"YUV4MPEG2 W2 H2 F25:1 Ip A1:1 Cmono XA=b\n";
-    let report = "a accepted 0 delivered 0 charged 0 stop whole\n\
-                  b accepted 3 delivered 3 charged 6 stop whole\n\
-                  units 6\n";
-    serves_two(
-        &rt,
-        rt.alloc(),
-        given("a.y4m", header),
-        4096,
-        header,
-        Expected {
-            report,
-            errors: "",
-            status: 0,
-        },
-    )
+        };
+        serves_two(
+            &rt,
+            rt.alloc(),
+            given("a.y4m", text),
+            4096,
+            inverted,
+            expected,
+        )?;
+    }
+    Ok(())
 }
 
 #[test]

@@ -112,8 +112,8 @@ fn shares_are_given_in_order(rt: HostRuntime) -> Result<(), Fail> {
 }
 
 /// Words for so many streams, none of which has a form.
-fn formless(alloc: Global, count: u64) -> Result<String, AllocError> {
-    let mut line = String::from_str(alloc, "serve")?;
+fn formless(alloc: Global, front: &str, count: u64) -> Result<String, AllocError> {
+    let mut line = String::from_str(alloc, front)?;
     for _ in 0..count {
         line.push_str(" x")?;
     }
@@ -122,22 +122,15 @@ fn formless(alloc: Global, count: u64) -> Result<String, AllocError> {
 
 #[test]
 fn there_are_at_most_64_streams(rt: HostRuntime) -> Result<(), Fail> {
-    let line = formless(rt.alloc(), 65)?;
-    refuses(
-        &rt,
-        rt.alloc(),
-        line.as_str(),
-        "y4mserve: too many streams\n",
-        2,
-    )?;
-    let line = formless(rt.alloc(), 64)?;
-    refuses(
-        &rt,
-        rt.alloc(),
-        line.as_str(),
-        "y4mserve: bad stream x\n",
-        2,
-    )
+    for (front, count, said) in [
+        ("serve --band 3", 65, "y4mserve: bad band\n"),
+        ("serve", 65, "y4mserve: too many streams\n"),
+        ("serve", 64, "y4mserve: bad stream x\n"),
+    ] {
+        let line = formless(rt.alloc(), front, count)?;
+        refuses(&rt, rt.alloc(), line.as_str(), said, 2)?;
+    }
+    Ok(())
 }
 
 #[test]
