@@ -81,8 +81,8 @@ impl From<HubError> for SessionFault {
 
 /// Serves each stream of the setup from its reader to its writer, and tells what became of each, in order.
 ///
-/// The workers start first. Each client has a thread, or runs on this one where its thread is refused. All that
-/// may be refused is taken before a frame is offered, but for what the clients take themselves.
+/// The workers start first. Each client has a thread, or runs on this one where its thread is refused. All
+/// that may be refused is taken before a frame is offered, but for what the clients take themselves.
 pub fn serve_session<
     R: Source + Drop + Send,
     W: Sink + Drop + Send,
