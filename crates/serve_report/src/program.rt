@@ -50,8 +50,8 @@ impl WordFault {
 
 /// Runs the program with these words, which follow its name, and answers its status: 0 where all went well, 1
 /// after a fault of a stream or of the script or for want of memory, 2 for wrong words. A fault is one line
-/// on `errors`; that of a script is the last line on `output`, and that of a stream among others ends its line
-/// there. Help that is asked for is written to `output`. Where the words are wrong, nothing is.
+/// on `errors`; that of a script is the last line on `output`, and that of a stream among others ends its
+/// line there. Help that is asked for is written to `output`. Where the words are wrong, nothing is.
 pub fn main_on<R, W, E, F, T>(
     rt: &T,
     alloc: Global,

@@ -1,5 +1,5 @@
-//! Many streams at once: each has a file that it is read from and one that it is written to, and they share some
-//! workers.
+//! Many streams at once: each has a file that it is read from and one that it is written to, and they share
+//! some workers.
 ghost use Rattle.std.specs.Prelude.{◌≡◌, ◌≤◌, IfOk};
 ghost use Rattle.std.specs.Io.KnownBytes.{Keeps};
 ghost use Rattle.serve_report.specs.Entrants.{Reports, ServesAll};
@@ -101,7 +101,8 @@ fn serve<W: Write, F: Files, T: Threads + Wait + Sync>(
     output: &mut W,
     files: &F,
 ) -> Result<bool, RunFault>
-    ensures { IfOk result (Reports checked.entry.streams.items (W.contents output.old) (W.contents output.new)) }
+    ensures { IfOk result
+        (Reports checked.entry.streams.items (W.contents output.old) (W.contents output.new)) }
 {
     let Checked {
         workers,

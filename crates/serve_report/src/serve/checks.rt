@@ -1,5 +1,5 @@
 //! What is checked of the words before any file is opened.
-ghost use Rattle.std.specs.Prelude.{◌≡◌, ◌≤◌, [], map, Err, None, Ok, Some, IfErr, IfOk, MatchOption, MatchResult};
+ghost use Rattle.std.specs.Prelude.{◌≡◌, ◌≤◌, [], Err, None, Ok, Some, IfErr, IfOk, MatchResult};
 ghost use Rattle.cbs_account.specs.Admission.{load_of};
 ghost use Rattle.filters.specs.OpsText.{ops_of};
 ghost use Rattle.serve_report.specs.ServeChecks.{AdmissionGives, AreSaid, ChecksGive, IsSaid, MayTell};
@@ -128,7 +128,8 @@ fn next_stream<'a>(
     before: &[Asked<'a>],
     text: &'a str,
 ) -> Result<Asked<'a>, WordFault<'a>>
-    ensures stream { IfOk result (λ asked. word_given (all_told before.now) text.now ≡ Ok (asked_told asked)) }
+    ensures stream { IfOk result
+        (λ asked. word_given (all_told before.now) text.now ≡ Ok (asked_told asked)) }
     ensures ops { IfOk result IsSaid }
     ensures fault { IfErr result
         (λ fault. MayTell fault (λ told. word_given (all_told before.now) text.now ≡ Err told)) }
@@ -146,7 +147,8 @@ fn next_stream<'a>(
 /// The operations of a stream.
 fn stream_ops<'a>(alloc: Global, word: StreamWord<'a>) -> Result<Vec<Op>, WordFault<'a>>
     ensures ops { IfOk result (λ ops. ops_of word.entry.operations.now ≡ Some ops.items) }
-    ensures good { IfOk result (λ ops. ops_given word.entry.name.now (ops_of word.entry.operations.now) ≡ Ok ops.items) }
+    ensures good { IfOk result
+        (λ ops. ops_given word.entry.name.now (ops_of word.entry.operations.now) ≡ Ok ops.items) }
     ensures fault { IfErr result (λ fault.
         MayTell fault (λ told. ops_given word.entry.name.now (ops_of word.entry.operations.now) ≡ Err told)) }
 {
