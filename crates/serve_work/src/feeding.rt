@@ -85,7 +85,16 @@ fn read_into<R: Source + Drop>(
     }
 }
 
-/// Offers a frame once, over the memory of an image if one is at hand.
+/// New memory for the image of a frame, where it is granted.
+#[tactic(auto, using(filters::proofs::ChainImages::is_frame_line))]
+fn new_image<L: Ledger>(alloc: Global, seat: &StreamSeat<L>, frame: &Frame) -> Option<Frame>
+    ensures { IfSome result (IsImageOf seat.now.chain) }
+{
+    Frame::blank(alloc, seat.spec().chain().out_geometry(), frame.line()).ok()
+}
+
+/// Offers a frame once, over the memory of an image if one is at hand, else over new memory, so that none is
+/// lost where the queue is full.
 fn offer_once<L: Ledger, T: Wait>(
     rt: &T,
     alloc: Global,
@@ -99,7 +108,7 @@ fn offer_once<L: Ledger, T: Wait>(
     requires size { (arc_value frame).geometry ≡ seat.old.chain.geometry }
     ensures { IsOffered result (arc_value frame) seat.old seat.new }
 {
-    match image {
+    match image.or_else(|| new_image(alloc, seat, &frame)) {
         None => match hub.offer(rt, alloc, seat, at, frame) {
             Ok(_) => Offered::Accepted,
             Err(OfferRefused { frame: None, .. }) => Offered::Stopped(Stop::Torn),
