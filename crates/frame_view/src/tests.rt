@@ -10,7 +10,7 @@ use crate::{
 };
 use std::alloc::Global;
 use std::test::Fail;
-use y4m_header::{Chroma, check_frame_line};
+use y4m_header::{Chroma, Header, check_frame_line};
 
 fn geometry_2x6() -> Geometry
     ensures width { result.width ≡ 2 }
@@ -34,100 +34,46 @@ fn frame(alloc: Global, geometry: Geometry, line: &[u8], samples: &[u8]) -> Resu
     Ok(Frame::new(geometry, line.to_vec(alloc)?, samples.to_vec(alloc)?)?)
 }
 
-#[test]
-fn sizes_in_bytes(rt: HostRuntime) {
-    let at_444 = Geometry {
-        width: 3,
-        height: 2,
-        chroma: Chroma::S444,
-    };
-    assert_eq!(rt; at_444.bytes(), 18);
-    let at_420 = Geometry {
-        width: 2,
-        height: 2,
-        chroma: Chroma::S420,
-    };
-    assert_eq!(rt; at_420.bytes(), 6);
-    assert_eq!(rt; at_420.planes(), 3);
-    let largest = Geometry {
-        width: 8192,
-        height: 2048,
-        chroma: Chroma::S444Alpha,
-    };
-    assert_eq!(rt; largest.bytes(), 67_108_864);
-}
+/// A header line, the columns and rows of Y and those of Cb, the planes, and the bytes of a frame.
+type SizesSaid<'a> = (&'a [u8], (usize, usize), (usize, usize), usize, usize);
 
 #[test]
-fn smallest_planes_of_every_form(rt: HostRuntime) {
-    let cases = [
+fn a_header_line_says_the_sizes_of_planes_and_frames(rt: HostRuntime) -> Result<(), Fail> {
+    let none = (0, 0);
+    let cases: [SizesSaid<'_>; 13] = [
+        (b"YUV4MPEG2 W2 H2", (2, 2), (1, 1), 3, 6),
+        (b"YUV4MPEG2 W2 H1 C422", (2, 1), (1, 1), 3, 4),
+        (b"YUV4MPEG2 W4 H1 C411", (4, 1), (1, 1), 3, 6),
+        (b"YUV4MPEG2 W1 H1 C444", (1, 1), (1, 1), 3, 3),
+        (b"YUV4MPEG2 W1 H1 C444alpha", (1, 1), (1, 1), 4, 4),
+        (b"YUV4MPEG2 W1 H1 Cmono", (1, 1), none, 1, 1),
+        (b"YUV4MPEG2 W66 H22 C420paldv", (66, 22), (33, 11), 3, 2178),
+        (b"YUV4MPEG2 W62 H5 C422", (62, 5), (31, 5), 3, 620),
+        (b"YUV4MPEG2 W132 H9 C411", (132, 9), (33, 9), 3, 1782),
+        (b"YUV4MPEG2 W3 H2 C444", (3, 2), (3, 2), 3, 18),
+        (b"YUV4MPEG2 W35 H13 C444alpha", (35, 13), (35, 13), 4, 1820),
+        (b"YUV4MPEG2 W4099 H3 Cmono", (4099, 3), none, 1, 12_297),
         (
-            Geometry {
-                width: 2,
-                height: 2,
-                chroma: Chroma::S420,
-            },
-            6,
-        ),
-        (
-            Geometry {
-                width: 2,
-                height: 1,
-                chroma: Chroma::S422,
-            },
+            b"YUV4MPEG2 W8192 H2048 C444alpha",
+            (8192, 2048),
+            (8192, 2048),
             4,
-        ),
-        (
-            Geometry {
-                width: 4,
-                height: 1,
-                chroma: Chroma::S411,
-            },
-            6,
-        ),
-        (
-            Geometry {
-                width: 1,
-                height: 1,
-                chroma: Chroma::S444,
-            },
-            3,
-        ),
-        (
-            Geometry {
-                width: 1,
-                height: 1,
-                chroma: Chroma::S444Alpha,
-            },
-            4,
-        ),
-        (
-            Geometry {
-                width: 1,
-                height: 1,
-                chroma: Chroma::Mono,
-            },
-            1,
+            67_108_864,
         ),
     ];
-    for (geometry, bytes) in cases {
-        assert_eq!(rt; geometry.bytes(), bytes);
-        if geometry.planes() > 1 {
+    for (line, luma, chroma, planes, bytes) in cases {
+        let geometry = Geometry::of(&Header::parse(rt.alloc(), line)?);
+        assert_eq!(rt; (geometry.planes(), geometry.bytes()), (planes, bytes));
+        for p in 0..geometry.planes() {
+            let (columns, rows) = if p == 1 || p == 2 { chroma } else { luma };
             assert_eq!(rt;
-                geometry.plane_size(1),
-                PlaneSize {
-                    columns: 1,
-                    rows: 1
-                }
-            );
-            assert_eq!(rt;
-                geometry.plane_size(2),
-                PlaneSize {
-                    columns: 1,
-                    rows: 1
-                }
+                geometry.plane_size(p),
+                PlaneSize { columns, rows },
+                "plane {p}"
             );
         }
     }
+    Ok(())
 }
 
 #[test]

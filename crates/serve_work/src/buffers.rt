@@ -32,7 +32,8 @@ impl Buffers {
     /// Keeps the memory of a frame and of its image. Where there is no place for them it is let go.
     pub(crate) fn keep(&mut self, pair: Collected)
         ensures { (chain : ChainValue) → AreBuffersFor chain self.old
-            → (source_in pair).geometry ≡ chain.geometry → IsImageOf chain pair.image → AreBuffersFor chain self.new }
+            → (source_in pair).geometry ≡ chain.geometry → IsImageOf chain pair.image
+            → AreBuffersFor chain self.new }
     {
         let _ = self.sources.push(pair.source);
         let _ = self.images.push(pair.image);

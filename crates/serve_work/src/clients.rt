@@ -190,7 +190,8 @@ fn run<L: Ledger, R: Source + Drop, W: Sink, K: Clock, T: Wait>(
 /// The header line is written first, with the size of the images. While its queue is full it collects an
 /// image and writes it; at the end of the input, and at any fault, it closes the stream and collects the
 /// images that are left. After a fault of the writer, or an answer that contradicts the seat, these are
-/// thrown away, and nothing more is written. Once a stream runs, frames and images have the memory of those before them.
+/// thrown away, and nothing more is written. Once a stream runs, frames and images have the memory of those
+/// before them.
 pub fn client<L: Ledger, R: Source + Drop, W: Sink, K: Clock, T: Wait>(
     rt: &T,
     alloc: Global,

@@ -1,6 +1,7 @@
 //! Streams of two by two samples that a worker and a client serve, with bytes that were worked out by hand.
 mod clients;
 mod faults;
+mod gates;
 mod many;
 mod sessions;
 mod stops;

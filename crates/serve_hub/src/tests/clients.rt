@@ -44,8 +44,8 @@ impl<L: Ledger> Client<L> {
         })
     }
 
-    /// Offers so many frames, and closes. Before each frame from the fifth on it collects an image, and offers
-    /// the frame in its memory.
+    /// Offers so many frames, and closes. Before each frame from the fifth on it collects an image, and
+    /// offers the frame in its memory.
     ///
     /// It closes also where it couldn't offer all of them, so that no worker waits for it.
     pub(super) fn feed<R: Wait>(&mut self, rt: &R, hub: &Hub<L>, count: u64) {

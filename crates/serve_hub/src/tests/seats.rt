@@ -83,8 +83,8 @@ fn early<L: Ledger, M: Ledger, R: Wait + Abort>(
     Ok(())
 }
 
-/// Both workers lease. The second can't settle the first one's lease, and the hub can't be ended before each has
-/// settled its own.
+/// Both workers lease. The second can't settle the first one's lease, and the hub can't be ended before each
+/// has settled its own.
 fn settled_in_time<L: Ledger, R: Wait + Abort>(rt: &R, seated: Seated<L>) -> Seated<L> {
     let mut seated = seated;
     let first = seated.lease(rt, 0).expect(rt, "a lease");

@@ -53,9 +53,9 @@ fn sixteen_streams_and_eight_workers(rt: HostRuntime) -> Result<(), Fail> {
 fn a_worker_stops_early(rt: HostRuntime) -> Result<(), Fail> {
     for stop in 0..21 {
         let plan = Plan {
-            streams: 4,
-            workers: 3,
-            frames: 500,
+            streams: 16,
+            workers: 8,
+            frames: 125,
             stop,
         };
         session::<Brand, _>(&rt, rt.alloc(), Blank::new(80), plan)?;

@@ -1,6 +1,6 @@
 //! Sessions of several streams.
 use super::{Open, Plan, Room, Still, stream_of};
-use crate::{Served, SessionFault, serve_session};
+use crate::{Gate, Served, SessionFault, serve_session};
 use serve_core::Setup;
 use std::alloc::Global;
 use std::io::{self, ErrorKind, Read};
@@ -62,6 +62,17 @@ pub(super) fn serve_all<'a, T: Threads + Wait + Sync>(
     streams: &[Stream<'a>],
     hall: Hall,
 ) -> Result<Result<AllServed<'a>, SessionFault>, Fail> {
+    serve_behind(rt, alloc, streams, hall, &Open)
+}
+
+/// The same, behind this gate.
+pub(super) fn serve_behind<'a, G: Gate + Sync, T: Threads + Wait + Sync>(
+    rt: &T,
+    alloc: Global,
+    streams: &[Stream<'a>],
+    hall: Hall,
+    gate: &G,
+) -> Result<Result<AllServed<'a>, SessionFault>, Fail> {
     let mut specs = Vec::new(alloc);
     let mut inputs = Vec::new(alloc);
     for stream in streams {
@@ -70,14 +81,11 @@ pub(super) fn serve_all<'a, T: Threads + Wait + Sync>(
             breaks: stream.breaks,
         });
         let reader = StreamReader::open(alloc, source)?;
-        let writer = OverWrite::new(Room {
-            taken: Vec::new(alloc),
-            left: stream.plan.room,
-        });
+        let writer = OverWrite::new(Room::new(alloc, stream.plan.room)?);
         specs.push(stream_of(alloc, reader.header(), stream.plan)?)?;
         inputs.push((reader, writer))?;
     }
     let setup = Setup::new(hall.workers, 4, specs)?;
     let clock = Still(hall.moment);
-    Ok(serve_session(rt, alloc, setup, inputs, hall.limit, &Open, &clock))
+    Ok(serve_session(rt, alloc, setup, inputs, hall.limit, gate, &clock))
 }

@@ -11,7 +11,7 @@ use lease::JobSpec;
 use row_bands::BandHeight;
 use serve_core::{Refusal as Core, Setup, StreamSpec};
 use serve_hub::{Hub, Refusal, StreamSeat, WorkSeat};
-use std::alloc::Global;
+use std::alloc::{AllocError, Global};
 use std::io::{self, ErrorKind, Write};
 use std::sync::ledger::{Blank, Ledger};
 use std::sync::{Arc, Wait};
@@ -25,11 +25,12 @@ use y4m_stream::{OverRead, OverWrite, Source, StreamReader};
 /// The header line of all inputs here: 22 bytes with its line feed.
 pub(super) const HEADER: &[u8] = b"YUV4MPEG2 W2 H2 Cmono\n";
 
-/// What a stream is served with: its operations, how many bytes its writer takes, how many frames it may
-/// accept, and the moment of all its offers.
+/// What a stream is served with: its operations, how many rows a band has, how many bytes its writer takes,
+/// how many frames it may accept, and the moment of all its offers.
 #[derive(Clone, Copy)]
 pub(super) struct Plan<'a> {
     pub(super) ops: &'a str,
+    pub(super) band: u32,
     pub(super) room: usize,
     pub(super) frames: u64,
     pub(super) moment: u64,
@@ -38,6 +39,7 @@ pub(super) struct Plan<'a> {
 /// Samples are inverted, and nothing is refused.
 pub(super) const PLAIN: Plan<'static> = Plan {
     ops: "invert",
+    band: 16,
     room: 1 << 16,
     frames: 1 << 24,
     moment: 0,
@@ -58,6 +60,14 @@ pub(super) struct Told {
 pub(super) struct Room {
     pub(super) taken: Vec<u8>,
     pub(super) left: usize,
+}
+
+impl Room {
+    /// All memory for the bytes is taken here, so no write fails for want of it.
+    pub(super) fn new(alloc: Global, left: usize) -> Result<Room, AllocError> {
+        let taken = Vec::with_capacity(alloc, left)?;
+        Ok(Room { taken, left })
+    }
 }
 
 impl Write for Room {
@@ -107,7 +117,7 @@ type Seated<L> = (Hub<L>, StreamSeat<L>, WorkSeat<L>);
 pub(super) fn stream_of(alloc: Global, header: &Header, plan: Plan<'_>) -> Result<StreamSpec, Fail>
     ensures { IfOk result (λ stream. IsOfHeader header.now stream.chain.geometry) }
 {
-    let band_height = BandHeight::new(16).ok_or("no height")?;
+    let band_height = BandHeight::new(plan.band).ok_or("no height")?;
     let ops = parse_ops(alloc, plan.ops.as_bytes())?;
     let geometry = Geometry::of(header);
     let chain = Chain::new(alloc, ops, geometry, band_height)?;
@@ -160,7 +170,7 @@ fn run<L: Ledger + Send + Sync, R: Source + Drop, T: Threads + Wait + Sync>(
                 × (reader.phase ≡ Phase.Open) }
         {
             let Ok(working) = scope.spawn(move || work(rt, hub, worker, &Open).1) else {
-                return Err("no memory for a thread".into());
+                return Err("was a thread or its memory refused?".into());
             };
             let end = client(rt, alloc, hub, seat, reader, writer, clock);
             match working.join(rt) {
@@ -185,10 +195,7 @@ pub(super) fn served<L: Ledger + Send + Sync, T: Threads + Wait + Sync>(
 {
     let reader = StreamReader::open(alloc, OverRead::new(input))?;
     let (hub, seat, worker) = seated_of::<L>(alloc, blank, reader.header(), plan)?;
-    let writer = OverWrite::new(Room {
-        taken: Vec::new(alloc),
-        left: plan.room,
-    });
+    let writer = OverWrite::new(Room::new(alloc, plan.room)?);
     let clock = Still(plan.moment);
     let end = run(rt, alloc, &hub, worker, seat, reader, writer, &clock)?;
     Ok(Told {

@@ -134,6 +134,16 @@ fn a_clock_past_its_end_stops_all(rt: HostRuntime) -> Result<(), Fail> {
     Ok(())
 }
 
+/// A session whose workers are refused their threads ends too: `bench/threads` refuses them.
+#[test]
+fn a_session_without_threads_wants_memory(rt: HostRuntime) -> Result<(), Fail> {
+    match serve_all(&rt, rt.alloc(), &[three("invert")], WIDE)? {
+        Ok(all) => were_served(&rt, all, &[came_to(Stop::Whole, (3, 3, 3), INVERTED)]),
+        Err(fault) => assert_eq!(rt; fault, SessionFault::NoMemory),
+    }
+    Ok(())
+}
+
 #[test]
 fn a_journal_has_limits(rt: HostRuntime) -> Result<(), Fail> {
     let empty = Stream {
