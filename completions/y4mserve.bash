@@ -12,11 +12,13 @@ _y4mserve() {
         "") words="filter replay serve help -h --help -V --version" ;;
         help) words="filter replay serve help" ;;
         replay) words="-h --help" ;;
-        filter) words="--band -q --quiet -h --help" ;;
-        serve) words="--workers --band --quantum -h --help" ;;
+        filter) words="--band --threads -q --quiet -h --help" ;;
+        serve) words="--workers --band --quantum -q --quiet -h --help" ;;
     esac
     if [[ ($command == filter || $command == serve) && $previous == --band ]]; then
         words="2 4 8 16 32 64 128"
+    elif [[ $command == filter && $previous == --threads ]]; then
+        words="1 2"
     elif [[ $command == serve && $previous == --workers ]]; then
         words="1 2 4 8 16"
     elif [[ $command == serve && $previous == --quantum ]]; then

@@ -2,24 +2,24 @@
 use Rattle.std.proofs.Math.Logic.{∥∥₁_elim}
 use Rattle.std.proofs.Props.{props}
 use Rattle.y4m_header.specs.FrameLine.{IsFrameLine}
-use Rattle.std.proofs.lemmas.Option.{get_or_from_slice_get, slice_get-get_or}
+use Rattle.std.proofs.lemmas.Option.{get_or_from_slice_get}
 use Rattle.frame_view.specs.declared.geometry.Geometry.{Geometry}
 use Rattle.filters.specs.Chain.{ChainValue, IsImageGeometry, format_of, format_after, format_at}
 use Rattle.filters.proofs.ChainDoable.{last_format_more}
 use Rattle.std.proofs.Common.{slice_get, slice_set, Some, inl, inr, ◌++◌, ◌-◌, ◌≤◌, ◌≢◌, ℕ, ◌≡◌, ◌+◌, ◌<◌}
 use Rattle.std.proofs.Common.{zero, suc}
-use Rattle.std.proofs.Common.{List, [], ◌∷◌, length, take, get_or, arith, refl, sym, ap, subst, ◌∙◌, add-one}
-use Rattle.std.proofs.Common.{All, IsSomeAnd}
+use Rattle.std.proofs.Common.{List, [], ◌∷◌, length, take, drop, get_or, arith, refl, sym, ap, subst, ◌∙◌, add-one}
 use Rattle.frame_view.specs.Frame.{line_of}
 use Rattle.filters.specs.declared.op.Op.{Op}
-use Rattle.filters.specs.ChainImage.{AreCanvases, FrameValue, IsCanvasAt, IsImage, IsImageByAll, KeepLines}
-use Rattle.filters.specs.ChainImage.{last_canvas}
+use Rattle.filters.specs.ChainImage.{FrameValue, IsCanvasAt, IsImage, IsImageByAll}
+use Rattle.filters.specs.Front.{AreCanvases, KeepLines, front_of}
 use Rattle.row_bands.specs.declared.canvas.Canvas.{Canvas}
 use Rattle.row_bands.specs.Canvas.{frame_of}
 use Rattle.std.proofs.Math.ListN.{get_or-append}
 use Rattle.std.proofs.Math.Seq.{get_or-append_seam}
 use Rattle.std.proofs.lemmas.Bool.{cases_order}
 use Rattle.std.proofs.lemmas.List.{get_or_default, get_or-set_same, get_or-set_other, length-set}
+use Rattle.std.proofs.lemmas.List.{take-append-drop}
 use Rattle.std.proofs.lemmas.List.{set-append_right, get_or-append_right}
 
 -- an image is made of a frame with whatever line
@@ -39,6 +39,29 @@ image_more (op ∷ ops) source between image (suc i) d h all is =
     let rest : IsImageByAll (take (i + 1) ops) all.0 image =
     image_more ops all.0 between image i d (omega arith) all.2 is in
     rw add-one (all.0, all.1, rw add-one at rest)
+
+-- the line of what the operations are done on doesn't matter
+images_of_lined : (ops : List Op) (source image : FrameValue) (line : List ℕ)
+    → IsImageByAll ops (record source { line = line }) image → IsImageByAll ops source image
+images_of_lined [] source image line all = all
+images_of_lined (op ∷ ops) source image line all =
+    (all.0, image_of_lined op source all.0 line all.1, all.2)
+
+-- some operations, and then others
+images_joined : (ops more : List Op) (source between image : FrameValue) → IsImageByAll ops source between
+    → IsImageByAll more between image → IsImageByAll (ops ++ more) source image
+images_joined [] more source between image all then =
+    images_of_lined more source image between.line (subst (λ v. IsImageByAll more v image) all then)
+images_joined (op ∷ ops) more source between image all then =
+    (all.0, all.1, images_joined ops more all.0 between image all.2 then)
+
+-- the first n operations, and then the others
+pub images_parted : (ops : List Op) (n : ℕ) (source between image : FrameValue)
+    → IsImageByAll (take n ops) source between → IsImageByAll (drop n ops) between image
+    → IsImageByAll ops source image
+images_parted ops n source between image all then =
+    let Made : List Op → Type 0 = λ l. IsImageByAll l source image in
+    subst Made (take-append-drop n ops) (images_joined (take n ops) (drop n ops) source between image all then)
 
 pub is_frame_line : (line : List ℕ) → ∥ IsFrameLine line ∥₁ → IsFrameLine line
 is_frame_line line s = ∥∥₁_elim s (hlevel props) (λ is. is)
@@ -79,10 +102,10 @@ canvases_more P canvases more canvas i n e each new k d h = elim (cases_order k 
 
 -- one canvas painted
 module _ (canvases : List Canvas) (i : ℕ) (canvas : Canvas) (h : i < length canvases) where
-  pub canvases_painted : (chain : ChainValue) → AreCanvases chain canvases → IsCanvasAt chain i canvas
-      → AreCanvases chain (slice_set canvases i canvas)
+  pub canvases_painted : (chain : ChainValue) → AreCanvases chain canvases
+      → IsCanvasAt chain (front_of chain + i) canvas → AreCanvases chain (slice_set canvases i canvas)
   canvases_painted chain all new = record {
-    count = length-set canvases i canvas ∙ all.count;
+    count = ap (λ n. front_of chain + n) (length-set canvases i canvas) ∙ all.count;
     each = λ k d l. elim (cases_order k i) [
       | inl same ↦
           let at : get_or (slice_set canvases i canvas) k d ≡ canvas =
@@ -90,7 +113,8 @@ module _ (canvases : List Canvas) (i : ℕ) (canvas : Canvas) (h : i < length ca
           rw (at, same) new
       | inr order ↦
           let other : k ≢ i = omega (arith, order) in
-          rw (get_or-set_other canvases i k canvas d other) (all.each k d l)
+          rw (get_or-set_other canvases i k canvas d other)
+          (all.each k d (rw (length-set canvases i canvas) at l))
     ];
   }
 
@@ -107,23 +131,6 @@ module _ (canvases : List Canvas) (i : ℕ) (canvas : Canvas) (h : i < length ca
 
 pub lines_kept : (old mid new : List Canvas) → KeepLines old mid → KeepLines mid new → KeepLines old new
 lines_kept old mid new first then i d = then i d ∙ first i d
-
--- what holds of the last canvas
-pub of_last : (P : Canvas → Type 0) (canvases : List Canvas) → 0 < length canvases
-    → IsSomeAnd (last_canvas canvases) P
-    → (d : Canvas) → P (get_or canvases (length canvases - 1) d)
-of_last P canvases some held d = rw (slice_get-get_or canvases (length canvases - 1) d (omega arith)) at held
-
-pub is_of_last : (P : Canvas → Type 0) (canvases : List Canvas) (d : Canvas) → 0 < length canvases
-    → P (get_or canvases (length canvases - 1) d) → IsSomeAnd (last_canvas canvases) P
-is_of_last P canvases d some held = rw (slice_get-get_or canvases (length canvases - 1) d (omega arith)) held
-
-pub of_last_of_all : (P : Canvas → Type 0) (canvases : List Canvas) → 0 < length canvases → All P canvases
-    → IsSomeAnd (last_canvas canvases) P
-of_last_of_all P [] some held = absurd (omega arith)
-of_last_of_all P (canvas ∷ canvases) some held =
-    let last = length (canvas ∷ canvases) - 1 in
-    is_of_last P (canvas ∷ canvases) canvas some (held last canvas (omega arith))
 
 pub painted_rest : (done rest canvases : List Canvas) (i : ℕ) (canvas : Canvas) → canvases ≡ done ++ rest
     → length done ≡ i

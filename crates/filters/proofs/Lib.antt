@@ -6,6 +6,7 @@ pub mod ReadRows
 pub mod Cropped
 pub mod Blurred
 pub mod Applied
+pub mod Changed
 pub mod Doable
 pub mod ChainSizes
 pub mod ChainDoable
@@ -13,5 +14,6 @@ pub mod ChainSteps
 pub mod Costs
 pub mod ChainOutputs
 pub mod ChainImages
+pub mod Front
 pub mod ChainGeometry
 pub mod OneImage

@@ -1,5 +1,5 @@
 -- The image of a frame: by one operation, and by operations that follow one another.
-use Rattle.std.specs.Prelude.{◌≡◌, ℕ, ◌+◌, ◌-◌, ◌<◌, List, [], ◌∷◌, length, slice_get, slice_index_or, Option}
+use Rattle.std.specs.Prelude.{◌≡◌, ℕ, ◌+◌, List, [], ◌∷◌, length}
 use Rattle.frame_view.specs.declared.geometry.Geometry.{Geometry}
 use Rattle.frame_view.specs.declared.frame.Frame.{Frame}
 use Rattle.frame_view.specs.Places.{frame_len}
@@ -42,17 +42,3 @@ pub record IsChainImage (ops : List Op) (source image : FrameValue) : Type 0 whe
 pub record IsCanvasAt (chain : ChainValue) (i : ℕ) (canvas : Canvas) : Type 0 where
   pub format : format_of (frame_of canvas).geometry ≡ format_at chain (i + 1)
   pub height : height_of canvas ≡ chain.band_height.rows
-
--- a canvas for each operation's output
-pub record AreCanvases (chain : ChainValue) (canvases : List Canvas) : Type 0 where
-  pub count : length canvases ≡ length chain.ops
-  pub each : (i : ℕ) (d : Canvas) → i < length chain.ops → IsCanvasAt chain i (slice_index_or canvases i d)
-
--- each canvas has the line that it had
-abbrev pub KeepLines : List Canvas → List Canvas → Type 0
-KeepLines old new = (i : ℕ) (d : Canvas)
-    → line_of (frame_of (slice_index_or new i d)) ≡ line_of (frame_of (slice_index_or old i d))
-
--- the canvas behind all others, if there is one
-abbrev pub last_canvas : List Canvas → Option Canvas
-last_canvas canvases = slice_get canvases (length canvases - 1)

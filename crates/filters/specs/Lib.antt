@@ -10,3 +10,4 @@ pub mod Refusal
 pub mod ChainOutputs
 pub mod ChainInside
 pub mod ChainImage
+pub mod Front

@@ -1,5 +1,6 @@
 // Operations that follow one another.
 mod fits;
+mod front;
 mod images;
 mod plan;
 pub mod steps;

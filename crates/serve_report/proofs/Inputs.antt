@@ -1,5 +1,5 @@
 -- Streams that are opened one after the other.
-use Rattle.std.proofs.Common.{◌≡◌, List, [], ◌∷◌, ◌++◌, map, ◌∙◌, ap, append_assoc, sym}
+use Rattle.std.proofs.Common.{◌≡◌, List, [], ◌∷◌, ◌++◌, map, ◌∙◌, ap, append_assoc, append-nil, sym}
 use Rattle.std.proofs.lemmas.List.{map_push}
 use Rattle.y4m_stream.specs.Reader.{ReaderState}
 use Rattle.serve_core.specs.Setup.{StreamSpec}
@@ -23,3 +23,9 @@ names_more name asked entrants entrant left later first is same =
     ∙ append_assoc (map name entrants) (name entrant ∷ []) (map asked later)
     ∙ ap (λ n. map name entrants ++ n ∷ map asked later) same
     ∙ sym (ap (λ all. map name entrants ++ map asked all) is)
+
+-- where no stream is left, the names are those of all
+pub names_all : {E A N : Type 0} (name : E → N) (asked : A → N) (entrants : List E) (left : List A) (names : List N)
+    → left ≡ [] → map name entrants ++ map asked left ≡ names → map name entrants ≡ names
+names_all name asked entrants left names none are =
+    sym (append-nil (map name entrants)) ∙ sym (ap (λ all. map name entrants ++ map asked all) none) ∙ are

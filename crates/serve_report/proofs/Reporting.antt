@@ -1,20 +1,19 @@
 -- The lines of a report, one after the other.
 use Rattle.std.proofs.Common.{◌≡◌, ℕ, ◌+◌, ◌<◌, Bor, List, [], ◌∷◌, ◌++◌, length, get_or, map, take, Option, Some, None, option_and_then, option_map, unwrap_or, refl, ◌∙◌, ap, sym}
 use Rattle.std.proofs.lemmas.List.{flat_map_more, take_more}
-use Rattle.serve_report.specs.Entrants.{given_at, rows_given, rows_text, served_row, stopped_row}
-use Rattle.serve_report.specs.ServeReport.{row_text}
-use Rattle.serve_script.specs.ScriptReport.{line_text}
+use Rattle.std.specs.List.{flat_map}
+use Rattle.serve_report.specs.Entrants.{given_at, rows_given, served_row, stopped_row}
 use Rattle.serve_report.specs.declared.serve.opening.Entrant.{Entrant}
 use Rattle.serve_report.specs.declared.serve.report.StreamRow.{StreamRow}
 use Rattle.serve_report.specs.declared.serve.report.StreamStop.{StreamStop}
 use Rattle.serve_work.specs.declared.session.Served.{Served}
 
 -- one line more
-pub text_more : (rows : List StreamRow) (i : ℕ) (d : StreamRow) → i < length rows
-    → rows_text (take (i + 1) rows) ≡ rows_text (take i rows) ++ line_text (row_text (get_or rows i d))
-text_more rows i d less =
-    ap rows_text (take_more rows i d less)
-    ∙ sym (flat_map_more (λ row. line_text (row_text row)) [] (take i rows) (get_or rows i d))
+pub text_more : {T : Type 0} (text : T → List ℕ) (lines : List T) (i : ℕ) (d : T) → i < length lines
+    → flat_map text (take (i + 1) lines) ≡ flat_map text (take i lines) ++ text (get_or lines i d)
+text_more text lines i d less =
+    ap (flat_map text) (take_more lines i d less)
+    ∙ sym (flat_map_more text [] (take i lines) (get_or lines i d))
 
 names_in : List StreamRow → List (Bor (List ℕ))
 names_in rows = map (λ row. row.name) rows

@@ -58,7 +58,8 @@ row_told next = (next.0, next.1.now)
 abbrev pub rows_given : {R W : Type 0} → List Entrant → List (Served R W) → Option (List StreamRow)
 rows_given [] left = Some []
 rows_given (entrant ∷ more) left =
-    option_and_then (λ next. option_map (λ rows. next.0 ∷ rows) (rows_given more next.1)) (next_given entrant left)
+    option_and_then (λ next. option_map (λ rows. next.0 ∷ rows) (rows_given more next.1))
+    (next_given entrant left)
 
 abbrev pub is_whole_stop : StreamStop → Bool
 is_whole_stop stops.Whole = true

@@ -1,3 +1,4 @@
+pub mod Board
 pub mod StreamWords
 pub mod ServeChecks
 pub mod ServeReport

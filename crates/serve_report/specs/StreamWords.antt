@@ -54,4 +54,5 @@ stream_told word = record {
 
 abbrev pub parts_of : WordParts → List (List ℕ)
 parts_of parts =
-    parts.name.now ∷ parts.input.now ∷ parts.output.now ∷ parts.q.now ∷ parts.t.now ∷ parts.operations.now ∷ []
+    parts.name.now ∷ parts.input.now ∷ parts.output.now
+    ∷ parts.q.now ∷ parts.t.now ∷ parts.operations.now ∷ []

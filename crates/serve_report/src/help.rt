@@ -38,7 +38,15 @@ pub const BAND_LONG: &str = "Luma rows of a band, the part of a picture that is 
 even, 2 to 128. The images are the same for each B, and the cost of a
 frame (see below) is less for a higher one";
 
-/// What `--quiet` is.
+/// What `--threads` is.
+pub const THREADS: &str = "Threads, 1 or 2";
+
+/// The same, for the long help.
+pub const THREADS_LONG: &str = "Threads, 1 or 2. With 2, a frame is read while the one before it is
+written: faster from file to file and in a pipe, but one frame more may
+have been read where a write fails. The images are the same";
+
+/// What `--quiet` of `filter` is.
 pub const QUIET: &str = "Show no progress and no hint on a terminal; faults are told";
 
 /// The operations, the limits and the faults of `filter`.
@@ -271,6 +279,9 @@ pub const QUANTUM_LONG: &str = "Most bands of a frame that a worker does before 
 stream comes first, 1 to 64. A lower one lets a stream that is behind its
 share come sooner, a higher one costs less";
 
+/// What `--quiet` of `serve` is.
+pub const SERVE_QUIET: &str = "Show no progress on a terminal; faults are told";
+
 /// The shares, the report and the faults of `serve`.
 pub const SERVE_PAGE: &str = "Shares:
   A unit is one band of an operation of cost 1, such as invert; a band of blur:R
@@ -303,6 +314,9 @@ Report, a line for each stream in the order of the words:
 A frames were taken in, D images were written whole, and U units were done. The
 last line, 'units N', has the sum. A fault of one stream leaves the others as
 they are.
+
+Where standard error is a terminal, a line for each stream shows there how far
+it has come, at most five times a second: 'NAME frames in I out O'.
 
 Stops, the ends of these lines:
   whole          All frames were read, and all images written.

@@ -1,6 +1,7 @@
 // The program over any readers and writers.
 #![tactic(auto)]
 
+pub mod board;
 pub mod files;
 mod frame_count;
 mod help;

@@ -5,7 +5,7 @@ ghost use Rattle.std.specs.Io.KnownBytes.{Keeps};
 use crate::files::Files;
 use crate::serve::run_serve;
 use crate::tell::tell;
-use crate::watch::{Unwatched, Watch};
+use crate::watch::{Unwatched, Watch, following};
 use crate::watched::{WatchedSink, WatchedSource};
 use crate::words::{FilterWords, NoRequest, Request, read_words};
 use filters::{FilterError, Op, parse_ops};
@@ -16,11 +16,16 @@ use std::io::{Read, Write};
 use std::sync::Wait;
 use std::thread::Threads;
 use thiserror::Error;
-use y4m_stream::{OverRead, OverWrite, filter_stream};
+use y4m_stream::{
+    FilterFault, OverRead, OverWrite, Sink, Source, filter_overlapped, filter_stream,
+};
 
 /// What is said where the input is a terminal.
 const AWAITED: &str =
     "waiting for a stream (.y4m) on standard input, which is a terminal; for help: y4mserve filter --help";
+
+/// The number of a stream that is alone.
+const ALONE: usize = 0;
 
 /// Why a stream is not read at all.
 #[derive(Clone, Copy, Debug, PartialEq, Eq, Error)]
@@ -62,7 +67,7 @@ pub fn main_on<R, W, E, F, T>(
     files: &F,
 ) -> u8
 where
-    R: Read + Drop,
+    R: Read + Drop + Send,
     W: Write,
     E: Write,
     F: Files,
@@ -76,8 +81,8 @@ where
 /// The same, under a watch.
 ///
 /// `filter` asks it for terminals once the words are right and before anything is read. It takes no terminal
-/// as its output, status 2. Where its input is one it says what it waits for, and it tells the watch of each
-/// frame, unless the words have `--quiet`.
+/// as its output, status 2. Where its input is one it says what it waits for. Of `filter` and of `serve` the
+/// watch is told each frame. With `--quiet` neither is done.
 pub fn run_on<R, W, E, F, V, T>(
     rt: &T,
     alloc: Global,
@@ -89,19 +94,19 @@ pub fn run_on<R, W, E, F, V, T>(
     watch: &V,
 ) -> u8
 where
-    R: Read + Drop,
+    R: Read + Drop + Send,
     W: Write,
     E: Write,
     F: Files,
-    V: Watch,
+    V: Watch + Sync,
     T: Threads + Wait + Sync,
     ensures status { result ≤ 2 }
     ensures untouched { result ≡ 2 → Keeps (W.contents output.old) (W.contents output.new) }
 {
     match read_words(alloc, words) {
-        Ok(Request::Filter(asked)) => run_filter(alloc, asked, input, output, errors, watch),
+        Ok(Request::Filter(asked)) => run_filter(rt, alloc, asked, input, output, errors, watch),
         Ok(Request::Replay) => run_replay(alloc, input, output, errors),
-        Ok(Request::Serve(asked)) => run_serve(rt, alloc, asked, output, errors, files),
+        Ok(Request::Serve(asked)) => run_serve(rt, alloc, asked, output, errors, files, watch),
         Err(NoRequest::Help(text)) => write_help(&text, output, errors),
         Err(NoRequest::Wrong(text)) => {
             let _ = errors.write_all(text.as_bytes());
@@ -146,8 +151,27 @@ fn check_words<V: Watch>(
     Ok((ops, height))
 }
 
+/// Filters a stream by as many threads as are asked for.
+fn filter_by<T: Threads, R: Source + Drop + Send, W: Sink + Drop>(
+    rt: &T,
+    alloc: Global,
+    threads: u32,
+    input: R,
+    output: W,
+    ops: Vec<Op>,
+    height: BandHeight,
+) -> Result<u64, FilterFault> {
+    let (_, result) = if threads == 1 {
+        filter_stream(alloc, input, output, ops, height)
+    } else {
+        filter_overlapped(rt, alloc, input, output, ops, height)
+    };
+    result
+}
+
 /// Filters the input as the words ask.
-fn run_filter<R: Read + Drop, W: Write, E: Write, V: Watch>(
+fn run_filter<T: Threads, R: Read + Drop + Send, W: Write, E: Write, V: Watch + Sync>(
+    rt: &T,
     alloc: Global,
     asked: FilterWords<'_>,
     input: R,
@@ -168,14 +192,10 @@ fn run_filter<R: Read + Drop, W: Write, E: Write, V: Watch>(
     if !asked.is_quiet && watch.input_is_terminal() {
         tell(errors, &AWAITED);
     }
-    let told = if asked.is_quiet || !watch.follows_frames() {
-        None
-    } else {
-        Some(watch)
-    };
-    let input = WatchedSource::new(alloc, OverRead::new(input), told);
-    let output = WatchedSink::new(alloc, OverWrite::new(output), told);
-    let (_, result) = filter_stream(alloc, input, output, ops, height);
+    let told = following(watch, asked.is_quiet);
+    let input = WatchedSource::new(alloc, OverRead::new(input), ALONE, told);
+    let output = WatchedSink::new(alloc, OverWrite::new(output), ALONE, told);
+    let result = filter_by(rt, alloc, asked.threads, input, output, ops, height);
     if told.is_some() {
         watch.ends();
     }

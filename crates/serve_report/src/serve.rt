@@ -1,17 +1,20 @@
 //! Many streams at once: each has a file that it is read from and one that it is written to, and they share
 //! some workers.
-ghost use Rattle.std.specs.Prelude.{◌≡◌, ◌≤◌, IfOk};
+ghost use Rattle.std.specs.Prelude.{◌≡◌, ◌≤◌, IfOk, map};
 ghost use Rattle.std.specs.Io.KnownBytes.{Keeps};
 ghost use Rattle.serve_report.specs.Entrants.{Reports, ServesAll};
 ghost use Rattle.serve_work.specs.Sessions.{AreInputs};
 
-use self::checks::{Checked, check};
+use self::checks::{Asked, Checked, check};
 use self::clock::Counter;
 use self::gate::PlainGate;
 use self::opening::{Input, Opened, open_all};
+use self::report::StreamRow;
 use self::rows::{are_whole, rows_of, write_report};
 use crate::files::Files;
 use crate::tell::tell;
+use crate::watch::{Watch, following};
+use crate::watched::{WatchedSink, WatchedSource};
 use crate::words::ServeWords;
 use serve_core::{Setup, StreamSpec};
 use serve_work::{Served, SessionFault, serve_session};
@@ -34,7 +37,10 @@ mod stream_word;
 const JOURNAL: usize = 1_048_576;
 
 /// What a session leaves of a stream.
-type Left<R, W> = Served<OverRead<R>, OverWrite<W>>;
+type Left<'w, R, W, V> = Served<
+    WatchedSource<'w, OverRead<R>, V>,
+    WatchedSink<'w, OverWrite<W>, V>,
+>;
 
 /// Why a run isn't reported.
 #[derive(Clone, Copy, Debug, PartialEq, Eq, Error)]
@@ -64,14 +70,21 @@ impl From<io::Error> for RunFault {
 }
 
 /// Serves the streams that the words ask for, and answers the program's status.
-pub fn run_serve<W: Write, E: Write, F: Files, T: Threads + Wait + Sync>(
+pub fn run_serve<W, E, F, V, T>(
     rt: &T,
     alloc: Global,
     words: ServeWords<'_>,
     output: &mut W,
     errors: &mut E,
     files: &F,
+    watch: &V,
 ) -> u8
+where
+    W: Write,
+    E: Write,
+    F: Files,
+    V: Watch + Sync,
+    T: Threads + Wait + Sync,
     ensures status { result ≤ 2 }
     ensures untouched { result ≡ 2 → Keeps (W.contents output.old) (W.contents output.new) }
     ensures well { result ≡ 0 → ServesAll words.entry (W.contents output.old) (W.contents output.new) }
@@ -83,7 +96,8 @@ pub fn run_serve<W: Write, E: Write, F: Files, T: Threads + Wait + Sync>(
             return fault.status();
         }
     };
-    match serve(rt, alloc, checked, output, files) {
+    let told = following(watch, words.is_quiet);
+    match serve(rt, alloc, checked, output, files, told) {
         Ok(true) => 0,
         Ok(false) => 1,
         Err(fault) => {
@@ -94,15 +108,63 @@ pub fn run_serve<W: Write, E: Write, F: Files, T: Threads + Wait + Sync>(
 }
 
 /// Serves the streams and reports them. It answers whether all are whole.
-fn serve<W: Write, F: Files, T: Threads + Wait + Sync>(
+fn serve<W, F, V, T>(
     rt: &T,
     alloc: Global,
     checked: Checked<'_>,
     output: &mut W,
     files: &F,
+    told: Option<&V>,
 ) -> Result<bool, RunFault>
+where
+    W: Write,
+    F: Files,
+    V: Watch + Sync,
+    T: Threads + Wait + Sync,
     ensures { IfOk result
         (Reports checked.entry.streams.items (W.contents output.old) (W.contents output.new)) }
+{
+    tell_names(alloc, &checked.streams, told)?;
+    let rows = serve_files(rt, alloc, checked, files, told);
+    if let Some(watch) = told {
+        watch.ends();
+    }
+    let rows = rows?;
+    write_report(output, &rows)?;
+    Ok(are_whole(&rows))
+}
+
+/// Tells a watch which streams begin.
+fn tell_names<V: Watch>(
+    alloc: Global,
+    streams: &[Asked<'_>],
+    told: Option<&V>,
+) -> Result<(), AllocError> {
+    let Some(watch) = told else {
+        return Ok(());
+    };
+    let mut names = Vec::new(alloc);
+    for asked in streams {
+        names.push(asked.word.name)?;
+    }
+    watch.begins(&names);
+    Ok(())
+}
+
+/// Serves the streams between their files, and answers what is reported of each, in order.
+fn serve_files<'a, F, V, T>(
+    rt: &T,
+    alloc: Global,
+    checked: Checked<'a>,
+    files: &F,
+    told: Option<&V>,
+) -> Result<Vec<StreamRow<'a>>, RunFault>
+where
+    F: Files,
+    V: Watch + Sync,
+    T: Threads + Wait + Sync,
+    ensures { IfOk result (λ rows. map (λ row. row.name) rows.items
+        ≡ map (λ asked. asked.word.name) checked.entry.streams.items) }
 {
     let Checked {
         workers,
@@ -114,27 +176,27 @@ fn serve<W: Write, F: Files, T: Threads + Wait + Sync>(
         entrants,
         specs,
         inputs,
-    } = open_all(alloc, streams, height, files)?;
+    } = open_all(alloc, streams, height, files, told)?;
     let left = serve_opened(rt, alloc, workers, quantum, specs, inputs)?;
     let Some(rows) = rows_of(alloc, &entrants, &left)? else {
         return Err(RunFault::Session(SessionFault::Mismatch));
     };
-    write_report(output, &rows)?;
-    Ok(are_whole(&rows))
+    Ok(rows)
 }
 
 /// Serves the streams that were opened; none where there is none.
-fn serve_opened<R, W, T>(
+fn serve_opened<'w, R, W, V, T>(
     rt: &T,
     alloc: Global,
     workers: u64,
     quantum: u64,
     specs: Vec<StreamSpec>,
-    inputs: Vec<Input<R, W>>,
-) -> Result<Vec<Left<R, W>>, SessionFault>
+    inputs: Vec<Input<'w, R, W, V>>,
+) -> Result<Vec<Left<'w, R, W, V>>, SessionFault>
 where
     R: Read + Drop + Send,
     W: Write + Drop + Send,
+    V: Watch + Sync,
     T: Threads + Wait + Sync,
     requires inputs { AreInputs specs.items inputs.items }
 {

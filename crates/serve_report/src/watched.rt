@@ -1,4 +1,5 @@
-//! A source and a sink that tell a watch of the frames that go through them.
+//! A source and a sink of a stream, which tell a watch of the frames that go through them.
+ghost use Rattle.std.specs.Prelude.{◌≡◌};
 
 use crate::frame_count::FrameCount;
 use crate::watch::Watch;
@@ -6,18 +7,20 @@ use std::alloc::Global;
 use std::io;
 use y4m_stream::{Sink, Source};
 
-/// A source whose frames a watch is told of.
+/// A source whose frames a watch is told of, as those of the stream of this number.
 #[derive(Drop)]
 pub struct WatchedSource<'w, S: Source, V: Watch> {
     source: S,
+    stream: usize,
     watch: Option<&'w V>,
     count: FrameCount,
 }
 
-/// A sink whose frames a watch is told of.
+/// A sink whose frames a watch is told of, as those of the stream of this number.
 #[derive(Drop)]
 pub struct WatchedSink<'w, S: Sink, V: Watch> {
     sink: S,
+    stream: usize,
     watch: Option<&'w V>,
     count: FrameCount,
     /// The bytes that were written since the watch was told.
@@ -25,39 +28,56 @@ pub struct WatchedSink<'w, S: Sink, V: Watch> {
 }
 
 impl<'w, S: Source, V: Watch> WatchedSource<'w, S, V> {
-    pub fn new(alloc: Global, source: S, watch: Option<&'w V>) -> WatchedSource<'w, S, V> {
+    pub fn new(
+        alloc: Global,
+        source: S,
+        stream: usize,
+        watch: Option<&'w V>,
+    ) -> WatchedSource<'w, S, V>
+        ensures source { result.source ≡ source }
+        ensures stream { result.stream ≡ stream }
+    {
         WatchedSource {
             source,
+            stream,
             watch,
             count: FrameCount::new(alloc),
+        }
+    }
+
+    fn tell(&mut self, watch: &V, piece: &[u8])
+        ensures { self.new.source ≡ self.old.source }
+    {
+        let ended = self.count.pass(piece);
+        if ended > 0 {
+            watch.frames_read(self.stream, ended);
         }
     }
 }
 
 impl<'w, S: Sink, V: Watch> WatchedSink<'w, S, V> {
-    pub fn new(alloc: Global, sink: S, watch: Option<&'w V>) -> WatchedSink<'w, S, V> {
+    pub fn new(alloc: Global, sink: S, stream: usize, watch: Option<&'w V>) -> WatchedSink<'w, S, V>
+        ensures sink { result.sink ≡ sink }
+        ensures stream { result.stream ≡ stream }
+    {
         WatchedSink {
             sink,
+            stream,
             watch,
             count: FrameCount::new(alloc),
             bytes: 0,
         }
     }
-}
 
-fn tell_read<V: Watch>(watch: &V, count: &mut FrameCount, piece: &[u8]) {
-    let ended = count.pass(piece);
-    if ended > 0 {
-        watch.frames_read(ended);
-    }
-}
-
-fn tell_written<V: Watch>(watch: &V, count: &mut FrameCount, bytes: &mut u64, piece: &[u8]) {
-    *bytes = bytes.saturating_add(piece.len() as u64);
-    let ended = count.pass(piece);
-    if ended > 0 {
-        watch.frames_written(ended, *bytes);
-        *bytes = 0;
+    fn tell(&mut self, watch: &V, piece: &[u8])
+        ensures { self.new.sink ≡ self.old.sink }
+    {
+        self.bytes = self.bytes.saturating_add(piece.len() as u64);
+        let ended = self.count.pass(piece);
+        if ended > 0 {
+            watch.frames_written(self.stream, ended, self.bytes);
+            self.bytes = 0;
+        }
     }
 }
 
@@ -69,7 +89,7 @@ impl<'w, S: Source, V: Watch> Source for WatchedSource<'w, S, V> {
     fn read(&mut self, buf: &mut [u8]) -> io::Result<usize> {
         let answer = self.source.read(buf);
         if let (Some(watch), Ok(taken)) = (self.watch, &answer) {
-            tell_read(watch, &mut self.count, &buf[..*taken]);
+            self.tell(watch, &buf[..*taken]);
         }
         answer
     }
@@ -85,7 +105,7 @@ impl<'w, S: Sink, V: Watch> Sink for WatchedSink<'w, S, V> {
     fn write(&mut self, buf: &[u8]) -> io::Result<usize> {
         let answer = self.sink.write(buf);
         if let (Some(watch), Ok(taken)) = (self.watch, &answer) {
-            tell_written(watch, &mut self.count, &mut self.bytes, &buf[..*taken]);
+            self.tell(watch, &buf[..*taken]);
         }
         answer
     }

@@ -23,6 +23,8 @@ pub struct FilterWords<'a> {
     pub operations: &'a str,
     /// The luma rows of a band.
     pub band: u32,
+    /// 1 or 2: with 2, a frame is read while the image before it is written.
+    pub threads: u32,
     /// Nothing is shown of the run while it goes on.
     pub is_quiet: bool,
 }
@@ -35,6 +37,8 @@ pub struct ServeWords<'a> {
     pub band: u32,
     /// The most bands of one lease.
     pub quantum: u32,
+    /// Nothing is shown of the run while it goes on.
+    pub is_quiet: bool,
     /// The words that name the streams.
     pub streams: Vec<&'a str>,
     ghost in_range: { (1 ≤ workers) × (workers ≤ 16) × (1 ≤ quantum) × (quantum ≤ 64) },
@@ -68,23 +72,35 @@ fn band_option<'a>(alloc: Global) -> Arg<'a> {
         .long_help(help::BAND_LONG)
 }
 
+fn quiet_flag<'a>(alloc: Global, help: &'a str) -> Arg<'a> {
+    Arg::new(alloc, "quiet")
+        .short('q')
+        .long("quiet")
+        .action(ArgAction::SetTrue)
+        .help(help)
+}
+
 fn filter_command<'a>(alloc: Global) -> Result<Command<'a>, AllocError> {
     let operations = Arg::new(alloc, "OPS")
         .required(true)
         .action(ArgAction::Set)
         .help(help::OPERATIONS);
-    let quiet = Arg::new(alloc, "quiet")
-        .short('q')
-        .long("quiet")
-        .action(ArgAction::SetTrue)
-        .help(help::QUIET);
+    let threads = Arg::new(alloc, "threads")
+        .long("threads")
+        .action(ArgAction::Set)
+        .value_name("N")
+        .value_parser(value_parser!(u32).range(1..=2))
+        .default_value("2")
+        .help(help::THREADS)
+        .long_help(help::THREADS_LONG);
     Command::new(alloc, "filter")
         .about(help::FILTER)
         .long_about(help::FILTER_LONG)
         .after_long_help(help::FILTER_PAGE)
         .arg(operations)?
         .arg(band_option(alloc))?
-        .arg(quiet)
+        .arg(threads)?
+        .arg(quiet_flag(alloc, help::QUIET))
 }
 
 fn replay_command<'a>(alloc: Global) -> Command<'a> {
@@ -125,6 +141,7 @@ fn serve_command<'a>(alloc: Global) -> Result<Command<'a>, AllocError> {
         .arg(workers)?
         .arg(band_option(alloc))?
         .arg(quantum)?
+        .arg(quiet_flag(alloc, help::SERVE_QUIET))?
         .arg(streams)
 }
 
@@ -160,12 +177,14 @@ fn request_of<'a>(alloc: Global, matches: &ArgMatches<'a>) -> Result<Request<'a>
         Some(("filter", inner)) => Ok(Request::Filter(FilterWords {
             operations: inner.get_str("OPS").unwrap_or(""),
             band: number_of(inner, "band", 16),
+            threads: number_of(inner, "threads", 2),
             is_quiet: inner.get_flag("quiet"),
         })),
         Some(("serve", inner)) => Ok(Request::Serve(ServeWords {
             workers: number_of(inner, "workers", 2).clamp(1, 16),
             band: number_of(inner, "band", 16),
             quantum: number_of(inner, "quantum", 8).clamp(1, 64),
+            is_quiet: inner.get_flag("quiet"),
             streams: stream_words(alloc, inner)?,
         })),
         _ => Ok(Request::Replay),

@@ -1,15 +1,15 @@
 -- What stays known of the bytes that are held and those that are still to come.
-use Rattle.std.proofs.Common.{◌≡◌, ℕ, ◌+◌, ◌-◌, ◌≤◌, List, [], ◌++◌, length, take, drop, None, Some, refl, sym, ap, ◌∙◌, append_assoc, arith, length-append, Option, min, ◌⊎◌, inl, inr, append-nil}
+use Rattle.std.proofs.Common.{◌≡◌, ℕ, ◌+◌, ◌-◌, ◌<◌, ◌≤◌, List, [], ◌++◌, length, take, drop, None, Some, refl, sym, ap, ◌∙◌, append_assoc, arith, length-append, Option, min, ◌⊎◌, inl, inr, append-nil}
 use Rattle.std.proofs.Common.{zero, suc}
 use Rattle.std.specs.List.{copy_within}
-use Rattle.std.proofs.KnownBytes.{Consumes-trans}
+use Rattle.std.proofs.KnownBytes.{Consumes-kept, Consumes-trans}
 use Rattle.std.proofs.lemmas.List.{length-take, length-drop, length-take-le, take-append-le, take_at, take-append-drop, drop_all, nil_from_length}
 use borrow.Rule.Slice.PartMut.{put_mid, post_of}
 use Rattle.std.proofs.Math.Seq.{take-append-add}
 use Rattle.std.proofs.lemmas.Slice.{between_is}
 use Rattle.std.specs.Io.KnownBytes.{Keeps, Consumes, prepend_known}
 use Rattle.std.specs.Prelude.{IfSome}
-use Rattle.y4m_stream.specs.Front.{HasNoLineFeed, IsLongLine}
+use Rattle.y4m_stream.specs.Front.{HasGiven, HasNoLineFeed, IsLongLine}
 
 -- bytes that are read behind those that are held
 pub prepend_known-read : (a b : Option (List ℕ)) (held more now : List ℕ) → Consumes a b more → now ≡ held ++ more → Keeps (prepend_known held a) (prepend_known now b)
@@ -91,3 +91,13 @@ Consumes-later None b c bytes k p = tt
 Consumes-later (Some xs) None c bytes k p = absurd k
 Consumes-later (Some xs) (Some ys) None bytes k p = absurd p
 Consumes-later (Some xs) (Some ys) (Some zs) bytes k p = sym k ∙ p
+
+-- a read that took nothing
+pub Keeps-none : (a b : Option (List ℕ)) → Consumes a b [] → Keeps a b
+Keeps-none None b p = tt
+Keeps-none (Some xs) None p = absurd p
+Keeps-none (Some xs) (Some ys) p = sym p
+
+-- fewer bytes came than were asked for
+pub given_so_far : (a b c : Option (List ℕ)) (bytes : List ℕ) (at len : ℕ) → Consumes a b (take at bytes) → Keeps b c → at < len → HasGiven a c (λ given. length given < len)
+given_so_far a b c bytes at len so_far kept few = (take at bytes, Consumes-kept a b c (take at bytes) so_far kept, rw length-take (omega (arith, few)))

@@ -2,6 +2,7 @@ pub mod Known
 pub mod Reading
 pub mod Puts
 pub mod MoreFrames
+pub mod Ahead
 pub mod Serving
 pub mod Filtered
 pub mod Determined

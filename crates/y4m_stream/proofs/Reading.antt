@@ -1,7 +1,7 @@
 -- What a reader answers: a frame behind its line, or a fault in its data.
-use Rattle.std.proofs.Common.{◌≡◌, ℕ, ◌+◌, ◌-◌, ◌≤◌, List, ◌∷◌, ◌++◌, length, take, drop, Option, None, Some, Ok, min, inr, refl, sym, ap, ◌∙◌, append_assoc, length-append, arith}
+use Rattle.std.proofs.Common.{◌≡◌, ℕ, ◌+◌, ◌-◌, ◌≤◌, List, ◌∷◌, ◌++◌, length, take, drop, Option, None, Some, Ok, min, inl, inr, refl, sym, ap, ◌∙◌, append_assoc, length-append, arith}
 use Rattle.std.proofs.KnownBytes.{Keeps-refl}
-use Rattle.std.specs.Io.KnownBytes.{Consumes, prepend_known}
+use Rattle.std.specs.Io.KnownBytes.{Consumes, Keeps, prepend_known}
 use Rattle.y4m_header.specs.FrameLine.{IsFrameLine}
 use Rattle.y4m_header.specs.Header.{HeaderValue}
 use Rattle.y4m_header.specs.StreamText.{FrameText, IsFrameOf, text_of}
@@ -10,7 +10,7 @@ use Rattle.y4m_stream.specs.declared.fault.ReadFault.TheVariants.{Device, LineTo
 use Rattle.y4m_stream.specs.declared.lookahead.TheConstants.{LINE_LIMIT}
 use Rattle.y4m_stream.specs.declared.reader.Phase.{Phase}
 use Rattle.y4m_stream.specs.declared.reader.Phase.TheVariants.{Open}
-use Rattle.y4m_stream.specs.Front.{StandsAtFrame}
+use Rattle.y4m_stream.specs.Front.{HasGiven, IsCutFrame, IsFrameAhead, StandsAtFrame}
 use Rattle.y4m_stream.specs.Inside.{BeginsWithLine, FindsFrame, LacksBytes, LookaheadState, rest_of, state_of}
 use Rattle.y4m_stream.specs.Reader.{Answers, data_len_of}
 use Rattle.y4m_stream.proofs.Known.{Consumes-behind, Consumes-held, Consumes-later}
@@ -73,3 +73,15 @@ Answers-taken header old found new phase phase' n frame finds is_frame taken few
   has_ended = λ e. absurd (let was = finds.was_open in cc);
   has_failed = λ e. absurd (let was = finds.was_open in cc);
 }
+
+-- what is held was read ahead, and nothing else
+pub IsFrameAhead-held : (old new : LookaheadState) (len : ℕ) → Keeps (rest_of old) (rest_of new) → length new.held ≤ LINE_LIMIT → IsFrameAhead len (rest_of old) new.left
+IsFrameAhead-held old new len kept few = (new.held, Consumes-held (rest_of old) new.left new.held kept, omega (arith, few))
+
+cut_length : (len : ℕ) (bytes : List ℕ) → IsCutFrame len bytes → length bytes ≤ LINE_LIMIT + len + LINE_LIMIT
+cut_length len bytes (inl cut) = omega (arith, cut.short)
+cut_length len bytes (inr cut) = rw (cut.whole, length-append) (omega (arith, cut.short, cut.is_line.is_line.short))
+
+-- a part of a frame was read
+pub IsFrameAhead-cut : (a b c : Option (List ℕ)) (len : ℕ) → Keeps a b → HasGiven b c (IsCutFrame len) → IsFrameAhead len a c
+IsFrameAhead-cut a b c len kept given = (given.0, Consumes-later a b c given.0 kept given.1, cut_length len given.0 given.2)

@@ -17,7 +17,7 @@ use Rattle.y4m_stream.specs.declared.fault.WriteFault.TheVariants.{Device}
 use Rattle.y4m_stream.specs.declared.fault.FilterFault.{FilterFault}
 use Rattle.y4m_stream.specs.declared.fault.FilterFault.TheVariants.{Read, Ops, Write, TooManyFrames}
 use Rattle.y4m_stream.specs.Failures.{one_more}
-use Rattle.y4m_stream.specs.Front.{IsReadAhead, StandsAtHeader, StandsAtFrame}
+use Rattle.y4m_stream.specs.Front.{IsFrameAhead, IsReadAhead, StandsAtHeader, StandsAtFrame}
 use Rattle.y4m_stream.specs.Reader.{failures_at}
 use Rattle.y4m_stream.specs.Served.{IsAskedFor, Serves}
 use Rattle.y4m_stream.specs.Writer.{write_failures_at}
@@ -100,16 +100,21 @@ pub record CutsOff (before after : Option (List ℕ)) (text : List ℕ) (earlier
   pub front : Appends before after (take n text)
   pub counted : fault ≡ Device (earlier + n)
 
+-- no more is read ahead than a line may have, whatever the frames
+abbrev pub IsLineAhead : ℕ → Option (List ℕ) → Option (List ℕ) → Type 0
+IsLineAhead len rest left = IsReadAhead rest left
+
 -- why a stream was filtered no further, and what was written: all that was due, or a front of it where a
--- write failed; so many bytes went out earlier
-abbrev pub StopsAt : FilterFault → Progress → ℕ → Ends → Type 0
-StopsAt (Read fault) at earlier ends =
+-- write failed, and there the input was read so far ahead; so many bytes went out earlier
+abbrev pub StopsAt : (ℕ → Option (List ℕ) → Option (List ℕ) → Type 0)
+    → FilterFault → Progress → ℕ → Ends → Type 0
+StopsAt Ahead (Read fault) at earlier ends =
     StandsAtFrame at.len fault at.rest ends.left × Appends ends.before ends.after at.due
-StopsAt (Ops e) at earlier ends = (e ≡ NoMemory) × (at.count < MOST_FRAMES)
+StopsAt Ahead (Ops e) at earlier ends = (e ≡ NoMemory) × (at.count < MOST_FRAMES)
     × HasNext at.len at.rest ends.left × Appends ends.before ends.after at.due
-StopsAt (Write fault) at earlier ends =
-    IsReadAhead at.rest ends.left × CutsOff ends.before ends.after at.due earlier fault
-StopsAt TooManyFrames at earlier ends = (at.count ≡ MOST_FRAMES)
+StopsAt Ahead (Write fault) at earlier ends =
+    Ahead at.len at.rest ends.left × CutsOff ends.before ends.after at.due earlier fault
+StopsAt Ahead TooManyFrames at earlier ends = (at.count ≡ MOST_FRAMES)
     × HasNext at.len at.rest ends.left × Appends ends.before ends.after at.due
 
 -- the whole input was read, it is a stream text of n frames, and what it is served as was written
@@ -121,14 +126,25 @@ pub record IsServed (n : ℕ) (ops : List Op) (height : BandHeight) (ends : Ends
   pub wrote : Appends ends.before ends.after passed.served
 
 -- nothing was written where no header line was due, and else what the frames before the fault are served as
-abbrev pub IsStopped : FilterFault → List Op → BandHeight → Ends → Type 0
-IsStopped fault ops height ends = (LacksHeader fault ops height ends × Keeps ends.before ends.after)
-    ⊎ ((passed : Passed ops height ends.input) × StopsAt fault (progress_of passed) 0 ends)
+abbrev pub IsStopped : (ℕ → Option (List ℕ) → Option (List ℕ) → Type 0)
+    → FilterFault → List Op → BandHeight → Ends → Type 0
+IsStopped Ahead fault ops height ends =
+    (LacksHeader fault ops height ends × Keeps ends.before ends.after)
+    ⊎ ((passed : Passed ops height ends.input) × StopsAt Ahead fault (progress_of passed) 0 ends)
 
 -- what filtering answers
+abbrev pub IsFilteredReading : (ℕ → Option (List ℕ) → Option (List ℕ) → Type 0)
+    → Result ℕ FilterFault → List Op → BandHeight → Ends → Type 0
+IsFilteredReading Ahead (Ok n) ops height ends = IsServed n ops height ends
+IsFilteredReading Ahead (Err fault) ops height ends = IsStopped Ahead fault ops height ends
+
+-- the same, where each frame is read once the image before it was written
 abbrev pub IsFiltered : Result ℕ FilterFault → List Op → BandHeight → Ends → Type 0
-IsFiltered (Ok n) ops height ends = IsServed n ops height ends
-IsFiltered (Err fault) ops height ends = IsStopped fault ops height ends
+IsFiltered result ops height ends = IsFilteredReading IsLineAhead result ops height ends
+
+-- the same, where each frame is read while the image before it is written
+abbrev pub IsFilteredAhead : Result ℕ FilterFault → List Op → BandHeight → Ends → Type 0
+IsFilteredAhead result ops height ends = IsFilteredReading IsFrameAhead result ops height ends
 
 -- a read failed exactly where this is the fault
 abbrev pub filter_reads_at : FilterFault → ℕ → ℕ
@@ -141,6 +157,14 @@ filter_reads_at TooManyFrames n = n
 abbrev pub filter_reads_told : {T : Type 0} → Result T FilterFault → ℕ → ℕ
 filter_reads_told (Ok x) n = n
 filter_reads_told (Err fault) n = filter_reads_at fault n
+
+-- a read failed exactly where that was answered, or beside a write that failed, where one may have too
+abbrev pub CountsReads : {T : Type 0} → Result T FilterFault → ℕ → ℕ → Type 0
+CountsReads (Ok x) old new = new ≡ old
+CountsReads (Err (Read fault)) old new = new ≡ failures_at fault old
+CountsReads (Err (Ops e)) old new = new ≡ old
+CountsReads (Err (Write fault)) old new = (new ≡ old) ⊎ (new ≡ one_more old)
+CountsReads (Err TooManyFrames) old new = new ≡ old
 
 -- no write and no flush failed; or one did, as is told; or another fault came first, and then at most the
 -- flush failed

@@ -1,5 +1,6 @@
 -- What may stand at the front of the bytes that a reader has left, and which fault stands where.
-use Rattle.std.specs.Prelude.{◌≡◌, ◌≢◌, ℕ, ◌<◌, ◌≤◌, ◌⊎◌, List, ◌∷◌, ◌++◌, length, take, All, Option, IfSome}
+use Rattle.std.specs.Prelude.{◌≡◌, ◌≢◌, ℕ, ◌+◌, ◌<◌, ◌≤◌, ◌⊎◌, List, ◌∷◌, ◌++◌, length, take, All}
+use Rattle.std.specs.Prelude.{Option, IfSome}
 use Rattle.std.specs.Io.KnownBytes.{Consumes}
 use Rattle.y4m_header.specs.declared.error.HeaderError.{HeaderError}
 use Rattle.y4m_header.specs.declared.error.HeaderError.TheVariants.{NoMemory as NoHeaderMemory}
@@ -68,6 +69,10 @@ HasGiven rest left P = (bytes : List ℕ) × Consumes rest left bytes × P bytes
 -- of what is to be read next, no more than a line may have was read already
 abbrev pub IsReadAhead : Option (List ℕ) → Option (List ℕ) → Type 0
 IsReadAhead rest left = HasGiven rest left (λ bytes. length bytes ≤ LINE_LIMIT)
+
+-- the same, with no more than the text of a frame before that, whose data has this many bytes
+abbrev pub IsFrameAhead : ℕ → Option (List ℕ) → Option (List ℕ) → Type 0
+IsFrameAhead len rest left = HasGiven rest left (λ bytes. length bytes ≤ LINE_LIMIT + len + LINE_LIMIT)
 
 -- no header stands at the front of the rest, for this reason; the source has this left
 abbrev pub StandsAtHeader : ReadFault → Option (List ℕ) → Option (List ℕ) → Type 0

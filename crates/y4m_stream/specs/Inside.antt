@@ -1,6 +1,7 @@
 -- What contracts inside the crate speak of.
-use Rattle.std.specs.Prelude.{◌≡◌, ℕ, ◌+◌, ◌<◌, ◌≤◌, ◌⊎◌, List, ◌∷◌, ◌++◌, length, take, drop}
-use Rattle.std.specs.Prelude.{Option, Some, None}
+use Rattle.std.specs.Prelude.{◌≡◌, ℕ, ◌+◌, ◌<◌, ◌≤◌, ◌⊎◌, List, [], ◌∷◌, ◌++◌, length, take, drop}
+use Rattle.std.specs.Prelude.{Option, Some, None, option_map}
+use Rattle.std.specs.Option.{option_or}
 use Rattle.std.specs.Prelude.{IfSome, IsSomeAnd, unwrap_or, All, true, false, Result, Ok, Err}
 use Rattle.std.specs.Io.KnownBytes.{Appends, Consumes, IsAtEnd, Keeps, prepend_known}
 use Rattle.frame_view.specs.declared.frame.Frame.{Frame}
@@ -10,7 +11,8 @@ use Rattle.row_bands.specs.Canvas.{frame_of}
 use Rattle.filters.specs.declared.error.FilterError.TheVariants.{NoMemory as NoFilterMemory}
 use Rattle.filters.specs.declared.op.Op.{Op}
 use Rattle.filters.specs.Chain.{ChainValue}
-use Rattle.filters.specs.ChainImage.{AreCanvases, IsChainImage, last_canvas, value_of}
+use Rattle.filters.specs.ChainImage.{IsChainImage, value_of}
+use Rattle.filters.specs.Front.{AreCanvases, last_canvas}
 use Rattle.filters.specs.Refusal.{IsChain}
 use Rattle.y4m_header.specs.Header.{HeaderValue}
 use Rattle.y4m_header.specs.FrameLine.{IsFrameLine}
@@ -27,13 +29,15 @@ use Rattle.y4m_stream.specs.declared.fault.WriteFault.TheVariants.{Failed as Has
 use Rattle.y4m_stream.specs.declared.fault.FilterFault.{FilterFault}
 use Rattle.y4m_stream.specs.declared.fault.FilterFault.TheVariants.{Read, Ops, Write, TooManyFrames}
 use Rattle.y4m_stream.specs.declared.filter.Filter.{Filter}
+use Rattle.y4m_stream.specs.declared.images.Images.{Images}
 use Rattle.y4m_stream.specs.Failures.{one_more}
-use Rattle.y4m_stream.specs.Front.{IsCutLine, IsLongLine, HasOtherLine, HasGiven, StandsAtFrame}
-use Rattle.y4m_stream.specs.Reader.{ReaderState, IsOfHeader, TakesFrame, Answers, data_len_of}
+use Rattle.y4m_stream.specs.Front.{IsCutLine, IsFrameAhead, IsLongLine, HasOtherLine, HasGiven}
+use Rattle.y4m_stream.specs.Front.{StandsAtFrame}
+use Rattle.y4m_stream.specs.Reader.{ReaderState, IsOfHeader, TakesFrame, Answers, FailsAtFrame, data_len_of}
 use Rattle.y4m_stream.specs.Writer.{WriterState, CutsShort, PutsFrame, write_failures_at}
 use Rattle.y4m_stream.specs.declared.passing.TheConstants.{MOST_FRAMES}
-use Rattle.y4m_stream.specs.Served.{IsAskedFor, IsHeaderOfImages, IsImageText, AreImages}
-use Rattle.y4m_stream.specs.Filtered.{Progress, HasNext, StopsAt}
+use Rattle.y4m_stream.specs.Served.{IsAskedFor, IsHeaderOfImages, IsImageText, AreImages, served_header}
+use Rattle.y4m_stream.specs.Filtered.{Progress, HasNext, LacksChain, StopsAt}
 
 -- the bytes that were read from a source and not yet taken, what it has left, and how many of its reads
 -- failed
@@ -111,10 +115,24 @@ BeginsFrame old new phase phase' (Ok None) =
 BeginsFrame old new phase phase' (Err fault) =
     (header : HeaderValue) → Answers (state_of header phase old) (state_of header phase' new) (Err fault)
 
--- the last canvas holds the image of this frame
-abbrev pub HoldImage : ChainValue → List Canvas → Frame → Type 0
-HoldImage chain canvases source = IsSomeAnd (last_canvas canvases)
-    (λ canvas. IsChainImage chain.ops (value_of source) (value_of (frame_of canvas)))
+-- a frame of the chain's geometry is there exactly where there are no canvases
+abbrev pub IsExchange : ChainValue → Option Frame → List Canvas → Type 0
+IsExchange chain None canvases = 1 ≤ length canvases
+IsExchange chain (Some frame) canvases = (length canvases ≡ 0) × (frame.geometry ≡ chain.geometry)
+
+-- there are the canvases that the chain needs, or a frame to exchange where it needs none
+pub record IsReady (images : Images) : Type 0 where
+  pub canvases : AreCanvases images.chain images.canvases.items
+  pub exchange : IsExchange images.chain images.exchanged images.canvases.items
+
+-- the frame that was exchanged, or else that of the last canvas
+abbrev pub image_of : Images → Option Frame
+image_of images = option_or images.exchanged (option_map frame_of (last_canvas images.canvases.items))
+
+-- these hold the image of this frame
+abbrev pub HoldImage : Images → Frame → Type 0
+HoldImage images source = IsSomeAnd (image_of images)
+    (λ image. IsChainImage images.chain.ops (value_of source) (value_of image))
 
 -- the chain is that of these operations for the header's frames; a frame, an image and a header of their
 -- sizes are there
@@ -124,8 +142,25 @@ pub record IsFilterFor (ops : List Op) (height : BandHeight) (header : HeaderVal
   pub is_chain : IsChain filter.images.chain
   pub frame : IsOfHeader header filter.frame.geometry
   pub of_chain : filter.frame.geometry ≡ filter.images.chain.geometry
-  pub canvases : AreCanvases filter.images.chain filter.images.canvases.items
+  pub ready : IsReady filter.images
   pub shown : IsHeaderOfImages filter.images.chain header (unwrap_or filter.resized header)
+
+-- the header line of the chain's images didn't go out whole
+pub record CutsHeader (ops : List Op) (height : BandHeight) (header : HeaderValue)
+    (before after : Option (List ℕ)) (fault : WriteFault) : Type 0 where
+  pub chain : ChainValue
+  pub asked : IsAskedFor ops height header.width header.height header.chroma chain
+  pub is_chain : IsChain chain
+  pub cut : CutsShort before after (served_header chain header.line ++ 10 ∷ []) 0 fault
+
+-- no frame can be passed on, for this reason
+abbrev pub FailsToBegin : FilterFault → List Op → BandHeight → HeaderValue
+    → Option (List ℕ) → Option (List ℕ) → Type 0
+FailsToBegin (Read fault) ops height header before after = ⊥
+FailsToBegin (Ops e) ops height header before after =
+    LacksChain ops height header.width header.height header.chroma e × Keeps before after
+FailsToBegin (Write fault) ops height header before after = CutsHeader ops height header before after fault
+FailsToBegin TooManyFrames ops height header before after = ⊥
 
 -- a frame was taken, and its image went out
 pub record PassesFrame (chain : ChainValue) (reader reader' : ReaderState) (writer writer' : WriterState)
@@ -183,10 +218,22 @@ pub record PassesAll (n : ℕ) (chain : ChainValue) (reader reader' : ReaderStat
   pub bytes : writer'.bytes ≡ writer.bytes + length (frames_text passage.images)
   pub writing : writer'.failed ≡ false
 
+-- an image went out and the frame behind it was not read, or the image didn't go out whole
+abbrev pub FailsBeside : FilterFault → ReaderState → ReaderState → WriterState → WriterState
+    → FrameText → Type 0
+FailsBeside (Read fault) reader reader' writer writer' image =
+    FailsAtFrame reader reader' fault × PutsFrame writer writer' image
+FailsBeside (Ops e) reader reader' writer writer' image = ⊥
+FailsBeside (Write fault) reader reader' writer writer' image =
+    IsFrameAhead (data_len_of reader.header) reader.rest reader'.left
+    × CutsShort writer.contents writer'.contents (text_of image) writer.bytes fault
+FailsBeside TooManyFrames reader reader' writer writer' image = ⊥
+
 -- why not all frames were passed on
-abbrev pub Stops : ChainValue → FilterFault → ReaderState → ReaderState → WriterState → WriterState → Type 0
-Stops chain fault reader reader' writer writer' =
-    (passage : Passage chain reader) × StopsAt fault (progress_on passage) writer.bytes (record {
+abbrev pub Stops : (ℕ → Option (List ℕ) → Option (List ℕ) → Type 0)
+    → ChainValue → FilterFault → ReaderState → ReaderState → WriterState → WriterState → Type 0
+Stops Ahead chain fault reader reader' writer writer' =
+    (passage : Passage chain reader) × StopsAt Ahead fault (progress_on passage) writer.bytes (record {
       input = reader.rest;
       left = reader'.left;
       before = writer.contents;

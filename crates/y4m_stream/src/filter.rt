@@ -3,10 +3,10 @@ ghost use Rattle.std.specs.Prelude.{◌≡◌, ◌≢◌, ◌⊎◌, ℕ, List, 
 ghost use Rattle.std.specs.Prelude.{unwrap_or};
 ghost use Rattle.std.specs.Io.KnownBytes.{Keeps};
 ghost use Rattle.y4m_stream.specs.Filtered.{CountsWrites, IsFiltered, LacksChain, filter_reads_told};
-ghost use Rattle.y4m_stream.specs.Inside.{Closes, CountsClosing};
+ghost use Rattle.y4m_stream.specs.Inside.{Closes, CountsClosing, FailsToBegin, IsFilterFor, filter_writes_at};
 ghost use Rattle.y4m_stream.specs.Reader.{IsOfHeader, IsOpened};
 ghost use Rattle.y4m_stream.specs.Served.{IsHeaderOfImages};
-ghost use Rattle.y4m_stream.specs.Writer.{FlushesOrFails};
+ghost use Rattle.y4m_stream.specs.Writer.{FlushesOrFails, IsOpenedFor};
 
 use crate::device::{Sink, Source};
 use crate::fault::{FilterFault, ReadFault};
@@ -24,8 +24,8 @@ use y4m_header::Header;
 /// their size is another than the frames'.
 #[derive(Drop)]
 pub struct Filter {
-    images: Images,
-    frame: Frame,
+    pub images: Images,
+    pub frame: Frame,
     resized: Option<Header>,
 }
 
@@ -53,8 +53,6 @@ pub fn resized_header(
 }
 
 impl Filter {
-    ghost use Rattle.y4m_stream.specs.Inside.{IsFilterFor};
-
     /// Takes the memory of a frame and of all canvases.
     fn new(
         alloc: Global,
@@ -89,8 +87,36 @@ pub fn shown_header<'a>(resized: &'a Option<Header>, header: &'a Header) -> &'a 
     }
 }
 
+/// Makes the chain for the header's frames, and writes the header line of the images.
+pub fn begin<W: Sink>(
+    alloc: Global,
+    header: &Header,
+    output: W,
+    ops: Vec<Op>,
+    height: BandHeight,
+) -> Result<(Filter, StreamWriter<W>), (W, FilterFault)>
+    ensures filter { IfOk result (λ begun. IsFilterFor ops.items height header.now begun.0) }
+    ensures opened { IfOk result (λ begun. IsOpenedFor (unwrap_or begun.0.resized header.now)
+        (W.contents output) (W.failures output) begun.1) }
+    ensures fault { IfErr result (λ failed. FailsToBegin failed.1 ops.items height header.now
+        (W.contents output) (W.contents failed.0)) }
+    ensures writes { IfErr result (λ failed.
+        W.failures failed.0 ≡ filter_writes_at failed.1 (W.failures output)) }
+    ensures closed { IfErr result (λ failed. (failed.0 ≡ output)
+        ⊎ FlushesOrFails (W.is_flushed failed.0) (W.failures output) (W.failures failed.0)) }
+{
+    let filter = match Filter::new(alloc, ops, header, height) {
+        Ok(filter) => filter,
+        Err(error) => return Err((output, FilterFault::Ops(error))),
+    };
+    match StreamWriter::open(output, shown_header(&filter.resized, header)) {
+        Ok(writer) => Ok((filter, writer)),
+        Err((output, fault)) => Err((output, FilterFault::Write(fault))),
+    }
+}
+
 /// Flushes the writer, and answers the first fault, if there is one.
-fn close<W: Sink>(
+pub fn close<W: Sink>(
     writer: StreamWriter<W>,
     passed: Result<u64, FilterFault>,
 ) -> (W, Result<u64, FilterFault>)
@@ -130,14 +156,9 @@ fn filter_frames<R: Source + Drop, W: Sink>(
     ensures closed { (result.0 ≡ output)
         ⊎ FlushesOrFails (W.is_flushed result.0) (W.failures output) (W.failures result.0) }
 {
-    let mut filter = match Filter::new(alloc, ops, reader.header(), height) {
-        Ok(filter) => filter,
-        Err(error) => return (output, Err(FilterFault::Ops(error))),
-    };
-    let header = shown_header(&filter.resized, reader.header());
-    let mut writer = match StreamWriter::open(output, header) {
-        Ok(writer) => writer,
-        Err((output, fault)) => return (output, Err(FilterFault::Write(fault))),
+    let (mut filter, mut writer) = match begin(alloc, reader.header(), output, ops, height) {
+        Ok(begun) => begun,
+        Err((output, fault)) => return (output, Err(fault)),
     };
     let passed = pass_frames(
         alloc,
@@ -153,14 +174,14 @@ fn filter_frames<R: Source + Drop, W: Sink>(
 /// caller's thread; answers the number of frames, and gives the sink back.
 ///
 /// The operations are applied in order, each to the whole frame, in bands of this height. The reader is
-/// opened first, then the chain is made for the header's frames, and then the header line is written. A frame
-/// and its canvases have the same memory for the whole stream; memory is taken anew only for a frame line
-/// that is another than the one before. At most 16,777,216 images are written. No call on the source or the
+/// opened first, then the chain is made for the header's frames, and then the header line is written. Frames
+/// and canvases have the same memory for the whole stream; memory is taken anew only for a frame line that is
+/// another than the one in its place. At most 16,777,216 images are written. No call on the source or the
 /// sink that failed is tried again. The sink is flushed at the end, and after a fault behind the header line
 /// too, where it has not failed.
 ///
 /// Want of memory is told as `Read(NoMemory)` where it was for the header or a frame's line, and as
-/// `Ops(NoMemory)` where it was for the chain, its frame and its canvases, the header of the images or an
+/// `Ops(NoMemory)` where it was for the chain, its frames and its canvases, the header of the images or an
 /// image's line.
 pub fn filter_stream<R: Source + Drop, W: Sink>(
     alloc: Global,

@@ -5,7 +5,7 @@ ghost use Rattle.std.specs.Io.KnownBytes.{Consumes, IsAtEnd, Keeps};
 ghost use Rattle.frame_view.specs.Frame.{line_of, samples_of};
 ghost use Rattle.y4m_header.specs.FrameLine.{IsFrameLine};
 ghost use Rattle.y4m_header.specs.StreamText.{text_of};
-ghost use Rattle.y4m_stream.specs.Front.{StandsAtFrame};
+ghost use Rattle.y4m_stream.specs.Front.{HasGiven, IsCutFrame, StandsAtFrame};
 ghost use Rattle.y4m_stream.specs.Inside.{BeginsWithLine, LacksFrameLine, rest_of};
 ghost use Rattle.y4m_stream.specs.Reader.{failures_told, frame_text_of};
 
@@ -41,6 +41,7 @@ pub fn find_frame_line<R: Source>(input: &mut Lookahead<R>) -> Result<Option<usi
     ensures is_frame_line { IfOk result (λ next. IfSome next (λ n. IsFrameLine (take n input.new.held))) }
     ensures end { IfOk result (λ next. IfNone next (IsAtEnd (rest_of input.old) × (input.new.held ≡ []))) }
     ensures fault { IfErr result (λ fault. LacksFrameLine fault (rest_of input.old) input.new.left) }
+    ensures few { length input.new.held ≤ LINE_LIMIT }
     ensures told { input.new.failures ≡ failures_told result input.old.failures }
 {
     if is_at_end(input)? {
@@ -69,6 +70,8 @@ pub fn take_data<R: Source>(
         (Consumes (rest_of input.old) (rest_of input.new) (text_of (frame_text_of frame.new))) }
     ensures fault { IfErr result (λ fault.
         StandsAtFrame (length (samples_of frame.old)) fault (rest_of input.old) input.new.left) }
+    ensures given { IfErr result (λ _. HasGiven (rest_of input.old) input.new.left
+        (IsCutFrame (length (samples_of frame.old)))) }
     ensures few { length input.new.held ≤ LINE_LIMIT }
     ensures told { input.new.failures ≡ failures_told result input.old.failures }
 {

@@ -1,5 +1,5 @@
 // A line at the front of what is left.
-ghost use Rattle.std.specs.Prelude.{◌≡◌, ◌-◌, length, IfOk, IfErr};
+ghost use Rattle.std.specs.Prelude.{◌≡◌, ◌≤◌, ◌-◌, length, IfOk, IfErr};
 ghost use Rattle.std.specs.Io.KnownBytes.{Keeps};
 ghost use Rattle.y4m_stream.specs.Inside.{BeginsWithLine, LacksLine, rest_of};
 ghost use Rattle.y4m_stream.specs.Reader.{failures_told};
@@ -16,6 +16,7 @@ pub fn find_line<R: Source>(input: &mut Lookahead<R>) -> Result<usize, ReadFault
     ensures line { IfOk result (BeginsWithLine input.new.held) }
     ensures rest { Keeps (rest_of input.old) (rest_of input.new) }
     ensures fault { IfErr result (λ fault. LacksLine fault (rest_of input.old) input.new.left) }
+    ensures few { length input.new.held ≤ LINE_LIMIT }
     ensures told { input.new.failures ≡ failures_told result input.old.failures }
 {
     loop {

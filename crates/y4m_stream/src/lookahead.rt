@@ -3,6 +3,7 @@ ghost use Rattle.std.specs.Prelude.{◌≡◌, ◌+◌, ◌-◌, ◌<◌, ◌≤
 ghost use Rattle.std.specs.Prelude.{OnOk, OnErr};
 ghost use Rattle.std.specs.Io.KnownBytes.{Consumes, IsAtEnd, Keeps};
 ghost use Rattle.y4m_stream.specs.Failures.{failures_after};
+ghost use Rattle.y4m_stream.specs.Front.{HasGiven};
 ghost use Rattle.y4m_stream.specs.Inside.{LacksBytes, rest_of};
 ghost use Rattle.y4m_stream.specs.Reader.{failures_told};
 
@@ -101,6 +102,8 @@ impl<R: Source> Lookahead<R> {
         ensures ok { OnOk result (Consumes (rest_of self.old) (rest_of self.new) out.new) }
         ensures fault { IfErr result (λ fault.
             LacksBytes (length out.old) fault (rest_of self.old) self.new.left) }
+        ensures given { IfErr result (λ _. HasGiven (rest_of self.old) self.new.left
+            (λ bytes. length bytes < length out.old)) }
         ensures few { length self.new.held ≤ LINE_LIMIT }
         ensures told { self.new.failures ≡ failures_told result self.old.failures }
     {

@@ -1,11 +1,10 @@
 // The frames of a stream, each read, filtered and written before the next.
 ghost use Rattle.std.specs.Prelude.{◌≡◌, ◌+◌, ◌<◌, Ok, true, false, IfOk, IfErr};
 ghost use Rattle.y4m_header.specs.StreamText.{FrameText};
-ghost use Rattle.y4m_stream.specs.Filtered.{filter_reads_told};
-ghost use Rattle.filters.specs.ChainImage.{AreCanvases};
-ghost use Rattle.y4m_stream.specs.Inside.{FailsToPass, HasFailedAt, PassesAll, PassesFrame};
+ghost use Rattle.y4m_stream.specs.Filtered.{IsLineAhead, filter_reads_told};
+ghost use Rattle.y4m_stream.specs.Inside.{FailsToPass, HasFailedAt, IsReady, PassesAll, PassesFrame};
 ghost use Rattle.y4m_stream.specs.Inside.{Stops, filter_writes_told};
-ghost use Rattle.y4m_stream.specs.Reader.{IsOfHeader, MeetsEnd, frame_text_of};
+ghost use Rattle.y4m_stream.specs.Reader.{IsOfHeader, MeetsEnd};
 ghost use Rattle.y4m_stream.specs.Writer.{IsWriterFor};
 ghost use Rattle.y4m_stream.specs.declared.passing.TheConstants.{MOST_FRAMES};
 
@@ -30,7 +29,7 @@ fn pass_frame<R: Source + Drop, W: Sink>(
 ) -> Result<bool, FilterFault>
     requires header { IsOfHeader reader.old.header frame.old.geometry }
     requires chain { frame.old.geometry ≡ images.old.chain.geometry }
-    requires canvases { AreCanvases images.old.chain images.old.canvases.items }
+    requires ready { IsReady images.old }
     requires size { IsWriterFor images.old.chain writer.old }
     requires few { writer.old.frames < MOST_FRAMES }
     requires writing { writer.old.failed ≡ false }
@@ -38,10 +37,9 @@ fn pass_frame<R: Source + Drop, W: Sink>(
     ensures frame { frame.new.geometry ≡ frame.old.geometry }
     ensures header { reader.new.header ≡ reader.old.header }
     ensures chain { images.new.chain ≡ images.old.chain }
-    ensures canvases { AreCanvases images.new.chain images.new.canvases.items }
-    ensures passed { result ≡ Ok true → (image : FrameText)
-        × PassesFrame images.old.chain reader.old reader.new writer.old writer.new
-        (frame_text_of frame.new) image }
+    ensures ready { IsReady images.new }
+    ensures passed { result ≡ Ok true → (taken image : FrameText)
+        × PassesFrame images.old.chain reader.old reader.new writer.old writer.new taken image }
     ensures end { result ≡ Ok false → MeetsEnd reader.old reader.new × (writer.new ≡ writer.old) }
     ensures fault { IfErr result (λ fault.
         FailsToPass images.old.chain fault reader.old reader.new writer.old writer.new) }
@@ -57,8 +55,8 @@ fn pass_frame<R: Source + Drop, W: Sink>(
     Ok(true)
 }
 
-/// Reads frames to the end and writes their images. A frame and its canvases have the same memory for all of
-/// them.
+/// Reads frames to the end and writes their images. A frame and what its images are made in have the same
+/// memory for all of them.
 pub fn pass_frames<R: Source + Drop, W: Sink>(
     alloc: Global,
     reader: &mut StreamReader<R>,
@@ -68,7 +66,7 @@ pub fn pass_frames<R: Source + Drop, W: Sink>(
 ) -> Result<u64, FilterFault>
     requires header { IsOfHeader reader.old.header frame.old.geometry }
     requires chain { frame.old.geometry ≡ images.old.chain.geometry }
-    requires canvases { AreCanvases images.old.chain images.old.canvases.items }
+    requires ready { IsReady images.old }
     requires size { IsWriterFor images.old.chain writer.old }
     requires none { writer.old.frames ≡ 0 }
     requires writing { writer.old.failed ≡ false }
@@ -76,7 +74,7 @@ pub fn pass_frames<R: Source + Drop, W: Sink>(
     ensures passed { IfOk result (λ n.
         PassesAll n images.old.chain reader.old reader.new writer.old writer.new) }
     ensures fault { IfErr result (λ fault.
-        Stops images.old.chain fault reader.old reader.new writer.old writer.new) }
+        Stops IsLineAhead images.old.chain fault reader.old reader.new writer.old writer.new) }
     ensures failed { IfErr result (λ fault. HasFailedAt fault writer.new) }
     ensures reads { reader.new.failures ≡ filter_reads_told result reader.old.failures }
     ensures writes { writer.new.failures ≡ filter_writes_told result writer.old.failures }

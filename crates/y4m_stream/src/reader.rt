@@ -1,12 +1,12 @@
 // A reader of frames, which fails for good at its first fault.
 ghost use Rattle.std.specs.Prelude.{◌≡◌, ◌≤◌, ◌∷◌, ◌++◌, [], Option, length, IfOk, IfErr};
 ghost use Rattle.std.specs.Prelude.{IfSome, OnOk};
-ghost use Rattle.std.specs.Io.KnownBytes.{Consumes};
+ghost use Rattle.std.specs.Io.KnownBytes.{Consumes, Keeps};
 ghost use Rattle.y4m_header.specs.HeaderLine.{IsHeaderLine};
-ghost use Rattle.y4m_stream.specs.Front.{StandsAtHeader};
+ghost use Rattle.y4m_stream.specs.Front.{IsFrameAhead, StandsAtHeader};
 ghost use Rattle.y4m_stream.specs.Inside.{BeginsFrame, rest_of};
 ghost use Rattle.y4m_stream.specs.Reader.{Answers, FailsToOpen, IsOfHeader, IsOpened, Opens, answer_into};
-ghost use Rattle.y4m_stream.specs.Reader.{answer_of, failures_told};
+ghost use Rattle.y4m_stream.specs.Reader.{answer_of, data_len_of, failures_told};
 
 use crate::device::Source;
 use crate::fault::ReadFault;
@@ -55,7 +55,9 @@ fn begin_frame<R: Source>(
     input: &mut Lookahead<R>,
     phase: &mut Phase,
 ) -> Result<Option<usize>, ReadFault>
-    ensures { BeginsFrame input.old input.new phase.old phase.new result }
+    ensures answer { BeginsFrame input.old input.new phase.old phase.new result }
+    ensures rest { Keeps (rest_of input.old) (rest_of input.new) }
+    ensures few { phase.old ≡ Phase.Open → length input.new.held ≤ LINE_LIMIT }
 {
     match *phase {
         Phase::Failed => return Err(ReadFault::Failed),
@@ -167,6 +169,8 @@ impl<R: Source + Drop> StreamReader<R> {
     pub fn read_frame(&mut self, alloc: Global, frame: &mut Frame) -> Result<bool, ReadFault>
         requires { IsOfHeader self.old.header frame.old.geometry }
         ensures answer { Answers self.old self.new (answer_into frame.new result) }
+        ensures ahead { self.old.phase ≡ Phase.Open → IfErr result (λ _.
+            IsFrameAhead (data_len_of self.old.header) self.old.rest self.new.left) }
         ensures geometry { frame.new.geometry ≡ frame.old.geometry }
     {
         let Some(end) = begin_frame(&mut self.input, &mut self.phase)? else {

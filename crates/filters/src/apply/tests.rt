@@ -1,12 +1,11 @@
-//! Each operation on small pictures, in bands of 4 rows.
+//! Each operation on frames of every form, a band at a time, beside its plain formula.
 
-ghost use Rattle.std.specs.Prelude.{◌≡◌, codes, IfOk};
-ghost use Rattle.frame_view.specs.Frame.{line_of};
-ghost use Rattle.filters.specs.Image.{IsDoable};
-ghost use Rattle.filters.specs.Chain.{IsImageGeometry};
+ghost use Rattle.std.specs.Prelude.{◌≡◌};
 
-use super::apply_op;
+use super::apply_band;
+use crate::chain::Chain;
 use crate::op::{Blur, Crop, Op, Table};
+use crate::plain::{Rows, pixels_of, rows_of_image, scatter, size_of_image};
 use frame_view::{Frame, Geometry};
 use row_bands::{BandHeight, Canvas};
 use std::alloc::Global;
@@ -14,173 +13,166 @@ use std::process::Abort;
 use std::test::Fail;
 use y4m_header::{Chroma, check_frame_line};
 
-/// The samples of the image of a frame.
-fn shows(
+/// Writes band `k` alone, from these rows of luma on, into a blank canvas, and answers what that then holds.
+fn band_by_itself(
     rt: &impl Abort,
     alloc: Global,
-    op: Op,
-    source: Geometry,
-    samples: &[u8],
-    target: Geometry,
-    image: &[u8],
-) -> Result<(), Fail>
-    requires doable { IsDoable op source }
-    requires image { IsImageGeometry op source target }
+    chain: &Chain,
+    source: &Frame,
+    k: usize,
+    rows: Rows,
+) -> Result<Vec<u8>, Fail>
+    requires { source.now.geometry ≡ chain.now.geometry }
 {
+    assert_eq!(rt; chain.ops().len(), 1);
+    let op = chain.op(0);
     let line = b"FRAME".as_slice();
     assert!(rt; check_frame_line(line).is_ok());
-    let frame = Frame::new(source, line.to_vec(alloc)?, samples.to_vec(alloc)?)?;
-    let height = BandHeight::new(4).ok_or("no height")?;
-    let mut canvas = Canvas::new(alloc, target, height, line)?;
-    apply_op(op, &frame, &mut canvas);
-    assert_eq!(rt; canvas.frame().data(), image);
+    let mut canvas = Canvas::new(alloc, chain.geometry_after(1), chain.band_height(), line)?;
+    assert!(rt; k < canvas.plan().count());
+    let mut band = canvas.band_mut(k);
+    apply_band(op, source, &mut band);
+    let wanted = rows_of_image(alloc, op, source, rows)?;
+    assert!(rt;
+        canvas.frame().data() == wanted.as_slice(),
+        "{op:?} of {:?}, band {k}",
+        source.geometry()
+    );
+    Ok(wanted)
+}
+
+/// Compares each band of the image of a frame, and then the image, which is all bands together.
+fn image_agrees(rt: &impl Abort, alloc: Global, op: Op, source: &Frame) -> Result<(), Fail> {
+    let (_, height) = size_of_image(op, source.geometry());
+    let bands = BandHeight::new(4).ok_or("no height")?;
+    let chain = Chain::new(alloc, [op].to_vec(alloc)?, source.geometry(), bands)?;
+    let mut image = chain.apply(alloc, source)?;
+    for k in 0..height.div_ceil(4) {
+        let from = k.wrapping_mul(4);
+        let to = from.saturating_add(4).min(height);
+        let band = band_by_itself(rt, alloc, &chain, source, usize::from(k), Rows { from, to })?;
+        for (sample, of_band) in image.data_mut().iter_mut().zip(band.iter()) {
+            *sample ^= *of_band;
+        }
+    }
+    assert!(rt;
+        image.data().iter().all(|left| *left == 0),
+        "{op:?} of {:?}",
+        source.geometry()
+    );
+    Ok(())
+}
+
+/// All but three samples at the left of a chroma row, two at its right, and a row above and below.
+fn inner(geometry: Geometry) -> Op {
+    let (across, down) = pixels_of(geometry.chroma, 1);
+    let (across, down) = (u32::from(across), u32::from(down));
+    Op::Crop(Crop {
+        x: 3 * across,
+        y: down,
+        width: geometry.width.saturating_sub(5 * across),
+        height: geometry.height.saturating_sub(2 * down),
+    })
+}
+
+/// Compares the images of frames by all operations, with blurs of these radii.
+fn images_agree(
+    rt: &impl Abort,
+    alloc: Global,
+    forms: &[Geometry],
+    radii: &[u32],
+) -> Result<(), Fail> {
+    for geometry in forms {
+        let mut source = Frame::blank(alloc, *geometry, b"FRAME")?;
+        scatter(source.data_mut());
+        for op in [
+            Op::Table(Table::Invert),
+            Op::Table(Table::Threshold(100)),
+            Op::Table(Table::Clamp { low: 16, high: 235 }),
+            Op::HFlip,
+            Op::VFlip,
+            inner(*geometry),
+        ] {
+            image_agrees(rt, alloc, op, &source)?;
+        }
+        for radius in radii {
+            image_agrees(rt, alloc, Op::Blur(Blur { radius: *radius }), &source)?;
+        }
+    }
     Ok(())
 }
 
 #[test]
-fn tables_change_luma_and_chroma_and_keep_alpha(rt: HostRuntime) -> Result<(), Fail> {
-    let mono = Geometry {
-        width: 2,
-        height: 1,
-        chroma: Chroma::Mono,
-    };
-    let threshold = Op::Table(Table::Threshold(128));
-    shows(
-        &rt,
-        rt.alloc(),
-        threshold,
-        mono,
-        &[0x00, 0x80],
-        mono,
-        &[0x00, 0xFF],
-    )?;
-    let clamp = Op::Table(Table::Clamp { low: 16, high: 235 });
-    shows(
-        &rt,
-        rt.alloc(),
-        clamp,
-        mono,
-        &[0x05, 0xFA],
-        mono,
-        &[0x10, 0xEB],
-    )?;
-    let square = Geometry {
-        width: 2,
-        height: 2,
-        chroma: Chroma::S420,
-    };
-    let low = Op::Table(Table::Threshold(3));
-    shows(
-        &rt,
-        rt.alloc(),
-        low,
-        square,
-        &[1, 2, 3, 4, 0x50, 0x60],
-        square,
-        &[0, 0, 0xFF, 0xFF, 0x80, 0x80],
-    )?;
-    let alpha = Geometry {
-        width: 1,
-        height: 1,
-        chroma: Chroma::S444Alpha,
-    };
-    shows(
-        &rt,
-        rt.alloc(),
-        Op::Table(Table::Invert),
-        alpha,
-        &[0x00, 0x10, 0x20, 0x30],
-        alpha,
-        &[0xFF, 0xEF, 0xDF, 0x30],
-    )?;
-    shows(
-        &rt,
-        rt.alloc(),
-        threshold,
-        alpha,
-        &[0x00, 0x10, 0x20, 0x30],
-        alpha,
-        &[0x00, 0x80, 0x80, 0x30],
-    )?;
-    shows(
-        &rt,
-        rt.alloc(),
-        clamp,
-        alpha,
-        &[0x00, 0x05, 0xFA, 0x05],
-        alpha,
-        &[0x10, 0x05, 0xFA, 0x05],
-    )
+fn each_band_is_that_of_the_formula(rt: HostRuntime) -> Result<(), Fail> {
+    let forms = [
+        Geometry {
+            width: 66,
+            height: 22,
+            chroma: Chroma::S420,
+        },
+        Geometry {
+            width: 62,
+            height: 5,
+            chroma: Chroma::S422,
+        },
+        Geometry {
+            width: 132,
+            height: 9,
+            chroma: Chroma::S411,
+        },
+        Geometry {
+            width: 35,
+            height: 13,
+            chroma: Chroma::S444,
+        },
+        Geometry {
+            width: 35,
+            height: 13,
+            chroma: Chroma::S444Alpha,
+        },
+        Geometry {
+            width: 31,
+            height: 20,
+            chroma: Chroma::Mono,
+        },
+    ];
+    images_agree(&rt, rt.alloc(), &forms, &[1, 2, 3, 4, 5, 6, 7, 8])
 }
 
+/// Rows that are many times as long as a vector, and leave a rest.
 #[test]
-fn flips_mirror_each_plane_over_all_bands(rt: HostRuntime) -> Result<(), Fail> {
-    let mono = Geometry {
-        width: 2,
-        height: 1,
-        chroma: Chroma::Mono,
-    };
-    shows(&rt, rt.alloc(), Op::HFlip, mono, &[1, 2], mono, &[2, 1])?;
-    let tall = Geometry {
-        width: 2,
-        height: 6,
-        chroma: Chroma::S420,
-    };
-    let samples = [
-        0, 1, 2, 3, 4, 5, 6, 7, 8, 9, 10, 11, 0x20, 0x21, 0x22, 0x30, 0x31, 0x32,
+fn each_band_of_long_rows_is_that_of_the_formula(rt: HostRuntime) -> Result<(), Fail> {
+    let forms = [
+        Geometry {
+            width: 510,
+            height: 6,
+            chroma: Chroma::S420,
+        },
+        Geometry {
+            width: 2046,
+            height: 5,
+            chroma: Chroma::S422,
+        },
+        Geometry {
+            width: 4100,
+            height: 5,
+            chroma: Chroma::S411,
+        },
+        Geometry {
+            width: 1000,
+            height: 5,
+            chroma: Chroma::S444,
+        },
+        Geometry {
+            width: 255,
+            height: 5,
+            chroma: Chroma::S444Alpha,
+        },
+        Geometry {
+            width: 4099,
+            height: 5,
+            chroma: Chroma::Mono,
+        },
     ];
-    let image = [
-        10, 11, 8, 9, 6, 7, 4, 5, 2, 3, 0, 1, 0x22, 0x21, 0x20, 0x32, 0x31, 0x30,
-    ];
-    shows(&rt, rt.alloc(), Op::VFlip, tall, &samples, tall, &image)
-}
-
-#[test]
-fn a_rectangle_is_cut_from_each_plane(rt: HostRuntime) -> Result<(), Fail> {
-    let source = Geometry {
-        width: 4,
-        height: 2,
-        chroma: Chroma::S422,
-    };
-    let target = Geometry {
-        width: 2,
-        height: 2,
-        chroma: Chroma::S422,
-    };
-    let samples = [
-        0, 1, 2, 3, 4, 5, 6, 7, 0x10, 0x11, 0x12, 0x13, 0x20, 0x21, 0x22, 0x23,
-    ];
-    let crop = Op::Crop(Crop {
-        x: 2,
-        y: 0,
-        width: 2,
-        height: 2,
-    });
-    shows(
-        &rt,
-        rt.alloc(),
-        crop,
-        source,
-        &samples,
-        target,
-        &[2, 3, 6, 7, 0x11, 0x13, 0x21, 0x23],
-    )
-}
-
-#[test]
-fn a_blur_spreads_a_sample_over_its_row(rt: HostRuntime) -> Result<(), Fail> {
-    let mono = Geometry {
-        width: 3,
-        height: 1,
-        chroma: Chroma::Mono,
-    };
-    shows(
-        &rt,
-        rt.alloc(),
-        Op::Blur(Blur { radius: 1 }),
-        mono,
-        &[0x00, 0x5A, 0x00],
-        mono,
-        &[0x1E, 0x1E, 0x1E],
-    )
+    images_agree(&rt, rt.alloc(), &forms, &[1, 5])
 }

@@ -1,17 +1,18 @@
 // The images of frames by a chain.
-ghost use Rattle.std.specs.Prelude.{◌≡◌, ◌+◌, ◌-◌, ◌<◌, ◌≤◌, All, length, slice_index_or};
-ghost use Rattle.std.specs.Prelude.{IfOk, IfErr, IsSomeAnd};
+ghost use Rattle.std.specs.Prelude.{◌≡◌, ◌+◌, ◌-◌, ◌<◌, ◌≤◌, All, drop, length, slice_index_or};
+ghost use Rattle.std.specs.Prelude.{IfOk, IfErr, IfSome};
 ghost use Rattle.y4m_header.specs.FrameLine.{IsFrameLine};
 ghost use Rattle.frame_view.specs.Frame.{line_of};
 ghost use Rattle.row_bands.specs.declared.canvas.Canvas.{Canvas};
 ghost use Rattle.row_bands.specs.Canvas.{frame_of};
 ghost use Rattle.filters.specs.declared.op.Op.{Op};
 ghost use Rattle.filters.specs.Chain.{format_of, format_at, last_format};
-ghost use Rattle.filters.specs.ChainImage.{AreCanvases, IsCanvasAt, IsChainImage, IsImage, KeepLines};
-ghost use Rattle.filters.specs.ChainImage.{last_canvas, value_of};
+ghost use Rattle.filters.specs.ChainImage.{IsCanvasAt, IsChainImage, IsImage, IsImageByAll, value_of};
+ghost use Rattle.filters.specs.Front.{AreCanvases, KeepLines, front_of, image_in, last_canvas};
 
 use crate::apply::apply_op;
 use crate::chain::Chain;
+use crate::chain::front::apply_front;
 use crate::error::FilterError;
 use frame_view::Frame;
 use row_bands::Canvas;
@@ -38,7 +39,7 @@ fn image_by(chain: &Chain, alloc: Global, i: usize, source: &Frame) -> Result<Fr
     Ok(canvas.into_frame())
 }
 
-/// Makes canvas `i` the image of a frame by operation `i` alone. Its line stays.
+/// Makes a canvas the image of a frame by operation `i` alone. Its line stays.
 fn paint_at(chain: &Chain, i: usize, source: &Frame, canvas: &mut Canvas)
     requires op { i < length chain.now.ops }
     requires reaches { format_of source.now.geometry ≡ format_at chain.now i }
@@ -51,24 +52,48 @@ fn paint_at(chain: &Chain, i: usize, source: &Frame, canvas: &mut Canvas)
     apply_op(chain.op(i), source, canvas);
 }
 
-/// Makes canvas `i` the image by operation `i` of what the canvas before it holds. All lines stay.
-fn paint_next(chain: &Chain, i: usize, canvases: &mut [Canvas])
+/// Makes canvas `i` the image, by the operation that it is for, of what the canvas before it holds. All lines
+/// stay.
+fn paint_next(chain: &Chain, front: usize, i: usize, canvases: &mut [Canvas])
+    requires few { length chain.now.ops ≤ 8 }
+    requires front { front ≡ front_of chain.now }
     requires some { 1 ≤ i }
-    requires op { i < length chain.now.ops }
+    requires inside { i < length canvases.old }
     requires canvases { AreCanvases chain.now canvases.old }
     ensures canvases { AreCanvases chain.now canvases.new }
     ensures lines { KeepLines canvases.old canvases.new }
-    ensures image { (o : Op) (d : Canvas) → IsImage (slice_index_or chain.now.ops i o)
+    ensures image { (o : Op) (d : Canvas) → IsImage (slice_index_or chain.now.ops (front + i) o)
         (value_of (frame_of (slice_index_or canvases.old (i - 1) d)))
         (value_of (frame_of (slice_index_or canvases.new i d))) }
 {
     let (done, rest) = canvases.split_at_mut(i);
-    paint_at(chain, i, done[i - 1].frame(), &mut rest[0]);
+    paint_at(chain, front + i, done[i - 1].frame(), &mut rest[0]);
+}
+
+/// Does the operations behind the tables in front, from what these made of a frame. All lines stay.
+fn paint_behind(chain: &Chain, source: &Frame, canvases: &mut [Canvas])
+    requires geometry { source.now.geometry ≡ chain.now.geometry }
+    requires canvases { AreCanvases chain.now canvases.old }
+    ensures canvases { AreCanvases chain.now canvases.new }
+    ensures lines { KeepLines canvases.old canvases.new }
+    ensures image { IsImageByAll (drop (front_of chain.now) chain.now.ops)
+        (value_of source.now) (value_of (image_in source.now canvases.new)) }
+{
+    let front = chain.front();
+    let behind = chain.ops().len() - front;
+    if behind == 0 {
+        return;
+    }
+    paint_at(chain, front, source, &mut canvases[0]);
+    for i in 1..behind {
+        paint_next(chain, front, i, canvases);
+    }
 }
 
 impl Chain {
-    /// A canvas for each operation's output, each with this line. `NoMemory` is answered where the memory of
-    /// one of them, or of their list, is refused; those that were made are let go.
+    /// A canvas for the output of each operation behind the tables in front, each with this line. `NoMemory`
+    /// is answered where the memory of one of them, or of their list, is refused; those that were made are
+    /// let go.
     pub fn canvases(&self, alloc: Global, line: &[u8]) -> Result<Vec<Canvas>, FilterError>
         requires { IsFrameLine line.now }
         ensures ok { IfOk result (λ canvases. AreCanvases self.now canvases.items) }
@@ -76,10 +101,12 @@ impl Chain {
             All (λ canvas. line_of (frame_of canvas) ≡ line.now) canvases.items) }
         ensures memory { IfErr result (λ e. e ≡ FilterError.NoMemory) }
     {
-        let count = self.ops().len();
+        let front = self.front();
+        let count = self.ops().len() - front;
         let mut canvases = Vec::with_capacity(alloc, count)?;
         for i in 0..count {
-            let canvas = Canvas::new(alloc, self.geometry_after(i + 1), self.band_height(), line)?;
+            let output = self.geometry_after(front + i + 1);
+            let canvas = Canvas::new(alloc, output, self.band_height(), line)?;
             canvases.push(canvas)?;
         }
         Ok(canvases)
@@ -103,23 +130,21 @@ impl Chain {
         Ok(image)
     }
 
-    /// Writes the canvases so that the last one holds the image of the frame; the others serve the operations
-    /// before it. Every canvas keeps its line. It takes no memory, and the canvases may be written again for
-    /// the next frame with this line.
-    pub fn apply_into(&self, source: &Frame, canvases: &mut [Canvas])
-        requires geometry { source.now.geometry ≡ self.now.geometry }
+    /// Does the tables in front in the frame itself, and the other operations into the canvases, so that the
+    /// last one holds the image, or the frame where there is none. Every canvas keeps its line. It takes no
+    /// memory, and the canvases may be written again for the next frame with this line.
+    pub fn apply_into(&self, source: &mut Frame, canvases: &mut [Canvas])
+        requires geometry { source.old.geometry ≡ self.now.geometry }
         requires canvases { AreCanvases self.now canvases.old }
-        requires line { IsSomeAnd (last_canvas canvases.old)
-            (λ canvas. line_of (frame_of canvas) ≡ line_of source.now) }
+        requires line { IfSome (last_canvas canvases.old)
+            (λ canvas. line_of (frame_of canvas) ≡ line_of source.old) }
+        ensures geometry { source.new.geometry ≡ source.old.geometry }
         ensures canvases { AreCanvases self.now canvases.new }
         ensures lines { KeepLines canvases.old canvases.new }
-        ensures image { IsSomeAnd (last_canvas canvases.new)
-            (λ canvas. IsChainImage self.now.ops (value_of source.now) (value_of (frame_of canvas))) }
+        ensures image { IsChainImage self.now.ops
+            (value_of source.old) (value_of (image_in source.new canvases.new)) }
     {
-        let count = self.ops().len();
-        paint_at(self, 0, source, &mut canvases[0]);
-        for i in 1..count {
-            paint_next(self, i, canvases);
-        }
+        apply_front(self, source);
+        paint_behind(self, source, canvases);
     }
 }

@@ -27,7 +27,7 @@ fn written(room: &[u8], left: usize) -> &[u8] {
 
 /// Runs the program with these words, compares what it says of faults and its status, and answers how much is
 /// left of the room for its output.
-fn says<R: Read + Drop>(
+fn says<R: Read + Drop + Send>(
     rt: &(impl Abort + Threads + Wait + Sync),
     alloc: Global,
     line: &str,
@@ -159,15 +159,22 @@ const WIDE: &[u8] =
 
 #[test]
 fn a_crop_gives_its_own_header_and_samples(rt: HostRuntime) -> Result<(), Fail> {
-    runs(
-        &rt,
-        rt.alloc(),
+    for line in [
         "filter crop:2,0,2,2",
-        WIDE,
-        b"YUV4MPEG2 W2 H2 C422\nFRAME\n\x02\x03\x06\x07\x11\x13\x21\x23",
-        "",
-        0,
-    )
+        "filter --threads 1 crop:2,0,2,2",
+        "filter --threads 2 crop:2,0,2,2",
+    ] {
+        runs(
+            &rt,
+            rt.alloc(),
+            line,
+            WIDE,
+            b"YUV4MPEG2 W2 H2 C422\nFRAME\n\x02\x03\x06\x07\x11\x13\x21\x23",
+            "",
+            0,
+        )?;
+    }
+    Ok(())
 }
 
 #[test]
@@ -209,18 +216,29 @@ fn nine_operations_are_refused(rt: HostRuntime) -> Result<(), Fail> {
     )
 }
 
-/// In bands of 16 rows this takes 5 times 1,024 steps; in bands of 2 rows it would be 40,960, over the limit.
+/// Where a band has 16 rows, four blurs cost a frame of 16,384 rows 1,024 times 32 units, which is the most
+/// that it may cost. In bands of 14 rows it would be 1,171 times 32, and in bands of 18 rows one operation
+/// more would be let in too: 911 times 33.
 #[test]
 fn bands_have_16_rows(rt: HostRuntime) -> Result<(), Fail> {
     let header = b"YUV4MPEG2 W1 H16384 Cmono\n";
     runs(
         &rt,
         rt.alloc(),
-        "filter hflip+hflip+hflip+hflip+hflip",
+        "filter blur:7+blur:7+blur:7+blur:7",
         header,
         header,
         "",
         0,
+    )?;
+    runs(
+        &rt,
+        rt.alloc(),
+        "filter blur:7+blur:7+blur:7+blur:7+hflip",
+        header,
+        b"",
+        "y4mserve: ops TooManySteps\n",
+        1,
     )
 }
 

@@ -7,6 +7,8 @@ ghost use Rattle.serve_report.specs.Entrants.{entered, stopped};
 use super::checks::Asked;
 use super::report::StreamStop;
 use crate::files::Files;
+use crate::watch::Watch;
+use crate::watched::{WatchedSink, WatchedSource};
 use filters::{Chain, FilterError, Op};
 use frame_view::Geometry;
 use lease::JobSpec;
@@ -34,18 +36,21 @@ pub struct Entrant<'a> {
 }
 
 /// What a client reads from and writes to.
-pub type Input<R, W> = (StreamReader<OverRead<R>>, OverWrite<W>);
+pub type Input<'w, R, W, V> = (
+    StreamReader<WatchedSource<'w, OverRead<R>, V>>,
+    WatchedSink<'w, OverWrite<W>, V>,
+);
 
 /// The streams of a run, and of those that take part in the session what they are served with, and their
 /// files.
 #[derive(Drop)]
-pub struct Opened<'a, R: Read, W: Write> {
+pub struct Opened<'a, 'w, R: Read, W: Write, V: Watch> {
     pub entrants: Vec<Entrant<'a>>,
     pub specs: Vec<StreamSpec>,
-    pub inputs: Vec<Input<R, W>>,
+    pub inputs: Vec<Input<'w, R, W, V>>,
 }
 
-impl<'a, R: Read, W: Write> Opened<'a, R, W> {
+impl<'a, 'w, R: Read, W: Write, V: Watch> Opened<'a, 'w, R, W, V> {
     /// A stream of which nothing was opened, or which stopped there.
     fn add_stopped(&mut self, name: &'a str, stop: StreamStop) -> Result<(), AllocError>
         ensures entrants { OnOk result
@@ -62,7 +67,7 @@ impl<'a, R: Read, W: Write> Opened<'a, R, W> {
         &mut self,
         name: &'a str,
         spec: StreamSpec,
-        input: Input<R, W>,
+        input: Input<'w, R, W, V>,
     ) -> Result<(), AllocError>
     where
         R: Drop,
@@ -70,7 +75,7 @@ impl<'a, R: Read, W: Write> Opened<'a, R, W> {
         ensures entrants { OnOk result
             (self.new.entrants.items ≡ self.old.entrants.items ++ entered name.entry ∷ []) }
         ensures specs { OnOk result (self.new.specs.items ≡ self.old.specs.items ++ spec ∷ []) }
-        ensures inputs { OnOk result (self.new.inputs.items ≡ self.old.inputs.items ++ input ∷ []) }
+        ensures inputs { OnOk result (self.new.inputs.items ≡ self.old.inputs.items ++ input.entry ∷ []) }
     {
         self.specs.push(spec)?;
         self.inputs.push(input)?;
@@ -79,13 +84,15 @@ impl<'a, R: Read, W: Write> Opened<'a, R, W> {
     }
 }
 
-/// Opens the streams in order. One that stops here leaves the others as they are.
-pub fn open_all<'a, F: Files>(
+/// Opens the streams in order. One that stops here leaves the others as they are. A watch is told of their
+/// frames by their places among all of them.
+pub fn open_all<'a, 'w, F: Files, V: Watch>(
     alloc: Global,
     streams: Vec<Asked<'a>>,
     height: BandHeight,
     files: &F,
-) -> Result<Opened<'a, F::Reader, F::Writer>, AllocError>
+    told: Option<&'w V>,
+) -> Result<Opened<'a, 'w, F::Reader, F::Writer, V>, AllocError>
     ensures inputs { IfOk result (λ opened. AreInputs opened.specs.items opened.inputs.items) }
     ensures names { IfOk result (λ opened. map (λ entrant. entrant.name) opened.entrants.items
         ≡ map (λ asked. asked.word.name) streams.entry.items) }
@@ -97,7 +104,8 @@ pub fn open_all<'a, F: Files>(
     };
     for asked in streams {
         let name = asked.word.name;
-        match open_stream(alloc, asked, height, files) {
+        let stream = opened.entrants.len();
+        match open_stream(alloc, asked, height, files, stream, told) {
             Ok((spec, input)) => opened.add_open(name, spec, input)?,
             Err(stop) => opened.add_stopped(name, stop)?,
         }
@@ -106,20 +114,24 @@ pub fn open_all<'a, F: Files>(
 }
 
 /// Opens the input, reads its header, makes the chain, and makes the output.
-fn open_stream<F: Files>(
+fn open_stream<'w, F: Files, V: Watch>(
     alloc: Global,
     asked: Asked<'_>,
     height: BandHeight,
     files: &F,
-) -> Result<(StreamSpec, Input<F::Reader, F::Writer>), StreamStop>
-    ensures { IfOk result (λ opened. IsInput opened.0 opened.1) }
+    stream: usize,
+    told: Option<&'w V>,
+) -> Result<(StreamSpec, Input<'w, F::Reader, F::Writer, V>), StreamStop>
+    ensures input { IfOk result (λ opened. IsInput opened.0 opened.1) }
+    ensures stream { IfOk result (λ opened. opened.1.1.stream ≡ stream) }
 {
     let word = asked.word;
     let input = match files.open(word.input) {
         Ok(input) => input,
         Err(_) => return Err(StreamStop::Open),
     };
-    let reader = match StreamReader::open(alloc, OverRead::new(input)) {
+    let source = WatchedSource::new(alloc, OverRead::new(input), stream, told);
+    let reader = match StreamReader::open(alloc, source) {
         Ok(reader) => reader,
         Err(fault) => return Err(StreamStop::Read(fault)),
     };
@@ -133,7 +145,8 @@ fn open_stream<F: Files>(
         Err(_) => return Err(StreamStop::Create),
     };
     let spec = StreamSpec::new(geometry, spec, word.q, word.t, QUEUE, OUTBOX, FRAMES);
-    Ok((spec, (reader, OverWrite::new(output))))
+    let sink = WatchedSink::new(alloc, OverWrite::new(output), stream, told);
+    Ok((spec, (reader, sink)))
 }
 
 /// What is done to each frame of this geometry.

@@ -13,9 +13,9 @@ use y4m_header::Header;
 /// Gives its bytes, seven at a time; but the read before which so many others were made fails, and is as if
 /// it had not been made.
 #[derive(Drop)]
-struct FailsOnce<'a> {
-    left: &'a [u8],
-    before: Option<usize>,
+pub struct FailsOnce<'a> {
+    pub left: &'a [u8],
+    pub before: Option<usize>,
 }
 
 impl Read for FailsOnce<'_> {

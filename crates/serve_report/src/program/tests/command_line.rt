@@ -55,6 +55,11 @@ fn the_parser_tells_the_range_of_a_number(rt: HostRuntime) -> Result<(), Fail> {
             "error: invalid value 'two' for '--band <B>': invalid digit found in string\n\n\
              For more information, try '--help'.\n",
         ),
+        (
+            "filter --threads 3 invert",
+            "error: invalid value '3' for '--threads <N>': 3 is not in 1..=2\n\n\
+             For more information, try '--help'.\n",
+        ),
     ] {
         runs(&rt, rt.alloc(), line, b"", b"", said, 2)?;
     }
@@ -189,7 +194,7 @@ fn the_help_of_filter_is_a_page_to_work_from(rt: HostRuntime) -> Result<(), Fail
         rt.alloc(),
         "filter -h",
         front,
-        &["--band <B>", "-q, --quiet"],
+        &["--band <B>", "--threads <N>", "-q, --quiet"],
     )
 }
 
@@ -215,6 +220,7 @@ fn the_help_of_replay_has_its_commands_and_faults(rt: HostRuntime) -> Result<(),
 fn the_help_of_serve_is_a_page_to_work_from(rt: HostRuntime) -> Result<(), Fail> {
     let words = [
         "Usage: y4mserve serve [OPTIONS] <NAME:IN:OUT:Q:T:OPS>...\n",
+        "-q, --quiet\n",
         "--workers <N>",
         "1 to 16",
         "[default: 2]",

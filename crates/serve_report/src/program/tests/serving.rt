@@ -1,8 +1,8 @@
 //! Runs of `serve`.
 use super::memory::{Given, Made, Memory};
 use super::{words_of, written};
-use crate::main_on;
-use std::alloc::Global;
+use crate::{Unwatched, Watch, run_on};
+use std::alloc::{AllocError, Global};
 use std::process::Abort;
 use std::sync::Wait;
 use std::test::Fail;
@@ -10,7 +10,9 @@ use std::thread::Threads;
 
 mod checks;
 mod faults;
+mod growths;
 mod many;
+mod watched;
 
 /// Three frames of four samples, behind a header of 22 bytes.
 pub const A: &[u8] =
@@ -46,6 +48,33 @@ pub struct Expected<'a> {
     pub status: u8,
 }
 
+/// Runs the program with these words and files under a watch, and answers its status and how much is left of
+/// the rooms for what it reports and says.
+fn runs_in<R: Abort + Threads + Wait + Sync, V: Watch + Sync>(
+    rt: &R,
+    alloc: Global,
+    line: &str,
+    files: &Memory<'_, R>,
+    watch: &V,
+    report: &mut [u8],
+    errors: &mut [u8],
+) -> Result<(u8, usize, usize), AllocError> {
+    let words = words_of(alloc, line)?;
+    let mut room = report;
+    let mut rest = errors;
+    let status = run_on(
+        rt,
+        alloc,
+        &words,
+        b"".as_slice(),
+        &mut room,
+        &mut rest,
+        files,
+        watch,
+    );
+    Ok((status, room.len(), rest.len()))
+}
+
 /// Runs the program with these words and files, and compares what it reports and says, and its status.
 pub fn serves<R: Abort + Threads + Wait + Sync>(
     rt: &R,
@@ -54,21 +83,21 @@ pub fn serves<R: Abort + Threads + Wait + Sync>(
     files: &Memory<'_, R>,
     expected: Expected<'_>,
 ) -> Result<(), Fail> {
-    let words = words_of(alloc, line)?;
+    serves_under(rt, alloc, line, files, &Unwatched, expected)
+}
+
+/// The same, under a watch.
+pub fn serves_under<R: Abort + Threads + Wait + Sync, V: Watch + Sync>(
+    rt: &R,
+    alloc: Global,
+    line: &str,
+    files: &Memory<'_, R>,
+    watch: &V,
+    expected: Expected<'_>,
+) -> Result<(), Fail> {
     let mut faults = [0; 512];
-    let mut rest = faults.as_mut_slice();
     let mut lines = [0; 8192];
-    let mut room = lines.as_mut_slice();
-    let status = main_on(
-        rt,
-        alloc,
-        &words,
-        b"".as_slice(),
-        &mut room,
-        &mut rest,
-        files,
-    );
-    let (left, unsaid) = (room.len(), rest.len());
+    let (status, left, unsaid) = runs_in(rt, alloc, line, files, watch, &mut lines, &mut faults)?;
     let report = str::from_utf8(written(&lines, left)).ok();
     let said = str::from_utf8(written(&faults, unsaid)).ok();
     assert_eq!(rt; said, Some(expected.errors), "{line}");

@@ -2,68 +2,138 @@ use super::memory::NoFiles;
 use super::{words_of, written};
 use crate::{Watch, run_on};
 use std::alloc::Global;
-use std::cell::Cell;
 use std::io::{self, Read};
 use std::process::Abort;
 use std::sync::Wait;
+use std::sync::atomic::AtomicU64;
+use std::sync::atomic::Ordering::SeqCst;
 use std::test::Fail;
 use std::thread::Threads;
 
-/// Tells of terminals, and keeps what it is told and how often it is asked.
+/// What a watch was told of a stream.
 #[derive(Drop)]
-struct Told {
-    input_is_terminal: bool,
-    output_is_terminal: bool,
-    asked: Cell<u64>,
-    read: Cell<u64>,
-    written: Cell<u64>,
-    bytes: Cell<u64>,
-    ended: Cell<u64>,
+struct Counted {
+    read: AtomicU64,
+    written: AtomicU64,
+    bytes: AtomicU64,
 }
 
-impl Told {
-    fn new(input_is_terminal: bool, output_is_terminal: bool) -> Told {
-        Told {
-            input_is_terminal,
-            output_is_terminal,
-            asked: Cell::new(0),
-            read: Cell::new(0),
-            written: Cell::new(0),
-            bytes: Cell::new(0),
-            ended: Cell::new(0),
+impl Counted {
+    fn new() -> Counted {
+        Counted {
+            read: AtomicU64::new(0),
+            written: AtomicU64::new(0),
+            bytes: AtomicU64::new(0),
         }
     }
 }
 
-fn add(cell: &Cell<u64>, more: u64) {
-    cell.set(cell.get().saturating_add(more));
+/// Tells of terminals, and keeps what it is told of up to two streams and how often it is asked.
+#[derive(Drop)]
+pub struct Told<'n> {
+    input_is_terminal: bool,
+    output_is_terminal: bool,
+    follows_frames: bool,
+    names: &'n [&'n str],
+    asked: AtomicU64,
+    begun: AtomicU64,
+    streams: [Counted; 2],
+    ended: AtomicU64,
 }
 
-impl Watch for Told {
+impl<'n> Told<'n> {
+    fn new(input_is_terminal: bool, output_is_terminal: bool) -> Told<'n> {
+        Told {
+            input_is_terminal,
+            output_is_terminal,
+            follows_frames: true,
+            names: &[],
+            asked: AtomicU64::new(0),
+            begun: AtomicU64::new(0),
+            streams: [Counted::new(), Counted::new()],
+            ended: AtomicU64::new(0),
+        }
+    }
+
+    /// With no terminal, for streams of these names.
+    pub fn of_streams(names: &'n [&'n str]) -> Told<'n> {
+        Told {
+            names,
+            ..Told::new(false, false)
+        }
+    }
+
+    /// The same, where it follows no frames.
+    pub fn of_none(names: &'n [&'n str]) -> Told<'n> {
+        Told {
+            follows_frames: false,
+            ..Told::of_streams(names)
+        }
+    }
+
+    /// The frames that were read and written of a stream, and the bytes that were written.
+    pub fn frames(&self, stream: usize) -> (u64, u64, u64) {
+        match self.streams.get(stream) {
+            Some(counted) => (
+                counted.read.load(SeqCst),
+                counted.written.load(SeqCst),
+                counted.bytes.load(SeqCst),
+            ),
+            None => (0, 0, 0),
+        }
+    }
+
+    /// How often it was told that streams of its names begin.
+    pub fn begun(&self) -> u64 {
+        self.begun.load(SeqCst)
+    }
+
+    /// How often it was told that nothing more is read or written.
+    pub fn ended(&self) -> u64 {
+        self.ended.load(SeqCst)
+    }
+
+    /// How often it was asked about the output.
+    fn asked(&self) -> u64 {
+        self.asked.load(SeqCst)
+    }
+}
+
+impl Watch for Told<'_> {
     fn input_is_terminal(&self) -> bool {
         self.input_is_terminal
     }
 
     fn output_is_terminal(&self) -> bool {
-        add(&self.asked, 1);
+        self.asked.fetch_add(1, SeqCst);
         self.output_is_terminal
     }
 
     fn follows_frames(&self) -> bool {
-        true
+        self.follows_frames
     }
 
-    fn frames_read(&self, frames: u64) {
-        add(&self.read, frames);
+    fn begins(&self, names: &[&str]) {
+        if names == self.names {
+            self.begun.fetch_add(1, SeqCst);
+        }
     }
 
-    fn frames_written(&self, frames: u64, bytes: u64) {
-        add(&self.written, frames);
-        add(&self.bytes, bytes);
+    fn frames_read(&self, stream: usize, frames: u64) {
+        if let Some(counted) = self.streams.get(stream) {
+            counted.read.fetch_add(frames, SeqCst);
+        }
+    }
+
+    fn frames_written(&self, stream: usize, frames: u64, bytes: u64) {
+        if let Some(counted) = self.streams.get(stream) {
+            counted.written.fetch_add(frames, SeqCst);
+            counted.bytes.fetch_add(bytes, SeqCst);
+        }
     }
 
     fn ends(&self) {
-        add(&self.ended, 1);
+        self.ended.fetch_add(1, SeqCst);
     }
 }
 
@@ -84,12 +154,12 @@ impl Read for Few<'_> {
 }
 
 /// Runs the program under a watch, compares what it says, and answers how much it wrote.
-fn watched<R: Read + Drop>(
+fn watched<R: Read + Drop + Send>(
     rt: &(impl Abort + Threads + Wait + Sync),
     alloc: Global,
     line: &str,
     input: R,
-    watch: &Told,
+    watch: &Told<'_>,
     said: &str,
     status: u8,
 ) -> Result<usize, Fail> {
@@ -134,7 +204,7 @@ fn a_terminal_is_no_output_of_filter(rt: HostRuntime) -> Result<(), Fail> {
     )?;
     assert_eq!(rt; count, 0);
     assert_eq!(rt; input.reads, 0);
-    assert_eq!(rt; watch.asked.get(), 1);
+    assert_eq!(rt; watch.asked(), 1);
     Ok(())
 }
 
@@ -172,7 +242,7 @@ fn wrong_words_and_help_come_before_terminals(rt: HostRuntime) -> Result<(), Fai
         0,
     )?;
     assert_eq!(rt; count, 20);
-    assert_eq!(rt; watch.asked.get(), 0);
+    assert_eq!(rt; watch.asked(), 0);
     Ok(())
 }
 
@@ -207,11 +277,9 @@ fn each_frame_is_told_however_it_comes(rt: HostRuntime) -> Result<(), Fail> {
         };
         let count = watched(&rt, rt.alloc(), "filter vflip", input, &watch, "", 0)?;
         assert_eq!(rt; count, THREE.len());
-        assert_eq!(rt; watch.asked.get(), 1);
-        assert_eq!(rt; watch.read.get(), 3);
-        assert_eq!(rt; watch.written.get(), 3);
-        assert_eq!(rt; watch.bytes.get(), THREE.len() as u64);
-        assert_eq!(rt; watch.ended.get(), 1);
+        assert_eq!(rt; watch.asked(), 1);
+        assert_eq!(rt; watch.frames(0), (3, 3, THREE.len() as u64));
+        assert_eq!(rt; watch.ended(), 1);
     }
     Ok(())
 }
@@ -222,9 +290,8 @@ fn frames_before_a_fault_are_told(rt: HostRuntime) -> Result<(), Fail> {
     let cut = &THREE[..THREE.len() - 1];
     let said = "y4mserve: read Truncated\n";
     watched(&rt, rt.alloc(), "filter invert", cut, &watch, said, 1)?;
-    assert_eq!(rt; watch.read.get(), 2);
-    assert_eq!(rt; watch.written.get(), 2);
-    assert_eq!(rt; watch.ended.get(), 1);
+    assert_eq!(rt; watch.frames(0), (2, 2, 16 + (6 + 6) + (9 + 6)));
+    assert_eq!(rt; watch.ended(), 1);
     Ok(())
 }
 
@@ -237,9 +304,7 @@ fn images_are_counted_by_their_own_size(rt: HostRuntime) -> Result<(), Fail> {
     let line = "filter crop:1,0,2,1";
     let count = watched(&rt, rt.alloc(), line, WIDE, &watch, "", 0)?;
     assert_eq!(rt; count, 22 + 2 * (6 + 2));
-    assert_eq!(rt; watch.read.get(), 2);
-    assert_eq!(rt; watch.written.get(), 2);
-    assert_eq!(rt; watch.bytes.get(), 38);
+    assert_eq!(rt; watch.frames(0), (2, 2, 38));
     Ok(())
 }
 
@@ -247,9 +312,8 @@ fn images_are_counted_by_their_own_size(rt: HostRuntime) -> Result<(), Fail> {
 fn a_quiet_run_tells_no_frames(rt: HostRuntime) -> Result<(), Fail> {
     let watch = Told::new(false, false);
     watched(&rt, rt.alloc(), "filter -q invert", WIDE, &watch, "", 0)?;
-    assert_eq!(rt; watch.asked.get(), 1);
-    assert_eq!(rt; watch.read.get(), 0);
-    assert_eq!(rt; watch.written.get(), 0);
-    assert_eq!(rt; watch.ended.get(), 0);
+    assert_eq!(rt; watch.asked(), 1);
+    assert_eq!(rt; watch.frames(0), (0, 0, 0));
+    assert_eq!(rt; watch.ended(), 0);
     Ok(())
 }

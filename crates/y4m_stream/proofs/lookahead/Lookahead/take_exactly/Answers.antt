@@ -1,5 +1,6 @@
 use Rattle.std.proofs.Common.{arith, ap, ◌∙◌}
 use Rattle.std.proofs.lemmas.Result.{on_ok_weaker, IfErr-weaker}
+use Rattle.y4m_stream.specs.declared.fault.ReadFault.TheVariants.{Device}
 use Rattle.y4m_stream.specs.Inside.{LookaheadState}
 use Rattle.y4m_stream.proofs.Known.{Consumes-both}
 use Rattle.y4m_stream.proofs.Reading.{LacksBytes-behind}
@@ -25,3 +26,13 @@ returns-clause-fault g c =
     (IfErr-weaker c.fill_exactly.result _ _
     (λ fault lacks. LacksBytes-behind fault _ _ c.args.self.now.held _ taken.result _ taken.ensures.count (omega arith) lacks)
     c.fill_exactly.ensures.fault)
+
+pub returns-clause-given : goal.returns-clause-given
+returns-clause-given g c =
+    let taken = c.take_into-taken in
+    let opened = c.self.view_is ∙ taken.ensures.left in
+    let left = ap (λ (a : LookaheadState). a.left) opened in
+    rw (← left)
+    (IfErr-weaker c.fill_exactly.result _ _
+    (λ fault lacks. LacksBytes-behind Device _ _ c.args.self.now.held _ taken.result _ taken.ensures.count (omega arith) lacks)
+    c.fill_exactly.ensures.given)
