@@ -1,18 +1,15 @@
 -- What contracts inside the crate speak of.
 use Rattle.std.specs.Prelude.{◌≡◌, ℕ, ◌+◌, ◌<◌, ◌≤◌, ◌⊎◌, List, [], ◌∷◌, ◌++◌, length, take, drop}
-use Rattle.std.specs.Prelude.{Option, Some, None, option_map}
-use Rattle.std.specs.Option.{option_or}
-use Rattle.std.specs.Prelude.{IfSome, IsSomeAnd, unwrap_or, All, true, false, Result, Ok, Err}
+use Rattle.std.specs.Prelude.{Option, Some, None, ⊤}
+use Rattle.std.specs.Prelude.{IfSome, unwrap_or, All, true, false, Result, Ok, Err}
 use Rattle.std.specs.Io.KnownBytes.{Appends, Consumes, IsAtEnd, Keeps, prepend_known}
 use Rattle.frame_view.specs.declared.frame.Frame.{Frame}
 use Rattle.row_bands.specs.declared.band_height.BandHeight.{BandHeight}
-use Rattle.row_bands.specs.declared.canvas.Canvas.{Canvas}
-use Rattle.row_bands.specs.Canvas.{frame_of}
 use Rattle.filters.specs.declared.error.FilterError.TheVariants.{NoMemory as NoFilterMemory}
 use Rattle.filters.specs.declared.op.Op.{Op}
 use Rattle.filters.specs.Chain.{ChainValue}
 use Rattle.filters.specs.ChainImage.{IsChainImage, value_of}
-use Rattle.filters.specs.Front.{AreCanvases, last_canvas}
+use Rattle.filters.specs.Front.{AreCanvases, front_of, image_in}
 use Rattle.filters.specs.Refusal.{IsChain}
 use Rattle.y4m_header.specs.Header.{HeaderValue}
 use Rattle.y4m_header.specs.FrameLine.{IsFrameLine}
@@ -30,6 +27,8 @@ use Rattle.y4m_stream.specs.declared.fault.FilterFault.{FilterFault}
 use Rattle.y4m_stream.specs.declared.fault.FilterFault.TheVariants.{Read, Ops, Write, TooManyFrames}
 use Rattle.y4m_stream.specs.declared.filter.Filter.{Filter}
 use Rattle.y4m_stream.specs.declared.images.Images.{Images}
+use Rattle.y4m_stream.specs.declared.images.Reading.{Reading}
+use Rattle.y4m_stream.specs.declared.images.Reading.TheVariants.{InTurn, Beside}
 use Rattle.y4m_stream.specs.Failures.{one_more}
 use Rattle.y4m_stream.specs.Front.{IsCutLine, IsFrameAhead, IsLongLine, HasOtherLine, HasGiven}
 use Rattle.y4m_stream.specs.Front.{StandsAtFrame}
@@ -115,24 +114,28 @@ BeginsFrame old new phase phase' (Ok None) =
 BeginsFrame old new phase phase' (Err fault) =
     (header : HeaderValue) → Answers (state_of header phase old) (state_of header phase' new) (Err fault)
 
--- a frame of the chain's geometry is there exactly where there are no canvases
-abbrev pub IsExchange : ChainValue → Option Frame → List Canvas → Type 0
-IsExchange chain None canvases = 1 ≤ length canvases
-IsExchange chain (Some frame) canvases = (length canvases ≡ 0) × (frame.geometry ≡ chain.geometry)
+-- a frame of the chain's geometry is there exactly where no canvas holds the image
+abbrev pub IsSpare : ChainValue → Option Frame → Type 0
+IsSpare chain None = front_of chain < length chain.ops
+IsSpare chain (Some frame) = (front_of chain ≡ length chain.ops) × (frame.geometry ≡ chain.geometry)
 
--- there are the canvases that the chain needs, or a frame to exchange where it needs none
-pub record IsReady (images : Images) : Type 0 where
-  pub canvases : AreCanvases images.chain images.canvases.items
-  pub exchange : IsExchange images.chain images.exchanged images.canvases.items
+-- where a frame is read beside the writing of an image, there is a spare one if the image needs it
+abbrev pub HasSpare : Reading → Images → Type 0
+HasSpare InTurn images = ⊤
+HasSpare Beside images = IsSpare images.chain images.spare
 
--- the frame that was exchanged, or else that of the last canvas
-abbrev pub image_of : Images → Option Frame
-image_of images = option_or images.exchanged (option_map frame_of (last_canvas images.canvases.items))
+-- there are the canvases that the chain needs
+abbrev pub IsReady : Images → Type 0
+IsReady images = AreCanvases images.chain images.canvases.items
 
--- these hold the image of this frame
-abbrev pub HoldImage : Images → Frame → Type 0
-HoldImage images source = IsSomeAnd (image_of images)
-    (λ image. IsChainImage images.chain.ops (value_of source) (value_of image))
+-- the last canvas, or this frame where there is none, holds the image of what the frame was
+abbrev pub HoldsImage : Images → Frame → Frame → Type 0
+HoldsImage images was now =
+    IsChainImage images.chain.ops (value_of was) (value_of (image_in now images.canvases.items))
+
+-- the last canvas, or else the spare frame
+abbrev pub kept_image : Images → Frame → Frame
+kept_image images d = image_in (unwrap_or images.spare d) images.canvases.items
 
 -- the chain is that of these operations for the header's frames; a frame, an image and a header of their
 -- sizes are there

@@ -2,7 +2,7 @@
 ghost use Rattle.std.specs.Prelude.{◌≡◌, ◌<◌, ◌⊎◌, ℕ, List, Option, Ok, true, false, IfOk, IfErr, OnOk};
 ghost use Rattle.y4m_stream.specs.Filtered.{CountsReads, CountsWrites, IsFilteredAhead};
 ghost use Rattle.y4m_stream.specs.Front.{IsFrameAhead};
-ghost use Rattle.y4m_stream.specs.Inside.{FailsBeside, HasFailedAt, IsReady, PassesAll};
+ghost use Rattle.y4m_stream.specs.Inside.{FailsBeside, HasFailedAt, HasSpare, IsReady, PassesAll};
 ghost use Rattle.y4m_stream.specs.Inside.{Stops, filter_writes_told};
 ghost use Rattle.y4m_stream.specs.Reader.{Answers, IsOfHeader, IsOpened, MeetsEnd, TakesFrame, answer_into};
 ghost use Rattle.y4m_stream.specs.Reader.{data_len_of, frame_text_of};
@@ -12,7 +12,7 @@ ghost use Rattle.y4m_stream.specs.declared.passing.TheConstants.{MOST_FRAMES};
 use crate::device::{Sink, Source};
 use crate::fault::{FilterFault, ReadFault, WriteFault};
 use crate::filter::{begin, close};
-use crate::images::Images;
+use crate::images::{Images, Reading};
 use crate::passing::MOST_FRAMES;
 use crate::reader::{Phase, StreamReader};
 use crate::writer::StreamWriter;
@@ -89,6 +89,7 @@ fn pass_images<T: Threads, R: Source + Drop + Send, W: Sink>(
     requires header { IsOfHeader reader.old.header frame.old.geometry }
     requires chain { frame.old.geometry ≡ images.old.chain.geometry }
     requires ready { IsReady images.old }
+    requires spare { HasSpare Reading.Beside images.old }
     requires size { IsWriterFor images.old.chain writer.old }
     requires none { writer.old.frames ≡ 0 }
     requires writing { writer.old.failed ≡ false }
@@ -107,7 +108,8 @@ fn pass_images<T: Threads, R: Source + Drop + Send, W: Sink>(
             return Ok(count);
         }
         images.make(alloc, frame)?;
-        more = pass_image(rt, alloc, reader, writer, frame, images.image())?;
+        images.keep(frame);
+        more = pass_image(rt, alloc, reader, writer, frame, images.kept())?;
     }
     if more {
         return Err(FilterFault::TooManyFrames);
@@ -138,7 +140,14 @@ fn filter_images<T: Threads, R: Source + Drop + Send, W: Sink>(
     ensures closed { (result.0 ≡ output)
         ⊎ FlushesOrFails (W.is_flushed result.0) (W.failures output) (W.failures result.0) }
 {
-    let (mut filter, mut writer) = match begin(alloc, reader.header(), output, ops, height) {
+    let (mut filter, mut writer) = match begin(
+        alloc,
+        reader.header(),
+        output,
+        ops,
+        height,
+        Reading::Beside,
+    ) {
         Ok(begun) => begun,
         Err((output, fault)) => return (output, Err(fault)),
     };

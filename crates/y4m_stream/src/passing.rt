@@ -51,7 +51,7 @@ fn pass_frame<R: Source + Drop, W: Sink>(
         return Ok(false);
     }
     images.make(alloc, frame)?;
-    writer.put(images.image())?;
+    writer.put(images.image(frame))?;
     Ok(true)
 }
 

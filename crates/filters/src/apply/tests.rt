@@ -4,6 +4,7 @@ ghost use Rattle.std.specs.Prelude.{◌≡◌};
 
 use super::apply_band;
 use crate::chain::Chain;
+use crate::in_place::apply_in_place;
 use crate::op::{Blur, Crop, Op, Table};
 use crate::plain::{Rows, pixels_of, rows_of_image, scatter, size_of_image};
 use frame_view::{Frame, Geometry};
@@ -41,6 +42,21 @@ fn band_by_itself(
     Ok(wanted)
 }
 
+/// Compares what a table makes of a frame in its own memory.
+fn frame_agrees(rt: &impl Abort, alloc: Global, table: Table, source: &Frame) -> Result<(), Fail> {
+    let geometry = source.geometry();
+    let mut frame = Frame::blank(alloc, geometry, b"FRAME")?;
+    frame.data_mut().copy_from_slice(source.data());
+    apply_in_place(table, &mut frame);
+    let to = size_of_image(Op::Table(table), geometry).1;
+    let wanted = rows_of_image(alloc, Op::Table(table), source, Rows { from: 0, to })?;
+    assert!(rt;
+        frame.data() == wanted.as_slice(),
+        "{table:?} of {geometry:?} in place"
+    );
+    Ok(())
+}
+
 /// Compares each band of the image of a frame, and then the image, which is all bands together.
 fn image_agrees(rt: &impl Abort, alloc: Global, op: Op, source: &Frame) -> Result<(), Fail> {
     let (_, height) = size_of_image(op, source.geometry());
@@ -60,7 +76,10 @@ fn image_agrees(rt: &impl Abort, alloc: Global, op: Op, source: &Frame) -> Resul
         "{op:?} of {:?}",
         source.geometry()
     );
-    Ok(())
+    match op {
+        Op::Table(table) => frame_agrees(rt, alloc, table, source),
+        _ => Ok(()),
+    }
 }
 
 /// All but three samples at the left of a chroma row, two at its right, and a row above and below.

@@ -1,5 +1,5 @@
 // The images of frames by a chain.
-ghost use Rattle.std.specs.Prelude.{◌≡◌, ◌+◌, ◌-◌, ◌<◌, ◌≤◌, All, drop, length, slice_index_or};
+ghost use Rattle.std.specs.Prelude.{◌≡◌, ◌+◌, ◌-◌, ◌<◌, ◌≤◌, All, drop, length, slice_index_or, take};
 ghost use Rattle.std.specs.Prelude.{IfOk, IfErr, IfSome};
 ghost use Rattle.y4m_header.specs.FrameLine.{IsFrameLine};
 ghost use Rattle.frame_view.specs.Frame.{line_of};
@@ -141,6 +141,8 @@ impl Chain {
         ensures geometry { source.new.geometry ≡ source.old.geometry }
         ensures canvases { AreCanvases self.now canvases.new }
         ensures lines { KeepLines canvases.old canvases.new }
+        ensures front { IsChainImage (take (front_of self.now) self.now.ops)
+            (value_of source.old) (value_of source.new) }
         ensures image { IsChainImage self.now.ops
             (value_of source.old) (value_of (image_in source.new canvases.new)) }
     {

@@ -23,6 +23,7 @@ loop-count-init g c =
       header = search rules;
       of_chain = search rules;
       ready = search rules;
+      spare = search rules;
       size = search rules;
       same = search rules;
       reads = search rules;
@@ -46,11 +47,12 @@ returns-in_err-more-2-clause-fault g c =
     let so_far = c.loop-count.invariant in
     let images = c.make.new.self in
     let frame = c.loop-count.frame in
-    let image = c.image.result.now in
+    let image = c.kept.result.now in
     let chain = c.loop-count.images.chain in
     let same : images.chain ≡ chain = c.make.ensures.chain in
+    let kept = c.kept.ensures.last image ∙ c.keep.ensures.kept image in
     let made : IsImageText chain (frame_text_of frame) (frame_text_of image) =
-    rw same at (made_text images frame image (so_far.of_chain ∙ ap (λ z. z.geometry) (sym same)) c.in_ok-make.ensures.made c.image.ensures.last) in
+    rw same at (made_text images frame c.make.new.source image (so_far.of_chain ∙ ap (λ z. z.geometry) (sym same)) c.in_ok-make.ensures.made kept) in
     let passed = err_from_is_err_and c.from_residual-in_err-more-2.result c.from_residual-in_err-more-2.ensures.1 in
     rw (passed.1, passed.2)
     (Ahead-fails _ _ _ _ _ _ _ _ so_far.passed c.if-not-more.false so_far.same_header (omega arith) _ (rw so_far.same at made) _ _ _ c.in_err-more-2.ensures.fault)
@@ -60,11 +62,12 @@ loop-count-preserved g c =
     let so_far = c.loop-count.invariant in
     let images = c.make.new.self in
     let frame = c.loop-count.frame in
-    let image = c.image.result.now in
+    let image = c.kept.result.now in
     let chain = c.loop-count.images.chain in
     let same : images.chain ≡ chain = c.make.ensures.chain in
+    let kept = c.kept.ensures.last image ∙ c.keep.ensures.kept image in
     let made : IsImageText chain (frame_text_of frame) (frame_text_of image) =
-    rw same at (made_text images frame image (so_far.of_chain ∙ ap (λ z. z.geometry) (sym same)) c.in_ok-make.ensures.made c.image.ensures.last) in
+    rw same at (made_text images frame c.make.new.source image (so_far.of_chain ∙ ap (λ z. z.geometry) (sym same)) c.in_ok-make.ensures.made kept) in
     let one = c.in_ok-more-2.ensures in
     let was = c.in_ok-more-2.was in
     record {
@@ -74,6 +77,7 @@ loop-count-preserved g c =
       header = search rules;
       of_chain = search rules;
       ready = search rules;
+      spare = search rules;
       size = search rules;
       same = search rules;
       reads = search rules;

@@ -1,5 +1,6 @@
 use Rattle.std.proofs.Common.{◌≡◌, false}
-use Rattle.y4m_stream.specs.Inside.{IsReady}
+use Rattle.y4m_stream.specs.Inside.{HasSpare, IsReady}
+use Rattle.y4m_stream.specs.declared.images.Reading.TheVariants.{Beside}
 use Rattle.y4m_stream.specs.Reader.{IsOfHeader, frame_text_of}
 use Rattle.y4m_stream.specs.Writer.{IsWriterFor}
 use Rattle.y4m_stream.proofs.Ahead.{PassesAhead}
@@ -13,6 +14,7 @@ invariant-loop-count g l = record {
   header : IsOfHeader l.reader.header l.frame.geometry;
   of_chain : l.frame.geometry ≡ l.images.chain.geometry;
   ready : IsReady l.images;
+  spare : HasSpare Beside l.images;
   size : IsWriterFor l.images.chain l.writer;
   same : l.images.chain ≡ l.fn.images.chain;
   reads : l.reader.failures ≡ l.fn.reader.failures;
