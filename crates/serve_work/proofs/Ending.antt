@@ -12,7 +12,7 @@ use Rattle.y4m_stream.specs.declared.fault.WriteFault.TheVariants.{Device, Faile
 use Rattle.y4m_stream.specs.Failures.{one_more}
 use Rattle.y4m_stream.specs.Reader.{ReaderState, data_len_of}
 use Rattle.y4m_stream.specs.Served.{IsHeaderOfImages, served_header}
-use Rattle.y4m_stream.specs.Writer.{IsOpenedFor, IsWriterFor, WriterState, write_failures_at, write_failures_told}
+use Rattle.y4m_stream.specs.Writer.{FlushesOrFails, IsOpenedFor, IsWriterFor, WriterState, write_failures_at, write_failures_told}
 use Rattle.y4m_stream.proofs.Puts.{put_both}
 use Rattle.serve_hub.specs.Seats.{StreamSeatValue}
 use Rattle.serve_work.specs.declared.stop.Cause.TheVariants.{NoMemory}
@@ -26,6 +26,7 @@ use Rattle.serve_work.specs.ClientInside.{BreaksOff, Flushes, IsSent, SendsWhole
 pub record Finishes {T : Type 0} (writer : WriterState) (flush : Result T WriteFault) (end : ClientOutcome) : Type 0 where
   pub kept : Keeps writer.contents end.after
   pub flushed : OnOk flush (end.is_flushed ≡ true)
+  pub closed : writer.failed ≡ false → FlushesOrFails end.is_flushed writer.failures end.failures
   pub fault : writer.failed ≡ false → IfErr flush (λ e. e ≡ Device writer.bytes)
   pub failed : (flush ≡ Err Failed) ↔ (writer.failed ≡ true)
   pub told : end.failures ≡ write_failures_told flush writer.failures
@@ -67,11 +68,11 @@ module _ {T : Type 0} where
   stops_flushed : (stop : Stop) (flush : Result T WriteFault) (told : Stop) (at : Progress) → Flushes stop flush told
       → StopsAt stop at → StopsAt told at
   stops_flushed Whole (Ok t) told at e a = subst (λ s. StopsAt s at) (sym e) a
-  stops_flushed Whole (Err f) told at e a = subst (λ s. StopsAt s at) (sym e) tt
+  stops_flushed Whole (Err f) told at e a = subst (λ s. StopsAt s at) (sym e) (inr a)
   stops_flushed (Read f) flush told at e a = subst (λ s. StopsAt s at) (sym e) a
   stops_flushed (Refused cause) flush told at e a = subst (λ s. StopsAt s at) (sym e) a
-  stops_flushed (Write f) flush told at e a = subst (λ s. StopsAt s at) (sym e) tt
-  stops_flushed Torn flush told at e a = subst (λ s. StopsAt s at) (sym e) tt
+  stops_flushed (Write f) flush told at e a = subst (λ s. StopsAt s at) (sym e) a
+  stops_flushed Torn flush told at e a = subst (λ s. StopsAt s at) (sym e) a
 
   reads_flushed : (stop : Stop) (flush : Result T WriteFault) (told : Stop) (n : ℕ) → Flushes stop flush told
       → reads_at told n ≡ reads_at stop n
@@ -134,6 +135,7 @@ module _ (start : ClientStart) (end : ClientOutcome) (shown : HeaderValue) (writ
         wrote = subst (Appends start.before end.after) (sym (append-nil served))
             (Appends-kept start.before writer'.contents end.after served
             (wrote_behind writer'.contents (frames_text s.out.images) s.out.wrote) fin.kept);
+        closed = subst (λ n. FlushesOrFails end.is_flushed n end.failures) failures (fin.closed s.writing);
         told = λ fault is.
             let failed = flush_fault writer' flush end start.failures fault fin s.writing failures
             (flush_stop stop flush end.stop flushes other fault is) in
@@ -186,6 +188,7 @@ module _ (start : ClientStart) (end : ClientOutcome) (shown : HeaderValue) (writ
         wrote = Appends-kept start.before writer'.contents end.after (served ++ part)
             (Appends-trans start.before b.between.contents writer'.contents served part
             (wrote_behind b.between.contents (frames_text out.images) out.wrote) b.cut.cut.front) fin.kept;
+        closed = inr failures;
         told = λ other is. (failures, only other is ∙ b.cut.cut.counted ∙ ap Device size);
       }
 
@@ -229,6 +232,7 @@ module _ (start : ClientStart) (end : ClientOutcome) (shown : HeaderValue) (writ
         most = start.seat.frames;
         rest = s.read.rest;
         left = l;
+        calls = seat'.calls.list;
       } in
       let counted : start.seat.accepted + length s.frames ≡ end.accepted = sym s.count ∙ sym accepted in
       record {
@@ -237,8 +241,8 @@ module _ (start : ClientStart) (end : ClientOutcome) (shown : HeaderValue) (writ
         each = s.read.each;
         taken = s.read.taken;
         count = omega (arith, counted, fresh.accepted);
-        stops = stops_flushed stop flush end.stop (at end.accepted end.left) flushes
-            (subst (StopsAt stop) (ap (λ k. at k reader'.left) counted ∙ ap (at end.accepted) (sym left)) s.read.stops);
+        stops = inr (inr (stops_flushed stop flush end.stop (at end.accepted end.left) flushes
+            (subst (StopsAt stop) (ap (λ k. at k reader'.left) counted ∙ ap (at end.accepted) (sym left)) s.read.stops)));
         reads = reads ∙ s.read.reads ∙ sym (reads_flushed stop flush end.stop start.reader.failures flushes);
         out = inr (inr (wrote_until s.frames stop writer' flush s.sent (λ is. (s.whole is).1) fin flushes delivered));
         whole = λ is.
@@ -251,6 +255,7 @@ module _ (start : ClientStart) (end : ClientOutcome) (shown : HeaderValue) (writ
               no_failure = this.told ∙ unfailed stop s.frames writer' s.sent all.1;
               flushed = this.flushed;
             };
+        drained = λ is. (s.whole (whole_flush stop flush end.stop flushes is).0).2;
         number = tally.seat.number;
         chain = tally.seat.chain;
         accepted = sym accepted;
@@ -269,10 +274,6 @@ shown_for chain header own second shown resized p q e is =
 -- nothing was offered
 
 module _ (start : ClientStart) (end : ClientOutcome) where
-  stops_unopened : (at : Progress) → WroteNothing start end ⊎ CutsHeader start end → StopsAt end.stop at
-  stops_unopened at (inl a) = subst (λ s. StopsAt s at) (sym a.stop) tt
-  stops_unopened at (inr a) = subst (λ s. StopsAt s at) (sym a.stop) tt
-
   reads_unopened : (n : ℕ) → WroteNothing start end ⊎ CutsHeader start end → n ≡ reads_at end.stop n
   reads_unopened n (inl a) = sym (ap (λ s. reads_at s n) a.stop)
   reads_unopened n (inr a) = sym (ap (λ s. reads_at s n) a.stop)
@@ -281,10 +282,9 @@ module _ (start : ClientStart) (end : ClientOutcome) where
   not_whole (inl a) is = let both : Refused NoMemory ≡ Whole = sym a.stop ∙ is in absurd (cc)
   not_whole (inr a) is = let both : Write a.fault ≡ Whole = sym a.stop ∙ is in absurd (cc)
 
-  wrote_no_image : (frames : List FrameText) → WroteNothing start end ⊎ CutsHeader start end
-      → WroteNothing start end ⊎ CutsHeader start end ⊎ WroteImages frames start end
-  wrote_no_image frames (inl a) = inl a
-  wrote_no_image frames (inr a) = inr (inl a)
+  before_or : (P : Type 0) → WroteNothing start end ⊎ CutsHeader start end → WroteNothing start end ⊎ CutsHeader start end ⊎ P
+  before_or P (inl a) = inl a
+  before_or P (inr a) = inr (inl a)
 
   delivered_none : WroteNothing start end ⊎ CutsHeader start end → end.delivered ≡ 0
   delivered_none (inl a) = a.none
@@ -299,10 +299,11 @@ module _ (start : ClientStart) (end : ClientOutcome) where
     each = All-nil (IsFrameOf (data_len_of start.reader.header));
     taken = Consumes-nil start.reader.rest;
     count = sym accepted;
-    stops = stops_unopened _ out;
+    stops = before_or _ out;
     reads = reads ∙ reads_unopened start.reader.failures out;
-    out = wrote_no_image [] out;
+    out = before_or _ out;
     whole = λ is. absurd (not_whole out is);
+    drained = λ is. absurd (not_whole out is);
     number = tally.number;
     chain = tally.chain;
     accepted = omega (arith, same, fresh.accepted, accepted);

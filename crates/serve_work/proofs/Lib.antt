@@ -5,4 +5,5 @@ pub mod Serving
 pub mod SessionCharges
 pub mod SessionTurns
 pub mod Texts
+pub mod Told
 pub mod Working

@@ -42,8 +42,8 @@ use Rattle.serve_work.specs.declared.feeding.Offered.TheVariants as offered
 use Rattle.serve_work.specs.declared.stop.Cause.{Cause}
 use Rattle.serve_work.specs.declared.stop.Stop.{Stop}
 use Rattle.serve_work.specs.declared.stop.Stop.TheVariants.{Whole, Read, Write, Refused, Torn}
-use Rattle.serve_work.specs.Clients.{Progress, StopsAt, collections_in, is_collection, is_offer, offers_in, reads_at}
-use Rattle.serve_work.specs.ClientInside.{Accounted, AcceptsTorn, Cuts, Feeds, GivesUp, IsDrained, IsOfCollection, IsOfSeat, IsOffered}
+use Rattle.serve_work.specs.Clients.{HasOtherNumber, IsDrained, Progress, StopsAt, collections_in, is_collection, is_offer, offers_in, reads_at}
+use Rattle.serve_work.specs.ClientInside.{Accounted, AcceptsTorn, Cuts, Feeds, GivesUp, IsOfCollection, IsOfSeat, IsOffered}
 use Rattle.serve_work.specs.ClientInside.{IsUnread, Moves, Passes, Refuses, StopsWith, Tallies, TalliesSeat, stop_of, texts_of}
 
 -- what stays of a seat
@@ -110,6 +110,8 @@ pub TalliesSeat-same : (old new : StreamSeatValue) → new.number ≡ old.number
 TalliesSeat-same old new number chain calls accepted = record {
   number = number;
   chain = chain;
+  added = [];
+  calls = ap (λ (c : CallsValue). c.list) calls ∙ sym (append-nil old.calls.list);
   offers = omega (arith, ap (λ (c : CallsValue). offers_in c.list) calls, accepted);
   collections = omega (arith, ap (λ (c : CallsValue). collections_in c.list) calls);
 }
@@ -118,6 +120,8 @@ pub TalliesSeat-trans : (a b c : StreamSeatValue) → TalliesSeat a b → Tallie
 TalliesSeat-trans a b c p q = record {
   number = q.number ∙ p.number;
   chain = q.chain ∙ p.chain;
+  added = p.added ++ q.added;
+  calls = q.calls ∙ ap (λ l. l ++ q.added) p.calls ∙ append_assoc a.calls.list p.added q.added;
   offers = omega (arith, p.offers, q.offers);
   collections = omega (arith, p.collections, q.collections);
 }
@@ -126,6 +130,8 @@ pub TalliesSeat-accept : (frame : FrameValue) (n : ℕ) (old new : StreamSeatVal
 TalliesSeat-accept frame n old new a = rw a.seat (record {
   number = refl;
   chain = refl;
+  added = acts.Offered a.tick n ∷ [];
+  calls = refl;
   offers = omega (arith, counted is_offer old.calls.list (acts.Offered a.tick n));
   collections = omega (arith, counted is_collection old.calls.list (acts.Offered a.tick n));
 })
@@ -134,6 +140,8 @@ pub TalliesSeat-collect : (pair : Collected) (old new : StreamSeatValue) → Col
 TalliesSeat-collect pair old new c = record {
   number = ap (λ (v : StreamSeatValue). v.number) c.seat;
   chain = ap (λ (v : StreamSeatValue). v.chain) c.seat;
+  added = acts.Collected c.number ∷ [];
+  calls = ap (λ (v : StreamSeatValue). v.calls.list) c.seat;
   offers = omega (arith, none_offered pair old new c, ap (λ (v : StreamSeatValue). v.accepted) c.seat);
   collections = omega (arith, one_collected pair old new c);
 }
@@ -479,11 +487,11 @@ Refuses-later stop seat mid seat' writer between writer' a up r = record {
 
 -- a frame that was accepted with another number than the seat's next
 pub other_taken : (e : Refusal) (frame : FrameValue) (old new : StreamSeatValue) → AcceptsOther frame e old new
-    → (n : ℕ) × Accepts frame n old new
+    → (n : ℕ) × (n ≢ old.accepted) × Accepts frame n old new
 other_taken (hub.Core e) frame old new p = absurd p
 other_taken hub.HistoryFull frame old new p = absurd p
 other_taken hub.StrayLease frame old new p = absurd p
-other_taken (hub.Torn (came.Number n)) frame old new p = (n, p.1)
+other_taken (hub.Torn (came.Number n)) frame old new p = (n, p.0, p.1)
 other_taken (hub.Torn (came.Refused e)) frame old new p = absurd p
 other_taken (hub.Torn came.Source) frame old new p = absurd p
 other_taken (hub.Torn came.Other) frame old new p = absurd p
@@ -529,7 +537,7 @@ offered_tally (offered.Stopped (Write fault)) frame old new p = absurd p
 offered_tally (offered.Stopped (Refused cause)) frame old new p = seat_same old new p.1
 offered_tally (offered.Stopped Torn) frame old new p = elim p [
   | inl same ↦ seat_same old new same
-  | inr taken ↦ TalliesSeat-accept (value_of frame) taken.0 old new taken.1
+  | inr taken ↦ TalliesSeat-accept (value_of frame) taken.0 old new taken.2
 ]
 
 -- a frame that is accepted after others moved
@@ -546,29 +554,46 @@ Moves-at seat mid at writer between same a = rw same a
 pub GivesUp-at : (seat mid at : StreamSeatValue) → at ≡ mid → GivesUp seat mid → GivesUp seat at
 GivesUp-at seat mid at same up = rw same up
 
+-- as many offers as frames that were accepted
+pub counted_later : (old new : StreamSeatValue) → TalliesSeat old new → offers_in old.calls.list ≡ old.accepted
+    → offers_in new.calls.list ≡ new.accepted
+counted_later old new t e = omega (arith, t.offers, e)
+
+other_number : (frame : FrameValue) (n : ℕ) (old new : StreamSeatValue) → offers_in old.calls.list ≡ old.accepted → n ≢ old.accepted
+    → Accepts frame n old new → HasOtherNumber new.calls.list
+other_number frame n old new same other taken = record {
+  before = old.calls.list;
+  tick = taken.tick;
+  number = n;
+  later = [];
+  other = λ is. other (is ∙ same);
+  whole = ap (λ (v : StreamSeatValue). v.calls.list) taken.seat;
+}
+
 -- the stop of an offer
 pub offer_stopped : (stop : Stop) (frame : Frame) (seat mid seat' : StreamSeatValue) (writer between : WriterState) → Moves seat mid writer between []
-    → GivesUp seat mid → IsOffered (offered.Stopped stop) frame mid seat'
+    → GivesUp seat mid → offers_in mid.calls.list ≡ mid.accepted → IsOffered (offered.Stopped stop) frame mid seat'
     → Refuses stop seat seat' writer between ⊎ AcceptsTorn stop (frame_text_of frame) seat seat' writer between
-offer_stopped Whole frame seat mid seat' writer between a up p = absurd p
-offer_stopped (Read fault) frame seat mid seat' writer between a up p = absurd p
-offer_stopped (Write fault) frame seat mid seat' writer between a up p = absurd p
-offer_stopped (Refused cause) frame seat mid seat' writer between a up p = inl (Refuses-later (Refused cause) seat mid seat' writer between between a up (record {
+offer_stopped Whole frame seat mid seat' writer between a up same p = absurd p
+offer_stopped (Read fault) frame seat mid seat' writer between a up same p = absurd p
+offer_stopped (Write fault) frame seat mid seat' writer between a up same p = absurd p
+offer_stopped (Refused cause) frame seat mid seat' writer between a up same p = inl (Refuses-later (Refused cause) seat mid seat' writer between between a up (record {
   of_seat = tt;
   moved = Moves-none mid seat' between between p.1 refl;
   stays = rw p.1 refl;
   limit = λ is. ap (λ (s : StreamSeatValue). s.accepted) p.1 ∙ p.0 (same_cause cause TooManyFrames is);
 }))
-offer_stopped Torn frame seat mid seat' writer between a up p = elim p [
-  | inl same ↦ inl (Refuses-later Torn seat mid seat' writer between between a up (record {
+offer_stopped Torn frame seat mid seat' writer between a up same p = elim p [
+  | inl stays ↦ inl (Refuses-later Torn seat mid seat' writer between between a up (record {
     of_seat = tt;
     moved = (mid, Moves-none mid mid between between refl refl);
-    stays = rw same refl;
+    stays = rw stays refl;
     limit = λ is. absurd (cc);
   }))
   | inr taken ↦ inr (record {
     torn = refl;
-    moved = Moves-trans seat mid seat' writer between between [] (frame_text_of frame ∷ []) a (Moves-accept mid seat' between frame taken.0 taken.1);
+    other = other_number (value_of frame) taken.0 mid seat' same taken.1 taken.2;
+    moved = Moves-trans seat mid seat' writer between between [] (frame_text_of frame ∷ []) a (Moves-accept mid seat' between frame taken.0 taken.2);
   })
 ]
 
@@ -601,16 +626,16 @@ Passes-none reader seat writer is_open = record {
 }
 
 -- why a seat or a writer takes no more frames
-stops_of_seat : (stop : Stop) (at : Progress) → IsOfSeat stop
-    → (stop ≡ Refused TooManyFrames → (at.count ≡ at.most) × HasNext at.len at.rest at.left) → StopsAt stop at
-stops_of_seat Whole at own limit = absurd own
-stops_of_seat (Read fault) at own limit = absurd own
-stops_of_seat (Refused TooManyFrames) at own limit = limit refl
-stops_of_seat (Refused ClockEnd) at own limit = tt
-stops_of_seat (Refused HistoryFull) at own limit = tt
-stops_of_seat (Refused NoMemory) at own limit = tt
-stops_of_seat (Write fault) at own limit = tt
-stops_of_seat Torn at own limit = tt
+stops_of_seat : (stop : Stop) (at : Progress) → IsOfSeat stop → HasNext at.len at.rest at.left
+    → (stop ≡ Refused TooManyFrames → at.count ≡ at.most) → StopsAt stop at
+stops_of_seat Whole at own next limit = absurd own
+stops_of_seat (Read fault) at own next limit = absurd own
+stops_of_seat (Refused TooManyFrames) at own next limit = (limit refl, next)
+stops_of_seat (Refused ClockEnd) at own next limit = next
+stops_of_seat (Refused HistoryFull) at own next limit = inl next
+stops_of_seat (Refused NoMemory) at own next limit = next
+stops_of_seat (Write fault) at own next limit = inl next
+stops_of_seat Torn at own next limit = inl (inl next)
 
 reads_of_seat : (stop : Stop) (n : ℕ) → IsOfSeat stop → reads_at stop n ≡ n
 reads_of_seat Whole n own = absurd own
@@ -624,6 +649,16 @@ module _ (reader mid : ReaderState) (seat between : StreamSeatValue) (writer v :
     (so_far : Passes reader mid seat between writer v frames) where
   abbrev IsFrame : FrameText → Type 0
   IsFrame frame = IsFrameOf (data_len_of reader.header) frame
+
+  -- the frame in hand stands behind them
+  next_of : (frame : FrameText) (reader' : ReaderState) → TakesFrame mid reader' frame → HasNext (data_len_of reader.header) mid.rest reader'.left
+  next_of frame reader' one = record {
+    frame = frame;
+    more = reader'.rest;
+    is_frame = rw so_far.header at one.is_frame;
+    taken = one.taken;
+    ahead = one.ahead;
+  }
 
   pub Passes-push : (reader' : ReaderState) (seat' : StreamSeatValue) (writer' : WriterState) (frame : FrameText) → TakesFrame mid reader' frame
       → reader'.header ≡ mid.header → Moves between seat' v writer' (frame ∷ []) → Passes reader reader' seat seat' writer writer' (frames ++ frame ∷ [])
@@ -677,7 +712,7 @@ module _ (reader mid : ReaderState) (seat between : StreamSeatValue) (writer v :
       rest = mid.rest;
       each = so_far.each;
       taken = so_far.taken;
-      stops = tt;
+      stops = next_of (u.0) reader' u.1;
       reads = u.1.no_failure ∙ so_far.no_failure;
     };
     moved = so_far.moved;
@@ -691,7 +726,6 @@ module _ (reader mid : ReaderState) (seat between : StreamSeatValue) (writer v :
   pub Feeds-refused : (stop : Stop) (reader' : ReaderState) (seat' : StreamSeatValue) (writer' : WriterState) (frame : FrameText) → TakesFrame mid reader' frame
       → Refuses stop between seat' v writer' → Feeds stop reader reader' seat seat' writer writer'
   Feeds-refused stop reader' seat' writer' frame one r =
-      let is_frame : IsFrame frame = rw so_far.header at one.is_frame in
       let count : seat'.accepted ≡ seat.accepted + length frames = ap (λ (s : StreamSeatValue). s.accepted) r.stays ∙ so_far.moved.count in
       record {
         frames = frames;
@@ -699,10 +733,8 @@ module _ (reader mid : ReaderState) (seat between : StreamSeatValue) (writer v :
           rest = mid.rest;
           each = so_far.each;
           taken = so_far.taken;
-          stops = stops_of_seat stop _ r.of_seat (λ is. (
-            sym count ∙ r.limit is ∙ stays_frames seat between so_far.moved.seat_stays,
-            record { frame = frame; more = reader'.rest; is_frame = is_frame; taken = one.taken; ahead = one.ahead },
-          ));
+          stops = stops_of_seat stop _ r.of_seat (next_of frame reader' one)
+              (λ is. sym count ∙ r.limit is ∙ stays_frames seat between so_far.moved.seat_stays);
           reads = one.no_failure ∙ so_far.no_failure ∙ sym (reads_of_seat stop reader.failures r.of_seat);
         };
         moved = rw (append-nil frames) at (StopsWith-later stop seat between seat' writer v writer' frames [] so_far.moved r.moved);
@@ -722,7 +754,7 @@ module _ (reader mid : ReaderState) (seat between : StreamSeatValue) (writer v :
           rest = reader'.rest;
           each = All-push IsFrame frames frame so_far.each is_frame;
           taken = rw (frames_text-push frames frame) (Consumes-trans reader.rest mid.rest reader'.rest (frames_text frames) (text_of frame) so_far.taken one.taken);
-          stops = tt;
+          stops = inr (torn.other, one.ahead);
           reads = one.no_failure ∙ so_far.no_failure;
         };
         moved = (seat', moved);

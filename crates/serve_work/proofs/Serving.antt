@@ -1,5 +1,5 @@
 -- What a client's frames come to: those that are accepted, why there are no more, and what went out.
-use Rattle.std.proofs.Common.{◌≡◌, ◌≢◌, ◌+◌, ◌⊎◌, ◌≤◌, List, [], ◌∷◌, ◌++◌, length, refl, sym, ap, ◌∙◌, append-nil, length-append, arith, subst, inl, inr, Bool, false, filter, Result, Ok, Err, OnOk, IfErr}
+use Rattle.std.proofs.Common.{◌≡◌, ◌≢◌, ◌+◌, ◌⊎◌, ◌≤◌, List, [], ◌∷◌, ◌++◌, length, refl, sym, ap, ◌∙◌, append-nil, append_assoc, length-append, arith, subst, inl, inr, Bool, false, filter, Result, Ok, Err, OnOk, IfErr}
 use Rattle.std.proofs.lemmas.List.Elements.{filter-append}
 use Rattle.std.specs.Bool.{⊤}
 use Rattle.filters.specs.ChainImage.{FrameValue}
@@ -16,8 +16,8 @@ use Rattle.serve_hub.specs.Seats.{CallsValue, StreamSeatValue}
 use Rattle.serve_work.specs.declared.stop.Cause.TheVariants.{TooManyFrames, ClockEnd, HistoryFull, NoMemory}
 use Rattle.serve_work.specs.declared.stop.Stop.{Stop}
 use Rattle.serve_work.specs.declared.stop.Stop.TheVariants.{Whole, Read, Write, Refused, Torn}
-use Rattle.serve_work.specs.Clients.{is_collection, is_offer}
-use Rattle.serve_work.specs.ClientInside.{Accounted, BreaksOff, Cuts, Feeds, IsDrained, IsFirst, IsOfCollection, IsSent, IsUseful}
+use Rattle.serve_work.specs.Clients.{HasOtherNumber, IsDrained, Progress, StopsAt, is_collection, is_offer}
+use Rattle.serve_work.specs.ClientInside.{Accounted, BreaksOff, Cuts, Feeds, IsFirst, IsOfCollection, IsSent, IsUseful}
 use Rattle.serve_work.specs.ClientInside.{Moves, SendsWhole, Serves, StopsReading, StopsWith, TalliesSeat, texts_of}
 use Rattle.serve_work.proofs.Moving.{Accounted-later, StopsWith-later, TalliesSeat-same, few_of, size_later}
 
@@ -111,6 +111,8 @@ pub close_tally : {T : Type 0} (old new : StreamSeatValue) (result : Result T Re
 close_tally old new (Ok t) closed refused = rw closed (record {
   number = refl;
   chain = refl;
+  added = acts.Closed ∷ [];
+  calls = refl;
   offers = omega (arith, closes_among is_offer old.calls.list);
   collections = omega (arith, closes_among is_collection old.calls.list);
 })
@@ -196,20 +198,55 @@ module _ (stop : Stop) (reader reader' : ReaderState) (seat mid closed : StreamS
   drain_writing before = (Accounted-later seat mid writer between a.frames drain_moved before).writing
 
 -- all was read, and then the collection stopped
-module _ (reader reader' : ReaderState) (seat : StreamSeatValue) (frames : List FrameText)
-    (a : StopsReading Whole reader reader' seat frames) where
-  read_until : (last : Stop) → IsOfCollection last → StopsReading last reader reader' seat frames
+module _ (reader reader' : ReaderState) (seat mid : StreamSeatValue) (frames : List FrameText)
+    (a : StopsReading Whole reader reader' seat mid frames) where
+  read_until : (last : Stop) → IsOfCollection last → StopsReading last reader reader' seat mid frames
   read_until Whole own = a
   read_until (Read fault) own = absurd own
   read_until (Refused HistoryFull) own =
-      record { rest = a.rest; each = a.each; taken = a.taken; stops = tt; reads = a.reads }
+      record { rest = a.rest; each = a.each; taken = a.taken; stops = inr a.stops; reads = a.reads }
   read_until (Refused TooManyFrames) own = absurd own
   read_until (Refused ClockEnd) own = absurd own
   read_until (Refused NoMemory) own = absurd own
   read_until (Write fault) own =
-      record { rest = a.rest; each = a.each; taken = a.taken; stops = tt; reads = a.reads }
+      record { rest = a.rest; each = a.each; taken = a.taken; stops = inr a.stops; reads = a.reads }
   read_until Torn own =
-      record { rest = a.rest; each = a.each; taken = a.taken; stops = tt; reads = a.reads }
+      record { rest = a.rest; each = a.each; taken = a.taken; stops = inl (inr a.stops); reads = a.reads }
+
+-- more calls follow
+
+other_later : (calls added : List Act) → HasOtherNumber calls → HasOtherNumber (calls ++ added)
+other_later calls added a = record {
+  before = a.before;
+  tick = a.tick;
+  number = a.number;
+  later = a.later ++ added;
+  other = a.other;
+  whole = ap (λ l. l ++ added) a.whole ∙ append_assoc a.before (acts.Offered a.tick a.number ∷ a.later) added;
+}
+
+stops_later : (stop : Stop) (at : Progress) (added : List Act) → StopsAt stop at
+    → StopsAt stop (record at { calls = at.calls ++ added })
+stops_later Whole at added a = a
+stops_later (Read fault) at added a = a
+stops_later (Refused TooManyFrames) at added a = a
+stops_later (Refused ClockEnd) at added a = a
+stops_later (Refused HistoryFull) at added a = a
+stops_later (Refused NoMemory) at added a = a
+stops_later (Write fault) at added a = a
+stops_later Torn at added (inl a) = inl a
+stops_later Torn at added (inr a) = inr (other_later at.calls added a.0, a.1)
+
+read_later : (stop : Stop) (reader reader' : ReaderState) (seat mid seat' : StreamSeatValue) (frames : List FrameText)
+    → TalliesSeat mid seat' → StopsReading stop reader reader' seat mid frames
+    → StopsReading stop reader reader' seat seat' frames
+read_later stop reader reader' seat mid seat' frames tally a = record {
+  rest = a.rest;
+  each = a.each;
+  taken = a.taken;
+  stops = rw tally.calls (stops_later stop _ tally.added a.stops);
+  reads = a.reads;
+}
 
 -- what a client serves
 
@@ -217,11 +254,11 @@ module _ (reader reader' : ReaderState) (seat : StreamSeatValue) (writer : Write
     (none : seat.kept ≡ []) (well : writer.failed ≡ false) where
   -- nothing is written after the stop
   pub Serves-spoilt : (stop : Stop) (mid seat' : StreamSeatValue) (writer' : WriterState) → (IsUseful stop → ⊥)
-      → Feeds stop reader reader' seat mid writer writer' → seat'.accepted ≡ mid.accepted
+      → Feeds stop reader reader' seat mid writer writer' → seat'.accepted ≡ mid.accepted → TalliesSeat mid seat'
       → Serves stop reader reader' seat seat' writer writer'
-  Serves-spoilt stop mid seat' writer' spoilt a same = record {
+  Serves-spoilt stop mid seat' writer' spoilt a same tally = record {
     frames = a.frames;
-    read = a.read;
+    read = read_later stop reader reader' seat mid seat' a.frames tally a.read;
     count = same ∙ a.count;
     sent = sent_until seat writer a.frames none well stop stop mid writer' (λ f is. is) a.moved;
     whole = λ is. absurd (spoilt (subst IsUseful (sym is) tt));
@@ -231,8 +268,8 @@ module _ (reader reader' : ReaderState) (seat : StreamSeatValue) (writer : Write
   pub Serves-drained : (stop last told : Stop) (mid closed drained seat' : StreamSeatValue) (between writer' : WriterState)
       → IsUseful stop → Feeds stop reader reader' seat mid writer between → MayClose mid closed
       → StopsWith last closed drained between writer' [] → IsOfCollection last → (last ≡ Whole → IsDrained drained)
-      → seat'.accepted ≡ mid.accepted → IsFirst stop last told → Serves told reader reader' seat seat' writer writer'
-  Serves-drained stop last told mid closed drained seat' between writer' useful a close b own left same first =
+      → (last ≡ Whole → seat' ≡ drained) → seat'.accepted ≡ mid.accepted → TalliesSeat mid seat' → IsFirst stop last told → Serves told reader reader' seat seat' writer writer'
+  Serves-drained stop last told mid closed drained seat' between writer' useful a close b own left stays same tally first =
       let moved = moves_until stop seat mid writer between a.frames useful a.moved in
       let after : StopsWith last (record mid { calls = closed.calls; is_closed = closed.is_closed }) drained between writer' [] =
       subst (λ (s : StreamSeatValue). StopsWith last s drained between writer' []) close b in
@@ -245,19 +282,21 @@ module _ (reader reader' : ReaderState) (seat : StreamSeatValue) (writer : Write
       elim (first_told stop last told useful first) [
         | inl e ↦ record {
           frames = a.frames;
-          read = subst (λ (s : Stop). StopsReading s reader reader' seat a.frames) (sym e.1)
-              (read_until reader reader' seat a.frames
-              (subst (λ (s : Stop). StopsReading s reader reader' seat a.frames) e.0 a.read) last own);
+          read = subst (λ (s : Stop). StopsReading s reader reader' seat seat' a.frames) (sym e.1)
+              (read_later last reader reader' seat mid seat' a.frames tally (read_until reader reader' seat mid a.frames
+              (subst (λ (s : Stop). StopsReading s reader reader' seat mid a.frames) e.0 a.read) last own));
           count = same ∙ a.count;
           sent = sent_until seat writer a.frames none well told last end writer' (λ f is. sym e.1 ∙ is) all;
           whole = λ is.
               let stopped : last ≡ Whole = sym e.1 ∙ is in
-              all_sent seat writer a.frames none well end writer' (left stopped).none
-              (subst (λ (s : Stop). StopsWith s seat end writer writer' a.frames) stopped all);
+              let sent = all_sent seat writer a.frames none well end writer' (left stopped).none
+              (subst (λ (s : Stop). StopsWith s seat end writer writer' a.frames) stopped all) in
+              (sent.0, sent.1, subst IsDrained (sym (stays stopped)) (left stopped));
         }
         | inr e ↦ record {
           frames = a.frames;
-          read = subst (λ (s : Stop). StopsReading s reader reader' seat a.frames) (sym e.2) a.read;
+          read = subst (λ (s : Stop). StopsReading s reader reader' seat seat' a.frames) (sym e.2)
+              (read_later stop reader reader' seat mid seat' a.frames tally a.read);
           count = same ∙ a.count;
           sent = sent_until seat writer a.frames none well told last end writer'
               (λ f is. absurd (subst IsNoWrite (sym e.2 ∙ is) e.0)) all;

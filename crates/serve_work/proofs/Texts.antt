@@ -10,8 +10,8 @@ use Rattle.y4m_stream.proofs.Puts.{behind_line}
 use Rattle.serve_hub.specs.Seats.{StreamSeatValue}
 use Rattle.serve_work.specs.declared.stop.Cause.TheVariants.{NoMemory}
 use Rattle.serve_work.specs.declared.stop.Stop.TheVariants.{Whole, Write, Refused}
-use Rattle.serve_work.specs.Clients.{ClientEnds, ClientOutcome, ClientStart, CutsHeader, EndsWithin, StopsAt}
-use Rattle.serve_work.specs.Clients.{WroteImages, WroteNothing}
+use Rattle.serve_work.specs.Clients.{ClientEnds, ClientOutcome, ClientStart, CutsHeader, EndsWithin, Progress}
+use Rattle.serve_work.specs.Clients.{StopsAt, WroteImages, WroteNothing}
 use Rattle.serve_work.specs.Laws.{InputIsServed, ServesAll}
 
 -- all known bytes were read, and none is left
@@ -33,14 +33,23 @@ no_part chain part old new (inr a) = let both : [] ≡ a.0.next ∷ a.0.later = 
 
 module _ (input : Option (List ℕ)) (text : List ℕ) (start : ClientStart) (seat : StreamSeatValue) (end : ClientOutcome)
     (e : ClientEnds start seat end) (taken : Consumes input e.rest text) (is : end.stop ≡ Whole) where
-  at_end : IsAtEnd e.rest × Keeps e.rest end.left
-  at_end = subst (λ s. StopsAt s (record {
+  abbrev at : Progress
+  at = record {
     len = data_len_of start.reader.header;
     count = end.accepted;
     most = start.seat.frames;
     rest = e.rest;
     left = end.left;
-  })) is e.stops
+    calls = seat.calls.list;
+  }
+
+  whole_at : WroteNothing start end ⊎ CutsHeader start end ⊎ StopsAt end.stop at → IsAtEnd e.rest × Keeps e.rest end.left
+  whole_at (inl a) = let both : Whole ≡ Refused NoMemory = sym is ∙ a.stop in absurd (cc)
+  whole_at (inr (inl a)) = let both : Whole ≡ Write a.fault = sym is ∙ a.stop in absurd (cc)
+  whole_at (inr (inr a)) = subst (λ s. StopsAt s at) is a
+
+  at_end : IsAtEnd e.rest × Keeps e.rest end.left
+  at_end = whole_at e.stops
 
   serves_all : WroteNothing start end ⊎ CutsHeader start end ⊎ WroteImages e.frames start end
       → ServesAll input text e.frames start end

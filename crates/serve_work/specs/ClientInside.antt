@@ -1,5 +1,5 @@
 -- What contracts inside the crate say of a client.
-use Rattle.std.specs.Prelude.{ℕ, ◌+◌, ◌≡◌, ◌≢◌, ◌≤◌, ◌⊎◌, ⊤, IsTrue, false, List, [], ◌∷◌}
+use Rattle.std.specs.Prelude.{ℕ, ◌+◌, ◌≡◌, ◌≢◌, ◌≤◌, ◌⊎◌, ⊤, false, List, [], ◌∷◌}
 use Rattle.std.specs.Prelude.{◌++◌, All, Result, Ok, Err}
 use Rattle.std.specs.Prelude.{Option, IfSome, length, map}
 use Rattle.std.specs.declared.alloc.Global.{Global}
@@ -19,6 +19,7 @@ use Rattle.y4m_stream.specs.Served.{AreImages, IsImageText}
 use Rattle.y4m_stream.specs.Writer.{FailsToPut, WriterState}
 use Rattle.serve_core.specs.declared.refusal.Refusal.TheVariants as cores
 use Rattle.serve_core.specs.Lanes.{IsImageOf}
+use Rattle.serve_hub.specs.declared.entry.Act.{Act}
 use Rattle.serve_hub.specs.declared.refusal.Refusal.{Refusal}
 use Rattle.serve_hub.specs.declared.refusal.Refusal.TheVariants.{Core, HistoryFull}
 use Rattle.serve_hub.specs.Calls.{Accepts}
@@ -29,7 +30,7 @@ use Rattle.serve_work.specs.declared.feeding.Offered.TheVariants as offered
 use Rattle.serve_work.specs.declared.stop.Cause.TheVariants as causes
 use Rattle.serve_work.specs.declared.stop.Stop.{Stop}
 use Rattle.serve_work.specs.declared.stop.Stop.TheVariants.{Whole, Read, Write, Refused, Torn}
-use Rattle.serve_work.specs.Clients.{StopsAt, collections_in, offers_in, reads_at}
+use Rattle.serve_work.specs.Clients.{HasOtherNumber, IsDrained, StopsAt, collections_in, offers_in, reads_at}
 
 abbrev pub stop_of : Refusal → Stop
 stop_of HistoryFull = Refused causes.HistoryFull
@@ -73,10 +74,6 @@ IsOfCollection Torn = ⊤
 abbrev pub texts_of : List FrameValue → List FrameText
 texts_of frames = map (λ f. record { line = f.line; samples = f.samples }) frames
 
-pub record IsDrained (seat : StreamSeatValue) : Type 0 where
-  pub closed : IsTrue seat.is_closed
-  pub none : seat.kept ≡ []
-
 -- memory for the chain's frames and images
 pub record AreBuffersFor (chain : ChainValue) (buffers : Buffers) : Type 0 where
   pub sources : All (λ (f : Arc Frame Global). (arc_value f).geometry ≡ chain.geometry) buffers.sources.items
@@ -90,10 +87,12 @@ pub record Accounted (seat : StreamSeatValue) (writer : WriterState) : Type 0 wh
   pub is_open : seat.is_closed ≡ false
   pub writing : writer.failed ≡ false
 
--- each offer and each collection that was accepted is among the seat's calls
+-- calls were added to the seat's, among them each offer and each collection that was accepted
 pub record TalliesSeat (old new : StreamSeatValue) : Type 0 where
   pub number : new.number ≡ old.number
   pub chain : new.chain ≡ old.chain
+  pub added : List Act
+  pub calls : new.calls.list ≡ old.calls.list ++ added
   pub offers : offers_in new.calls.list + old.accepted ≡ offers_in old.calls.list + new.accepted
   pub collections : collections_in old.calls.list ≤ collections_in new.calls.list
 
@@ -163,7 +162,8 @@ IsOffered (offered.Full back image) frame old new =
     (arc_value back ≡ frame) × IfSome image (IsImageOf old.chain) × (new ≡ old)
 IsOffered (offered.Stopped (Refused cause)) frame old new =
     (cause ≡ causes.TooManyFrames → old.accepted ≡ old.frames) × (new ≡ old)
-IsOffered (offered.Stopped Torn) frame old new = (new ≡ old) ⊎ ((n : ℕ) × Accepts (value_of frame) n old new)
+IsOffered (offered.Stopped Torn) frame old new =
+    (new ≡ old) ⊎ ((n : ℕ) × (n ≢ old.accepted) × Accepts (value_of frame) n old new)
 IsOffered (offered.Stopped stop) frame old new = ⊥
 
 -- the frame wasn't accepted, and the client stops
@@ -177,6 +177,7 @@ pub record Refuses (stop : Stop) (seat seat' : StreamSeatValue) (writer writer' 
 pub record AcceptsTorn (stop : Stop) (frame : FrameText) (seat seat' : StreamSeatValue)
     (writer writer' : WriterState) : Type 0 where
   pub torn : stop ≡ Torn
+  pub other : HasOtherNumber seat'.calls.list
   pub moved : Moves seat seat' writer writer' (frame ∷ [])
 
 -- the frame was accepted, or the client stops
@@ -206,7 +207,7 @@ pub record Passes (reader reader' : ReaderState) (seat seat' : StreamSeatValue) 
   pub no_failure : reader'.failures ≡ reader.failures
 
 -- why a client reads no more, and how far it came
-pub record StopsReading (stop : Stop) (reader reader' : ReaderState) (seat : StreamSeatValue)
+pub record StopsReading (stop : Stop) (reader reader' : ReaderState) (seat seat' : StreamSeatValue)
     (frames : List FrameText) : Type 0 where
   pub rest : Option (List ℕ)
   pub each : All (IsFrameOf (data_len_of reader.header)) frames
@@ -217,6 +218,7 @@ pub record StopsReading (stop : Stop) (reader reader' : ReaderState) (seat : Str
     most = seat.frames;
     rest = rest;
     left = reader'.left;
+    calls = seat'.calls.list;
   })
   pub reads : reader'.failures ≡ reads_at stop reader.failures
 
@@ -224,7 +226,7 @@ pub record StopsReading (stop : Stop) (reader reader' : ReaderState) (seat : Str
 pub record Feeds (stop : Stop) (reader reader' : ReaderState) (seat seat' : StreamSeatValue)
     (writer writer' : WriterState) : Type 0 where
   pub frames : List FrameText
-  pub read : StopsReading stop reader reader' seat frames
+  pub read : StopsReading stop reader reader' seat seat' frames
   pub moved : StopsWith stop seat seat' writer writer' frames
   pub count : seat'.accepted ≡ seat.accepted + length frames
   -- but for an answer that contradicts it, the seat stays as it is
@@ -272,10 +274,11 @@ IsSent stop chain frames writer writer' =
 pub record Serves (stop : Stop) (reader reader' : ReaderState) (seat seat' : StreamSeatValue)
     (writer writer' : WriterState) : Type 0 where
   pub frames : List FrameText
-  pub read : StopsReading stop reader reader' seat frames
+  pub read : StopsReading stop reader reader' seat seat' frames
   pub count : seat'.accepted ≡ seat.accepted + length frames
   pub sent : IsSent stop seat.chain frames writer writer'
-  pub whole : stop ≡ Whole → (writer'.frames ≡ writer.frames + length frames) × (writer'.failed ≡ false)
+  pub whole : stop ≡ Whole
+      → (writer'.frames ≡ writer.frames + length frames) × (writer'.failed ≡ false) × IsDrained seat'
 
 -- the stop, or the fault of the flush where all went well before
 abbrev pub Flushes : {T : Type 0} → Stop → Result T WriteFault → Stop → Type 0

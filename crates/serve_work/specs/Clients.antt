@@ -1,6 +1,6 @@
 -- What a client comes to.
-use Rattle.std.specs.Prelude.{ℕ, ◌≡◌, ◌≤◌, ◌<◌, ◌⊎◌, ⊤, Bool, true, false, List, [], ◌∷◌, ◌++◌, All}
-use Rattle.std.specs.Prelude.{Option, filter, length, take}
+use Rattle.std.specs.Prelude.{ℕ, ◌≡◌, ◌≢◌, ◌≤◌, ◌<◌, ◌⊎◌, Bool, IsTrue, true, false, List, [], ◌∷◌, ◌++◌}
+use Rattle.std.specs.Prelude.{All, Option, filter, length, take}
 use Rattle.std.specs.Io.KnownBytes.{Appends, Consumes, IsAtEnd, Keeps}
 use Rattle.y4m_header.specs.StreamText.{FrameText, IsFrameOf, frames_text, text_of}
 use Rattle.filters.specs.Chain.{ChainValue}
@@ -8,14 +8,14 @@ use Rattle.y4m_stream.specs.declared.fault.WriteFault.{WriteFault}
 use Rattle.y4m_stream.specs.declared.fault.WriteFault.TheVariants.{Device}
 use Rattle.y4m_stream.specs.Failures.{one_more}
 use Rattle.y4m_stream.specs.Filtered.{HasNext}
-use Rattle.y4m_stream.specs.Front.{StandsAtFrame}
+use Rattle.y4m_stream.specs.Front.{IsReadAhead, StandsAtFrame}
 use Rattle.y4m_stream.specs.Reader.{ReaderState, data_len_of, failures_at}
 use Rattle.y4m_stream.specs.Served.{IsImageText, IsServedText, served_header}
-use Rattle.y4m_stream.specs.Writer.{CutsShort}
+use Rattle.y4m_stream.specs.Writer.{CutsShort, FlushesOrFails}
 use Rattle.serve_hub.specs.declared.entry.Act.{Act}
 use Rattle.serve_hub.specs.declared.entry.Act.TheVariants.{Collected, Offered}
 use Rattle.serve_hub.specs.Seats.{StreamSeatValue}
-use Rattle.serve_work.specs.declared.stop.Cause.TheVariants.{NoMemory, TooManyFrames}
+use Rattle.serve_work.specs.declared.stop.Cause.TheVariants.{HistoryFull, NoMemory, TooManyFrames}
 use Rattle.serve_work.specs.declared.stop.Stop.{Stop}
 use Rattle.serve_work.specs.declared.stop.Stop.TheVariants.{Whole, Read, Write, Refused, Torn}
 
@@ -61,40 +61,68 @@ offers_in calls = length (filter is_offer calls)
 abbrev pub collections_in : List Act → ℕ
 collections_in calls = length (filter is_collection calls)
 
+-- an offer was answered with another number than how many were accepted before it
+pub record HasOtherNumber (calls : List Act) : Type 0 where
+  pub before : List Act
+  pub tick : Option ℕ
+  pub number : ℕ
+  pub later : List Act
+  pub other : number ≢ offers_in before
+  pub whole : calls ≡ before ++ Offered tick number ∷ later
+
+-- the seat is closed, and keeps no frame
+pub record IsDrained (seat : StreamSeatValue) : Type 0 where
+  pub closed : IsTrue seat.is_closed
+  pub none : seat.kept ≡ []
+
 -- how far an input was read: the bytes of a frame's data, how many frames were accepted and how many may be,
--- what stands behind them, and what the source has left
+-- what stands behind them, what the source has left, and the seat's calls
 pub record Progress : Type 0 where
   pub len : ℕ
   pub count : ℕ
   pub most : ℕ
   pub rest : Option (List ℕ)
   pub left : Option (List ℕ)
+  pub calls : List Act
 
--- why no more frames were accepted
+-- the input was read to its end
+abbrev pub HasEnded : Progress → Type 0
+HasEnded at = IsAtEnd at.rest × Keeps at.rest at.left
+
+-- one frame more was read, and wasn't accepted; or the input was read to its end
+abbrev pub HasMoreOrEnds : Progress → Type 0
+HasMoreOrEnds at = HasNext at.len at.rest at.left ⊎ HasEnded at
+
+-- why no more frames were accepted; where one was accepted with another number, no frame behind it was read
 abbrev pub StopsAt : Stop → Progress → Type 0
-StopsAt Whole at = IsAtEnd at.rest × Keeps at.rest at.left
+StopsAt Whole at = HasEnded at
 StopsAt (Read fault) at = StandsAtFrame at.len fault at.rest at.left
 StopsAt (Refused TooManyFrames) at = (at.count ≡ at.most) × HasNext at.len at.rest at.left
-StopsAt (Refused cause) at = ⊤
-StopsAt (Write fault) at = ⊤
-StopsAt Torn at = ⊤
+StopsAt (Refused HistoryFull) at = HasMoreOrEnds at
+StopsAt (Refused cause) at = HasNext at.len at.rest at.left
+StopsAt (Write fault) at = HasMoreOrEnds at
+StopsAt Torn at = HasMoreOrEnds at ⊎ HasOtherNumber at.calls × IsReadAhead at.rest at.left
 
 -- a read failed where that is why the client stopped
 abbrev pub reads_at : Stop → ℕ → ℕ
 reads_at (Read fault) n = failures_at fault n
 reads_at stop n = n
 
--- no memory was granted before anything was written
+-- no memory was granted before anything was written, and no frame was read
 pub record WroteNothing (start : ClientStart) (end : ClientOutcome) : Type 0 where
   pub stop : end.stop ≡ Refused NoMemory
+  pub unread : end.left ≡ start.reader.left
+  pub unaccepted : end.accepted ≡ 0
   pub none : end.delivered ≡ 0
   pub kept : Keeps start.before end.after
   pub no_failure : end.failures ≡ start.failures
 
--- the header line of the images didn't go out whole
+-- the header line of the images didn't go out whole, and no frame was read
 pub record CutsHeader (start : ClientStart) (end : ClientOutcome) : Type 0 where
   pub fault : WriteFault
   pub stop : end.stop ≡ Write fault
+  pub unread : end.left ≡ start.reader.left
+  pub unaccepted : end.accepted ≡ 0
   pub none : end.delivered ≡ 0
   pub cut : CutsShort start.before end.after
       (served_header start.seat.chain start.reader.header.line ++ 10 ∷ []) 0 fault
@@ -127,6 +155,7 @@ pub record WroteImages (frames : List FrameText) (start : ClientStart) (end : Cl
   pub is_served : IsServedText start.seat.chain start.reader.header.line sent served
   pub ends : EndsWithin start.seat.chain later part start.failures end.failures
   pub wrote : Appends start.before end.after (served ++ part)
+  pub closed : FlushesOrFails end.is_flushed start.failures end.failures
   -- a write fault comes where a write or the flush failed, with the number of bytes that went out
   pub told : (fault : WriteFault) → end.stop ≡ Write fault
       → (end.failures ≡ one_more start.failures) × (fault ≡ Device (length (served ++ part)))
@@ -138,23 +167,26 @@ pub record IsWhole (start : ClientStart) (end : ClientOutcome) : Type 0 where
   pub flushed : end.is_flushed ≡ true
 
 -- what a client comes to: the frames that it took off the front of its reader and that were accepted, why
--- there are no more, and what went out
+-- there are no more, and what went out. Where nothing was written, or not all of the header line, no frame
+-- was read
 pub record ClientEnds (start : ClientStart) (seat : StreamSeatValue) (end : ClientOutcome) : Type 0 where
   pub frames : List FrameText
   pub rest : Option (List ℕ)
   pub each : All (IsFrameOf (data_len_of start.reader.header)) frames
   pub taken : Consumes start.reader.rest rest (frames_text frames)
   pub count : length frames ≡ end.accepted
-  pub stops : StopsAt end.stop (record {
+  pub stops : WroteNothing start end ⊎ CutsHeader start end ⊎ StopsAt end.stop (record {
     len = data_len_of start.reader.header;
     count = end.accepted;
     most = start.seat.frames;
     rest = rest;
     left = end.left;
+    calls = seat.calls.list;
   })
   pub reads : end.read_failures ≡ reads_at end.stop start.reader.failures
   pub out : WroteNothing start end ⊎ CutsHeader start end ⊎ WroteImages frames start end
   pub whole : end.stop ≡ Whole → IsWhole start end
+  pub drained : end.stop ≡ Whole → IsDrained seat
   -- the seat, and its calls
   pub number : seat.number ≡ start.seat.number
   pub chain : seat.chain ≡ start.seat.chain

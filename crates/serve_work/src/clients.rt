@@ -6,7 +6,7 @@ ghost use Rattle.y4m_stream.specs.Served.{IsHeaderOfImages};
 ghost use Rattle.y4m_stream.specs.Writer.{IsOpenedFor, IsWriterFor};
 ghost use Rattle.serve_work.specs.ClientInside.{Accounted, AreBuffersFor, Flushes, Serves, Tallies};
 ghost use Rattle.serve_work.specs.ClientInside.{TalliesSeat};
-ghost use Rattle.serve_work.specs.Clients.{ClientEnds, IsNewSeat};
+ghost use Rattle.serve_work.specs.Clients.{ClientEnds, IsNewSeat, offers_in};
 
 use crate::buffers::Buffers;
 use crate::delivery::{discard, drain};
@@ -24,8 +24,8 @@ use y4m_stream::{
     Sink, Source, StreamReader, StreamWriter, WriteFault, resized_header, shown_header,
 };
 
-/// What a client leaves: its seat, which is closed, its source without the bytes that were read ahead, and
-/// its writer, which is flushed unless it failed.
+/// What a client leaves: its seat, which is closed and keeps no frame where all went well, its source without
+/// the bytes that were read ahead, and its writer, which is flushed unless it failed or nothing was written.
 #[derive(Drop)]
 pub struct ClientEnd<L: Ledger, R: Source, W: Sink> {
     pub seat: StreamSeat<L>,
@@ -53,6 +53,7 @@ fn serve<L: Ledger, R: Source + Drop, W: Sink, K: Clock, T: Wait>(
     requires header { IsOfHeader reader.old.header seat.old.chain.geometry }
     requires size { IsWriterFor seat.old.chain writer.old }
     requires accounted { Accounted seat.old writer.old }
+    requires counted { offers_in seat.old.calls.list ≡ seat.old.accepted }
     requires fresh { seat.old.kept ≡ [] }
     requires open { reader.old.phase ≡ Phase.Open }
     requires buffers { AreBuffersFor seat.old.chain buffers.old }

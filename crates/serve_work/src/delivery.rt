@@ -6,8 +6,8 @@ ghost use Rattle.y4m_stream.specs.Writer.{IsWriterFor};
 ghost use Rattle.y4m_stream.specs.declared.passing.TheConstants.{MOST_FRAMES};
 ghost use Rattle.serve_work.specs.declared.stop.Cause.TheVariants as causes;
 ghost use Rattle.serve_work.specs.declared.stop.Stop.TheVariants as stops;
-ghost use Rattle.serve_work.specs.ClientInside.{Answers, GivesUp, IsDrained, IsOfCollection, StopsWith};
-ghost use Rattle.serve_work.specs.ClientInside.{Tallies};
+ghost use Rattle.serve_work.specs.Clients.{IsDrained};
+ghost use Rattle.serve_work.specs.ClientInside.{Answers, GivesUp, IsOfCollection, StopsWith, Tallies};
 ghost use Rattle.serve_work.specs.ClientInside.{TalliesSeat};
 
 use crate::stop::Stop;

@@ -6,6 +6,7 @@ ghost use Rattle.serve_hub.specs.Calls.{AllowsOffer, IsTold};
 ghost use Rattle.serve_hub.specs.Seats.{StreamSeatValue};
 ghost use Rattle.y4m_stream.specs.Reader.{IsOfHeader, MeetsEnd, TakesFrame, frame_text_of};
 ghost use Rattle.y4m_stream.specs.Writer.{IsWriterFor};
+ghost use Rattle.serve_work.specs.Clients.{offers_in};
 ghost use Rattle.serve_work.specs.ClientInside.{AreBuffersFor, Accounted, Feeds, IsOffered, IsUnread, Offers};
 ghost use Rattle.serve_work.specs.ClientInside.{Tallies};
 
@@ -157,6 +158,7 @@ fn accept<L: Ledger, W: Sink, K: Clock, T: Wait>(
 ) -> Result<(), Stop>
     requires size { IsWriterFor seat.old.chain writer.old }
     requires accounted { Accounted seat.old writer.old }
+    requires counted { offers_in seat.old.calls.list ≡ seat.old.accepted }
     requires frame { (arc_value frame).geometry ≡ seat.old.chain.geometry }
     requires buffers { AreBuffersFor seat.old.chain buffers.old }
     ensures answer { Offers result (frame_text_of (arc_value frame)) seat.old seat.new writer.old writer.new }
@@ -198,6 +200,7 @@ pub(crate) fn feed<L: Ledger, R: Source + Drop, W: Sink, K: Clock, T: Wait>(
     requires header { IsOfHeader reader.old.header seat.old.chain.geometry }
     requires size { IsWriterFor seat.old.chain writer.old }
     requires accounted { Accounted seat.old writer.old }
+    requires counted { offers_in seat.old.calls.list ≡ seat.old.accepted }
     requires open { reader.old.phase ≡ Phase.Open }
     requires buffers { AreBuffersFor seat.old.chain buffers.old }
     ensures answer { Feeds result reader.old reader.new seat.old seat.new writer.old writer.new }

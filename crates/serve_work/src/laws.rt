@@ -1,11 +1,18 @@
 //! What follows from the definitions alone.
-ghost use Rattle.serve_work.specs.Laws.{AFrontWentOut, InputIsServed};
+ghost use Rattle.serve_work.specs.Laws.{AFrontWentOut, InputFaultIsTold, InputIsServed};
 
 /// Where a reader was opened on an input and a client has ended, a stream text of the accepted frames stands
 /// at the front of the input. Where the client stopped whole, that is the whole input, and what it is served
 /// as was written.
 pub fn the_input_is_served()
     ensures { InputIsServed }
+{}
+
+/// Where a fault lies in the bytes behind the accepted frames, a client that began to read tells it, or a
+/// fault of the reader that isn't in the bytes; or its stop is `Torn`, and an offer was answered with another
+/// number than its own.
+pub fn an_input_fault_is_told()
+    ensures { InputFaultIsTold }
 {}
 
 /// What a client wrote is a front of what the accepted frames are served as.

@@ -10,6 +10,8 @@ returns-in_default g c =
     let u = c.unopened.ensures in
     ClientEnds-unopened _ _ _ c.requires.fresh u.tally u.accepted u.none.0 u.failures (inl (record {
       stop = u.stop;
+      unread = u.remaining;
+      unaccepted = u.none.0;
       none = u.none.1;
       kept = subst (λ w. Keeps (g.W.Sink.contents c.args.writer) (g.W.Sink.contents w)) (sym u.writer)
           (Keeps-refl (g.W.Sink.contents c.args.writer));
@@ -25,6 +27,8 @@ returns-in-Err g c =
     ClientEnds-unopened _ _ _ c.requires.fresh u.tally u.accepted u.none.0 u.failures (inr (record {
       fault = c.in-Err.fault;
       stop = u.stop;
+      unread = u.remaining;
+      unaccepted = u.none.0;
       none = u.none.1;
       cut = subst (λ l. CutsShort before (g.W.Sink.contents c.unopened-in-Err.result.writer) (l ++ 10 ∷ []) 0 c.in-Err.fault)
           shown.line

@@ -8,6 +8,7 @@ returns g c = λ shown before failures header opened.
     (record {
       kept = finish.kept;
       flushed = finish.flushed;
+      closed = finish.closed;
       fault = finish.fault;
       failed = finish.failed;
       told = finish.told;

@@ -3,7 +3,7 @@ use Rattle.frame_view.specs.declared.frame.Frame.{Frame}
 use Rattle.serve_core.specs.Lanes.{IsImageOf}
 use Rattle.serve_work.specs.ClientInside.{AreBuffersFor}
 use Rattle.serve_work.proofs.Moving.{Accounted-later, GivesUp-at, GivesUp-trans, Moves-at, Moves-none, Moves-trans, Tallies-none}
-use Rattle.serve_work.proofs.Moving.{Tallies-seat, Tallies-trans, collection_stopped, few_of, offer_stopped, offered_tally, stays_chain}
+use Rattle.serve_work.proofs.Moving.{Tallies-seat, Tallies-trans, collection_stopped, counted_later, few_of, offer_stopped, offered_tally, stays_chain}
 use Rattle.serve_work.proofs.feeding.accept.Goals.{in-Some-image, in_default}
 use Rattle.serve_work.proofs.feeding.accept.Goals as goal
 
@@ -22,7 +22,8 @@ returns-in-Accepted-clause-buffers g c = c.take_image-image.ensures.kept _ c.loo
 pub returns-in-Stopped-clause-answer : goal.returns-in-Stopped-clause-answer
 returns-in-Stopped-clause-answer g c =
     offer_stopped c.in-Stopped.stop _ c.args.seat.now c.loop.seat c.offer_once.new.seat c.args.writer.now c.loop.writer
-    c.loop.invariant.moved c.loop.invariant.up (rw c.loop.invariant.frame at c.in-Stopped.ensures)
+    c.loop.invariant.moved c.loop.invariant.up (counted_later _ _ c.loop.invariant.tally.seat c.requires.counted)
+    (rw c.loop.invariant.frame at c.in-Stopped.ensures)
 
 pub returns-in-Stopped-clause-buffers : goal.returns-in-Stopped-clause-buffers
 returns-in-Stopped-clause-buffers g c = c.take_image-image.ensures.kept _ c.loop.invariant.buffers

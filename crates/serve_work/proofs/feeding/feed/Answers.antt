@@ -3,7 +3,7 @@ use Rattle.std.specs.Arc.{arc_value}
 use Rattle.filters.specs.Chain.{ChainValue}
 use Rattle.y4m_stream.specs.Reader.{IsOfHeader, TakesFrame, frame_text_of}
 use Rattle.serve_work.proofs.Moving.{Accounted-later, Feeds-stopped, Passes-none, Passes-push, Tallies-none, Tallies-trans}
-use Rattle.serve_work.proofs.Moving.{one_size, sized_memory, stays_chain}
+use Rattle.serve_work.proofs.Moving.{counted_later, one_size, sized_memory, stays_chain}
 use Rattle.serve_work.proofs.feeding.feed.Goals as goal
 
 pub loop-init : goal.loop-init
@@ -21,6 +21,9 @@ read_into-requires-clause-size g c =
 
 pub accept-requires-clause-accounted : goal.accept-requires-clause-accounted
 accept-requires-clause-accounted g c = Accounted-later _ _ _ _ _ c.loop.invariant.passed.moved c.requires.accounted
+
+pub accept-requires-clause-counted : goal.accept-requires-clause-counted
+accept-requires-clause-counted g c = counted_later _ _ c.loop.invariant.tally.seat c.requires.counted
 
 pub accept-requires-clause-frame : goal.accept-requires-clause-frame
 accept-requires-clause-frame g c =
