@@ -5,6 +5,10 @@ use Rattle.std.specs.Borrow.{Bor}
 use Rattle.std.specs.Io.KnownBytes.{Appends}
 use Rattle.std.specs.List.{flat_map, list_all}
 use Rattle.std.specs.Option.{option_map}
+use Rattle.filters.specs.Chain.{chain_of}
+use Rattle.frame_view.specs.declared.geometry.Geometry.{Geometry}
+use Rattle.row_bands.specs.declared.band_height.BandHeight.{BandHeight}
+use Rattle.serve_core.specs.Setup.{StreamSpec}
 use Rattle.serve_script.specs.ScriptReport.{line_text}
 use Rattle.serve_report.specs.ServeChecks.{ChecksGive, all_told}
 use Rattle.serve_report.specs.ServeReport.{row_text, stop_told}
@@ -23,6 +27,22 @@ entered name = record { name = name; stop = None }
 -- a stream that stopped before it
 abbrev pub stopped : Bor (List ℕ) → StreamStop → Entrant
 stopped name stop = record { name = name; stop = Some stop }
+
+-- what a stream is served with, where its frames have this size: its operations, in bands of this height, and
+-- its share; 4 of its frames may wait and 4 of its images, and 16777216 frames may come
+abbrev pub spec_asked : BandHeight → Asked → Geometry → StreamSpec
+spec_asked height asked geometry = record {
+  geometry = geometry;
+  chain = chain_of asked.ops.items geometry height;
+  maximum = asked.word.q;
+  period = asked.word.t;
+  queue = 4;
+  outbox = 4;
+  frames = 2 ^ 24;
+}
+
+abbrev pub IsAsked : BandHeight → Asked → StreamSpec → Type 0
+IsAsked height asked spec = spec ≡ spec_asked height asked spec.geometry
 
 -- what is reported of a stream that stopped before the session
 abbrev pub stopped_row : Bor (List ℕ) → StreamStop → StreamRow

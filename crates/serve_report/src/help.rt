@@ -6,7 +6,9 @@ pub const ABOUT: &str =
 
 /// More of the program, for the long help.
 pub const PAGE: &str = "Examples:
-  ffmpeg -i film.mkv -f yuv4mpegpipe - | y4mserve filter invert > negative.y4m
+  set -o pipefail
+  ffmpeg -i film.mkv -pix_fmt yuv420p -f yuv4mpegpipe - |
+    y4mserve filter invert > negative.y4m
   y4mserve filter crop:16,8,1888,1064+hflip < film.y4m > mirrored.y4m
   y4mserve serve a:a.y4m:negative.y4m:1:2:invert b:b.y4m:soft.y4m:1:2:blur:2
   printf 'account 2 10\\nidle 0\\ncharge 2\\n' | y4mserve replay
@@ -15,6 +17,8 @@ Status:
   0  all went well
   1  a fault of a stream or of the script, or no memory
   2  wrong words, or a stream that would go to a terminal
+A pipe has the status of its last program, but with 'set -o pipefail' that of
+one that failed.
 
 Each command has a page of its own, as 'y4mserve help filter'.";
 
@@ -296,8 +300,8 @@ pub const SERVE_PAGE: &str = "Shares:
   stream has used Q units. So a stream that asks for more than its share moves
   its own deadline back: it goes on where nobody else has work, and comes later
   where somebody has.
-  A lease of a worker is no longer than the units that are left of Q, so a Q
-  below the quantum makes leases short.
+  A lease of a worker has no more bands than the units that are left of Q pay
+  for, but one at least, so a Q below the quantum makes leases short.
 
 Example: fast has half of one worker, and slow a sixth.
   y4mserve serve --workers 1 \\
@@ -326,7 +330,8 @@ Stops, the ends of these lines:
   create         OUT can't be made.
   write N        Writing failed, or nobody reads on; N bytes went out.
   refused TooManyFrames  One more frame follows the last that is read.
-  refused ClockEnd       No moment is left.
+  refused ClockEnd       The moment of an offer is too late. No run comes to
+                 this: its clock stays at the last moment.
   refused HistoryFull    The journal of the run is full. It has 1048576 entries
                  for all streams: a frame takes 2, and 2 for each lease. By
                  invert with the quantum 8 a frame of 1080 rows takes about 20,

@@ -124,7 +124,7 @@ where
     ensures { IfOk result
         (Reports checked.entry.streams.items (W.contents output.old) (W.contents output.new)) }
 {
-    tell_names(alloc, &checked.streams, told)?;
+    let told = begun(alloc, &checked.streams, told);
     let rows = serve_files(rt, alloc, checked, files, told);
     if let Some(watch) = told {
         watch.ends();
@@ -134,21 +134,16 @@ where
     Ok(are_whole(&rows))
 }
 
-/// Tells a watch which streams begin.
-fn tell_names<V: Watch>(
-    alloc: Global,
-    streams: &[Asked<'_>],
-    told: Option<&V>,
-) -> Result<(), AllocError> {
-    let Some(watch) = told else {
-        return Ok(());
-    };
+/// Tells a watch which streams begin, and answers it. Where there is no memory for their names, none is told
+/// of the run.
+fn begun<'w, V: Watch>(alloc: Global, streams: &[Asked<'_>], told: Option<&'w V>) -> Option<&'w V> {
+    let watch = told?;
     let mut names = Vec::new(alloc);
     for asked in streams {
-        names.push(asked.word.name)?;
+        names.push(asked.word.name).ok()?;
     }
     watch.begins(&names);
-    Ok(())
+    Some(watch)
 }
 
 /// Serves the streams between their files, and answers what is reported of each, in order.
@@ -177,8 +172,10 @@ where
         specs,
         inputs,
     } = open_all(alloc, streams, height, files, told)?;
+    // No memory is taken after the session, so that one that ended is reported.
+    let rows = Vec::with_capacity(alloc, entrants.len())?;
     let left = serve_opened(rt, alloc, workers, quantum, specs, inputs)?;
-    let Some(rows) = rows_of(alloc, &entrants, &left)? else {
+    let Some(rows) = rows_of(rows, &entrants, &left) else {
         return Err(RunFault::Session(SessionFault::Mismatch));
     };
     Ok(rows)

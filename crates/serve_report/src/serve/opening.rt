@@ -1,11 +1,13 @@
 //! Opening the streams of a run, each in its turn.
-ghost use Rattle.std.specs.Prelude.{◌≡◌, ◌++◌, ◌∷◌, [], IfOk, OnOk, map};
+ghost use Rattle.std.specs.Prelude.{◌≡◌, ◌^◌, ◌++◌, ◌∷◌, [], IfOk, OnOk, map};
 ghost use Rattle.std.specs.Arc.{arc_value};
+ghost use Rattle.filters.specs.Chain.{chain_of};
 ghost use Rattle.serve_work.specs.Sessions.{AreInputs, IsInput};
-ghost use Rattle.serve_report.specs.Entrants.{entered, stopped};
+ghost use Rattle.serve_report.specs.Entrants.{IsAsked, entered, stopped};
 
 use super::checks::Asked;
 use super::report::StreamStop;
+use super::stream_word::StreamWord;
 use crate::files::Files;
 use crate::watch::Watch;
 use crate::watched::{WatchedSink, WatchedSource};
@@ -123,6 +125,7 @@ fn open_stream<'w, F: Files, V: Watch>(
     told: Option<&'w V>,
 ) -> Result<(StreamSpec, Input<'w, F::Reader, F::Writer, V>), StreamStop>
     ensures input { IfOk result (λ opened. IsInput opened.0 opened.1) }
+    ensures spec { IfOk result (λ opened. IsAsked height asked.entry opened.0) }
     ensures stream { IfOk result (λ opened. opened.1.1.stream ≡ stream) }
 {
     let word = asked.word;
@@ -144,9 +147,18 @@ fn open_stream<'w, F: Files, V: Watch>(
         Ok(output) => output,
         Err(_) => return Err(StreamStop::Create),
     };
-    let spec = StreamSpec::new(geometry, spec, word.q, word.t, QUEUE, OUTBOX, FRAMES);
+    let spec = spec_of(word, geometry, spec);
     let sink = WatchedSink::new(alloc, OverWrite::new(output), stream, told);
     Ok((spec, (reader, sink)))
+}
+
+/// What a stream of this word is served with.
+fn spec_of(word: StreamWord<'_>, geometry: Geometry, spec: Arc<JobSpec>) -> StreamSpec
+    ensures share { (result.maximum ≡ word.entry.q) × (result.period ≡ word.entry.t) }
+    ensures places { (result.queue ≡ 4) × (result.outbox ≡ 4) × (result.frames ≡ 2 ^ 24) }
+    ensures chain { (result.geometry ≡ geometry) × (result.chain ≡ arc_value spec) }
+{
+    StreamSpec::new(geometry, spec, word.q, word.t, QUEUE, OUTBOX, FRAMES)
 }
 
 /// What is done to each frame of this geometry.
@@ -156,7 +168,7 @@ fn job_of(
     geometry: Geometry,
     height: BandHeight,
 ) -> Result<Arc<JobSpec>, FilterError>
-    ensures { IfOk result (λ spec. (arc_value spec).geometry ≡ geometry) }
+    ensures { IfOk result (λ spec. arc_value spec ≡ chain_of ops.items geometry height) }
 {
     let chain = Chain::new(alloc, ops, geometry, height)?;
     let spec = Arc::new(alloc, JobSpec::new(chain))?;

@@ -1,5 +1,5 @@
 //! The report of a run: a line for each stream, and one for all.
-ghost use Rattle.std.specs.Prelude.{◌≡◌, Some, IfOk, IfSome, OnOk};
+ghost use Rattle.std.specs.Prelude.{◌≡◌, ◌≤◌, [], OnOk, length, vec_capacity, vec_items};
 ghost use Rattle.std.specs.Io.KnownBytes.{Appends};
 ghost use Rattle.std.specs.List.{list_all};
 ghost use Rattle.std.specs.Option.{option_map};
@@ -12,29 +12,28 @@ ghost use Rattle.serve_report.specs.ServeReport.{row_text};
 use super::opening::Entrant;
 use super::report::{StreamRow, StreamStop};
 use serve_work::Served;
-use std::alloc::{AllocError, Global};
 use std::io::{self, Write};
 use y4m_stream::{Sink, Source};
 
 /// What is reported of each stream, in order, where some took part in a session that left these. None where
-/// these are too few.
+/// these are too few. There is room for the rows, so that no memory is taken.
 pub fn rows_of<'a, R: Source, W: Sink>(
-    alloc: Global,
+    rows: Vec<StreamRow<'a>>,
     entrants: &[Entrant<'a>],
     left: &[Served<R, W>],
-) -> Result<Option<Vec<StreamRow<'a>>>, AllocError>
-    ensures { IfOk result (λ rows. IfSome rows (λ rows. rows_given entrants.now left.now ≡ Some rows.items)) }
+) -> Option<Vec<StreamRow<'a>>>
+    requires none { rows.items ≡ [] }
+    requires room { length entrants.now ≤ vec_capacity rows }
+    ensures { option_map vec_items result ≡ rows_given entrants.now left.now }
 {
+    let mut rows = rows;
     let mut left = left;
-    let mut rows = Vec::new(alloc);
     for entrant in entrants {
-        let Some((row, later)) = next_row(*entrant, left) else {
-            return Ok(None);
-        };
-        rows.push(row)?;
+        let (row, later) = next_row(*entrant, left)?;
+        rows.push_reserved(row);
         left = later;
     }
-    Ok(Some(rows))
+    Some(rows)
 }
 
 /// What is reported of a stream, and what the session left of those after it.
