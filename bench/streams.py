@@ -163,10 +163,10 @@ def piped(words, source, target):
     return seconds
 
 
-def medians(*runs):
-    """The median of each run's seconds, the runs taken in turn."""
+def medians(*runs, count=RUNS):
+    """The median of each run's seconds, the runs taken in turn so many times."""
     seconds = [[] for _ in runs]
-    for _ in range(RUNS):
+    for _ in range(count):
         for kept, run in zip(seconds, runs):
             kept.append(run())
     return [statistics.median(kept) for kept in seconds]
