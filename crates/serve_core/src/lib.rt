@@ -31,6 +31,3 @@ pub use machine::{CoreError, Machine, run};
 pub use refusal::Refusal;
 pub use setup::{Setup, SetupError};
 pub use spec::StreamSpec;
-
-#[cfg(test)]
-mod tests;

@@ -13,7 +13,7 @@ pub mod hub;
 mod limit;
 pub mod refusal;
 pub mod refused;
-mod same;
+pub mod same;
 mod same_frame;
 mod shared;
 pub mod stream_seat;
@@ -25,8 +25,6 @@ pub use entry::{Act, Entry, Seat, Settled};
 pub use hub::{Hub, HubError, Opened};
 pub use refusal::{Came, Refusal};
 pub use refused::{CollectRefused, LeaseRefused, OfferRefused, OverRefused};
+pub use same::is_same_spec;
 pub use stream_seat::StreamSeat;
 pub use work_seat::WorkSeat;
-
-#[cfg(test)]
-mod tests;

@@ -8,7 +8,7 @@ use row_bands::BandHeight;
 
 /// Whether the same is done to the frames: the same operations, on frames of the same geometry, in bands of
 /// the same height.
-pub(crate) fn is_same_spec(one: &JobSpec, other: &JobSpec) -> bool
+pub fn is_same_spec(one: &JobSpec, other: &JobSpec) -> bool
     ensures { IsTrue result ↔ (one.now ≡ other.now) }
 {
     let (one, other) = (one.chain(), other.chain());

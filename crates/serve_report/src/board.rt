@@ -203,6 +203,3 @@ impl Board {
         errors.write_all(&text)
     }
 }
-
-#[cfg(test)]
-mod tests;

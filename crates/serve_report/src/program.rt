@@ -227,6 +227,3 @@ fn run_replay<R: Read + Drop, W: Write, E: Write>(
         }
     }
 }
-
-#[cfg(test)]
-mod tests;

@@ -92,6 +92,3 @@ pub fn show<E: Write>(errors: &mut E, line: &ProgressLine) {
     let _ = write!(rest, "\r{line}");
     let _ = errors.write_all(&room);
 }
-
-#[cfg(test)]
-mod tests;

@@ -66,10 +66,9 @@ mod output;
 mod print;
 mod run;
 mod session;
-#[cfg(test)]
-mod tests;
 
 pub use self::fault::ReplayFault;
+pub use self::session::line::{push_reply, push_state};
 
 /// The longest script, in bytes.
 pub const SCRIPT_LIMIT: usize = 1_048_576;

@@ -20,6 +20,3 @@ pub use gate::{Clock, Gate};
 pub use session::{Served, SessionFault, serve_session};
 pub use stop::{Cause, Stop};
 pub use workers::work;
-
-#[cfg(test)]
-mod tests;

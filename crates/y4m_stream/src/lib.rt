@@ -24,6 +24,3 @@ pub use passing::MOST_FRAMES;
 pub use put::put_all;
 pub use reader::StreamReader;
 pub use writer::StreamWriter;
-
-#[cfg(test)]
-mod tests;

@@ -1,4 +1,0 @@
-use Rattle.serve_hub.proofs.tests.hubs.a_limit_has_limits.Given as goal
-
-abbrev pub ghosts-short : goal.ghosts-short
-ghosts-short g a = record { name = a.blank.name; parts = a.blank.parts }

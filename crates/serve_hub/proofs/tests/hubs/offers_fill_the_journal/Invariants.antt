@@ -1,4 +1,0 @@
-use Rattle.serve_hub.proofs.tests.hubs.offers_fill_the_journal.Given as goal
-
-abbrev pub ghosts-full_of_offers : goal.ghosts-full_of_offers
-ghosts-full_of_offers g a = record { name = a.blank.name; parts = a.blank.parts }

@@ -1,4 +1,0 @@
-use Rattle.serve_hub.proofs.tests.seats.a_stray_lease_comes_back.Given as goal
-
-abbrev pub ghosts-strayed : goal.ghosts-strayed
-ghosts-strayed g a = record { name = a.blank.name; parts = a.blank.parts }

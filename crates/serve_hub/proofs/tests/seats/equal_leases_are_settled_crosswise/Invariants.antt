@@ -1,7 +1,0 @@
-use Rattle.serve_hub.proofs.tests.seats.equal_leases_are_settled_crosswise.Given as goal
-
-abbrev pub ghosts-crosswise-L-Ledger : goal.ghosts-crosswise-L-Ledger
-ghosts-crosswise-L-Ledger g a = record { name = a.blank.name; parts = a.blank.parts }
-
-abbrev pub ghosts-crosswise-M-Ledger : goal.ghosts-crosswise-M-Ledger
-ghosts-crosswise-M-Ledger g a = record { name = a.other.name; parts = a.other.parts }

@@ -1,7 +1,0 @@
-use Rattle.serve_hub.proofs.tests.seats.seats_come_early.Given as goal
-
-abbrev pub ghosts-early-L-Ledger : goal.ghosts-early-L-Ledger
-ghosts-early-L-Ledger g a = record { name = a.blank.name; parts = a.blank.parts }
-
-abbrev pub ghosts-early-M-Ledger : goal.ghosts-early-M-Ledger
-ghosts-early-M-Ledger g a = record { name = a.other.name; parts = a.other.parts }

@@ -1,7 +1,0 @@
-use Rattle.serve_hub.proofs.Sharing.{references_sync}
-use Rattle.serve_hub.proofs.tests.threads.serve_all.Goals as goal
-
-pub for_each_mut-requires-sync-F : goal.for_each_mut-requires-sync-F
-for_each_mut-requires-sync-F g c κs within =
-    let bounds = c.type_bounds in
-    record { shared = (references_sync _ _ g.L.Ledger _ _ bounds.send-L bounds.sync-L bounds.sync-R).shared }

@@ -1,4 +1,0 @@
-use Rattle.serve_hub.proofs.tests.threads.two_streams_and_two_workers.Given as goal
-
-abbrev pub ghosts-session : goal.ghosts-session
-ghosts-session g a = record { name = a.blank.name; parts = a.blank.parts }

@@ -1,0 +1,4 @@
+use Rattle.serve_hub_tests.proofs.tests.threads.sixteen_streams_and_eight_workers.Given as goal
+
+abbrev pub ghosts-session : goal.ghosts-session
+ghosts-session g a = record { name = a.blank.name; parts = a.blank.parts }

@@ -1,0 +1,136 @@
+//! Those who offer the frames of one stream, and check its images.
+ghost use Rattle.std.specs.Prelude.{IfOk};
+ghost use Rattle.serve_core.specs.Lanes.{IsImageOf};
+
+use super::{Core, frame_of};
+use frame_view::Frame;
+use serve_hub::{Came, Hub, Refusal, StreamSeat};
+use std::alloc::Global;
+use std::sync::ledger::Ledger;
+use std::sync::{Arc, Wait};
+use std::test::Fail;
+
+/// The seat of a stream with the frames to offer, how many right images came in order, and what went wrong
+/// first.
+#[derive(Drop)]
+pub(super) struct Client<L: Ledger> {
+    pub(super) seat: StreamSeat<L>,
+    alloc: Global,
+    frames: Vec<Arc<Frame>>,
+    pub(super) delivered: u64,
+    pub(super) outcome: Result<(), Refusal>,
+}
+
+/// How many frames of a stream differ. It begins again with the first.
+const PERIOD: u64 = 8;
+
+/// The sample of frame `n` of stream `s`.
+fn sample_of(s: u32, n: u64) -> u8 {
+    (n.wrapping_mul(32).wrapping_add(s as u64) % 256) as u8
+}
+
+impl<L: Ledger> Client<L> {
+    pub(super) fn new(alloc: Global, seat: StreamSeat<L>) -> Result<Client<L>, Fail> {
+        let mut frames = Vec::new(alloc);
+        for n in 0..PERIOD {
+            frames.push(frame_of(alloc, &[sample_of(seat.number(), n)])?)?;
+        }
+        Ok(Client {
+            seat,
+            alloc,
+            frames,
+            delivered: 0,
+            outcome: Ok(()),
+        })
+    }
+
+    /// Offers so many frames, and closes. Before each frame from the fifth on it collects an image, and
+    /// offers the frame in its memory.
+    ///
+    /// It closes also where it couldn't offer all of them, so that no worker waits for it.
+    pub(super) fn feed<R: Wait>(&mut self, rt: &R, hub: &Hub<L>, count: u64) {
+        let offered = self.offer_all(rt, hub, count);
+        let closed = hub.close(rt, &mut self.seat);
+        self.outcome = offered.and(closed);
+    }
+
+    /// Collects the images that are left.
+    pub(super) fn drain<R: Wait>(&mut self, rt: &R, hub: &Hub<L>) {
+        for _ in rt.forever() {
+            match self.collect(rt, hub) {
+                Ok(_) => {}
+                Err(Refusal::Core(Core::Drained)) => return,
+                Err(refusal) => {
+                    self.outcome = self.outcome.and(Err(refusal));
+                    return;
+                }
+            }
+        }
+    }
+
+    fn offer_all<R: Wait>(&mut self, rt: &R, hub: &Hub<L>, count: u64) -> Result<(), Refusal> {
+        for n in 0..count {
+            let frame = self.frame(n)?;
+            if self.seat.kept() < 4 {
+                self.offer(rt, hub, n, frame)?;
+            } else {
+                self.offer_over(rt, hub, n, frame)?;
+            }
+        }
+        Ok(())
+    }
+
+    fn offer<R: Wait>(
+        &mut self,
+        rt: &R,
+        hub: &Hub<L>,
+        n: u64,
+        frame: Arc<Frame>,
+    ) -> Result<(), Refusal> {
+        match hub.offer(rt, self.alloc, &mut self.seat, n, frame) {
+            Ok(_) => Ok(()),
+            Err(refused) => Err(refused.refusal),
+        }
+    }
+
+    fn offer_over<R: Wait>(
+        &mut self,
+        rt: &R,
+        hub: &Hub<L>,
+        n: u64,
+        frame: Arc<Frame>,
+    ) -> Result<(), Refusal> {
+        let image = self.collect(rt, hub)?;
+        match hub.offer_over(rt, self.alloc, &mut self.seat, n, frame, image) {
+            Ok(_) => Ok(()),
+            Err(refused) => Err(refused.refusal),
+        }
+    }
+
+    /// The next image. One with other samples than it should have is told as torn.
+    fn collect<R: Wait>(&mut self, rt: &R, hub: &Hub<L>) -> Result<Frame, Refusal>
+        ensures { IfOk result (λ image. IsImageOf self.new.seat.chain image) }
+    {
+        let sample = sample_of(self.seat.number(), self.delivered);
+        let pair = match hub.collect(rt, &mut self.seat) {
+            Ok(pair) => pair,
+            Err(refused) => return Err(refused.refusal),
+        };
+        if pair.source.data() != [sample].as_slice() || pair.image.data() != [!sample].as_slice() {
+            return Err(Refusal::Torn(Came::Source));
+        }
+        self.delivered = self.delivered.saturating_add(1);
+        Ok(pair.image)
+    }
+
+    /// Frame `n` of the seat's stream.
+    fn frame(&self, n: u64) -> Result<Arc<Frame>, Refusal> {
+        let Some(frame) = self.frames.get((n % PERIOD) as usize) else {
+            return Err(Refusal::Core(Core::WrongSize));
+        };
+        match Arc::try_clone(frame) {
+            Ok(frame) => Ok(frame),
+            Err(_) => Err(Refusal::Core(Core::NoMemory)),
+        }
+    }
+}

@@ -1,0 +1,248 @@
+//! Hubs that threads call at once.
+ghost use Rattle.std.specs.Prelude.{◌≡◌};
+ghost use Rattle.std.specs.Thread.{IsSend, IsSync};
+
+use super::clients::Client;
+use super::{PLAIN, setup_of, stepped};
+use serve_hub::{Ended, Hub, LeaseRefused, StreamSeat, WorkSeat};
+use std::alloc::Global;
+use std::marker::Brand;
+use std::process::Abort;
+use std::sync::Wait;
+use std::sync::ledger::{Blank, Ledger};
+use std::test::Fail;
+use std::thread;
+use std::thread::Threads;
+
+/// How many streams and workers there are, how many frames each stream has, and after how many settlements
+/// the first worker stops.
+#[derive(Clone, Copy)]
+struct Plan {
+    streams: usize,
+    workers: u64,
+    frames: u64,
+    stop: u64,
+}
+
+/// As many frames as a client offers before it collects: it passes also where no thread is granted.
+#[test]
+fn two_streams_and_two_workers(rt: HostRuntime) -> Result<(), Fail> {
+    let plan = Plan {
+        streams: 2,
+        workers: 2,
+        frames: 4,
+        stop: u64::MAX,
+    };
+    session::<Brand, _>(&rt, rt.alloc(), Blank::new(80), plan)
+}
+
+/// 2,000 frames.
+#[test]
+fn sixteen_streams_and_eight_workers(rt: HostRuntime) -> Result<(), Fail> {
+    let plan = Plan {
+        streams: 16,
+        workers: 8,
+        frames: 125,
+        stop: u64::MAX,
+    };
+    session::<Brand, _>(&rt, rt.alloc(), Blank::new(80), plan)
+}
+
+/// 2,000 frames each time. The other workers do what the first leaves.
+#[test]
+fn a_worker_stops_early(rt: HostRuntime) -> Result<(), Fail> {
+    for stop in 0..21 {
+        let plan = Plan {
+            streams: 16,
+            workers: 8,
+            frames: 125,
+            stop,
+        };
+        session::<Brand, _>(&rt, rt.alloc(), Blank::new(80), plan)?;
+    }
+    Ok(())
+}
+
+/// Serves the frames of all streams by threads, and ends.
+fn session<L: Ledger + Send + Sync, R: Threads + Wait + Abort + Sync>(
+    rt: &R,
+    alloc: Global,
+    blank: Blank,
+    plan: Plan,
+) -> Result<(), Fail>
+    requires name { blank.name ≡ L.name }
+    requires parts { blank.parts ≡ L.parts }
+    requires enough { blank.parts ≡ 80 }
+{
+    let setup = setup_of(alloc, plan.workers, &vec![in alloc; PLAIN; plan.streams]?)?;
+    let (hub, seats, workers) = Hub::<L>::new(alloc, blank, setup, 10_000)?;
+    let clients = clients_of(alloc, seats)?;
+    let (workers, clients) = run(rt, &hub, workers, clients, plan)?;
+    let seats = seats_of(rt, alloc, clients, plan.frames)?;
+    match hub.finish(seats, workers) {
+        Ok(ended) => check(rt, &ended, plan),
+        Err(mismatch) => Err(mismatch.fault.into()),
+    }
+}
+
+fn clients_of<L: Ledger>(alloc: Global, seats: Vec<StreamSeat<L>>) -> Result<Vec<Client<L>>, Fail> {
+    let mut clients = Vec::new(alloc);
+    for seat in seats {
+        clients.push(Client::new(alloc, seat)?)?;
+    }
+    Ok(clients)
+}
+
+/// The seats of clients who got so many images each.
+fn seats_of<L: Ledger>(
+    rt: &impl Abort,
+    alloc: Global,
+    clients: Vec<Client<L>>,
+    count: u64,
+) -> Result<Vec<StreamSeat<L>>, Fail> {
+    let mut seats = Vec::new(alloc);
+    for client in clients {
+        client.outcome?;
+        assert_eq!(rt; client.delivered, count);
+        seats.push(client.seat)?;
+    }
+    Ok(seats)
+}
+
+/// What the end of a session tells: each frame is four calls, and one band.
+fn check(rt: &impl Abort, ended: &Ended, plan: Plan) -> Result<(), Fail> {
+    let streams = plan.streams as u64;
+    let calls = streams.saturating_mul(plan.frames.saturating_mul(4).saturating_add(1));
+    assert_eq!(rt; ended.journal().len() as u64, calls);
+    for s in 0..plan.streams.min(64) {
+        let counts = ended.counts(s as u32).ok_or("no counts")?;
+        assert_eq!(rt;
+            (counts.accepted, counts.collected, counts.charged),
+            (plan.frames, plan.frames, plan.frames)
+        );
+    }
+    assert!(rt; ended.bands(0) <= plan.stop);
+    assert_eq!(rt;
+        bands(rt, ended, plan.workers),
+        streams.saturating_mul(plan.frames)
+    );
+    Ok(())
+}
+
+/// How many bands the workers settled, each of which is a unit.
+fn bands(rt: &impl Abort, ended: &Ended, workers: u64) -> u64 {
+    let mut sum = 0u64;
+    for w in 0..workers.min(16) {
+        let bands = ended.bands(w as u32);
+        assert_eq!(rt; ended.units(w as u32), Some(bands));
+        sum = sum.saturating_add(bands);
+    }
+    sum
+}
+
+/// The workers work in a thread of their own while the clients are served. Where it isn't granted, all that
+/// the clients can offer is worked before they collect.
+fn run<L: Ledger + Send + Sync, R: Threads + Wait + Sync>(
+    rt: &R,
+    hub: &Hub<L>,
+    workers: Vec<WorkSeat<L>>,
+    clients: Vec<Client<L>>,
+    plan: Plan,
+) -> Result<(Vec<WorkSeat<L>>, Vec<Client<L>>), Fail> {
+    let (count, stop) = (plan.frames, plan.stop);
+    thread::scope(
+        thread::scope_env(),
+        rt,
+        |scope|
+            requires { IsSync R.row × IsSync L.row × IsSend L.row }
+        {
+            match scope.spawn(move || work_all(rt, hub, workers, stop)) {
+                Ok(working) => {
+                    let clients = serve_all(rt, hub, clients, count);
+                    Ok((working.join(rt), clients))
+                }
+                Err(_) if count > 4 => Err("was a thread or its memory refused?".into()),
+                Err(refused) => {
+                    let mut clients = clients;
+                    feed_all(rt, hub, &mut clients, count);
+                    let workers = (refused.value)();
+                    drain_all(rt, hub, &mut clients);
+                    Ok((workers, clients))
+                }
+            }
+        },
+    )
+}
+
+fn feed_all<L: Ledger, R: Wait>(rt: &R, hub: &Hub<L>, clients: &mut Vec<Client<L>>, count: u64) {
+    for client in clients {
+        client.feed(rt, hub, count);
+    }
+}
+
+fn drain_all<L: Ledger, R: Wait>(rt: &R, hub: &Hub<L>, clients: &mut Vec<Client<L>>) {
+    for client in clients {
+        client.drain(rt, hub);
+    }
+}
+
+/// A thread for each client, or one for some where others are refused.
+fn serve_all<L: Ledger + Send + Sync, R: Threads + Wait + Sync>(
+    rt: &R,
+    hub: &Hub<L>,
+    clients: Vec<Client<L>>,
+    count: u64,
+) -> Vec<Client<L>> {
+    let mut clients = clients;
+    thread::for_each_mut(
+        rt,
+        &mut clients,
+        16,
+        &|_, client: &mut Client<L>| {
+            client.feed(rt, hub, count);
+            client.drain(rt, hub);
+        },
+    );
+    clients
+}
+
+/// A thread for each worker, or one for some where others are refused.
+fn work_all<L: Ledger + Send + Sync, R: Threads + Wait + Sync>(
+    rt: &R,
+    hub: &Hub<L>,
+    workers: Vec<WorkSeat<L>>,
+    stop: u64,
+) -> Vec<WorkSeat<L>> {
+    let mut workers = workers;
+    thread::for_each_mut(
+        rt,
+        &mut workers,
+        8,
+        &|_, seat: &mut WorkSeat<L>| {
+            work(rt, hub, seat, stop);
+        },
+    );
+    workers
+}
+
+/// Leases and settles until it is refused, or the first worker has settled so many.
+fn work<L: Ledger, R: Wait>(rt: &R, hub: &Hub<L>, seat: &mut WorkSeat<L>, stop: u64) {
+    let most = if seat.worker() == 0 { stop } else { u64::MAX };
+    for _ in 0..most {
+        let Ok(lease) = hub.lease(rt, seat) else {
+            return;
+        };
+        let granted = lease.granted();
+        if let Err(refused) = hub.settle(rt, seat, stepped(lease, granted)) {
+            give_up(refused);
+            return;
+        }
+    }
+}
+
+fn give_up(refused: LeaseRefused) {
+    let LeaseRefused { refusal: _, lease } = refused;
+    if let Some(lease) = lease {
+        let _job = lease.into_job();
+    }
+}

@@ -1,0 +1,10 @@
+//! The program over readers and writers in memory, and what it shows on a terminal, by the public calls of
+//! `serve_report`.
+#![tactic(auto)]
+
+#[cfg(test)]
+mod board;
+#[cfg(test)]
+mod program;
+#[cfg(test)]
+mod progress;

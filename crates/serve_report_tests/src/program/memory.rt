@@ -1,0 +1,151 @@
+//! Files in memory, which a run opens and makes by name.
+use serve_report::Files;
+use std::alloc::Global;
+use std::io::{self, ErrorKind, Read, Write};
+use std::sync::{Mutex, Wait};
+
+/// A file that can be read.
+#[derive(Clone, Copy)]
+pub struct Given<'a> {
+    pub name: &'a str,
+    pub text: &'a [u8],
+    /// Its reads fail behind the text.
+    pub fails: bool,
+}
+
+/// A file that can be made.
+#[derive(Drop)]
+pub struct Made<'a> {
+    pub name: &'a str,
+    /// Its writes fail behind so many bytes.
+    pub most: usize,
+    pub is_made: Mutex<bool>,
+    pub text: Mutex<Vec<u8>>,
+}
+
+impl<'a> Made<'a> {
+    pub fn new(alloc: Global, name: &'a str, most: usize) -> Made<'a> {
+        Made {
+            name,
+            most,
+            is_made: Mutex::new(false),
+            text: Mutex::new(Vec::new(alloc)),
+        }
+    }
+}
+
+/// The files of a run, and how often one was asked for.
+#[derive(Drop)]
+pub struct Memory<'a, T: Wait + Sync> {
+    pub rt: &'a T,
+    pub given: &'a [Given<'a>],
+    pub made: &'a [Made<'a>],
+    pub asked: Mutex<u64>,
+}
+
+impl<'a, T: Wait + Sync> Memory<'a, T> {
+    pub fn new(rt: &'a T, given: &'a [Given<'a>], made: &'a [Made<'a>]) -> Memory<'a, T> {
+        Memory {
+            rt,
+            given,
+            made,
+            asked: Mutex::new(0),
+        }
+    }
+}
+
+/// One more file was asked for.
+fn count<T: Wait>(rt: &T, asked: &Mutex<u64>) {
+    let mut asked = asked.lock(rt);
+    *asked = asked.saturating_add(1);
+}
+
+/// Reads what a file gives.
+#[derive(Drop)]
+pub struct Input<'a> {
+    rest: &'a [u8],
+    fails: bool,
+}
+
+impl Read for Input<'_> {
+    fn read(&mut self, buf: &mut [u8]) -> io::Result<usize> {
+        if self.fails && self.rest.is_empty() {
+            return Err(io::Error::from(ErrorKind::Other));
+        }
+        self.rest.read(buf)
+    }
+}
+
+/// Writes to a file that was made.
+#[derive(Drop)]
+pub struct Output<'a, T: Wait + Sync> {
+    rt: &'a T,
+    file: &'a Made<'a>,
+}
+
+impl<T: Wait + Sync> Write for Output<'_, T> {
+    fn write(&mut self, buf: &[u8]) -> io::Result<usize> {
+        let mut text = self.file.text.lock(self.rt);
+        let room = self.file.most.saturating_sub(text.len());
+        let taken = room.min(buf.len());
+        if taken == 0 && !buf.is_empty() {
+            return Err(io::Error::from(ErrorKind::Other));
+        }
+        match text.extend_from_slice(&buf[..taken]) {
+            Ok(()) => Ok(taken),
+            Err(_) => Err(io::Error::from(ErrorKind::OutOfMemory)),
+        }
+    }
+
+    fn flush(&mut self) -> io::Result<()> {
+        Ok(())
+    }
+}
+
+impl<'a, T: Wait + Sync> Files for Memory<'a, T> {
+    type Reader = Input<'a>;
+
+    type Writer = Output<'a, T>;
+
+    fn open(&self, name: &str) -> io::Result<Input<'a>> {
+        count(self.rt, &self.asked);
+        for file in self.given {
+            if file.name == name {
+                return Ok(Input {
+                    rest: file.text,
+                    fails: file.fails,
+                });
+            }
+        }
+        Err(io::Error::from(ErrorKind::NotFound))
+    }
+
+    fn create(&self, name: &str) -> io::Result<Output<'a, T>> {
+        count(self.rt, &self.asked);
+        for file in self.made {
+            if file.name == name {
+                *file.is_made.lock(self.rt) = true;
+                return Ok(Output { rt: self.rt, file });
+            }
+        }
+        Err(io::Error::from(ErrorKind::PermissionDenied))
+    }
+}
+
+/// No file can be opened or made.
+#[derive(Clone, Copy)]
+pub struct NoFiles;
+
+impl Files for NoFiles {
+    type Reader = &'static [u8];
+
+    type Writer = io::Sink;
+
+    fn open(&self, _name: &str) -> io::Result<&'static [u8]> {
+        Err(io::Error::from(ErrorKind::NotFound))
+    }
+
+    fn create(&self, _name: &str) -> io::Result<io::Sink> {
+        Err(io::Error::from(ErrorKind::PermissionDenied))
+    }
+}

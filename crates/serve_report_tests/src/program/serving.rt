@@ -1,0 +1,180 @@
+//! Runs of `serve`.
+use super::memory::{Given, Made, Memory};
+use super::{words_of, written};
+use serve_report::{Unwatched, Watch, run_on};
+use std::alloc::{AllocError, Global};
+use std::process::Abort;
+use std::sync::Wait;
+use std::test::Fail;
+use std::thread::Threads;
+
+mod checks;
+mod faults;
+mod growths;
+mod many;
+mod watched;
+
+/// Three frames of four samples, behind a header of 22 bytes.
+pub const A: &[u8] =
+    b"YUV4MPEG2 W2 H2 Cmono\nFRAME\n\x00\x01\xFE\xFFFRAME\n\x10\x20\x30\x40FRAME\n\x7F\x80\x81\x82";
+
+/// The same by `invert`.
+pub const A_INVERTED: &[u8] =
+    b"YUV4MPEG2 W2 H2 Cmono\nFRAME\n\xFF\xFE\x01\x00FRAME\n\xEF\xDF\xCF\xBFFRAME\n\x80\x7F\x7E\x7D";
+
+/// Three frames of four samples.
+pub const B: &[u8] = b"YUV4MPEG2 W2 H2 Cmono\nFRAME\n1234FRAME\n5678FRAME\nabcd";
+
+/// The same by `hflip+vflip`: half a turn.
+pub const B_TURNED: &[u8] = b"YUV4MPEG2 W2 H2 Cmono\nFRAME\n4321FRAME\n8765FRAME\ndcba";
+
+/// Two streams.
+pub const TWO: &str = "serve --workers 2 a:a.y4m:a.out:1:2:invert b:b.y4m:b.out:1:2:hflip+vflip";
+
+/// A file that gives this text, and then ends.
+pub fn given<'a>(name: &'a str, text: &'a [u8]) -> Given<'a> {
+    Given {
+        name,
+        text,
+        fails: false,
+    }
+}
+
+/// What a run is to come to.
+#[derive(Clone, Copy)]
+pub struct Expected<'a> {
+    pub report: &'a str,
+    pub errors: &'a str,
+    pub status: u8,
+}
+
+/// Runs the program with these words and files under a watch, and answers its status and how much is left of
+/// the rooms for what it reports and says.
+fn runs_in<R: Abort + Threads + Wait + Sync, V: Watch + Sync>(
+    rt: &R,
+    alloc: Global,
+    line: &str,
+    files: &Memory<'_, R>,
+    watch: &V,
+    report: &mut [u8],
+    errors: &mut [u8],
+) -> Result<(u8, usize, usize), AllocError> {
+    let words = words_of(alloc, line)?;
+    let mut room = report;
+    let mut rest = errors;
+    let status = run_on(
+        rt,
+        alloc,
+        &words,
+        b"".as_slice(),
+        &mut room,
+        &mut rest,
+        files,
+        watch,
+    );
+    Ok((status, room.len(), rest.len()))
+}
+
+/// Runs the program with these words and files, and compares what it reports and says, and its status.
+pub fn serves<R: Abort + Threads + Wait + Sync>(
+    rt: &R,
+    alloc: Global,
+    line: &str,
+    files: &Memory<'_, R>,
+    expected: Expected<'_>,
+) -> Result<(), Fail> {
+    serves_under(rt, alloc, line, files, &Unwatched, expected)
+}
+
+/// The same, under a watch.
+pub fn serves_under<R: Abort + Threads + Wait + Sync, V: Watch + Sync>(
+    rt: &R,
+    alloc: Global,
+    line: &str,
+    files: &Memory<'_, R>,
+    watch: &V,
+    expected: Expected<'_>,
+) -> Result<(), Fail> {
+    let mut faults = [0; 512];
+    let mut lines = [0; 8192];
+    let (status, left, unsaid) = runs_in(rt, alloc, line, files, watch, &mut lines, &mut faults)?;
+    let report = str::from_utf8(written(&lines, left)).ok();
+    let said = str::from_utf8(written(&faults, unsaid)).ok();
+    assert_eq!(rt; said, Some(expected.errors), "{line}");
+    assert_eq!(rt; report, Some(expected.report), "{line}");
+    assert_eq!(rt; status, expected.status, "{line}");
+    Ok(())
+}
+
+/// Compares what was written to a file.
+pub fn holds<R: Abort + Wait>(rt: &R, file: &Made<'_>, text: &[u8]) {
+    let name = file.name;
+    let kept = file.text.lock(rt);
+    assert_eq!(rt; kept.as_slice(), text, "{name}");
+}
+
+/// Runs the two streams from these inputs; the writer of the first takes so many bytes.
+pub fn serves_two<R: Abort + Threads + Wait + Sync>(
+    rt: &R,
+    alloc: Global,
+    a: Given<'_>,
+    most: usize,
+    a_text: &[u8],
+    expected: Expected<'_>,
+) -> Result<(), Fail> {
+    let inputs = [a, given("b.y4m", B)];
+    let outputs = [
+        Made::new(alloc, "a.out", most),
+        Made::new(alloc, "b.out", 4096),
+    ];
+    let files = Memory::new(rt, &inputs, &outputs);
+    serves(rt, alloc, TWO, &files, expected)?;
+    holds(rt, &outputs[0], a_text);
+    holds(rt, &outputs[1], B_TURNED);
+    Ok(())
+}
+
+#[test]
+fn two_streams_are_served_at_once(rt: HostRuntime) -> Result<(), Fail> {
+    let header = b"YUV4MPEG2 W2 H2 F25:1 Ip A1:1 Cmono XA=b\n".as_slice();
+    for (text, inverted, row, units) in [
+        (A, A_INVERTED, "accepted 3 delivered 3 charged 3", 9),
+        (header, header, "accepted 0 delivered 0 charged 0", 6),
+    ] {
+        let other = "b accepted 3 delivered 3 charged 6 stop whole";
+        let report = format!(in rt.alloc(); "a {row} stop whole\n{other}\nunits {units}\n")?;
+        let expected = Expected {
+            report: report.as_str(),
+            errors: "",
+            status: 0,
+        };
+        serves_two(
+            &rt,
+            rt.alloc(),
+            given("a.y4m", text),
+            4096,
+            inverted,
+            expected,
+        )?;
+    }
+    Ok(())
+}
+
+#[test]
+fn a_crop_has_a_header_of_its_own_and_a_blur_costs_more(rt: HostRuntime) -> Result<(), Fail> {
+    let inputs = [given("a.y4m", A)];
+    let outputs = [Made::new(rt.alloc(), "a.out", 4096)];
+    let files = Memory::new(&rt, &inputs, &outputs);
+    let report = "a accepted 3 delivered 3 charged 12 stop whole\nunits 12\n";
+    let expected = Expected {
+        report,
+        errors: "",
+        status: 0,
+    };
+    // A crop costs 1 and a blur of radius 2 costs 3.
+    let line = "serve --band 2 --quantum 1 a:a.y4m:a.out:10:40:crop:0,0,1,1+blur:2";
+    serves(&rt, rt.alloc(), line, &files, expected)?;
+    let text = b"YUV4MPEG2 W1 H1 Cmono\nFRAME\n\x00FRAME\n\x10FRAME\n\x7F";
+    holds(&rt, &outputs[0], text);
+    Ok(())
+}

@@ -1,0 +1,98 @@
+//! What a watch is told of streams that are served at once.
+use super::{A, Expected, TWO, given, serves_under};
+use crate::program::memory::{Made, Memory};
+use crate::program::watches::Told;
+use std::alloc::Global;
+use std::process::Abort;
+use std::sync::Wait;
+use std::test::Fail;
+use std::thread::Threads;
+
+/// One frame of four samples, behind a header of 22 bytes.
+const ONE: &[u8] = b"YUV4MPEG2 W2 H2 Cmono\nFRAME\n1234";
+
+/// What is reported where both streams are whole.
+const BOTH: &str = "a accepted 3 delivered 3 charged 3 stop whole\n\
+                    b accepted 1 delivered 1 charged 2 stop whole\nunits 5\n";
+
+/// Serves two streams under a watch, the first from this file.
+fn serves_two_under(
+    rt: &(impl Abort + Threads + Wait + Sync),
+    alloc: Global,
+    line: &str,
+    first: &str,
+    watch: &Told<'_>,
+    report: &str,
+    status: u8,
+) -> Result<(), Fail> {
+    let inputs = [given(first, A), given("b.y4m", ONE)];
+    let outputs = [
+        Made::new(alloc, "a.out", 4096),
+        Made::new(alloc, "b.out", 4096),
+    ];
+    let files = Memory::new(rt, &inputs, &outputs);
+    let expected = Expected {
+        report,
+        errors: "",
+        status,
+    };
+    serves_under(rt, alloc, line, &files, watch, expected)
+}
+
+#[test]
+fn frames_are_told_as_those_of_their_stream(rt: HostRuntime) -> Result<(), Fail> {
+    let watch = Told::of_streams(&["a", "b"]);
+    serves_two_under(&rt, rt.alloc(), TWO, "a.y4m", &watch, BOTH, 0)?;
+    assert_eq!(rt; watch.begun(), 1);
+    assert_eq!(rt; watch.frames(0), (3, 3, 22 + 3 * (6 + 4)));
+    assert_eq!(rt; watch.frames(1), (1, 1, 22 + 6 + 4));
+    assert_eq!(rt; watch.ended(), 1);
+    Ok(())
+}
+
+#[test]
+fn a_stream_keeps_its_number_where_one_before_it_stops(rt: HostRuntime) -> Result<(), Fail> {
+    let watch = Told::of_streams(&["a", "b"]);
+    let report = "a accepted 0 delivered 0 charged 0 stop open\n\
+                  b accepted 1 delivered 1 charged 2 stop whole\nunits 2\n";
+    serves_two_under(&rt, rt.alloc(), TWO, "elsewhere", &watch, report, 1)?;
+    assert_eq!(rt; watch.begun(), 1);
+    assert_eq!(rt; watch.frames(0), (0, 0, 0));
+    assert_eq!(rt; watch.frames(1), (1, 1, 32));
+    assert_eq!(rt; watch.ended(), 1);
+    Ok(())
+}
+
+#[test]
+fn nothing_is_told_of_a_quiet_run_or_to_a_watch_that_follows_none(
+    rt: HostRuntime,
+) -> Result<(), Fail> {
+    let quiet = "serve -q --workers 2 a:a.y4m:a.out:1:2:invert b:b.y4m:b.out:1:2:hflip+vflip";
+    for (line, watch) in [
+        (quiet, Told::of_streams(&["a", "b"])),
+        (TWO, Told::of_none(&["a", "b"])),
+    ] {
+        serves_two_under(&rt, rt.alloc(), line, "a.y4m", &watch, BOTH, 0)?;
+        assert_eq!(rt; watch.begun(), 0);
+        assert_eq!(rt; watch.frames(0), (0, 0, 0));
+        assert_eq!(rt; watch.frames(1), (0, 0, 0));
+        assert_eq!(rt; watch.ended(), 0);
+    }
+    Ok(())
+}
+
+#[test]
+fn no_stream_begins_where_the_words_are_wrong(rt: HostRuntime) -> Result<(), Fail> {
+    let watch = Told::of_streams(&["a", "b"]);
+    let files = Memory::new(&rt, &[], &[]);
+    let expected = Expected {
+        report: "",
+        errors: "y4mserve: BadOp a\n",
+        status: 2,
+    };
+    let line = "serve a:a.y4m:a.out:1:2:blur:9";
+    serves_under(&rt, rt.alloc(), line, &files, &watch, expected)?;
+    assert_eq!(rt; watch.begun(), 0);
+    assert_eq!(rt; watch.ended(), 0);
+    Ok(())
+}

@@ -1,0 +1,319 @@
+use super::memory::NoFiles;
+use super::{words_of, written};
+use serve_report::{Watch, run_on};
+use std::alloc::Global;
+use std::io::{self, Read};
+use std::process::Abort;
+use std::sync::Wait;
+use std::sync::atomic::AtomicU64;
+use std::sync::atomic::Ordering::SeqCst;
+use std::test::Fail;
+use std::thread::Threads;
+
+/// What a watch was told of a stream.
+#[derive(Drop)]
+struct Counted {
+    read: AtomicU64,
+    written: AtomicU64,
+    bytes: AtomicU64,
+}
+
+impl Counted {
+    fn new() -> Counted {
+        Counted {
+            read: AtomicU64::new(0),
+            written: AtomicU64::new(0),
+            bytes: AtomicU64::new(0),
+        }
+    }
+}
+
+/// Tells of terminals, and keeps what it is told of up to two streams and how often it is asked.
+#[derive(Drop)]
+pub struct Told<'n> {
+    input_is_terminal: bool,
+    output_is_terminal: bool,
+    follows_frames: bool,
+    names: &'n [&'n str],
+    asked: AtomicU64,
+    begun: AtomicU64,
+    streams: [Counted; 2],
+    ended: AtomicU64,
+}
+
+impl<'n> Told<'n> {
+    fn new(input_is_terminal: bool, output_is_terminal: bool) -> Told<'n> {
+        Told {
+            input_is_terminal,
+            output_is_terminal,
+            follows_frames: true,
+            names: &[],
+            asked: AtomicU64::new(0),
+            begun: AtomicU64::new(0),
+            streams: [Counted::new(), Counted::new()],
+            ended: AtomicU64::new(0),
+        }
+    }
+
+    /// With no terminal, for streams of these names.
+    pub fn of_streams(names: &'n [&'n str]) -> Told<'n> {
+        Told {
+            names,
+            ..Told::new(false, false)
+        }
+    }
+
+    /// The same, where it follows no frames.
+    pub fn of_none(names: &'n [&'n str]) -> Told<'n> {
+        Told {
+            follows_frames: false,
+            ..Told::of_streams(names)
+        }
+    }
+
+    /// The frames that were read and written of a stream, and the bytes that were written.
+    pub fn frames(&self, stream: usize) -> (u64, u64, u64) {
+        match self.streams.get(stream) {
+            Some(counted) => (
+                counted.read.load(SeqCst),
+                counted.written.load(SeqCst),
+                counted.bytes.load(SeqCst),
+            ),
+            None => (0, 0, 0),
+        }
+    }
+
+    /// How often it was told that streams of its names begin.
+    pub fn begun(&self) -> u64 {
+        self.begun.load(SeqCst)
+    }
+
+    /// How often it was told that nothing more is read or written.
+    pub fn ended(&self) -> u64 {
+        self.ended.load(SeqCst)
+    }
+
+    /// How often it was asked about the output.
+    fn asked(&self) -> u64 {
+        self.asked.load(SeqCst)
+    }
+}
+
+impl Watch for Told<'_> {
+    fn input_is_terminal(&self) -> bool {
+        self.input_is_terminal
+    }
+
+    fn output_is_terminal(&self) -> bool {
+        self.asked.fetch_add(1, SeqCst);
+        self.output_is_terminal
+    }
+
+    fn follows_frames(&self) -> bool {
+        self.follows_frames
+    }
+
+    fn begins(&self, names: &[&str]) {
+        if names == self.names {
+            self.begun.fetch_add(1, SeqCst);
+        }
+    }
+
+    fn frames_read(&self, stream: usize, frames: u64) {
+        if let Some(counted) = self.streams.get(stream) {
+            counted.read.fetch_add(frames, SeqCst);
+        }
+    }
+
+    fn frames_written(&self, stream: usize, frames: u64, bytes: u64) {
+        if let Some(counted) = self.streams.get(stream) {
+            counted.written.fetch_add(frames, SeqCst);
+            counted.bytes.fetch_add(bytes, SeqCst);
+        }
+    }
+
+    fn ends(&self) {
+        self.ended.fetch_add(1, SeqCst);
+    }
+}
+
+/// Gives its bytes a few at a time, and counts its reads.
+#[derive(Drop)]
+struct Few<'a> {
+    rest: &'a [u8],
+    most: usize,
+    reads: u64,
+}
+
+impl Read for Few<'_> {
+    fn read(&mut self, buf: &mut [u8]) -> io::Result<usize> {
+        self.reads = self.reads.saturating_add(1);
+        let room = buf.len().min(self.most);
+        self.rest.read(&mut buf[..room])
+    }
+}
+
+/// Runs the program under a watch, compares what it says, and answers how much it wrote.
+fn watched<R: Read + Drop + Send>(
+    rt: &(impl Abort + Threads + Wait + Sync),
+    alloc: Global,
+    line: &str,
+    input: R,
+    watch: &Told<'_>,
+    said: &str,
+    status: u8,
+) -> Result<usize, Fail> {
+    let words = words_of(alloc, line)?;
+    let mut faults = [0; 256];
+    let mut rest = faults.as_mut_slice();
+    let mut output = [0; 8192];
+    let mut room = output.as_mut_slice();
+    let answer = run_on(
+        rt, alloc, &words, input, &mut room, &mut rest, &NoFiles, watch,
+    );
+    let left = rest.len();
+    assert_eq!(rt;
+        str::from_utf8(written(&faults, left)).ok(),
+        Some(said),
+        "{line}"
+    );
+    assert_eq!(rt; answer, status, "{line}");
+    Ok(8192 - room.len().min(8192))
+}
+
+/// 3 frames of 6 bytes; a header of 16, and lines of 6, 9 and 6.
+const THREE: &[u8] = b"YUV4MPEG2 W2 H2\nFRAME\n123456FRAME Ip\n\nFRAMEFRAME\nabcdef";
+
+#[test]
+fn a_terminal_is_no_output_of_filter(rt: HostRuntime) -> Result<(), Fail> {
+    let watch = Told::new(true, true);
+    let mut input = Few {
+        rest: THREE,
+        most: 99,
+        reads: 0,
+    };
+    let said = "y4mserve: output is a terminal\n";
+    let count = watched(
+        &rt,
+        rt.alloc(),
+        "filter invert",
+        &mut input,
+        &watch,
+        said,
+        2,
+    )?;
+    assert_eq!(rt; count, 0);
+    assert_eq!(rt; input.reads, 0);
+    assert_eq!(rt; watch.asked(), 1);
+    Ok(())
+}
+
+#[test]
+fn wrong_words_and_help_come_before_terminals(rt: HostRuntime) -> Result<(), Fail> {
+    let watch = Told::new(true, true);
+    let empty = b"".as_slice();
+    watched(
+        &rt,
+        rt.alloc(),
+        "filter blur:9",
+        empty,
+        &watch,
+        "y4mserve: BadOp\n",
+        2,
+    )?;
+    watched(
+        &rt,
+        rt.alloc(),
+        "filter --band 9 invert",
+        empty,
+        &watch,
+        "y4mserve: bad band\n",
+        2,
+    )?;
+    let count = watched(&rt, rt.alloc(), "filter --help", empty, &watch, "", 0)?;
+    assert!(rt; count > 0);
+    let count = watched(
+        &rt,
+        rt.alloc(),
+        "replay",
+        b"account 2 10".as_slice(),
+        &watch,
+        "",
+        0,
+    )?;
+    assert_eq!(rt; count, 20);
+    assert_eq!(rt; watch.asked(), 0);
+    Ok(())
+}
+
+#[test]
+fn a_terminal_that_is_awaited_is_told_once(rt: HostRuntime) -> Result<(), Fail> {
+    let watch = Told::new(true, false);
+    let said = "y4mserve: waiting for a stream (.y4m) on standard input, which is a terminal; \
+                for help: y4mserve filter --help\n";
+    let count = watched(&rt, rt.alloc(), "filter invert", THREE, &watch, said, 0)?;
+    assert_eq!(rt; count, THREE.len());
+    let count = watched(
+        &rt,
+        rt.alloc(),
+        "filter --quiet invert",
+        THREE,
+        &watch,
+        "",
+        0,
+    )?;
+    assert_eq!(rt; count, THREE.len());
+    Ok(())
+}
+
+#[test]
+fn each_frame_is_told_however_it_comes(rt: HostRuntime) -> Result<(), Fail> {
+    for most in [1, 5, 16, 22, 99] {
+        let watch = Told::new(false, false);
+        let input = Few {
+            rest: THREE,
+            most,
+            reads: 0,
+        };
+        let count = watched(&rt, rt.alloc(), "filter vflip", input, &watch, "", 0)?;
+        assert_eq!(rt; count, THREE.len());
+        assert_eq!(rt; watch.asked(), 1);
+        assert_eq!(rt; watch.frames(0), (3, 3, THREE.len() as u64));
+        assert_eq!(rt; watch.ended(), 1);
+    }
+    Ok(())
+}
+
+#[test]
+fn frames_before_a_fault_are_told(rt: HostRuntime) -> Result<(), Fail> {
+    let watch = Told::new(false, false);
+    let cut = &THREE[..THREE.len() - 1];
+    let said = "y4mserve: read Truncated\n";
+    watched(&rt, rt.alloc(), "filter invert", cut, &watch, said, 1)?;
+    assert_eq!(rt; watch.frames(0), (2, 2, 16 + (6 + 6) + (9 + 6)));
+    assert_eq!(rt; watch.ended(), 1);
+    Ok(())
+}
+
+/// A header of 22 bytes, and 2 frames of 8 samples.
+const WIDE: &[u8] = b"YUV4MPEG2 W4 H2 Cmono\nFRAME\n01234567FRAME\n89abcdef";
+
+#[test]
+fn images_are_counted_by_their_own_size(rt: HostRuntime) -> Result<(), Fail> {
+    let watch = Told::new(false, false);
+    let line = "filter crop:1,0,2,1";
+    let count = watched(&rt, rt.alloc(), line, WIDE, &watch, "", 0)?;
+    assert_eq!(rt; count, 22 + 2 * (6 + 2));
+    assert_eq!(rt; watch.frames(0), (2, 2, 38));
+    Ok(())
+}
+
+#[test]
+fn a_quiet_run_tells_no_frames(rt: HostRuntime) -> Result<(), Fail> {
+    let watch = Told::new(false, false);
+    watched(&rt, rt.alloc(), "filter -q invert", WIDE, &watch, "", 0)?;
+    assert_eq!(rt; watch.asked(), 1);
+    assert_eq!(rt; watch.frames(0), (0, 0, 0));
+    assert_eq!(rt; watch.ended(), 0);
+    Ok(())
+}

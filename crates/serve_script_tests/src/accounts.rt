@@ -1,0 +1,395 @@
+use serve_script::{ReplayFault, replay};
+use std::alloc::{AllocError, Global};
+use std::io::{Read, Write};
+use std::process::Abort;
+use std::test::Fail;
+use std::{io, str};
+use y4m_stream::{OverRead, OverWrite};
+
+/// Replays what a reader gives into a writer.
+fn replay_into<R: Read + Drop, W: Write>(
+    alloc: Global,
+    input: R,
+    output: W,
+) -> (W, Result<bool, ReplayFault>) {
+    let (output, outcome) = replay(alloc, OverRead::new(input), OverWrite::new(output));
+    (output.into_inner(), outcome)
+}
+
+/// Replays what a reader gives, and compares what it prints and answers.
+fn expect_replay<R: Read + Drop>(
+    rt: &impl Abort,
+    alloc: Global,
+    script: R,
+    lines: &str,
+    whole: bool,
+) {
+    let (printed, outcome) = replay_into(alloc, script, Vec::new(alloc));
+    assert_eq!(rt; outcome, Ok(whole));
+    assert_eq!(rt; str::from_utf8(&printed), Ok(lines));
+}
+
+/// Replays a script that is held in memory, and compares what it prints and answers.
+pub fn expect_lines(rt: &impl Abort, alloc: Global, script: &[u8], lines: &str, whole: bool) {
+    expect_replay(rt, alloc, script, lines, whole);
+}
+
+/// Each of these scripts prints these lines, and is run to its end or has a fault.
+pub fn expect_each(rt: &impl Abort, alloc: Global, scripts: &[(&str, &str)], whole: bool) {
+    for (script, lines) in scripts {
+        expect_lines(rt, alloc, script.as_bytes(), lines, whole);
+    }
+}
+
+#[test]
+fn budgets_and_deadlines_follow_the_published_rules(rt: HostRuntime) {
+    expect_each(
+        &rt,
+        rt.alloc(),
+        &[
+            (
+                "account 2 10\nidle 0\ncharge 1\ncharge 1\n",
+                "budget 2 deadline 0\nbudget 2 deadline 10\nbudget 1 deadline 10\nbudget 2 deadline 20\n",
+            ),
+            (
+                "account 2 10\nidle 0\ncharge 1\nidle 5\n",
+                "budget 2 deadline 0\nbudget 2 deadline 10\nbudget 1 deadline 10\nbudget 2 deadline 15\n",
+            ),
+            (
+                "account 2 10\nidle 0\ncharge 1\nidle 4\n",
+                "budget 2 deadline 0\nbudget 2 deadline 10\nbudget 1 deadline 10\nbudget 1 deadline 10\n",
+            ),
+            (
+                "account 2 10\nidle 0\ncharge 1\ncharge 1\nidle 30\n",
+                "budget 2 deadline 0\nbudget 2 deadline 10\nbudget 1 deadline 10\nbudget 2 deadline 20\n\
+             budget 2 deadline 40\n",
+            ),
+            (
+                "account 3 10\nidle 0\ncharge 7\n",
+                "budget 3 deadline 0\nbudget 3 deadline 10\nbudget 2 deadline 30\n",
+            ),
+            (
+                "account 2 10\ncharge 3\naccount 4 4\ncharge 0\n",
+                "budget 2 deadline 0\nbudget 1 deadline 10\nbudget 4 deadline 0\nbudget 4 deadline 0\n",
+            ),
+            ("", ""),
+        ],
+        true,
+    );
+}
+
+#[test]
+fn a_fault_is_the_last_line(rt: HostRuntime) {
+    expect_each(
+        &rt,
+        rt.alloc(),
+        &[
+            ("account 5 4", "line 1: BadBandwidth\n"),
+            ("account 0 4", "line 1: BadBandwidth\n"),
+            ("account 1 1048577", "line 1: BadBandwidth\n"),
+            (
+                "account 2 10\ncharge 1099511627777\ncharge 1\n",
+                "budget 2 deadline 0\nline 2: Range\n",
+            ),
+            (
+                "account 2 10\nidle 1152921504606846977\nidle 1\n",
+                "budget 2 deadline 0\nline 2: BadLine\n",
+            ),
+            ("idle 0\naccount 2 10\n", "line 1: BadLine\n"),
+            ("charge 1\n", "line 1: BadLine\n"),
+            (
+                "account 2 10\nstart\n",
+                "budget 2 deadline 0\nline 2: BadLine\n",
+            ),
+            ("account\n", "line 1: BadLine\n"),
+        ],
+        false,
+    );
+}
+
+#[test]
+fn numbers_reach_their_limits(rt: HostRuntime) {
+    expect_each(
+        &rt,
+        rt.alloc(),
+        &[
+            (
+                "account 1 1048576\nidle 1152921504606846976\n",
+                "budget 1 deadline 0\nbudget 1 deadline 1152921504607895552\n",
+            ),
+            (
+                "account 1048576 1048576\ncharge 1099511627776\n",
+                "budget 1048576 deadline 0\nbudget 1048576 deadline 1099511627776\n",
+            ),
+            (
+                "account 0000000000000000002 0010\nidle 0000000000000000000\n",
+                "budget 2 deadline 0\nbudget 2 deadline 10\n",
+            ),
+        ],
+        true,
+    );
+    expect_each(
+        &rt,
+        rt.alloc(),
+        &[
+            // Each charge puts the deadline off by 2^60; the fourth would put it at 2^62.
+            (
+                "account 1 1048576\ncharge 1099511627776\ncharge 1099511627776\ncharge 1099511627776\n\
+             charge 1099511627776\n",
+                "budget 1 deadline 0\nbudget 1 deadline 1152921504606846976\n\
+             budget 1 deadline 2305843009213693952\nbudget 1 deadline 3458764513820540928\n\
+             line 5: Range\n",
+            ),
+            (
+                "account 1 1\ncharge 9999999999999999999\n",
+                "budget 1 deadline 0\nline 2: Range\n",
+            ),
+            (
+                "account 1 1\nidle 9999999999999999999\n",
+                "budget 1 deadline 0\nline 2: BadLine\n",
+            ),
+            ("account 00000000000000000002 10\n", "line 1: BadLine\n"),
+            ("account 2 18446744073709551616\n", "line 1: BadLine\n"),
+        ],
+        false,
+    );
+}
+
+#[test]
+fn comments_and_empty_lines_are_counted(rt: HostRuntime) {
+    let script = "# a server\n\naccount 2 10\n#\n\n\ncharge 1\n\n#idle 3\nidle 2 2";
+    let lines = "budget 2 deadline 0\nbudget 1 deadline 0\nline 10: BadLine\n";
+    expect_each(&rt, rt.alloc(), &[(script, lines)], false);
+    let silent = [("#\n\n# account 5 4", ""), ("\n", "")];
+    expect_each(&rt, rt.alloc(), &silent, true);
+}
+
+#[test]
+fn words_stand_between_single_spaces(rt: HostRuntime) {
+    for line in [
+        "account  2 10",
+        " account 2 10",
+        "account 2 10 ",
+        "account 2 10\r",
+        "account 2 10 3",
+        "account 2",
+        "account 2\t10",
+        "Account 2 10",
+        "account +2 10",
+        "account 2 1O",
+        "accounts 2 10",
+        " ",
+        " # a comment",
+    ] {
+        expect_lines(&rt, rt.alloc(), line.as_bytes(), "line 1: BadLine\n", false);
+    }
+    expect_lines(
+        &rt,
+        rt.alloc(),
+        b"account 2 10",
+        "budget 2 deadline 0\n",
+        true,
+    );
+    expect_lines(&rt, rt.alloc(), b"\xff\x00 1", "line 1: BadLine\n", false);
+}
+
+/// Gives one byte a read, and counts the bytes.
+#[derive(Drop)]
+struct ByteByByte<'a> {
+    rest: &'a [u8],
+    given: usize,
+}
+
+impl Read for ByteByByte<'_> {
+    fn read(&mut self, buf: &mut [u8]) -> io::Result<usize> {
+        let Some((first, rest)) = self.rest.split_first() else {
+            return Ok(0);
+        };
+        if buf.is_empty() {
+            return Ok(0);
+        }
+        buf[0] = *first;
+        self.rest = rest;
+        self.given = self.given.saturating_add(1);
+        Ok(1)
+    }
+}
+
+/// Gives its bytes, and then fails.
+#[derive(Drop)]
+struct Torn<'a> {
+    rest: &'a [u8],
+}
+
+impl Read for Torn<'_> {
+    fn read(&mut self, buf: &mut [u8]) -> io::Result<usize> {
+        if self.rest.is_empty() {
+            return Err(io::Error::from(io::ErrorKind::Interrupted));
+        }
+        self.rest.read(buf)
+    }
+}
+
+/// Takes so many bytes in all, and then none.
+#[derive(Drop)]
+struct Narrow {
+    room: usize,
+    fails: bool,
+}
+
+impl Write for Narrow {
+    fn write(&mut self, buf: &[u8]) -> io::Result<usize> {
+        let taken = buf.len().min(self.room);
+        if taken == 0 && self.fails {
+            return Err(io::Error::from(io::ErrorKind::StorageFull));
+        }
+        self.room -= taken;
+        Ok(taken)
+    }
+
+    fn flush(&mut self) -> io::Result<()> {
+        Ok(())
+    }
+}
+
+/// Takes all, but its flush fails.
+#[derive(Drop)]
+struct Unflushed;
+
+impl Write for Unflushed {
+    fn write(&mut self, buf: &[u8]) -> io::Result<usize> {
+        Ok(buf.len())
+    }
+
+    fn flush(&mut self) -> io::Result<()> {
+        Err(io::Error::from(io::ErrorKind::StorageFull))
+    }
+}
+
+#[test]
+fn short_reads_make_no_difference(rt: HostRuntime) {
+    let input = ByteByByte {
+        rest: b"account 2 10\nidle 0\ncharge 1",
+        given: 0,
+    };
+    let lines = "budget 2 deadline 0\nbudget 2 deadline 10\nbudget 1 deadline 10\n";
+    expect_replay(&rt, rt.alloc(), input, lines, true);
+}
+
+#[test]
+fn a_failed_read_prints_nothing(rt: HostRuntime) {
+    let input = Torn {
+        rest: b"account 2 10\ncharge 1\n",
+    };
+    let (printed, outcome) = replay_into(rt.alloc(), input, Vec::new(rt.alloc()));
+    assert_eq!(rt; outcome, Err(ReplayFault::Read));
+    assert!(rt; printed.is_empty());
+}
+
+/// Its report has three lines, of 20, 20 and 16 bytes.
+const THREE_LINES: &[u8] = b"account 2 10\ncharge 1\nstart\n";
+
+/// Replays the script into outputs that take so many bytes, and then fail or take none.
+fn cut_outputs_are_told(rt: &impl Abort, alloc: Global, fails: bool) {
+    for room in 0..56 {
+        let (_, outcome) = replay_into(alloc, THREE_LINES, Narrow { room, fails });
+        assert_eq!(rt; outcome, Err(ReplayFault::Write));
+    }
+}
+
+#[test]
+fn a_failed_write_of_each_byte_is_told(rt: HostRuntime) {
+    cut_outputs_are_told(&rt, rt.alloc(), true);
+}
+
+#[test]
+fn each_byte_that_is_not_taken_is_told(rt: HostRuntime) {
+    cut_outputs_are_told(&rt, rt.alloc(), false);
+}
+
+#[test]
+fn a_failed_flush_is_told(rt: HostRuntime) {
+    let room = Narrow {
+        room: 56,
+        fails: true,
+    };
+    let (_, outcome) = replay_into(rt.alloc(), THREE_LINES, room);
+    assert_eq!(rt; outcome, Ok(false));
+    let (_, outcome) = replay_into(rt.alloc(), THREE_LINES, Unflushed);
+    assert_eq!(rt; outcome, Err(ReplayFault::Write));
+}
+
+/// So many empty lines, and then one `account`.
+fn after_empty_lines(alloc: Global, count: usize) -> Result<Vec<u8>, AllocError> {
+    let mut script = Vec::from_elem(alloc, b'\n', count)?;
+    script.extend_from_slice(b"account 2 10")?;
+    Ok(script)
+}
+
+#[test]
+fn a_script_of_the_greatest_size_is_run(rt: HostRuntime) -> Result<(), Fail> {
+    let script = after_empty_lines(rt.alloc(), 1_048_576 - 12)?;
+    assert_eq!(rt; script.len(), 1_048_576);
+    expect_lines(&rt, rt.alloc(), &script, "budget 2 deadline 0\n", true);
+    Ok(())
+}
+
+#[test]
+fn a_longer_script_is_too_long_and_is_not_read_on(rt: HostRuntime) -> Result<(), Fail> {
+    let script = after_empty_lines(rt.alloc(), 1_048_577 - 12)?;
+    expect_lines(&rt, rt.alloc(), &script, "line 0: TooLong\n", false);
+    let longer = after_empty_lines(rt.alloc(), 1_100_000)?;
+    let mut input = ByteByByte {
+        rest: &longer,
+        given: 0,
+    };
+    expect_replay(&rt, rt.alloc(), &mut input, "line 0: TooLong\n", false);
+    assert_eq!(rt; input.given, 1_048_577);
+    Ok(())
+}
+
+#[test]
+fn a_long_script_of_great_charges_is_run_to_its_end(rt: HostRuntime) -> Result<(), Fail> {
+    let mut script = String::from_str(rt.alloc(), "account 1048576 1048576\n")?;
+    let charges = "charge 1099511627776\n".repeat(rt.alloc(), 49_931)?;
+    script.push_str(charges.as_str())?;
+    assert_eq!(rt; script.len(), 1_048_575);
+    let (printed, outcome) = replay_into(rt.alloc(), script.as_bytes(), Vec::new(rt.alloc()));
+    assert_eq!(rt; outcome, Ok(true));
+    // Each charge of 2^40 units puts the deadline off by 2^40.
+    let end = b"\nbudget 1048576 deadline 54899715086483456\n".as_slice();
+    assert!(rt; printed.as_slice().ends_with(end));
+    Ok(())
+}
+
+#[test]
+fn a_refused_growth_is_told_in_the_last_line(rt: HostRuntime) -> Result<(), Fail> {
+    let mut room = [0; 64];
+    let script = b"account 2 10\ncharge 1\n".as_slice();
+    let (rest, outcome) = replay_into(rt.alloc(), script, room.as_mut_slice());
+    let left = rest.len();
+    let printed = str::from_utf8(&room[..64 - left.min(64)])?;
+    let told = match outcome {
+        Err(ReplayFault::NoMemory) => {
+            printed == "line 0: NoMemory\n"
+                || printed == "line 1: NoMemory\n"
+                || printed == "budget 2 deadline 0\nline 2: NoMemory\n"
+        }
+        _ => printed == "budget 2 deadline 0\nbudget 1 deadline 0\n" && outcome == Ok(true),
+    };
+    assert!(rt; told);
+    Ok(())
+}
+
+#[test]
+fn faults_have_their_words(rt: HostRuntime) -> Result<(), Fail> {
+    for (fault, word) in [
+        (ReplayFault::Read, "read"),
+        (ReplayFault::Write, "write"),
+        (ReplayFault::NoMemory, "NoMemory"),
+    ] {
+        let shown = format!(in rt.alloc(); "{fault}")?;
+        assert_eq!(rt; shown.as_str(), word);
+    }
+    Ok(())
+}

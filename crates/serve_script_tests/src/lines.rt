@@ -1,0 +1,76 @@
+use serve_core::{Counts, Refusal, Reply};
+use serve_script::{push_reply, push_state};
+use std::alloc::{AllocError, Global};
+use std::process::Abort;
+use std::test::Fail;
+
+/// Compares the line of a reply. A lease is of a stream `b`.
+fn expect_line(
+    rt: &impl Abort,
+    alloc: Global,
+    reply: &Reply,
+    line: &str,
+) -> Result<(), AllocError> {
+    let mut printed = Vec::new(alloc);
+    push_reply(alloc, &mut printed, b"b".as_slice(), reply)?;
+    assert_eq!(rt; printed.as_slice(), line.as_bytes());
+    Ok(())
+}
+
+#[test]
+fn each_reply_has_its_line(rt: HostRuntime) -> Result<(), Fail> {
+    let alloc = rt.alloc();
+    expect_line(&rt, alloc, &Reply::Accepted(0), "accepted 0\n")?;
+    expect_line(
+        &rt,
+        alloc,
+        &Reply::Leased(1, 16_777_215, 4),
+        "leased b 16777215 grant 4\n",
+    )?;
+    expect_line(&rt, alloc, &Reply::Stepped, "stepped\n")?;
+    expect_line(&rt, alloc, &Reply::Returned, "returned\n")?;
+    expect_line(&rt, alloc, &Reply::Finished(7), "finished 7\n")?;
+    expect_line(&rt, alloc, &Reply::Ticked, "ticked\n")?;
+    expect_line(&rt, alloc, &Reply::Closing, "closing\n")?;
+    Ok(())
+}
+
+#[test]
+fn each_refusal_has_its_number_and_its_word(rt: HostRuntime) -> Result<(), Fail> {
+    for (refusal, line) in [
+        (Refusal::NoStream, "refused 1 NoStream\n"),
+        (Refusal::Closed, "refused 2 Closed\n"),
+        (Refusal::WrongSize, "refused 3 WrongSize\n"),
+        (Refusal::TooManyFrames, "refused 4 TooManyFrames\n"),
+        (Refusal::Full, "refused 5 Full\n"),
+        (Refusal::NoMemory, "refused 6 NoMemory\n"),
+        (Refusal::NoWorker, "refused 7 NoWorker\n"),
+        (Refusal::Busy, "refused 8 Busy\n"),
+        (Refusal::NoneReady, "refused 9 NoneReady\n"),
+        (Refusal::NoLease, "refused 10 NoLease\n"),
+        (Refusal::GrantSpent, "refused 11 GrantSpent\n"),
+        (Refusal::Past, "refused 12 Past\n"),
+        (Refusal::ClockEnd, "refused 13 ClockEnd\n"),
+        (Refusal::AlreadyClosed, "refused 14 AlreadyClosed\n"),
+        (Refusal::Empty, "refused 15 Empty\n"),
+        (Refusal::Drained, "refused 16 Drained\n"),
+    ] {
+        expect_line(&rt, rt.alloc(), &Reply::Refused(refusal), line)?;
+    }
+    Ok(())
+}
+
+#[test]
+fn a_state_has_its_account_and_its_counts(rt: HostRuntime) -> Result<(), Fail> {
+    let mut printed = Vec::new(rt.alloc());
+    let counts = Counts {
+        accepted: 3,
+        finished: 2,
+        collected: 1,
+        charged: 20,
+    };
+    push_state(&mut printed, (2, 10), counts)?;
+    let line = "budget 2 deadline 10 accepted 3 finished 2 collected 1 charged 20\n";
+    assert_eq!(rt; printed.as_slice(), line.as_bytes());
+    Ok(())
+}

@@ -1,0 +1,207 @@
+//! One stream, which one worker and one client serve.
+ghost use Rattle.std.specs.Prelude.{◌≡◌, IfOk};
+ghost use Rattle.std.specs.Thread.{IsSend, IsSync};
+ghost use Rattle.y4m_stream.specs.Reader.{IsOfHeader};
+ghost use Rattle.serve_work.specs.Clients.{IsNewSeat};
+
+use filters::{Chain, parse_ops};
+use frame_view::Geometry;
+use lease::JobSpec;
+use row_bands::BandHeight;
+use serve_core::{Refusal as Core, Setup, StreamSpec};
+use serve_hub::{Hub, Refusal, StreamSeat, WorkSeat};
+use serve_work::{ClientEnd, Clock, Gate, Stop, client, work};
+use std::alloc::{AllocError, Global};
+use std::io::{self, ErrorKind, Write};
+use std::sync::ledger::{Blank, Ledger};
+use std::sync::{Arc, Wait};
+use std::test::Fail;
+use std::thread;
+use std::thread::Threads;
+use y4m_header::Header;
+use y4m_stream::reader::Phase;
+use y4m_stream::{OverRead, OverWrite, Source, StreamReader};
+
+/// The header line of all inputs here: 22 bytes with its line feed.
+pub(super) const HEADER: &[u8] = b"YUV4MPEG2 W2 H2 Cmono\n";
+
+/// What a stream is served with: its operations, how many rows a band has, how many bytes its writer takes,
+/// how many frames it may accept, and the moment of all its offers.
+#[derive(Clone, Copy)]
+pub(super) struct Plan<'a> {
+    pub(super) ops: &'a str,
+    pub(super) band: u32,
+    pub(super) room: usize,
+    pub(super) frames: u64,
+    pub(super) moment: u64,
+}
+
+/// Samples are inverted, and nothing is refused.
+pub(super) const PLAIN: Plan<'static> = Plan {
+    ops: "invert",
+    band: 16,
+    room: 1 << 16,
+    frames: 1 << 24,
+    moment: 0,
+};
+
+/// What came of a stream: what was written, how many frames were accepted and how many images written whole,
+/// and why the client stopped.
+#[derive(Drop)]
+pub(super) struct Told {
+    pub(super) written: Vec<u8>,
+    pub(super) accepted: u64,
+    pub(super) delivered: u64,
+    pub(super) stop: Stop,
+}
+
+/// Keeps so many bytes more, and then fails.
+#[derive(Drop)]
+pub(super) struct Room {
+    pub(super) taken: Vec<u8>,
+    pub(super) left: usize,
+}
+
+impl Room {
+    /// All memory for the bytes is taken here, so no write fails for want of it.
+    pub(super) fn new(alloc: Global, left: usize) -> Result<Room, AllocError> {
+        let taken = Vec::with_capacity(alloc, left)?;
+        Ok(Room { taken, left })
+    }
+}
+
+impl Write for Room {
+    fn write(&mut self, buf: &[u8]) -> io::Result<usize> {
+        let n = buf.len().min(self.left);
+        if n == 0 && !buf.is_empty() {
+            return Err(io::Error::from(ErrorKind::Other));
+        }
+        let n = self.taken.write(&buf[..n])?;
+        self.left = self.left.saturating_sub(n);
+        Ok(n)
+    }
+
+    fn flush(&mut self) -> io::Result<()> {
+        Ok(())
+    }
+}
+
+/// Bands are done at once, and whole.
+#[derive(Drop)]
+pub(super) struct Open;
+
+impl Gate for Open {
+    fn before_band(&self, _worker: u32, _stream: u32, _seq: u64) {}
+
+    fn in_halves(&self, _samples: usize) -> bool {
+        false
+    }
+
+    fn in_half(&self, _worker: u32, _half: u32) {}
+}
+
+/// Always the same moment.
+#[derive(Drop)]
+pub(super) struct Still(pub(super) u64);
+
+impl Clock for Still {
+    fn moment(&self) -> u64 {
+        self.0
+    }
+}
+
+/// A hub of one stream and one worker, with their seats.
+type Seated<L> = (Hub<L>, StreamSeat<L>, WorkSeat<L>);
+
+/// A stream of frames of this header.
+pub(super) fn stream_of(alloc: Global, header: &Header, plan: Plan<'_>) -> Result<StreamSpec, Fail>
+    ensures { IfOk result (λ stream. IsOfHeader header.now stream.chain.geometry) }
+{
+    let band_height = BandHeight::new(plan.band).ok_or("no height")?;
+    let ops = parse_ops(alloc, plan.ops.as_bytes())?;
+    let geometry = Geometry::of(header);
+    let chain = Chain::new(alloc, ops, geometry, band_height)?;
+    let spec = Arc::new(alloc, JobSpec::new(chain))?;
+    Ok(StreamSpec::new(geometry, spec, 1, 2, 4, 4, plan.frames))
+}
+
+fn seated_of<L: Ledger>(
+    alloc: Global,
+    blank: Blank,
+    header: &Header,
+    plan: Plan<'_>,
+) -> Result<Seated<L>, Fail>
+    requires name { blank.name ≡ L.name }
+    requires parts { blank.parts ≡ L.parts }
+    requires enough { blank.parts ≡ 80 }
+    ensures header { IfOk result (λ seated. IsOfHeader header.now seated.1.chain.geometry) }
+    ensures fresh { IfOk result (λ seated. IsNewSeat seated.1) }
+{
+    let mut specs = Vec::new(alloc);
+    specs.push(stream_of(alloc, header, plan)?)?;
+    let setup = Setup::new(1, 4, specs)?;
+    let (hub, mut streams, mut workers) = Hub::<L>::new(alloc, blank, setup, 1000)?;
+    let seat = streams.pop().ok_or("no seat")?;
+    let worker = workers.pop().ok_or("no worker")?;
+    Ok((hub, seat, worker))
+}
+
+/// A thread works while the client is served here. The worker ends where all is done.
+fn run<L: Ledger + Send + Sync, R: Source + Drop, T: Threads + Wait + Sync>(
+    rt: &T,
+    alloc: Global,
+    hub: &Hub<L>,
+    worker: WorkSeat<L>,
+    seat: StreamSeat<L>,
+    reader: StreamReader<R>,
+    writer: OverWrite<Room>,
+    clock: &Still,
+) -> Result<ClientEnd<L, R, OverWrite<Room>>, Fail>
+    requires header { IsOfHeader reader.header seat.chain.geometry }
+    requires fresh { IsNewSeat seat }
+    requires open { reader.phase ≡ Phase.Open }
+{
+    thread::scope(
+        thread::scope_env(),
+        rt,
+        |scope|
+            requires { IsSync T.row × IsSync L.row × IsSend L.row
+                × IsOfHeader reader.header seat.chain.geometry × IsNewSeat seat
+                × (reader.phase ≡ Phase.Open) }
+        {
+            let Ok(working) = scope.spawn(move || work(rt, hub, worker, &Open).1) else {
+                return Err("was a thread or its memory refused?".into());
+            };
+            let end = client(rt, alloc, hub, seat, reader, writer, clock);
+            match working.join(rt) {
+                Refusal::Core(Core::Drained) => Ok(end),
+                refusal => Err(refusal.into()),
+            }
+        },
+    )
+}
+
+/// Serves the stream of this input by one worker and one client.
+pub(super) fn served<L: Ledger + Send + Sync, T: Threads + Wait + Sync>(
+    rt: &T,
+    alloc: Global,
+    blank: Blank,
+    input: &[u8],
+    plan: Plan<'_>,
+) -> Result<Told, Fail>
+    requires name { blank.name ≡ L.name }
+    requires parts { blank.parts ≡ L.parts }
+    requires enough { blank.parts ≡ 80 }
+{
+    let reader = StreamReader::open(alloc, OverRead::new(input))?;
+    let (hub, seat, worker) = seated_of::<L>(alloc, blank, reader.header(), plan)?;
+    let writer = OverWrite::new(Room::new(alloc, plan.room)?);
+    let clock = Still(plan.moment);
+    let end = run(rt, alloc, &hub, worker, seat, reader, writer, &clock)?;
+    Ok(Told {
+        written: end.writer.into_inner().taken,
+        accepted: end.accepted,
+        delivered: end.delivered,
+        stop: end.stop,
+    })
+}

@@ -1,0 +1,109 @@
+// What the tests share: readers, writers and a stream of three frames.
+use filters::parse_ops;
+use row_bands::BandHeight;
+use std::alloc::Global;
+use std::io::{self, ErrorKind, Read, Write};
+use std::test::Fail;
+use y4m_stream::{FilterFault, OverRead, OverWrite, filter_stream};
+
+mod devices;
+mod hostile;
+mod memory;
+mod operations;
+mod overlapped;
+mod prefixes;
+mod reader;
+mod writing;
+
+/// Gives its bytes, at most `step` at a time, then answers the end `ends` times, and then fails.
+#[derive(Drop)]
+struct Pieces<'a> {
+    left: &'a [u8],
+    step: usize,
+    ends: usize,
+}
+
+impl Read for Pieces<'_> {
+    fn read(&mut self, buf: &mut [u8]) -> io::Result<usize> {
+        if self.left.is_empty() {
+            if self.ends == 0 {
+                return Err(io::Error::from(ErrorKind::Other));
+            }
+            self.ends -= 1;
+            return Ok(0);
+        }
+        let n = self.step.min(buf.len()).min(self.left.len());
+        let (now, left) = self.left.split_at(n);
+        buf[..n].copy_from_slice(now);
+        self.left = left;
+        Ok(n)
+    }
+}
+
+/// Takes bytes, at most `step` at a time, until no room is left, and counts the calls. Where no room is left
+/// after all, the flush fails.
+#[derive(Drop)]
+struct Room<'a> {
+    left: &'a mut [u8],
+    step: usize,
+    calls: u64,
+}
+
+impl Write for Room<'_> {
+    fn write(&mut self, buf: &[u8]) -> io::Result<usize> {
+        let n = self.step.min(buf.len()).min(self.left.len());
+        if n == 0 && !buf.is_empty() {
+            return Err(io::Error::from(ErrorKind::Other));
+        }
+        self.calls = self.calls.saturating_add(1);
+        self.left.write(&buf[..n])
+    }
+
+    fn flush(&mut self) -> io::Result<()> {
+        if self.left.is_empty() {
+            return Err(io::Error::from(ErrorKind::Other));
+        }
+        Ok(())
+    }
+}
+
+/// Filters a stream by the operations of a text, in bands of 16 rows.
+fn filter<R: Read + Drop, W: Write + Drop>(
+    alloc: Global,
+    ops: &str,
+    input: R,
+    output: W,
+) -> Result<(W, Result<u64, FilterFault>), Fail> {
+    let ops = parse_ops(alloc, ops.as_bytes())?;
+    let height = BandHeight::new(16).ok_or("height")?;
+    let (output, answer) = filter_stream(
+        alloc,
+        OverRead::new(input),
+        OverWrite::new(output),
+        ops,
+        height,
+    );
+    Ok((output.into_inner(), answer))
+}
+
+/// A stream of three frames. The last one's data look like text.
+const STREAM: &[u8] =
+    b"YUV4MPEG2 W2 H2 F25:1 Cmono\nFRAME\n\x00\x01\xfe\xffFRAME Ip\n\x10\x20\x30\x40FRAME\nFRAM";
+
+/// The same, each byte v of the data being 255 - v.
+const INVERTED: &[u8] =
+    b"YUV4MPEG2 W2 H2 F25:1 Cmono\nFRAME\n\xff\xfe\x01\x00FRAME Ip\n\xef\xdf\xcf\xbfFRAME\n\xb9\xad\xbe\xb2";
+
+/// Where the header line ends, and each frame.
+const ENDS: [usize; 4] = [28, 38, 51, 61];
+
+/// How many frames are whole in the first bytes of the stream, and where the last of them ends.
+fn whole_part(len: usize) -> (u64, usize) {
+    let mut part = (0, 0);
+    for (frames, end) in (0u64..4).zip(ENDS) {
+        if end <= len {
+            part = (frames, end);
+        }
+    }
+    part
+}

@@ -1,0 +1,78 @@
+// What is told where a growth is refused: each test passes with any one refused, and with none.
+use super::{ENDS, INVERTED, STREAM};
+use filters::{FilterError, parse_ops};
+use row_bands::BandHeight;
+use std::process::Abort;
+use std::test::Fail;
+use y4m_stream::{FilterFault, OverRead, OverWrite, ReadFault, filter_overlapped, filter_stream};
+
+/// The stream was inverted, or memory was wanted behind a whole image or before the header line.
+fn is_told_behind_whole_images(
+    rt: &impl Abort,
+    output: &[u8],
+    answer: Result<u64, FilterFault>,
+) -> Result<(), Fail> {
+    assert!(rt; INVERTED.starts_with(output));
+    let written = output.len();
+    match answer {
+        Ok(frames) => {
+            assert_eq!(rt; frames, 3);
+            assert_eq!(rt; written, 61);
+        }
+        Err(FilterFault::Read(ReadFault::NoMemory) | FilterFault::Ops(FilterError::NoMemory)) => {
+            assert!(rt;
+                written == 0 || ENDS[..3].contains(&written),
+                "{written} bytes"
+            );
+        }
+        Err(fault) => return Err(fault.into()),
+    }
+    Ok(())
+}
+
+#[test]
+fn want_of_memory_is_told_behind_whole_images(rt: HostRuntime) -> Result<(), Fail> {
+    let ops = match parse_ops(rt.alloc(), b"vflip+invert+vflip") {
+        Ok(ops) => ops,
+        Err(fault) => {
+            assert_eq!(rt; fault, FilterError::NoMemory);
+            return Ok(());
+        }
+    };
+    let height = BandHeight::new(2).ok_or("height")?;
+    let mut room = [0; 64];
+    let (rest, result) = filter_stream(
+        rt.alloc(),
+        OverRead::new(STREAM),
+        OverWrite::new(room.as_mut_slice()),
+        ops,
+        height,
+    );
+    let rest = rest.into_inner();
+    let written = 64 - rest.len().min(64);
+    is_told_behind_whole_images(&rt, &room[..written], result)
+}
+
+#[test]
+fn two_threads_tell_it_behind_whole_images(rt: HostRuntime) -> Result<(), Fail> {
+    let ops = match parse_ops(rt.alloc(), b"vflip+invert+vflip") {
+        Ok(ops) => ops,
+        Err(fault) => {
+            assert_eq!(rt; fault, FilterError::NoMemory);
+            return Ok(());
+        }
+    };
+    let height = BandHeight::new(2).ok_or("height")?;
+    let mut room = [0; 64];
+    let (rest, result) = filter_overlapped(
+        &rt,
+        rt.alloc(),
+        OverRead::new(STREAM),
+        OverWrite::new(room.as_mut_slice()),
+        ops,
+        height,
+    );
+    let rest = rest.into_inner();
+    let written = 64 - rest.len().min(64);
+    is_told_behind_whole_images(&rt, &room[..written], result)
+}
