@@ -47,8 +47,8 @@ pub const THREADS: &str = "Threads, 1 or 2";
 
 /// The same, for the long help.
 pub const THREADS_LONG: &str = "Threads, 1 or 2. With 2, a frame is read while the one before it is
-written: faster from file to file and in a pipe, but one frame more may
-have been read where a write fails. The images are the same";
+written, and one frame more may have been read where a write fails. The
+images are the same";
 
 /// What `--quiet` of `filter` is.
 pub const QUIET: &str = "Show no progress and no hint on a terminal; faults are told";
@@ -293,22 +293,23 @@ pub const SERVE_PAGE: &str = "Shares:
   by invert, and 204 by blur:2.
   A moment passes with each offer of a frame, by any stream, and with nothing
   else; a frame that finds its stream's queue full is offered again.
-  A stream with the share Q:T may use Q units in every T moments. All shares
-  together, Q / T each, are at most the number of workers.
+  Q:T is a ratio: a stream's deadline moves back by T moments for each Q units
+  that it has used. All shares together, Q / T each, are at most the number of
+  workers.
   A worker that is free goes to the stream with the earliest deadline that has a
-  frame waiting and room for its image. A deadline moves back by T each time its
-  stream has used Q units. So a stream that asks for more than its share moves
-  its own deadline back: it goes on where nobody else has work, and comes later
-  where somebody has.
+  frame waiting and room for its image. So a stream that asks for more than its
+  share moves its own deadline back: it goes on where nobody else has work, and
+  comes later where somebody has.
   A lease of a worker has no more bands than the units that are left of Q pay
   for, but one at least, so a Q below the quantum makes leases short.
 
 Example: fast has half of one worker, and slow a sixth.
   y4mserve serve --workers 1 \\
     fast:a.y4m:a.out:30:60:invert slow:b.y4m:b.out:10:60:blur:2
-While both have frames waiting, the worker does about 3 units for fast to each
-one for slow; when one has none, the other has all of it. For three frames of
-1920x1080 each it prints:
+While both have had frames waiting from the start, the worker does about 3 units
+for fast to each one for slow. When one has none, the other has all of it, but
+that moves its deadline back: when the first has frames again, it comes first
+until the deadlines are level. For three frames of 1920x1080 each it prints:
   fast accepted 3 delivered 3 charged 204 stop whole
   slow accepted 3 delivered 3 charged 612 stop whole
   units 816
