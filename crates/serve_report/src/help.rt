@@ -46,9 +46,9 @@ frame (see below) is less for a higher one";
 pub const THREADS: &str = "Threads, 1 or 2";
 
 /// The same, for the long help.
-pub const THREADS_LONG: &str = "Threads, 1 or 2. With 2, a frame is read while the one before it is
-written, and one frame more may have been read where a write fails. The
-images are the same";
+pub const THREADS_LONG: &str = "Threads, 1 or 2. With 2, a frame is read while the image of the one
+before it is made and written, and one frame more may have been read where
+a write fails. The images are the same";
 
 /// What `--quiet` of `filter` is.
 pub const QUIET: &str = "Show no progress and no hint on a terminal; faults are told";

@@ -23,7 +23,7 @@ pub struct FilterWords<'a> {
     pub operations: &'a str,
     /// The luma rows of a band.
     pub band: u32,
-    /// 1 or 2: with 2, a frame is read while the image before it is written.
+    /// 1 or 2: with 2, a frame is read while the image of the one before it is made and written.
     pub threads: u32,
     /// Nothing is shown of the run while it goes on.
     pub is_quiet: bool,

@@ -9,6 +9,7 @@ use Rattle.filters.specs.declared.error.FilterError.TheVariants.{NoMemory}
 use Rattle.y4m_stream.specs.declared.fault.ReadFault.{ReadFault}
 use Rattle.y4m_stream.specs.declared.fault.FilterFault.{FilterFault}
 use Rattle.y4m_stream.specs.declared.fault.FilterFault.TheVariants.{Read, Ops, Write, TooManyFrames}
+use Rattle.y4m_stream.specs.Filtered.{IsLineAhead}
 use Rattle.y4m_stream.specs.Front.{IsFrameAhead}
 use Rattle.y4m_stream.specs.Inside.{FailsBeside, PassesAll, Stops}
 use Rattle.y4m_stream.specs.Reader.{ReaderState, AnswersOpen, MeetsEnd, TakesFrame, answer_into, data_len_of, frame_text_of}
@@ -104,3 +105,18 @@ module _ (chain : ChainValue) (reader reader' : ReaderState) (writer writer' : W
           Stops-cut chain reader a.mid writer writer' a.frames a.images a.same a.so_far IsFrameAhead fault reader' reader'' writer'' (omega (arith, a.count, few))
           (record { frame = next; image = image; taken = one; made = made; cut = fails.1 }) (rw same at fails.0)
       Ahead-fails TooManyFrames fails = absurd fails
+
+-- where no more than a line is read ahead, no more than a frame is
+Stops-ahead : (chain : ChainValue) (reader reader' : ReaderState) (writer writer' : WriterState) (fault : FilterFault)
+    → Stops IsLineAhead chain fault reader reader' writer writer' → Stops IsFrameAhead chain fault reader reader' writer writer'
+Stops-ahead chain reader reader' writer writer' (Read fault) stop = stop
+Stops-ahead chain reader reader' writer writer' (Ops e) stop = stop
+Stops-ahead chain reader reader' writer writer' (Write fault) stop =
+    let ahead = stop.1.0 in
+    (stop.0, ((ahead.0, ahead.1, omega (arith, ahead.2)), stop.1.1))
+Stops-ahead chain reader reader' writer writer' TooManyFrames stop = stop
+
+pub stops_ahead : (chain : ChainValue) (reader reader' : ReaderState) (writer writer' : WriterState) (result : Result ℕ FilterFault)
+    → IfErr result (λ fault. Stops IsLineAhead chain fault reader reader' writer writer') → IfErr result (λ fault. Stops IsFrameAhead chain fault reader reader' writer writer')
+stops_ahead chain reader reader' writer writer' (Ok n) stop = tt
+stops_ahead chain reader reader' writer writer' (Err fault) stop = Stops-ahead chain reader reader' writer writer' fault stop

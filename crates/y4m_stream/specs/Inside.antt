@@ -1,15 +1,17 @@
 -- What contracts inside the crate speak of.
 use Rattle.std.specs.Prelude.{◌≡◌, ℕ, ◌+◌, ◌<◌, ◌≤◌, ◌⊎◌, List, [], ◌∷◌, ◌++◌, length, take, drop}
-use Rattle.std.specs.Prelude.{Option, Some, None, ⊤}
+use Rattle.std.specs.Prelude.{Option, Some, None}
 use Rattle.std.specs.Prelude.{IfSome, unwrap_or, All, true, false, Result, Ok, Err}
 use Rattle.std.specs.Io.KnownBytes.{Appends, Consumes, IsAtEnd, Keeps, prepend_known}
 use Rattle.frame_view.specs.declared.frame.Frame.{Frame}
+use Rattle.frame_view.specs.Frame.{line_of}
+use Rattle.row_bands.specs.Canvas.{frame_of}
 use Rattle.row_bands.specs.declared.band_height.BandHeight.{BandHeight}
 use Rattle.filters.specs.declared.error.FilterError.TheVariants.{NoMemory as NoFilterMemory}
 use Rattle.filters.specs.declared.op.Op.{Op}
 use Rattle.filters.specs.Chain.{ChainValue}
 use Rattle.filters.specs.ChainImage.{IsChainImage, value_of}
-use Rattle.filters.specs.Front.{AreCanvases, front_of, image_in}
+use Rattle.filters.specs.Front.{AreCanvases, image_in, last_canvas}
 use Rattle.filters.specs.Refusal.{IsChain}
 use Rattle.y4m_header.specs.Header.{HeaderValue}
 use Rattle.y4m_header.specs.FrameLine.{IsFrameLine}
@@ -27,8 +29,6 @@ use Rattle.y4m_stream.specs.declared.fault.FilterFault.{FilterFault}
 use Rattle.y4m_stream.specs.declared.fault.FilterFault.TheVariants.{Read, Ops, Write, TooManyFrames}
 use Rattle.y4m_stream.specs.declared.filter.Filter.{Filter}
 use Rattle.y4m_stream.specs.declared.images.Images.{Images}
-use Rattle.y4m_stream.specs.declared.images.Reading.{Reading}
-use Rattle.y4m_stream.specs.declared.images.Reading.TheVariants.{InTurn, Beside}
 use Rattle.y4m_stream.specs.Failures.{one_more}
 use Rattle.y4m_stream.specs.Front.{IsCutLine, IsFrameAhead, IsLongLine, HasOtherLine, HasGiven}
 use Rattle.y4m_stream.specs.Front.{StandsAtFrame}
@@ -114,16 +114,6 @@ BeginsFrame old new phase phase' (Ok None) =
 BeginsFrame old new phase phase' (Err fault) =
     (header : HeaderValue) → Answers (state_of header phase old) (state_of header phase' new) (Err fault)
 
--- a frame of the chain's geometry is there exactly where no canvas holds the image
-abbrev pub IsSpare : ChainValue → Option Frame → Type 0
-IsSpare chain None = front_of chain < length chain.ops
-IsSpare chain (Some frame) = (front_of chain ≡ length chain.ops) × (frame.geometry ≡ chain.geometry)
-
--- where a frame is read beside the writing of an image, there is a spare one if the image needs it
-abbrev pub HasSpare : Reading → Images → Type 0
-HasSpare InTurn images = ⊤
-HasSpare Beside images = IsSpare images.chain images.spare
-
 -- there are the canvases that the chain needs
 abbrev pub IsReady : Images → Type 0
 IsReady images = AreCanvases images.chain images.canvases.items
@@ -133,9 +123,16 @@ abbrev pub HoldsImage : Images → Frame → Frame → Type 0
 HoldsImage images was now =
     IsChainImage images.chain.ops (value_of was) (value_of (image_in now images.canvases.items))
 
--- the last canvas, or else the spare frame
-abbrev pub kept_image : Images → Frame → Frame
-kept_image images d = image_in (unwrap_or images.spare d) images.canvases.items
+-- the last canvas, if there is one, has the line of this frame
+abbrev pub HasLineOf : Frame → Images → Type 0
+HasLineOf source images =
+    IfSome (last_canvas images.canvases.items) (λ canvas. line_of (frame_of canvas) ≡ line_of source)
+
+-- such is an image that the chain makes of this frame
+pub record HasImage (chain : ChainValue) (frame : FrameText) (P : FrameText → Type 0) : Type 0 where
+  pub image : FrameText
+  pub made : IsImageText chain frame image
+  pub holds : P image
 
 -- the chain is that of these operations for the header's frames; a frame, an image and a header of their
 -- sizes are there

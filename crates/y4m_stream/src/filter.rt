@@ -3,14 +3,14 @@ ghost use Rattle.std.specs.Prelude.{◌≡◌, ◌≢◌, ◌⊎◌, ℕ, List, 
 ghost use Rattle.std.specs.Prelude.{unwrap_or};
 ghost use Rattle.std.specs.Io.KnownBytes.{Keeps};
 ghost use Rattle.y4m_stream.specs.Filtered.{CountsWrites, IsFiltered, LacksChain, filter_reads_told};
-ghost use Rattle.y4m_stream.specs.Inside.{Closes, CountsClosing, FailsToBegin, HasSpare, IsFilterFor, filter_writes_at};
+ghost use Rattle.y4m_stream.specs.Inside.{Closes, CountsClosing, FailsToBegin, IsFilterFor, filter_writes_at};
 ghost use Rattle.y4m_stream.specs.Reader.{IsOfHeader, IsOpened};
 ghost use Rattle.y4m_stream.specs.Served.{IsHeaderOfImages};
 ghost use Rattle.y4m_stream.specs.Writer.{FlushesOrFails, IsOpenedFor};
 
 use crate::device::{Sink, Source};
 use crate::fault::{FilterFault, ReadFault};
-use crate::images::{Images, Reading};
+use crate::images::Images;
 use crate::passing::pass_frames;
 use crate::reader::{Phase, StreamReader};
 use crate::writer::StreamWriter;
@@ -53,16 +53,14 @@ pub fn resized_header(
 }
 
 impl Filter {
-    /// Takes the memory of a frame, of all canvases and of a spare frame where one is needed.
+    /// Takes the memory of a frame and of all canvases.
     fn new(
         alloc: Global,
         ops: Vec<Op>,
         header: &Header,
         height: BandHeight,
-        reading: Reading,
     ) -> Result<Filter, FilterError>
         ensures ok { IfOk result (IsFilterFor ops.items height header.now) }
-        ensures spare { IfOk result (λ filter. HasSpare reading filter.images) }
         ensures refused { IfErr result
             (LacksChain ops.items height header.now.width header.now.height header.now.chroma) }
     {
@@ -70,7 +68,7 @@ impl Filter {
         let chain = Chain::new(alloc, ops, geometry, height)?;
         let resized = resized_header(alloc, &chain, header)?;
         let frame = Frame::blank(alloc, geometry, b"FRAME")?;
-        let images = Images::new(alloc, chain, reading)?;
+        let images = Images::new(alloc, chain)?;
         Ok(Filter {
             images,
             frame,
@@ -96,10 +94,8 @@ pub fn begin<W: Sink>(
     output: W,
     ops: Vec<Op>,
     height: BandHeight,
-    reading: Reading,
 ) -> Result<(Filter, StreamWriter<W>), (W, FilterFault)>
     ensures filter { IfOk result (λ begun. IsFilterFor ops.items height header.now begun.0) }
-    ensures spare { IfOk result (λ begun. HasSpare reading begun.0.images) }
     ensures opened { IfOk result (λ begun. IsOpenedFor (unwrap_or begun.0.resized header.now)
         (W.contents output) (W.failures output) begun.1) }
     ensures fault { IfErr result (λ failed. FailsToBegin failed.1 ops.items height header.now
@@ -109,7 +105,7 @@ pub fn begin<W: Sink>(
     ensures closed { IfErr result (λ failed. (failed.0 ≡ output)
         ⊎ FlushesOrFails (W.is_flushed failed.0) (W.failures output) (W.failures failed.0)) }
 {
-    let filter = match Filter::new(alloc, ops, header, height, reading) {
+    let filter = match Filter::new(alloc, ops, header, height) {
         Ok(filter) => filter,
         Err(error) => return Err((output, FilterFault::Ops(error))),
     };
@@ -160,14 +156,7 @@ fn filter_frames<R: Source + Drop, W: Sink>(
     ensures closed { (result.0 ≡ output)
         ⊎ FlushesOrFails (W.is_flushed result.0) (W.failures output) (W.failures result.0) }
 {
-    let (mut filter, mut writer) = match begin(
-        alloc,
-        reader.header(),
-        output,
-        ops,
-        height,
-        Reading::InTurn,
-    ) {
+    let (mut filter, mut writer) = match begin(alloc, reader.header(), output, ops, height) {
         Ok(begun) => begun,
         Err((output, fault)) => return (output, Err(fault)),
     };

@@ -1,49 +1,79 @@
-// A stream, filtered from end to end, each frame read while the image before it is written.
+// A stream, filtered from end to end, each frame read while the image before it is made and written.
 ghost use Rattle.std.specs.Prelude.{◌≡◌, ◌<◌, ◌⊎◌, ℕ, List, Option, Ok, true, false, IfOk, IfErr, OnOk};
 ghost use Rattle.y4m_stream.specs.Filtered.{CountsReads, CountsWrites, IsFilteredAhead};
 ghost use Rattle.y4m_stream.specs.Front.{IsFrameAhead};
-ghost use Rattle.y4m_stream.specs.Inside.{FailsBeside, HasFailedAt, HasSpare, IsReady, PassesAll};
+ghost use Rattle.y4m_stream.specs.Inside.{FailsBeside, HasFailedAt, HasImage, HasLineOf, IsReady, PassesAll};
 ghost use Rattle.y4m_stream.specs.Inside.{Stops, filter_writes_told};
 ghost use Rattle.y4m_stream.specs.Reader.{Answers, IsOfHeader, IsOpened, MeetsEnd, TakesFrame, answer_into};
 ghost use Rattle.y4m_stream.specs.Reader.{data_len_of, frame_text_of};
-ghost use Rattle.y4m_stream.specs.Writer.{FlushesOrFails, IsOfSize, IsWriterFor, Puts, PutsFrame};
+ghost use Rattle.y4m_stream.specs.Writer.{FlushesOrFails, IsWriterFor, Puts, PutsFrame};
 ghost use Rattle.y4m_stream.specs.declared.passing.TheConstants.{MOST_FRAMES};
 
 use crate::device::{Sink, Source};
 use crate::fault::{FilterFault, ReadFault, WriteFault};
 use crate::filter::{begin, close};
-use crate::images::{Images, Reading};
-use crate::passing::MOST_FRAMES;
+use crate::images::Images;
+use crate::passing::{MOST_FRAMES, pass_frames};
 use crate::reader::{Phase, StreamReader};
 use crate::writer::StreamWriter;
 use filters::Op;
 use frame_view::Frame;
 use row_bands::BandHeight;
 use std::alloc::Global;
+use std::mem::swap;
 use std::thread::{Threads, join_mut};
 
-/// Reads the next frame into this one's memory while an image is written, each as alone.
+/// Makes the image of a frame whose line was taken, and writes it.
+fn paint_and_put<W: Sink>(
+    writer: &mut StreamWriter<W>,
+    frame: &mut Frame,
+    images: &mut Images,
+) -> Result<(), WriteFault>
+    requires ready { IsReady images.old }
+    requires geometry { frame.old.geometry ≡ images.old.chain.geometry }
+    requires line { HasLineOf frame.old images.old }
+    requires size { IsWriterFor images.old.chain writer.old }
+    requires few { writer.old.frames < MOST_FRAMES }
+    ensures chain { images.new.chain ≡ images.old.chain }
+    ensures ready { IsReady images.new }
+    ensures geometry { frame.new.geometry ≡ frame.old.geometry }
+    ensures put { HasImage images.old.chain (frame_text_of frame.old)
+        (λ image. Puts writer.old writer.new image result) }
+{
+    images.paint(frame);
+    writer.put(images.image(frame))
+}
+
+/// Reads the next frame while the image of the one before it is made and written, each as alone.
 fn read_and_put<T: Threads, R: Source + Drop + Send, W: Sink>(
     rt: &T,
     alloc: Global,
     reader: &mut StreamReader<R>,
     writer: &mut StreamWriter<W>,
+    next: &mut Frame,
     frame: &mut Frame,
-    image: &Frame,
+    images: &mut Images,
 ) -> (Result<bool, ReadFault>, Result<(), WriteFault>)
-    requires header { IsOfHeader reader.old.header frame.old.geometry }
-    requires size { IsOfSize writer.old image.now.geometry }
+    requires header { IsOfHeader reader.old.header next.old.geometry }
+    requires ready { IsReady images.old }
+    requires geometry { frame.old.geometry ≡ images.old.chain.geometry }
+    requires line { HasLineOf frame.old images.old }
+    requires size { IsWriterFor images.old.chain writer.old }
     requires few { writer.old.frames < MOST_FRAMES }
-    ensures read { Answers reader.old reader.new (answer_into frame.new result.0) }
+    ensures read { Answers reader.old reader.new (answer_into next.new result.0) }
     ensures ahead { reader.old.phase ≡ Phase.Open → IfErr result.0 (λ _.
         IsFrameAhead (data_len_of reader.old.header) reader.old.rest reader.new.left) }
+    ensures next { next.new.geometry ≡ next.old.geometry }
+    ensures chain { images.new.chain ≡ images.old.chain }
+    ensures ready { IsReady images.new }
     ensures geometry { frame.new.geometry ≡ frame.old.geometry }
-    ensures put { Puts writer.old writer.new (frame_text_of image.now) result.1 }
+    ensures put { HasImage images.old.chain (frame_text_of frame.old)
+        (λ image. Puts writer.old writer.new image result.1) }
 {
     join_mut(
         rt,
-        &mut || reader.read_frame(alloc, frame),
-        &mut || writer.put(image),
+        &mut || reader.read_frame(alloc, next),
+        &mut || paint_and_put(writer, frame, images),
     )
 }
 
@@ -53,43 +83,53 @@ fn pass_image<T: Threads, R: Source + Drop + Send, W: Sink>(
     alloc: Global,
     reader: &mut StreamReader<R>,
     writer: &mut StreamWriter<W>,
+    next: &mut Frame,
     frame: &mut Frame,
-    image: &Frame,
+    images: &mut Images,
 ) -> Result<bool, FilterFault>
-    requires header { IsOfHeader reader.old.header frame.old.geometry }
-    requires size { IsOfSize writer.old image.now.geometry }
+    requires header { IsOfHeader reader.old.header next.old.geometry }
+    requires ready { IsReady images.old }
+    requires geometry { frame.old.geometry ≡ images.old.chain.geometry }
+    requires line { HasLineOf frame.old images.old }
+    requires size { IsWriterFor images.old.chain writer.old }
     requires few { writer.old.frames < MOST_FRAMES }
     requires writing { writer.old.failed ≡ false }
     requires open { reader.old.phase ≡ Phase.Open }
-    ensures frame { frame.new.geometry ≡ frame.old.geometry }
+    ensures next { next.new.geometry ≡ next.old.geometry }
     ensures header { reader.new.header ≡ reader.old.header }
-    ensures put { OnOk result (PutsFrame writer.old writer.new (frame_text_of image.now)) }
-    ensures taken { result ≡ Ok true → TakesFrame reader.old reader.new (frame_text_of frame.new) }
+    ensures chain { images.new.chain ≡ images.old.chain }
+    ensures ready { IsReady images.new }
+    ensures geometry { frame.new.geometry ≡ frame.old.geometry }
+    ensures put { OnOk result (HasImage images.old.chain (frame_text_of frame.old)
+        (PutsFrame writer.old writer.new)) }
+    ensures taken { result ≡ Ok true → TakesFrame reader.old reader.new (frame_text_of next.new) }
     ensures end { result ≡ Ok false → MeetsEnd reader.old reader.new }
-    ensures fault { IfErr result (λ fault.
-        FailsBeside fault reader.old reader.new writer.old writer.new (frame_text_of image.now)) }
+    ensures fault { IfErr result (λ fault. HasImage images.old.chain (frame_text_of frame.old)
+        (FailsBeside fault reader.old reader.new writer.old writer.new)) }
     ensures failed { IfErr result (λ fault. HasFailedAt fault writer.new) }
     ensures reads { CountsReads result reader.old.failures reader.new.failures }
     ensures writes { writer.new.failures ≡ filter_writes_told result writer.old.failures }
 {
-    let (read, put) = read_and_put(rt, alloc, reader, writer, frame, image);
+    let (read, put) = read_and_put(rt, alloc, reader, writer, next, frame, images);
     put?;
     Ok(read?)
 }
 
-/// Reads frames to the end and writes their images, each while the next frame is read.
+/// Reads frames to the end and writes their images, each made and written while the next frame is read into
+/// the memory of the other one.
 fn pass_images<T: Threads, R: Source + Drop + Send, W: Sink>(
     rt: &T,
     alloc: Global,
     reader: &mut StreamReader<R>,
     writer: &mut StreamWriter<W>,
+    next: &mut Frame,
     frame: &mut Frame,
     images: &mut Images,
 ) -> Result<u64, FilterFault>
-    requires header { IsOfHeader reader.old.header frame.old.geometry }
+    requires header { IsOfHeader reader.old.header next.old.geometry }
+    requires next { next.old.geometry ≡ images.old.chain.geometry }
     requires chain { frame.old.geometry ≡ images.old.chain.geometry }
     requires ready { IsReady images.old }
-    requires spare { HasSpare Reading.Beside images.old }
     requires size { IsWriterFor images.old.chain writer.old }
     requires none { writer.old.frames ≡ 0 }
     requires writing { writer.old.failed ≡ false }
@@ -102,19 +142,50 @@ fn pass_images<T: Threads, R: Source + Drop + Send, W: Sink>(
     ensures reads { CountsReads result reader.old.failures reader.new.failures }
     ensures writes { writer.new.failures ≡ filter_writes_told result writer.old.failures }
 {
-    let mut more = reader.read_frame(alloc, frame)?;
+    let mut more = reader.read_frame(alloc, next)?;
     for count in 0..MOST_FRAMES {
         if !more {
             return Ok(count);
         }
-        images.make(alloc, frame)?;
-        images.keep(frame);
-        more = pass_image(rt, alloc, reader, writer, frame, images.kept())?;
+        swap(frame, next);
+        images.take_line_of(alloc, frame)?;
+        more = pass_image(rt, alloc, reader, writer, next, frame, images)?;
     }
     if more {
         return Err(FilterFault::TooManyFrames);
     }
     Ok(MOST_FRAMES)
+}
+
+/// The same, with a second frame of its own. Where its memory is refused, each frame is read once the image before
+/// it is written.
+fn pass_beside<T: Threads, R: Source + Drop + Send, W: Sink>(
+    rt: &T,
+    alloc: Global,
+    reader: &mut StreamReader<R>,
+    writer: &mut StreamWriter<W>,
+    frame: &mut Frame,
+    images: &mut Images,
+) -> Result<u64, FilterFault>
+    requires header { IsOfHeader reader.old.header frame.old.geometry }
+    requires chain { frame.old.geometry ≡ images.old.chain.geometry }
+    requires ready { IsReady images.old }
+    requires size { IsWriterFor images.old.chain writer.old }
+    requires none { writer.old.frames ≡ 0 }
+    requires writing { writer.old.failed ≡ false }
+    requires open { reader.old.phase ≡ Phase.Open }
+    ensures passed { IfOk result (λ n.
+        PassesAll n images.old.chain reader.old reader.new writer.old writer.new) }
+    ensures fault { IfErr result (λ fault.
+        Stops IsFrameAhead images.old.chain fault reader.old reader.new writer.old writer.new) }
+    ensures failed { IfErr result (λ fault. HasFailedAt fault writer.new) }
+    ensures reads { CountsReads result reader.old.failures reader.new.failures }
+    ensures writes { writer.new.failures ≡ filter_writes_told result writer.old.failures }
+{
+    match Frame::blank(alloc, frame.geometry(), b"FRAME") {
+        Ok(mut next) => pass_images(rt, alloc, reader, writer, &mut next, frame, images),
+        Err(_) => pass_frames(alloc, reader, writer, frame, images),
+    }
 }
 
 /// Filters the frames of a stream whose header line was read.
@@ -140,18 +211,11 @@ fn filter_images<T: Threads, R: Source + Drop + Send, W: Sink>(
     ensures closed { (result.0 ≡ output)
         ⊎ FlushesOrFails (W.is_flushed result.0) (W.failures output) (W.failures result.0) }
 {
-    let (mut filter, mut writer) = match begin(
-        alloc,
-        reader.header(),
-        output,
-        ops,
-        height,
-        Reading::Beside,
-    ) {
+    let (mut filter, mut writer) = match begin(alloc, reader.header(), output, ops, height) {
         Ok(begun) => begun,
         Err((output, fault)) => return (output, Err(fault)),
     };
-    let passed = pass_images(
+    let passed = pass_beside(
         rt,
         alloc,
         reader,

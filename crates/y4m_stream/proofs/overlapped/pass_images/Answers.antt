@@ -1,8 +1,6 @@
-use Rattle.std.proofs.Common.{◌≡◌, ◌∙◌, ap, arith, refl, rules, sym}
+use Rattle.std.proofs.Common.{arith, refl, rules}
 use Rattle.std.proofs.lemmas.Result.{err_from_is_err_and}
-use Rattle.y4m_stream.specs.Reader.{frame_text_of}
-use Rattle.y4m_stream.specs.Served.{IsImageText}
-use Rattle.y4m_stream.proofs.MoreFrames.{PassesFrames-none, Stops-read, made_text}
+use Rattle.y4m_stream.proofs.MoreFrames.{PassesFrames-none, Stops-read}
 use Rattle.y4m_stream.proofs.Ahead.{Ahead-end, Ahead-fails, Ahead-limit, Ahead-memory, Ahead-next, PassesAhead-first}
 use Rattle.y4m_stream.proofs.overlapped.pass_images.Goals as goal
 
@@ -23,7 +21,7 @@ loop-count-init g c =
       header = search rules;
       of_chain = search rules;
       ready = search rules;
-      spare = search rules;
+      next = search rules;
       size = search rules;
       same = search rules;
       reads = search rules;
@@ -36,40 +34,26 @@ returns-then-not-more-clause-passed g c =
     let so_far = c.loop-count.invariant in
     Ahead-end _ _ _ _ _ _ _ _ so_far.passed _ c.if-not-more.true refl (omega arith) so_far.open_writer
 
-pub returns-in_err-make-clause-fault : goal.returns-in_err-make-clause-fault
-returns-in_err-make-clause-fault g c =
+pub returns-in_err-take_line_of-clause-fault : goal.returns-in_err-take_line_of-clause-fault
+returns-in_err-take_line_of-clause-fault g c =
     let so_far = c.loop-count.invariant in
-    let passed = err_from_is_err_and c.from_residual-in_err-make.result c.from_residual-in_err-make.ensures.1 in
-    rw (passed.1, passed.2) (Ahead-memory _ _ _ _ _ _ _ _ so_far.passed c.if-not-more.false _ c.in_err-make.ensures.memory (omega arith))
+    let passed = err_from_is_err_and c.from_residual-in_err-take_line_of.result c.from_residual-in_err-take_line_of.ensures.1 in
+    rw (passed.1, passed.2) (Ahead-memory _ _ _ _ _ _ _ _ so_far.passed c.if-not-more.false _ c.in_err-take_line_of.ensures.memory (omega arith))
 
 pub returns-in_err-more-2-clause-fault : goal.returns-in_err-more-2-clause-fault
 returns-in_err-more-2-clause-fault g c =
     let so_far = c.loop-count.invariant in
-    let images = c.make.new.self in
-    let frame = c.loop-count.frame in
-    let image = c.kept.result.now in
-    let chain = c.loop-count.images.chain in
-    let same : images.chain ≡ chain = c.make.ensures.chain in
-    let kept = c.kept.ensures.last image ∙ c.keep.ensures.kept image in
-    let made : IsImageText chain (frame_text_of frame) (frame_text_of image) =
-    rw same at (made_text images frame c.make.new.source image (so_far.of_chain ∙ ap (λ z. z.geometry) (sym same)) c.in_ok-make.ensures.made kept) in
+    let fails = rw (c.take_line_of.ensures.chain, so_far.same, c.swap.ensures.x_after) at c.in_err-more-2.ensures.fault in
     let passed = err_from_is_err_and c.from_residual-in_err-more-2.result c.from_residual-in_err-more-2.ensures.1 in
     rw (passed.1, passed.2)
-    (Ahead-fails _ _ _ _ _ _ _ _ so_far.passed c.if-not-more.false so_far.same_header (omega arith) _ (rw so_far.same at made) _ _ _ c.in_err-more-2.ensures.fault)
+    (Ahead-fails _ _ _ _ _ _ _ _ so_far.passed c.if-not-more.false so_far.same_header (omega arith) fails.image fails.made _ _ _ fails.holds)
 
 pub loop-count-preserved : goal.loop-count-preserved
 loop-count-preserved g c =
     let so_far = c.loop-count.invariant in
-    let images = c.make.new.self in
-    let frame = c.loop-count.frame in
-    let image = c.kept.result.now in
-    let chain = c.loop-count.images.chain in
-    let same : images.chain ≡ chain = c.make.ensures.chain in
-    let kept = c.kept.ensures.last image ∙ c.keep.ensures.kept image in
-    let made : IsImageText chain (frame_text_of frame) (frame_text_of image) =
-    rw same at (made_text images frame c.make.new.source image (so_far.of_chain ∙ ap (λ z. z.geometry) (sym same)) c.in_ok-make.ensures.made kept) in
     let one = c.in_ok-more-2.ensures in
     let was = c.in_ok-more-2.was in
+    let put = rw (c.take_line_of.ensures.chain, so_far.same, c.swap.ensures.x_after) at one.put in
     record {
       open_writer = search rules;
       put = search rules;
@@ -77,12 +61,12 @@ loop-count-preserved g c =
       header = search rules;
       of_chain = search rules;
       ready = search rules;
-      spare = search rules;
+      next = search rules;
       size = search rules;
       same = search rules;
       reads = search rules;
       writes = search rules;
-      passed = Ahead-next _ _ _ _ _ _ _ _ so_far.passed c.if-not-more.false so_far.same_header (omega arith) _ (rw so_far.same at made) _ _ _ _ one.put
+      passed = Ahead-next _ _ _ _ _ _ _ _ so_far.passed c.if-not-more.false so_far.same_header (omega arith) put.image put.made _ _ _ _ put.holds
           (λ some. search rules) (λ none. search rules);
     }
 
