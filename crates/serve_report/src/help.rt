@@ -272,8 +272,8 @@ pub const WORKERS: &str = "Threads that filter, 1 to 16";
 /// The same, for the long help.
 pub const WORKERS_LONG: &str =
     "Threads that filter, 1 to 16. Each stream has one more, which reads and
-writes. As many as the machine has processors is a good number; more
-shares can be given with more workers";
+writes. As many as the machine has processors is the fastest. Shares decide
+only where streams wait for a worker, so where there are fewer workers";
 
 /// What `--quantum` is.
 pub const QUANTUM: &str = "Most bands that a worker does at a time, 1 to 64";
@@ -297,9 +297,9 @@ pub const SERVE_PAGE: &str = "Shares:
   that it has used. All shares together, Q / T each, are at most the number of
   workers.
   A worker that is free goes to the stream with the earliest deadline that has a
-  frame waiting and room for its image. So a stream that asks for more than its
-  share moves its own deadline back: it goes on where nobody else has work, and
-  comes later where somebody has.
+  frame waiting, room for its image, and no worker at it. So a stream that asks
+  for more than its share moves its own deadline back: it goes on where nobody
+  else has work, and comes later where somebody has.
   A lease of a worker has no more bands than the units that are left of Q pay
   for, but one at least, so a Q below the quantum makes leases short.
 

@@ -21,7 +21,7 @@ use std::alloc::Global;
 use y4m_header::Header;
 
 /// What a stream is filtered with: the chain with its canvases, a frame, and the header of the images where
-/// their size is another than the frames'.
+/// the chain holds a crop.
 #[derive(Drop)]
 pub struct Filter {
     pub images: Images,
@@ -235,7 +235,7 @@ pub fn filter_between<R: Source + Drop, W: Sink>(
     (reader.into_source(), output, answer)
 }
 
-/// The same, of bytes in memory: no read of them fails.
+/// Does what [`filter_stream`] does with bytes in memory: no read of them fails.
 pub fn filter_bytes<W: Sink>(
     alloc: Global,
     input: &[u8],

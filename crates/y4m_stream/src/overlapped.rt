@@ -226,12 +226,13 @@ fn filter_images<T: Threads, R: Source + Drop + Send, W: Sink>(
     close(writer, passed)
 }
 
-/// As `filter_stream`, but that each frame is read on a thread of its own while the image before it is
-/// written, on the caller's; where no thread is granted, the two come one after the other.
+/// As `filter_stream`, but that each frame is read on a thread of its own while the image of the one before it
+/// is made and written, on the caller's; where no thread is granted, the two come one after the other. There
+/// is memory for a second frame; where that is refused, frames are read as `filter_stream` reads them.
 ///
 /// A fault that is met in reading is answered once the image before it is written. Where a write and the read
-/// beside it both fail, the write's fault is answered: then one frame more was read than the images that
-/// were begun, or its reading failed.
+/// beside it both fail, the write's fault is answered. So where it is, one frame more may have been read than
+/// images were begun, or its reading may have failed.
 pub fn filter_overlapped<T: Threads, R: Source + Drop + Send, W: Sink>(
     rt: &T,
     alloc: Global,
