@@ -116,7 +116,8 @@ fn both_ends_come_back(rt: HostRuntime) -> Result<(), Fail> {
         ops,
         height,
     );
-    assert_eq!(rt; result, Err(FilterFault::Read(ReadFault::Truncated)));
+    let cut = Err(FilterFault::Read(ReadFault::Truncated));
+    assert_eq!(rt; result, cut, "unless memory was refused");
     assert!(rt; input.into_inner().is_empty());
     assert_eq!(rt; Some(output.into_inner().as_slice()), INVERTED.get(..38));
 
@@ -133,7 +134,7 @@ fn both_ends_come_back(rt: HostRuntime) -> Result<(), Fail> {
     let ops = parse_ops(rt.alloc(), b"invert")?;
     let output = OverWrite::new(Vec::new(rt.alloc()));
     let (output, result) = filter_bytes(rt.alloc(), STREAM, output, ops, height);
-    assert_eq!(rt; result, Ok(3));
+    assert_eq!(rt; result, Ok(3), "unless memory was refused");
     assert_eq!(rt; output.into_inner().as_slice(), INVERTED);
     Ok(())
 }

@@ -84,7 +84,7 @@ fn a_frame_line_has_at_most_1024_bytes(rt: HostRuntime) -> Result<(), Fail> {
         input.extend_from_slice(&long_line(rt.alloc(), b"FRAME X", len)?)?;
         input.push(b'\x05')?;
         let (output, result) = filter(rt.alloc(), "vflip", input.as_slice(), Vec::new(rt.alloc()))?;
-        assert_eq!(rt; result, expected);
+        assert_eq!(rt; result, expected, "unless memory was refused");
         let whole = if result.is_ok() { input.len() } else { 22 };
         assert_eq!(rt; Some(output.as_slice()), input.get(..whole));
     }

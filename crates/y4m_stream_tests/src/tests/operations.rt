@@ -134,11 +134,12 @@ fn frames_have_the_bytes_of_their_header_line(rt: HostRuntime) -> Result<(), Fai
         let stream = one_frame(rt.alloc(), line, bytes)?;
         let ops = "hflip+vflip+vflip+hflip";
         let (image, result) = filter(rt.alloc(), ops, stream.as_slice(), Vec::new(rt.alloc()))?;
-        assert_eq!(rt; result, Ok(1));
+        assert_eq!(rt; result, Ok(1), "unless memory was refused");
         assert!(rt; image == stream, "{header:?}");
         let cut = one_frame(rt.alloc(), line, bytes.saturating_sub(1))?;
         let (image, result) = filter(rt.alloc(), ops, cut.as_slice(), Vec::new(rt.alloc()))?;
-        assert_eq!(rt; result, Err(FilterFault::Read(ReadFault::Truncated)));
+        let truncated = Err(FilterFault::Read(ReadFault::Truncated));
+        assert_eq!(rt; result, truncated, "unless memory was refused");
         assert_eq!(rt; Some(image.as_slice()), cut.get(..line.len() + 1));
     }
     Ok(())

@@ -62,11 +62,11 @@ fn two_threads_write_what_one_writes(rt: HostRuntime) -> Result<(), Fail> {
         };
         let output = Vec::new(rt.alloc());
         let (output, result) = overlap(&rt, rt.alloc(), "vflip+invert", pieces, output)?;
-        assert_eq!(rt; result, Ok(u64::from(count)));
+        assert_eq!(rt; result, Ok(u64::from(count)), "unless memory was refused");
         assert_eq!(rt; output.as_slice(), image.as_slice());
         let output = Vec::new(rt.alloc());
         let (output, result) = filter(rt.alloc(), "vflip+invert", input.as_slice(), output)?;
-        assert_eq!(rt; result, Ok(u64::from(count)));
+        assert_eq!(rt; result, Ok(u64::from(count)), "unless memory was refused");
         assert_eq!(rt; output.as_slice(), image.as_slice());
     }
     Ok(())
@@ -145,7 +145,7 @@ fn the_writes_fault_is_answered_where_both_fail(rt: HostRuntime) -> Result<(), F
             let (_, result) = overlap(&rt, rt.alloc(), "invert", &mut input, output)?;
             let device = WriteFault::Device(len as u64);
             assert_eq!(rt; result, Err(FilterFault::Write(device)), "{len} bytes");
-            assert_eq!(rt; input.failed, 1, "{len} bytes");
+            assert_eq!(rt; input.failed, 1, "{len} bytes, unless memory was refused");
             assert_eq!(rt; text.get(..len), INVERTED.get(..len));
         }
     }
