@@ -157,8 +157,8 @@ fn pass_images<T: Threads, R: Source + Drop + Send, W: Sink>(
     Ok(MOST_FRAMES)
 }
 
-/// The same, with a second frame of its own. Where its memory is refused, each frame is read once the image before
-/// it is written.
+/// The same, with a second frame of its own. Where its memory is refused, each frame is read once the image
+/// before it is written.
 fn pass_beside<T: Threads, R: Source + Drop + Send, W: Sink>(
     rt: &T,
     alloc: Global,
@@ -226,9 +226,9 @@ fn filter_images<T: Threads, R: Source + Drop + Send, W: Sink>(
     close(writer, passed)
 }
 
-/// As `filter_stream`, but that each frame is read on a thread of its own while the image of the one before it
-/// is made and written, on the caller's; where no thread is granted, the two come one after the other. There
-/// is memory for a second frame; where that is refused, frames are read as `filter_stream` reads them.
+/// As `filter_stream`, but that each frame is read on a thread of its own while the image of the one before
+/// it is made and written, on the caller's; where no thread is granted, the two come one after the other. It
+/// takes memory for a second frame; where that is refused, frames are read as `filter_stream` reads them.
 ///
 /// A fault that is met in reading is answered once the image before it is written. Where a write and the read
 /// beside it both fail, the write's fault is answered. So where it is, one frame more may have been read than
