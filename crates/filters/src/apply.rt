@@ -33,6 +33,7 @@ pub fn apply_band(op: Op, source: &Frame, band: &mut Band<'_>)
 }
 
 /// Writes band `k` of the image of a frame into a canvas of the image's size; every other row stays.
+/// Bands may be written in any order, and take no memory.
 pub fn apply_at(op: Op, source: &Frame, canvas: &mut Canvas, k: usize)
     requires doable { IsDoable op source.now.geometry }
     requires image { IsImageGeometry op source.now.geometry (frame_of canvas.old).geometry }
@@ -59,6 +60,3 @@ pub fn apply_op(op: Op, source: &Frame, canvas: &mut Canvas)
         apply_at(op, source, canvas, k);
     }
 }
-
-#[cfg(test)]
-mod tests;

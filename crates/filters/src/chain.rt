@@ -151,6 +151,7 @@ impl Chain {
         self.outputs[count - 1]
     }
 
+    /// How many rows of luma a band of its images has.
     pub fn band_height(&self) -> BandHeight
         ensures { result ≡ self.now.band_height }
     {
@@ -176,6 +177,3 @@ impl Chain {
         self.ops.iter().any(is_crop)
     }
 }
-
-#[cfg(test)]
-mod tests;

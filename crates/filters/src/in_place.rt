@@ -63,6 +63,3 @@ fn clamp(low: u8, high: u8, samples: &mut [u8])
         samples[i] = samples[i].max(low).min(high);
     }
 }
-
-#[cfg(test)]
-mod tests;

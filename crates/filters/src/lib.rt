@@ -13,8 +13,6 @@ pub mod op;
 pub mod ops_text;
 pub mod painter;
 mod part;
-#[cfg(test)]
-mod plain;
 mod rows;
 mod table;
 

@@ -7,8 +7,6 @@ pub mod geometry;
 pub mod laws;
 pub mod plane;
 pub mod planes_mut;
-#[cfg(test)]
-mod tests;
 
 pub use chroma_plane::is_chroma_plane;
 pub use frame::{Frame, WrongLength};

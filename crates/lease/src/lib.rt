@@ -12,8 +12,6 @@ pub mod refused;
 pub mod scratch;
 mod size;
 mod step;
-#[cfg(test)]
-mod tests;
 
 pub use job::Job;
 pub use job_spec::JobSpec;

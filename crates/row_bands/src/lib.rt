@@ -8,8 +8,6 @@ pub mod canvas;
 pub mod halves;
 pub mod painter;
 mod part;
-#[cfg(test)]
-mod tests;
 
 pub use band::Band;
 pub use band_height::BandHeight;

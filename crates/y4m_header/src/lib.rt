@@ -20,6 +20,3 @@ pub use frame_line::check_frame_line;
 pub use header::Header;
 pub use limits::{LARGEST_DATA, LONGEST_SIDE};
 pub use line::LONGEST_LINE;
-
-#[cfg(test)]
-mod tests;
