@@ -15,6 +15,8 @@ pub struct BandPlan {
 }
 
 impl BandPlan {
+    /// Parts frames of this geometry into bands of this height, counted in rows of luma; the last band has
+    /// the rows that are left.
     pub fn new(geometry: Geometry, height: BandHeight) -> BandPlan
         ensures geometry { result.geometry ≡ geometry }
         ensures height { result.height ≡ height }

@@ -91,6 +91,7 @@ impl Canvas {
         self.frame.set_line(alloc, line)
     }
 
+    /// Gives the frame back, with its line and with the samples that were painted.
     pub fn into_frame(self) -> Frame
         ensures { result ≡ frame_of self }
     {

@@ -67,10 +67,7 @@ fn read_sizes(line: &[u8]) -> Result<(u32, u32), HeaderError>
     if has_repeat(line) {
         return Err(HeaderError::RepeatedTag);
     }
-    match sizes_of(line) {
-        Some(sizes) => Ok(sizes),
-        None => Err(HeaderError::MissingSize),
-    }
+    sizes_of(line).ok_or(HeaderError::MissingSize)
 }
 
 /// What the tags state, whether or not it goes together.

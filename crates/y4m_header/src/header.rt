@@ -88,6 +88,7 @@ impl Header {
         self.height
     }
 
+    /// The chroma form that the tag C states, 4:2:0 where there is none. It divides the size.
     pub fn chroma(&self) -> Chroma
         ensures value { result ≡ self.now.chroma }
         ensures divided { IsDivided self.now.width self.now.height result }

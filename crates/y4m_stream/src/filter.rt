@@ -29,8 +29,8 @@ pub struct Filter {
     resized: Option<Header>,
 }
 
-/// The header of the images that the chain makes of the header's frames, where it holds a crop: the header with
-/// the size of the images.
+/// The header of the images that the chain makes of the header's frames, where it holds a crop: the header
+/// with the size of the images. None where the frames' own header stays.
 pub fn resized_header(
     alloc: Global,
     chain: &Chain,

@@ -97,8 +97,8 @@ impl<R: Source> Model for StreamReader<R> {
 impl<R: Source + Drop> StreamReader<R> {
     /// Reads the header line and its line feed. Where that fails the source is given up.
     ///
-    /// An input that ends before its first line feed is `Truncated`, or `LineTooLong` where it has 1,024 bytes
-    /// or more. `NoMemory` is answered where the header line came whole and could not be kept.
+    /// An input that ends before its first line feed is `Truncated`, or `LineTooLong` where it has 1,024
+    /// bytes or more. `NoMemory` is answered where the header line came whole and could not be kept.
     pub fn open(alloc: Global, source: R) -> Result<StreamReader<R>, ReadFault>
         // The last is the source as it was given up.
         ensures { (last : R)

@@ -73,6 +73,9 @@ impl<W: Sink> StreamWriter<W> {
     }
 
     /// Writes a frame: its line, a line feed and its samples.
+    ///
+    /// After a fault the stream may end inside a frame, so nothing more is written: each later call answers
+    /// `WriteFault::Failed`.
     pub fn put(&mut self, frame: &Frame) -> Result<(), WriteFault>
         requires size { IsOfSize self.old frame.now.geometry }
         requires few { self.old.frames < MOST_FRAMES }

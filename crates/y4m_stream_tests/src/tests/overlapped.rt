@@ -30,8 +30,8 @@ fn overlap<T: Threads, R: Read + Drop + Send, W: Write + Drop>(
     Ok((output.into_inner(), answer))
 }
 
-/// A stream of frames of 4 by 2 samples, every second with a tag. Sample i of frame n is 31 n + i. Where it is
-/// to be the image by `vflip+invert`, the rows are swapped and each sample v is 255 - v.
+/// A stream of frames of 4 by 2 samples, every second with a tag. Sample i of frame n is 31 n + i. Where it
+/// is to be the image by `vflip+invert`, the rows are swapped and each sample v is 255 - v.
 fn frames(alloc: Global, count: u8, is_image: bool) -> Result<Vec<u8>, AllocError> {
     let mut text = b"YUV4MPEG2 W4 H2 F25:1 Cmono\n".to_vec(alloc)?;
     for n in 0..count {
