@@ -18,7 +18,6 @@ use Rattle.serve_core.specs.Schedule.{RefusesCollect, RefusesLease, ScheduleValu
 use Rattle.serve_core.specs.Schedule.{stream_by, tick_refusal}
 use Rattle.serve_core.specs.Setup.{StreamSpec}
 use Rattle.serve_core.specs.States as states
-use Rattle.serve_core.specs.States.{State, StreamState}
 use Rattle.serve_core.proofs.Lifts.{stream_here}
 use Rattle.serve_core.proofs.Options.{and_some}
 use Rattle.serve_core.proofs.Turns.{tested_ge}

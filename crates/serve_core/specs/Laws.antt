@@ -7,7 +7,8 @@ use Rattle.serve_core.specs.declared.held.Held.{Held}
 use Rattle.serve_core.specs.declared.refusal.Refusal.{Refusal}
 use Rattle.serve_core.specs.declared.refusal.Refusal.TheVariants as refusals
 use Rattle.serve_core.specs.Counts.{own_events}
-use Rattle.serve_core.specs.Events.{Event, Arrive, Lease, Reply, Accepted, Leased, GivenBack, Refused, Transcript}
+use Rattle.serve_core.specs.Events.{Event, Arrive, Lease, Reply, Accepted, Leased, GivenBack, Refused}
+use Rattle.serve_core.specs.Events.{Transcript}
 use Rattle.serve_core.specs.Events.{Then}
 use Rattle.serve_core.specs.Grants.{cost_of_first}
 use Rattle.serve_core.specs.Rules.{IsLegal, Allows}

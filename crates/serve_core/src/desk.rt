@@ -1,10 +1,9 @@
 //! The machine for workers that do their bands by themselves.
-ghost use Rattle.std.specs.Prelude.{◌≡◌, ◌≤◌, ◌<◌, ◌^◌, ◌⊎◌, true, max, Some, None, slice_get, option_copied};
-ghost use Rattle.std.specs.Prelude.{◌↔◌, All, IsFalse, IsTrue, IsSome, IfOk, IfErr, IfSome, IfNone, OnOk};
+ghost use Rattle.std.specs.Prelude.{◌≡◌, ◌≤◌, ◌<◌, ◌^◌, max, Some, None, slice_get, option_copied};
+ghost use Rattle.std.specs.Prelude.{◌↔◌, All, IsTrue, IsSome, IfOk, IfErr, IfSome, IfNone, OnOk};
 ghost use Rattle.std.specs.Prelude.{MatchOption};
 ghost use Rattle.std.specs.Arc.{arc_value};
 ghost use Rattle.std.specs.Option.{option_map};
-ghost use Rattle.edf_pool.specs.Earliest.{IsEarliest};
 ghost use Rattle.filters.specs.ChainImage.{value_of};
 ghost use Rattle.serve_core.specs.declared.refusal.Refusal.TheVariants as refusals;
 ghost use Rattle.serve_core.specs.Bare.{Blank};

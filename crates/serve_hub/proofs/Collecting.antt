@@ -1,5 +1,5 @@
 -- A collection as its seat has it.
-use Rattle.std.proofs.Common.{ℕ, ◌≡◌, IsSomeAnd, Some, slice_get, refl, sym, ◌∙◌, ap, subst}
+use Rattle.std.proofs.Common.{◌≡◌, IsSomeAnd, Some, slice_get, refl, sym, ◌∙◌, ap, subst}
 use Rattle.filters.specs.Chain.{ChainValue}
 use Rattle.serve_core.specs.declared.collected.Collected.{Collected}
 use Rattle.serve_core.specs.Lanes.{IsPair, Lane}

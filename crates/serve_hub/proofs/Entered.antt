@@ -1,6 +1,6 @@
 -- What each accepted call makes of a book.
-use Rattle.std.proofs.Common.{ℕ, ◌+◌, ◌≡◌, ◌≤◌, max, nat_lt, Bool, true, false, List, length, Some, None, Option, slice_get}
-use Rattle.std.proofs.Common.{if◌then◌else◌, refl, sym, ◌∙◌, ap, subst, arith}
+use Rattle.std.proofs.Common.{ℕ, ◌+◌, ◌≡◌, ◌≤◌, max, nat_lt, Bool, true, false, List, length, Some, None, slice_get}
+use Rattle.std.proofs.Common.{if◌then◌else◌, refl, sym, ◌∙◌, subst, arith}
 use Rattle.std.proofs.lemmas.List.{length-set}
 use Rattle.std.proofs.lemmas.Option.{slice_get_within}
 use Rattle.lease.specs.Job.{JobValue}
@@ -10,13 +10,11 @@ use Rattle.serve_core.specs.declared.counts.Counts.{Counts}
 use Rattle.serve_core.specs.declared.refusal.Refusal.TheVariants as refusals
 use Rattle.serve_core.specs.Bare.{Blank}
 use Rattle.serve_core.specs.Desk.{Answers, GivesJob, IsRecorded, TakesJob, bare_frames, desk_state, given, held_of, offered, one}
-use Rattle.serve_core.specs.Desk.{ticked}
 use Rattle.serve_core.specs.Events.{Accepted, Arrive, Close, Closing, Collect, Image, Lease, Reply, Refused, Start}
 use Rattle.serve_core.specs.Events.{Then, Tick, Ticked, Transcript}
 use Rattle.serve_core.specs.Events as events
 use Rattle.serve_core.specs.Lanes.{Lane}
 use Rattle.serve_core.specs.Schedule.{HasLane, ScheduleValue, came, counts_of, shut, taken, with_lane}
-use Rattle.serve_core.specs.States.{State}
 use Rattle.serve_core.proofs.Lifts.{stream_here}
 use Rattle.serve_core.proofs.Lists.{slice_get_set_same}
 use Rattle.serve_core.proofs.Options.{and_some, some_and}

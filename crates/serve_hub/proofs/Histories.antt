@@ -1,12 +1,11 @@
 -- A journal whose book was opened for a setup, and what its streams were charged.
 use Rattle.std.proofs.Common.{ℕ, suc, ◌+◌, ◌*◌, ◌≡◌, ◌≤◌, ◌<◌, ◌⊎◌, inl, inr, All, Some, slice_get, slice_index_or}
-use Rattle.std.proofs.Common.{refl, sym, ◌∙◌, ap, subst, arith, mul-le-mul_right}
+use Rattle.std.proofs.Common.{sym, ◌∙◌, ap, subst, arith, mul-le-mul_right}
 use Rattle.std.proofs.Math.Nat.{suc-mul}
 use Rattle.std.proofs.lemmas.Option.{slice_get-get_or}
 use Rattle.serve_core.specs.Bare.{Blank, measures_any, is_any_image}
 use Rattle.serve_core.specs.Desk.{bare_frames, desk_state}
 use Rattle.serve_core.specs.Grants.{cost_of_first}
-use Rattle.serve_core.specs.Lanes.{Lane}
 use Rattle.serve_core.specs.Leads.{IsLegalFrom, opening_state, state_from}
 use Rattle.serve_core.specs.Schedule.{stream_by}
 use Rattle.serve_core.specs.Setup.{cost, costs}

@@ -1,5 +1,5 @@
 -- What a book keeps after an accepted call.
-use Rattle.std.proofs.Common.{ℕ, ◌+◌, ◌*◌, ◌^◌, ◌≡◌, ◌≤◌, List, [], ◌∷◌, ◌++◌, length, reverse, Some, slice_get}
+use Rattle.std.proofs.Common.{ℕ, ◌+◌, ◌^◌, ◌≡◌, ◌≤◌, List, [], ◌∷◌, ◌++◌, length, reverse, Some, slice_get}
 use Rattle.std.proofs.Common.{◌<◌, inl, inr, slice_index_or, slice_set, refl, sym, ◌∙◌, ap, subst, arith}
 use Rattle.std.proofs.lemmas.Option.{slice_get-get_or}
 use Rattle.serve_core.proofs.Lists.{slice_get_set_other, slice_get_set_same}

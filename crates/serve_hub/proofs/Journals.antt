@@ -1,5 +1,5 @@
 -- One entry more on a journal.
-use Rattle.std.proofs.Common.{ℕ, ◌≡◌, List, ◌∷◌, sym, subst}
+use Rattle.std.proofs.Common.{List, ◌∷◌, sym, subst}
 use Rattle.serve_core.specs.Bare.{Blank, measures_any, is_any_image}
 use Rattle.serve_core.specs.Events.{joined}
 use Rattle.serve_core.specs.Leads.{Leads}

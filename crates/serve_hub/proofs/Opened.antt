@@ -1,12 +1,11 @@
 -- A book before any entry.
-use Rattle.std.proofs.Common.{ℕ, zero, suc, ◌+◌, ◌*◌, ◌^◌, ◌≡◌, ◌≤◌, List, [], ◌∷◌, length, map, replicate, Some, None}
-use Rattle.std.proofs.Common.{slice_get, sum_by, Option, reverse, refl, sym, ◌∙◌, ap, subst, arith}
+use Rattle.std.proofs.Common.{ℕ, zero, suc, ◌≡◌, ◌≤◌, List, [], ◌∷◌, length, map, replicate, Some, None}
+use Rattle.std.proofs.Common.{slice_get, sum_by, Option, reverse, refl, sym, ap, subst, arith}
 use Rattle.std.proofs.lemmas.List.{length-replicate}
 use Rattle.std.proofs.lemmas.List.Folds.{sum_by-replicate}
 use Rattle.std.proofs.lemmas.List.Sums.{sum_by-cons}
 use Rattle.serve_core.specs.declared.held.Held.{Held}
-use Rattle.serve_core.specs.Bare.{Blank, measures_any, is_any_image}
-use Rattle.serve_core.specs.Desk.{desk_state}
+use Rattle.serve_core.specs.Bare.{measures_any, is_any_image}
 use Rattle.serve_core.specs.Lanes.{opened}
 use Rattle.serve_core.specs.Schedule.{ScheduleValue, opened_schedule}
 use Rattle.serve_core.specs.Setup.{IsSetup, IsWithin, Setup, StreamSpec}

@@ -1,5 +1,5 @@
 -- What a settlement says of its lease.
-use Rattle.std.proofs.Common.{ℕ, ◌+◌, ◌≡◌, ◌≢◌, length, Some, slice_get, sym, ◌∙◌, ap, subst, refl, arith, Bool}
+use Rattle.std.proofs.Common.{ℕ, ◌+◌, ◌≡◌, length, Some, slice_get, sym, ◌∙◌, ap, subst, refl, Bool}
 use Rattle.std.specs.Prelude.{MatchBool, ⊤}
 use Rattle.filters.specs.Chain.{ChainValue}
 use Rattle.filters.specs.Costs.{step_costs}

@@ -1,5 +1,5 @@
 -- Seats of streams, one after the other.
-use Rattle.std.proofs.Common.{ℕ, zero, suc, ◌+◌, ◌≡◌, ◌<◌, List, [], ◌∷◌, ◌++◌, length, take, Some, slice_get, sym, ap}
+use Rattle.std.proofs.Common.{ℕ, zero, suc, ◌+◌, ◌≡◌, ◌<◌, List, [], ◌∷◌, ◌++◌, take, Some, slice_get, sym, ap}
 use Rattle.std.proofs.Common.{◌∙◌, ◌⊎◌, inl, inr, arith, add-one, subst}
 use Rattle.std.proofs.lemmas.Option.{slice_get_within}
 use Rattle.serve_core.specs.Setup.{StreamSpec}

@@ -1,6 +1,6 @@
 -- What a settlement makes of a book.
-use Rattle.std.proofs.Common.{ℕ, ◌+◌, ◌-◌, ◌≡◌, ◌≤◌, ◌<◌, inl, inr, nat_eq, Bool, true, false, length, List, sum, Some, None, Option}
-use Rattle.std.proofs.Common.{drop, is_some, slice_get, slice_set, slice_index_or, MatchOption, if◌then◌else◌, refl, sym}
+use Rattle.std.proofs.Common.{ℕ, ◌+◌, ◌-◌, ◌≡◌, ◌≤◌, ◌<◌, inl, inr, length, List, sum, Some, None, Option}
+use Rattle.std.proofs.Common.{is_some, slice_get, slice_set, slice_index_or, MatchOption, refl, sym}
 use Rattle.std.proofs.Common.{◌∙◌, ap, subst, arith}
 use Rattle.std.proofs.lemmas.List.{length-set}
 use Rattle.std.proofs.lemmas.List.Sums.{sum_by-set}
@@ -11,10 +11,8 @@ use Rattle.serve_core.specs.AtOnce.{bands, cost_of_next}
 use Rattle.serve_core.specs.Bare.{Blank}
 use Rattle.serve_core.specs.Desk.{Answers, IsRecorded, TakesBack, TakesImage, bare_frames, brought, desk_state}
 use Rattle.serve_core.specs.Desk.{settlement}
-use Rattle.serve_core.specs.Grants.{cost_of_first}
 use Rattle.serve_core.specs.Lanes.{Lane}
 use Rattle.serve_core.specs.Schedule.{HasLane, HasLease, ScheduleValue, finished, returned, stream_by, with_held, with_lane}
-use Rattle.serve_core.specs.Setup.{costs}
 use Rattle.serve_core.specs.Sound.{Sound}
 use Rattle.serve_core.specs.States.{State, held_at}
 use Rattle.serve_core.proofs.Lifts.{stream_here}

@@ -1,10 +1,9 @@
 -- The units of transcripts that follow one another, and of bands.
 use Rattle.std.proofs.Common.{ℕ, zero, suc, ◌+◌, ◌≡◌, ◌≤◌, nat_eq, Bool, true, false, Some, None, Option, slice_get}
-use Rattle.std.proofs.Common.{if◌then◌else◌, refl, sym, ◌∙◌, ap, arith}
+use Rattle.std.proofs.Common.{if◌then◌else◌, refl, sym, ap, arith}
 use Rattle.serve_core.specs.declared.held.Held.{Held}
-use Rattle.serve_core.specs.AtOnce.{at_once, bands, cost_of_next, with_used, worked_at_once}
+use Rattle.serve_core.specs.AtOnce.{at_once, bands, cost_of_next, with_used}
 use Rattle.serve_core.specs.Bare.{Blank, measures_any, is_any_image}
-use Rattle.serve_core.specs.Desk.{settlement}
 use Rattle.serve_core.specs.Events.{Band, Start, Stepped, Then, Transcript, joined}
 use Rattle.serve_core.specs.Leads.{state_from}
 use Rattle.serve_core.specs.States.{State, StreamState, held_at}
@@ -13,7 +12,7 @@ use Rattle.serve_core.proofs.Openings.{joined_state}
 use Rattle.serve_core.proofs.Steps.{held_at_is}
 use Rattle.serve_hub.specs.declared.entry.Act.TheVariants.{Offered}
 use Rattle.serve_hub.specs.declared.entry.Seat.TheVariants.{Stream}
-use Rattle.serve_hub.specs.Journal.{event_units, events_of, lease_cost, stream_cost, ticks, units_from}
+use Rattle.serve_hub.specs.Journal.{event_units, events_of, lease_cost, units_from}
 
 pub units_joined : (o : State Blank) (w : ℕ) (p q : Transcript Blank Blank)
     → units_from o w (joined p q) ≡ units_from o w p + units_from (state_from o p) w q

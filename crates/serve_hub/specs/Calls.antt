@@ -1,6 +1,6 @@
 -- How the calls of a hub leave the seats, and which refusals a seat can be told.
-use Rattle.std.specs.Prelude.{ℕ, ◌+◌, ◌≡◌, ◌≢◌, ◌≤◌, ◌<◌, ◌^◌, ◌↔◌, ⊤, Bool, true, IsTrue, List, [], ◌∷◌}
-use Rattle.std.specs.Prelude.{◌++◌, drop, length, slice_get, Option, Some, None, MatchOption, IfSome}
+use Rattle.std.specs.Prelude.{ℕ, ◌+◌, ◌≡◌, ◌≢◌, ◌≤◌, ◌<◌, ◌^◌, ◌↔◌, ⊤, true, IsTrue, [], ◌∷◌}
+use Rattle.std.specs.Prelude.{◌++◌, drop, length, slice_get, Option, Some, MatchOption}
 use Rattle.std.specs.Arc.{arc_value}
 use Rattle.frame_view.specs.declared.frame.Frame.{Frame}
 use Rattle.frame_view.specs.declared.geometry.Geometry.{Geometry}

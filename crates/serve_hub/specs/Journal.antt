@@ -1,5 +1,5 @@
 -- Journals of accepted calls: which events their entries stand for.
-use Rattle.std.specs.Prelude.{ℕ, ◌+◌, ◌≡◌, ⊤, nat_eq, nat_lt, Bool, true, false, List, [], ◌∷◌, slice_get}
+use Rattle.std.specs.Prelude.{ℕ, ◌+◌, ◌≡◌, ⊤, nat_eq, nat_lt, Bool, true, List, [], ◌∷◌, slice_get}
 use Rattle.std.specs.Prelude.{sum_by, Option, Some, None, IsSomeAnd, if◌then◌else◌}
 use Rattle.serve_core.specs.declared.held.Held.{Held}
 use Rattle.serve_core.specs.Bare.{Blank, measures_any, is_any_image}

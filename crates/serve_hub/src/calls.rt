@@ -1,5 +1,5 @@
 //! The calls that a seat made.
-ghost use Rattle.std.specs.Prelude.{◌≡◌, ◌+◌, ◌<◌, ◌≤◌, [], ◌∷◌, ◌++◌, length, sum_by};
+ghost use Rattle.std.specs.Prelude.{◌≡◌, ◌+◌, ◌<◌, ◌≤◌, [], length, sum_by};
 ghost use Rattle.std.specs.Prelude.{IfOk, IsSomeAnd, slice_get};
 ghost use Rattle.serve_hub.specs.Ends.{one_collection};
 ghost use Rattle.serve_hub.specs.Seats.{no_calls, with_call};

@@ -1,5 +1,5 @@
 //! The seat of a worker.
-ghost use Rattle.std.specs.Prelude.{◌≡◌, ◌↔◌, ◌⊎◌, IfErr, IfOk, IsTrue, MatchOption, OnErr, length};
+ghost use Rattle.std.specs.Prelude.{◌≡◌, ◌↔◌, IfErr, IfOk, IsTrue, MatchOption, OnErr, length};
 ghost use Rattle.serve_hub.specs.Calls.{FinishesOther, HasNumber, IsOutcome, Leases, Settles};
 ghost use Rattle.serve_hub.specs.Ends.{HasLeaseOut};
 ghost use Rattle.serve_hub.specs.Seats.{opened_worker};

@@ -1,11 +1,11 @@
 -- The run of a script's lines, one after another, and the report behind them.
-use Rattle.std.proofs.Common.{◌≡◌, ℕ, ◌+◌, ◌≤◌, ◌⊎◌, inl, inr, Bool, true, false, List, [], ◌∷◌, ◌++◌, length, take, Option, None, Some, IsSomeAnd, slice_get, refl, sym, ap, subst, ◌∙◌, arith, length-append, MatchBool}
+use Rattle.std.proofs.Common.{◌≡◌, ℕ, ◌+◌, ◌≤◌, Bool, true, false, List, [], ◌∷◌, ◌++◌, length, take, Option, None, Some, IsSomeAnd, slice_get, refl, sym, ap, subst, ◌∙◌, arith, length-append, MatchBool}
 use Rattle.std.proofs.Math.Seq.{take-append_seam}
 use Rattle.std.proofs.lemmas.List.{append_assoc, append-nil, take_all}
 use Rattle.std.proofs.lemmas.Grind.{flat_map-append}
 use Rattle.serve_script.specs.ScriptFault.{Fault}
-use Rattle.serve_script.specs.ScriptReport.{CommandGives, Gives, IsOfLines, LeadTo, Report, Stop, line_text, printed_by, report_of, text_of_lines}
-use Rattle.serve_script.specs.ScriptState.{Given, Silent, Prints, Faults, Fresh, MayFault, ScriptState}
+use Rattle.serve_script.specs.ScriptReport.{CommandGives, Gives, IsOfLines, LeadTo, line_text, report_of, text_of_lines}
+use Rattle.serve_script.specs.ScriptState.{Silent, Prints, Faults, Fresh, MayFault, ScriptState}
 use Rattle.serve_script.specs.ScriptText.{is_silent, script_lines}
 
 -- one line more

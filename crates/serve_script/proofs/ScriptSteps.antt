@@ -1,7 +1,7 @@
 -- What the line of a command does to what the program keeps of a script.
-use Rattle.std.proofs.Common.{◌≡◌, ℕ, ◌⊎◌, inl, inr, Bool, true, List, [], ◌++◌, Option, None, Some, Ok, refl, sym, ap, subst, ◌∙◌, MatchBool, MatchOption}
+use Rattle.std.proofs.Common.{◌≡◌, ℕ, Bool, true, List, [], ◌++◌, Option, None, Some, Ok, refl, sym, ap, subst, ◌∙◌, MatchBool, MatchOption}
 use Rattle.cbs_account.specs.Balance.{Balance}
-use Rattle.serve_script.specs.AccountScript.{account_given, balance_line, server_after}
+use Rattle.serve_script.specs.AccountScript.{account_given, balance_line}
 use Rattle.serve_script.specs.ScriptFault as faults
 use Rattle.serve_script.specs.ScriptFault.{Fault}
 use Rattle.serve_script.specs.ScriptInside.{Answers, MayEnd, Stands, outcome_of}
@@ -10,7 +10,6 @@ use Rattle.serve_script.specs.ScriptState.{Given, Prints, Faults, Fresh, OnAccou
 use Rattle.serve_script.specs.SessionCommand.{RunForm, run_of}
 use Rattle.serve_script.specs.SessionInside.{AnswersIn, IsAt, SessionValue}
 use Rattle.serve_script.specs.SessionRun.{RunGives}
-use Rattle.serve_script.specs.declared.command.AccountCommand.{AccountCommand}
 use Rattle.serve_script.specs.declared.run.Script.TheVariants as scripts
 use Rattle.serve_script.proofs.AccountLines.{account_may_fault, account_prints}
 

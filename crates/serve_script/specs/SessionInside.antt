@@ -1,5 +1,6 @@
 -- What the program keeps of a session script.
-use Rattle.std.specs.Prelude.{ℕ, ◌≡◌, ◌≤◌, ◌<◌, ◌/◌, ◌⊎◌, ⊤, Bool, false, true, nat_eq, List, [], ◌∷◌, ◌++◌, length, map}
+use Rattle.std.specs.Prelude.{ℕ, ◌≡◌, ◌≤◌, ◌<◌, ◌/◌, ◌⊎◌, ⊤, Bool, false, true, nat_eq, List, [], ◌∷◌, ◌++◌}
+use Rattle.std.specs.Prelude.{length, map}
 use Rattle.std.specs.Prelude.{codes, slice_get, Option, Some, MatchBool, Result, Ok, Err}
 use Rattle.hex.specs.Hex.{decode_of}
 use Rattle.serve_core.specs.Events.{Event, Arrive}

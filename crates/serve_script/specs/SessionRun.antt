@@ -19,7 +19,8 @@ use Rattle.serve_core.specs.States.{StreamState, state_of}
 use Rattle.serve_core.specs.declared.refusal.Refusal.TheVariants.{NoStream}
 use Rattle.serve_script.specs.ScriptFault as faults
 use Rattle.serve_script.specs.ScriptState.{Given, Prints, Faults, InSession, Session}
-use Rattle.serve_script.specs.SessionCommand.{RunForm, Arrive, Lease, Step, Settle, Tick, Close, Collect, State}
+use Rattle.serve_script.specs.SessionCommand.{RunForm, Arrive, Lease, Step, Settle, Tick, Close, Collect}
+use Rattle.serve_script.specs.SessionCommand.{State}
 use Rattle.serve_script.specs.SessionLine.{refused_line, reply_line, state_line}
 
 -- the number of the stream of this name; a name that no stream has stands for the number after the last one's

@@ -2,7 +2,8 @@
 ghost use Rattle.std.specs.Prelude.{◌≡◌};
 ghost use Rattle.std.specs.Option.{option_copied};
 ghost use Rattle.serve_script.specs.ScriptFault as told;
-ghost use Rattle.serve_script.specs.ScriptFault.{fault_name, fault_told, fault_word, filter_fault, filter_word};
+ghost use Rattle.serve_script.specs.ScriptFault.{fault_name, fault_told, fault_word, filter_fault};
+ghost use Rattle.serve_script.specs.ScriptFault.{filter_word};
 ghost use Rattle.serve_script.specs.ScriptFault.{header_fault, header_word};
 ghost use Rattle.serve_script.specs.declared.fault.ReplayFault.TheVariants as replay_faults;
 

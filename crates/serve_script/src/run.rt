@@ -3,7 +3,8 @@ ghost use Rattle.std.specs.Prelude.{◌≡◌, ◌≤◌, ◌++◌, IfErr, IfOk,
 ghost use Rattle.std.specs.Result.{result_err};
 ghost use Rattle.serve_script.specs.ScriptFault.{fault_told};
 ghost use Rattle.serve_script.specs.ScriptInside.{Answers, Reports, Stands};
-ghost use Rattle.serve_script.specs.ScriptReport.{CommandGives, IsOfLines, SetupLineGives, begins_account, line_text};
+ghost use Rattle.serve_script.specs.ScriptReport.{CommandGives, IsOfLines, SetupLineGives, begins_account};
+ghost use Rattle.serve_script.specs.ScriptReport.{line_text};
 ghost use Rattle.serve_script.specs.ScriptState.{MayFault, ScriptState};
 ghost use Rattle.serve_script.specs.ScriptText.{script_lines};
 

@@ -1,7 +1,6 @@
 //! Images on their way from a seat to a writer.
-ghost use Rattle.std.specs.Prelude.{◌≡◌, ◌≢◌, ◌+◌, ◌≤◌, [], IfErr, IfOk, IsTrue, length, false};
+ghost use Rattle.std.specs.Prelude.{◌≡◌, ◌+◌, ◌≤◌, [], IfErr, IfOk, length, false};
 ghost use Rattle.serve_core.specs.Lanes.{IsImageOf, source_in};
-ghost use Rattle.serve_hub.specs.Seats.{StreamSeatValue};
 ghost use Rattle.y4m_stream.specs.Writer.{IsWriterFor};
 ghost use Rattle.y4m_stream.specs.declared.passing.TheConstants.{MOST_FRAMES};
 ghost use Rattle.serve_work.specs.declared.stop.Cause.TheVariants as causes;

@@ -1,12 +1,10 @@
 //! Jobs that are handed over, and brought back with their bands.
-ghost use Rattle.std.specs.Prelude.{◌≡◌, ◌+◌, ◌<◌, ◌≤◌, ◌^◌, Some, None, slice_get};
-ghost use Rattle.std.specs.Prelude.{◌↔◌, All, IsTrue, IsSome, IfNone, MatchOption, option_copied};
+ghost use Rattle.std.specs.Prelude.{◌≡◌, ◌<◌, Some, None, slice_get};
+ghost use Rattle.std.specs.Prelude.{◌↔◌, All, IsTrue, IsSome, IfNone, option_copied};
 ghost use Rattle.std.specs.Option.{option_map};
-ghost use Rattle.cbs_account.specs.Rules.{CanCharge};
 ghost use Rattle.serve_core.specs.declared.refusal.Refusal.TheVariants as refusals;
-ghost use Rattle.serve_core.specs.AtOnce.{cost_of_next};
 ghost use Rattle.serve_core.specs.Desk.{CanBring, brought_by, lane_refusal};
-ghost use Rattle.serve_core.specs.Lanes.{HasPlace, IsOver, IsStarted, with_leased};
+ghost use Rattle.serve_core.specs.Lanes.{HasPlace, IsOver, with_leased};
 ghost use Rattle.serve_core.specs.Schedule.{HasLane, with_lane};
 
 use super::Schedule;

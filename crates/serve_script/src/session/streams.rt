@@ -1,5 +1,5 @@
 //! The streams of a session script by name.
-ghost use Rattle.std.specs.Prelude.{◌≡◌, ◌++◌, ◌∷◌, [], false, length, slice_get, slice_index_or, IfOk};
+ghost use Rattle.std.specs.Prelude.{◌≡◌, [], false, length, slice_get, slice_index_or, IfOk};
 ghost use Rattle.serve_script.specs.SessionInside.{Streams, no_streams, with_named};
 ghost use Rattle.serve_script.specs.SessionRun.{stream_named};
 ghost use Rattle.serve_script.specs.SessionSetup.{is_taken};

@@ -1,5 +1,5 @@
 //! Queues of letters, of numbers round the ring, and of items that can't be dropped.
-ghost use Rattle.std.specs.Prelude.{◌≡◌, ◌≤◌, IfOk, IsFalse};
+ghost use Rattle.std.specs.Prelude.{◌≡◌, IfOk, IsFalse};
 
 use super::{AlreadyClosed, FrameQueue, Refused};
 use std::alloc::Global;

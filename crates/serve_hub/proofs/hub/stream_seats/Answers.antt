@@ -1,4 +1,4 @@
-use Rattle.std.proofs.Common.{refl, arith, rules}
+use Rattle.std.proofs.Common.{arith, rules}
 use Rattle.std.proofs.lemmas.Grind.{common_steps}
 use Rattle.serve_core.proofs.Lists.{slice_get_here}
 use Rattle.serve_hub.proofs.Seating.{one_more_seat}

@@ -1,4 +1,4 @@
-use Rattle.std.proofs.Common.{◌≡◌, Some, None, true, rules, subst, sym, ◌∙◌}
+use Rattle.std.proofs.Common.{◌≡◌, Some, true, rules, subst, sym}
 use Rattle.serve_core.proofs.Options.{err_then}
 use Rattle.serve_script.specs.ScriptFault.{fault_told}
 use Rattle.serve_script.specs.ScriptInside.{Stands}

@@ -1,7 +1,7 @@
 use Rattle.std.proofs.Common.{◌≡◌, ◌+◌, [], ◌∷◌, ◌++◌, length, false, true, rules, arith, refl, sym, ap, ◌∙◌}
 use Rattle.std.proofs.lemmas.List.{append-nil}
 use Rattle.serve_script.specs.ScriptFault.{fault_told}
-use Rattle.serve_script.specs.ScriptReport.{line_text, text_of_lines}
+use Rattle.serve_script.specs.ScriptReport.{line_text}
 use Rattle.serve_script.specs.ScriptState.{Fresh}
 use Rattle.serve_script.specs.ScriptText.{is_silent, script_lines}
 use Rattle.serve_script.proofs.LineRuns.{LeadTo-prints, LeadTo-silent, all_lines, lines_before, no_lines, one_more, printed_next, split_next}

@@ -1,10 +1,10 @@
-use Rattle.std.proofs.Common.{◌≡◌, ◌+◌, ◌++◌, ◌∷◌, [], refl, ◌∙◌, ap, arith}
+use Rattle.std.proofs.Common.{◌+◌, ◌++◌, ◌∷◌, [], refl, ◌∙◌, ap, arith}
 use Rattle.std.proofs.lemmas.List.{length-reverse}
 use Rattle.serve_hub.specs.declared.book.Book.TheInside.{Inside}
 use Rattle.serve_hub.specs.declared.entry.Act.TheVariants.{Closed}
 use Rattle.serve_hub.specs.declared.entry.Seat.TheVariants.{Stream}
 use Rattle.serve_hub.specs.BookInside.{book}
-use Rattle.serve_hub.proofs.Entered.{IsEntered, close_entered}
+use Rattle.serve_hub.proofs.Entered.{close_entered}
 use Rattle.serve_hub.proofs.Inside.{IsPushed, appends, kept, no_more}
 use Rattle.serve_hub.proofs.book.Book.close.Goals as goal
 

@@ -1,4 +1,4 @@
-use Rattle.std.proofs.Common.{◌≡◌, ◌≤◌, ◌+◌, ◌++◌, ◌∷◌, [], None, Option, slice_get, refl, sym, ◌∙◌, ap, subst, arith}
+use Rattle.std.proofs.Common.{◌≤◌, ◌+◌, ◌++◌, ◌∷◌, [], Option, slice_get, refl, sym, ◌∙◌, ap, subst, arith}
 use Rattle.serve_core.proofs.Options.{some_and}
 use Rattle.serve_hub.specs.declared.entry.Act.TheVariants.{Collected}
 use Rattle.serve_hub.specs.declared.entry.Seat.TheVariants.{Stream}

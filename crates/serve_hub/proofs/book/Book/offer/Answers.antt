@@ -1,4 +1,4 @@
-use Rattle.std.proofs.Common.{◌≡◌, ◌≤◌, ◌+◌, ◌++◌, ◌∷◌, [], None, Option, sym, ◌∙◌, ap, subst, refl, arith}
+use Rattle.std.proofs.Common.{◌≤◌, ◌+◌, ◌++◌, ◌∷◌, [], Option, sym, ◌∙◌, ap, subst, refl, arith}
 use Rattle.std.specs.Arc.{arc_value}
 use Rattle.serve_core.specs.Desk.{TakesFrame}
 use Rattle.serve_hub.specs.declared.entry.Act.TheVariants.{Offered}

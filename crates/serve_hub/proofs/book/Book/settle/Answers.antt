@@ -1,5 +1,5 @@
 use Rattle.std.proofs.Common.{◌≡◌, ◌≤◌, ◌<◌, ◌+◌, ◌^◌, ◌++◌, ◌∷◌, [], is_some, length, slice_get, slice_index_or, Some}
-use Rattle.std.proofs.Common.{slice_set, refl, sym, ◌∙◌, ap, subst, arith, rules}
+use Rattle.std.proofs.Common.{slice_set, refl, sym, ◌∙◌, ap, subst, arith}
 use Rattle.std.proofs.lemmas.List.{get_or_read, length-reverse}
 use Rattle.std.proofs.lemmas.Option.{slice_get-get_or, slice_get_within}
 use Rattle.std.specs.Vec.{with_item}
@@ -9,7 +9,7 @@ use Rattle.serve_core.specs.Schedule.{HasLane}
 use Rattle.serve_hub.specs.declared.book.Book.TheInside.{Inside}
 use Rattle.serve_hub.specs.declared.entry.Act.TheVariants.{Settled}
 use Rattle.serve_hub.specs.declared.entry.Seat.TheVariants.{Worker}
-use Rattle.serve_hub.specs.Answers.{is_finished, settled_as}
+use Rattle.serve_hub.specs.Answers.{is_finished}
 use Rattle.serve_hub.specs.BookInside.{book}
 use Rattle.serve_hub.specs.Books.{Appends, BookValue, with_units}
 use Rattle.serve_hub.specs.Journal.{entry_of}

@@ -1,4 +1,4 @@
-use Rattle.std.proofs.Common.{◌≡◌, ◌∙◌, All, ap, sym, subst, length}
+use Rattle.std.proofs.Common.{◌∙◌, All, ap, sym, subst, length}
 use Rattle.std.specs.Prelude.{reverse}
 use Rattle.serve_hub.specs.Books.{BookValue}
 use Rattle.serve_hub.specs.Ends.{AreLanes, AreStreamCalls, AreWorkCalls, IsCharged, IsHistory, IsOpened}

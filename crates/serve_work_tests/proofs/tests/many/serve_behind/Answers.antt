@@ -1,4 +1,4 @@
-use Rattle.std.proofs.Common.{◌≡◌, ◌++◌, ◌∷◌, List, [], subst, sym}
+use Rattle.std.proofs.Common.{◌++◌, ◌∷◌, List, [], subst}
 use Rattle.std.specs.List.{AllZip}
 use Rattle.y4m_stream.specs.Reader.{IsOfHeader}
 use Rattle.serve_work.specs.Sessions.{IsInput}
