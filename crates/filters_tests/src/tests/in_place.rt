@@ -7,8 +7,8 @@ use std::process::Abort;
 use std::test::Fail;
 use y4m_header::{Chroma, check_frame_line};
 
-/// What a table makes of a frame with the samples 0, 90, 255 of Y, 1, 2, 3 of Cb, 254, 128, 0 of Cr and 7, 8, 9
-/// of A.
+/// What a table makes of a frame with the samples 0, 90, 255 of Y, 1, 2, 3 of Cb, 254, 128, 0 of Cr and
+/// 7, 8, 9 of A.
 fn makes(rt: &impl Abort, alloc: Global, table: Table, image: &[u8]) -> Result<(), Fail> {
     let geometry = Geometry {
         width: 3,
