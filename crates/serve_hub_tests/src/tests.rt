@@ -8,16 +8,19 @@ mod jobs;
 mod leases;
 mod seated;
 mod seats;
+mod steps;
 mod threads;
 mod twins;
 
+use self::steps::Answer;
 use filters::{Chain, parse_ops};
 use frame_view::{Frame, Geometry};
 use lease::{JobSpec, Lease};
 use row_bands::BandHeight;
-use serve_core::{Refusal as Core, Setup, StreamSpec};
+use serve_core::{Counts, Refusal as Core, Setup, StreamSpec};
 use serve_hub::{Book, Refusal, Settled};
 use std::alloc::Global;
+use std::fmt::Debug;
 use std::process::Abort;
 use std::sync::Arc;
 use std::test::Fail;
@@ -53,6 +56,16 @@ const PLAIN: Served<'static> = Served {
     account: (1, 4),
     queue: 16,
 };
+
+/// Compares what a call gave with what is wanted.
+fn same<T: PartialEq + Debug + Drop>(rt: &impl Abort, got: T, want: T) {
+    assert_eq!(rt; got, want);
+}
+
+/// Compares a list with the one that is wanted.
+fn same_list<T: PartialEq + Debug>(rt: &impl Abort, got: &[T], want: &[T]) {
+    assert_eq!(rt; got, want);
+}
 
 fn geometry_of(size: Size) -> Geometry {
     let height = match size {
@@ -110,51 +123,51 @@ fn frame_of(alloc: Global, samples: &[u8]) -> Result<Arc<Frame>, Fail> {
     Ok(Arc::new(alloc, frame)?)
 }
 
-/// Offers a frame at moment 0, which may be refused for want of memory alone.
-fn offered(alloc: Global, book: &mut Book, s: u32, samples: &[u8]) -> Result<u64, Fail> {
-    match book.offer(alloc, s, 0, frame_of(alloc, samples)?) {
-        Ok(number) => Ok(number),
-        Err((refusal, _)) => Err(Fail::from(refusal)),
+/// Offers a frame, which comes back where it is refused.
+fn offered(
+    alloc: Global,
+    book: &mut Book,
+    s: u32,
+    at: u64,
+    samples: &[u8],
+) -> Result<Answer, Fail> {
+    match book.offer(alloc, s, at, frame_of(alloc, samples)?) {
+        Ok(number) => Ok(Answer::Accepted(number)),
+        Err((refusal, frame)) => came_back(refusal, &frame, samples),
     }
 }
 
-/// Offers a frame that is refused.
-fn offer_refused(alloc: Global, book: &mut Book, s: u32, at: u64) -> Result<Option<Refusal>, Fail> {
-    match book.offer(alloc, s, at, frame_of(alloc, &[0x5A])?) {
-        Ok(_) => Ok(None),
-        Err((refusal, frame)) => {
-            if frame.data() == [0x5A].as_slice() {
-                Ok(Some(refusal))
-            } else {
-                Err("another frame came back".into())
-            }
-        }
-    }
-}
-
-/// Why worker `w` gets no lease.
-fn lease_refused(book: &mut Book, w: u32) -> Option<Refusal> {
-    match book.lease(w) {
-        Ok(lease) => {
-            let _job = lease.into_job();
-            None
-        }
-        Err(refusal) => Some(refusal),
+/// The answer of an offer whose frame came back.
+fn came_back(refusal: Refusal, frame: &Frame, samples: &[u8]) -> Result<Answer, Fail> {
+    if frame.data() == samples {
+        Ok(Answer::Refused(refusal))
+    } else {
+        Err("another frame came back".into())
     }
 }
 
 /// The first sample of the source and of the image that stream `s` gives.
-fn collected(book: &mut Book, s: u32) -> Result<(Option<u8>, Option<u8>), Refusal> {
-    let pair = book.collect(s)?;
-    let source = pair.source.data().first().copied();
-    Ok((source, pair.image.data().first().copied()))
+fn collected(book: &mut Book, s: u32) -> Answer {
+    match book.collect(s) {
+        Ok(pair) => {
+            let source = pair.source.data().first().copied();
+            Answer::Given(source, pair.image.data().first().copied())
+        }
+        Err(refusal) => Answer::Refused(refusal),
+    }
 }
 
-/// A lease that is settled after this many bands: what it told, and what became of its frame.
-fn worked(book: &mut Book, w: u32, bands: u32) -> Result<((u32, u64, u32), Settled), Refusal> {
-    let lease = book.lease(w)?;
+/// A lease that is settled after this many bands.
+fn worked(book: &mut Book, w: u32, bands: u32) -> Answer {
+    let lease = match book.lease(w) {
+        Ok(lease) => lease,
+        Err(refusal) => return Answer::Refused(refusal),
+    };
     let lent = told(&lease);
-    Ok((lent, settled(book, w, stepped(lease, bands))?))
+    match settled(book, w, stepped(lease, bands)) {
+        Ok(done) => Answer::Worked(lent, done),
+        Err(refusal) => Answer::Refused(refusal),
+    }
 }
 
 /// Settles a lease. A refused one ends.
@@ -183,9 +196,9 @@ fn told(lease: &Lease) -> (u32, u64, u32) {
 }
 
 /// Budget, deadline, and how many frames were accepted, finished and collected, and what was charged.
-fn state_of(book: &Book, s: u32) -> Option<[u64; 6]> {
-    let (budget, deadline) = book.account(s)?;
-    let counts = book.counts(s)?;
+fn state_of(account: Option<(u64, u64)>, counts: Option<Counts>) -> Option<[u64; 6]> {
+    let (budget, deadline) = account?;
+    let counts = counts?;
     Some([
         budget,
         deadline,

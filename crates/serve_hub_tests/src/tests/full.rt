@@ -1,26 +1,17 @@
 //! Journals up to their last entry.
-use super::{
-    Core, PLAIN, book_of, collected, frame_of, lease_refused, offer_refused, offered, settled,
-    setup_of, state_of, stepped, worked,
-};
+use super::steps::{Answer, FIFTEEN_FRAMES, SEVEN_LEASES, TWELVE_FRAMES, book_after};
+use super::{Core, PLAIN, collected, frame_of, same, settled, setup_of, state_of, stepped};
 use serve_hub::{Book, BookError, Refusal, Settled};
+use std::alloc::Global;
+use std::process::Abort;
 use std::test::Fail;
 
 #[test]
 fn offers_fill_the_journal(rt: HostRuntime) -> Result<(), Fail> {
-    let alloc = rt.alloc();
-    let mut book = book_of(alloc, &[PLAIN])?;
-    for number in 0..15 {
-        assert_eq!(rt; offered(alloc, &mut book, 0, &[number as u8])?, number);
-    }
-    assert_eq!(rt;
-        offer_refused(alloc, &mut book, 0, 0)?,
-        Some(Refusal::HistoryFull)
-    );
-    assert_eq!(rt; book.offer_job_refusal(0, 0), Some(Refusal::HistoryFull));
-    assert_eq!(rt; lease_refused(&mut book, 0), Some(Refusal::HistoryFull));
-    assert_eq!(rt; book.close(0), Ok(()));
-    assert_eq!(rt; book.journal().len(), 16);
+    let mut book = book_after(&rt, rt.alloc(), &[PLAIN], FIFTEEN_FRAMES)?;
+    let refusal = book.offer_job_refusal(0, 0);
+    same(&rt, refusal, Some(Refusal::HistoryFull));
+    same(&rt, (book.close(0), book.journal().len()), (Ok(()), 16));
     Ok(())
 }
 
@@ -30,55 +21,54 @@ fn a_limit_has_limits(rt: HostRuntime) -> Result<(), Fail> {
     for limit in [0, 15, (1 << 20) + 1] {
         match Book::new(alloc, setup_of(alloc, 1, &[PLAIN])?, limit) {
             Ok(_) => assert!(rt; false, "limit {limit}"),
-            Err(e) => assert_eq!(rt; e, BookError::BadLimit),
+            Err(e) => same(&rt, e, BookError::BadLimit),
         }
     }
     Ok(())
 }
 
-/// A lease without a band is two entries each time, and the last needs a place for its settlement.
 #[test]
 fn leases_without_a_band_fill_the_journal(rt: HostRuntime) -> Result<(), Fail> {
-    let alloc = rt.alloc();
-    let mut book = book_of(alloc, &[PLAIN])?;
-    assert_eq!(rt; offered(alloc, &mut book, 0, &[0x00])?, 0);
-    for _ in 0..7 {
-        assert_eq!(rt; worked(&mut book, 0, 0)?, ((0, 0, 1), Settled::Returned));
-    }
-    assert_eq!(rt; lease_refused(&mut book, 0), Some(Refusal::HistoryFull));
-    assert_eq!(rt; book.close(0), Ok(()));
-    assert_eq!(rt; book.journal().len(), 16);
-    assert_eq!(rt; state_of(&book, 0), Some([1, 4, 1, 0, 0, 0]));
-    assert_eq!(rt; (book.bands(0), book.units(0)), (0, Some(0)));
+    let mut book = book_after(&rt, rt.alloc(), &[PLAIN], SEVEN_LEASES)?;
+    same(&rt, (book.close(0), book.journal().len()), (Ok(()), 16));
+    let state = state_of(book.account(0), book.counts(0));
+    same(&rt, state, Some([1, 4, 1, 0, 0, 0]));
+    same(&rt, (book.bands(0), book.units(0)), (0, Some(0)));
     Ok(())
 }
 
 /// The entries of the settlement and the close are kept for them.
 #[test]
 fn a_lease_is_out_while_the_journal_fills(rt: HostRuntime) -> Result<(), Fail> {
-    let alloc = rt.alloc();
-    let mut book = book_of(alloc, &[PLAIN])?;
-    for number in 0..12 {
-        assert_eq!(rt; offered(alloc, &mut book, 0, &[number as u8])?, number);
-    }
+    let mut book = book_after(&rt, rt.alloc(), &[PLAIN], TWELVE_FRAMES)?;
+    fill_beside_a_lease(&rt, rt.alloc(), &mut book)
+}
+
+/// Leases the first of twelve frames, and offers the thirteenth before its settlement. Where the memory for
+/// that is refused, the journal has a place left.
+fn fill_beside_a_lease(rt: &impl Abort, alloc: Global, book: &mut Book) -> Result<(), Fail> {
     let frame = frame_of(alloc, &[0x0C])?;
-    let lease = book.lease(0)?;
+    let lease = book.lease(0).expect(rt, "a lease");
     match book.offer(alloc, 0, 0, frame) {
-        Ok(number) => assert_eq!(rt; number, 12),
-        Err((refusal, _)) => assert_eq!(rt; refusal, Refusal::Core(Core::NoMemory)),
+        Ok(number) => same(rt, number, 12),
+        Err((refusal, _)) => same(rt, refusal, Refusal::Core(Core::NoMemory)),
     }
     let last = book.offer_job_refusal(0, 0);
-    assert_eq!(rt; collected(&mut book, 0), Err(Refusal::Core(Core::Empty)));
-    assert_eq!(rt;
-        settled(&mut book, 0, stepped(lease, 1)),
-        Ok(Settled::Finished(0))
-    );
+    let empty = Answer::Refused(Refusal::Core(Core::Empty));
+    same(rt, collected(book, 0), empty);
+    let done = settled(book, 0, stepped(lease, 1));
+    same(rt, done, Ok(Settled::Finished(0)));
     if last == Some(Refusal::HistoryFull) {
-        assert_eq!(rt; collected(&mut book, 0), Err(Refusal::HistoryFull));
-        assert_eq!(rt; book.close(0), Ok(()));
-        assert_eq!(rt; book.journal().len(), 16);
-        assert_eq!(rt; state_of(&book, 0), Some([1, 8, 13, 1, 0, 1]));
-        assert_eq!(rt; book.bands(0), 1);
+        ends_full(rt, book);
     }
     Ok(())
+}
+
+/// A full journal whose one image can't be collected.
+fn ends_full(rt: &impl Abort, book: &mut Book) {
+    let full = Answer::Refused(Refusal::HistoryFull);
+    same(rt, (collected(book, 0), book.close(0)), (full, Ok(())));
+    let state = state_of(book.account(0), book.counts(0));
+    same(rt, state, Some([1, 8, 13, 1, 0, 1]));
+    same(rt, (book.journal().len(), book.bands(0)), (16, 1));
 }

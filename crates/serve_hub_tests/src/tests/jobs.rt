@@ -1,12 +1,16 @@
 //! Jobs that were made outside, and frames that are offered in the memory of images.
-ghost use Rattle.std.specs.Prelude.{◌≡◌, IfOk};
+ghost use Rattle.std.specs.Prelude.{◌≡◌, IfOk, None};
 ghost use Rattle.serve_core.specs.Desk.{IsFreshFor, IsImageFor};
 
-use super::seated::{Seated, seated_of};
-use super::{Core, LINE, PLAIN, book_of, collected, frame_of, setup_of, worked};
+use super::seated::{Seated, seated_after};
+use super::steps::Answer::{Accepted, Closed, Given, Refused, Returned, Worked};
+use super::steps::Call::{Close, Collect, Offer, OfferOver, Work};
+use super::steps::{Answer, Step, book_after, follow};
+use super::{Core, LINE, PLAIN, came_back, frame_of, same, setup_of};
 use frame_view::Frame;
 use lease::{Job, JobSpec};
-use serve_hub::{Book, OverRefused, Refusal, Settled, is_same_spec};
+use serve_core::Setup;
+use serve_hub::{Book, Ended, Refusal, Settled, is_same_spec};
 use std::alloc::Global;
 use std::marker::Brand;
 use std::process::Abort;
@@ -14,6 +18,38 @@ use std::sync::ledger::{Blank, Ledger};
 use std::sync::{Arc, Wait};
 use std::test::Fail;
 use y4m_header::check_frame_line;
+
+/// A frame is worked and collected, and its stream is closed.
+const COLLECTED: &[Step] = &[
+    (Work(0, 1), Worked((0, 0, 1), Settled::Finished(0))),
+    (Collect(0), Given(Some(0x01), Some(0xFE))),
+    (Close(0), Closed),
+];
+
+/// A frame is offered to a book over an image of zeros, and another one behind the close.
+const OVER_ZEROS: &[Step] = &[
+    (OfferOver(0, 0x5A), Accepted(0)),
+    (Work(0, 1), Worked((0, 0, 1), Settled::Finished(0))),
+    (Collect(0), Given(Some(0x5A), Some(0xA5))),
+    (Close(0), Closed),
+    (
+        OfferOver(0, 0x01),
+        Returned(Refusal::Core(Core::Closed), Some(0x00)),
+    ),
+];
+
+/// A frame is offered to a hub over the first one's image, and another one behind the close.
+const OVER_IMAGES: &[Step] = &[
+    (Offer(0, 0x00), Accepted(0)),
+    (Work(0, 1), Worked((0, 0, 1), Settled::Finished(0))),
+    (OfferOver(0, 0x01), Accepted(1)),
+    (Work(0, 1), Worked((0, 1, 1), Settled::Finished(1))),
+    (Close(0), Closed),
+    (
+        OfferOver(0, 0x5A),
+        Returned(Refusal::Core(Core::Closed), Some(0xFE)),
+    ),
+];
 
 /// The job of a frame for stream `s`, whose chain this has to be.
 fn job_for(
@@ -23,7 +59,8 @@ fn job_for(
     spec: &Arc<JobSpec>,
     samples: &[u8],
 ) -> Result<Job, Fail>
-    ensures { IfOk result (λ job. IsFreshFor book.now.desk s job) }
+    ensures fresh { IfOk result (λ job. IsFreshFor book.now.desk s job) }
+    ensures waiting { IfOk result (λ job. job.scratch ≡ None) }
 {
     let Some(there) = book.spec(s) else {
         return Err("no stream".into());
@@ -45,113 +82,130 @@ fn image_for(alloc: Global, book: &Book, s: u32) -> Result<Frame, Fail>
     Ok(Frame::blank(alloc, spec.chain().out_geometry(), LINE)?)
 }
 
+/// Offers a job of a frame for the first stream.
+fn offered_job(
+    alloc: Global,
+    book: &mut Book,
+    spec: &Arc<JobSpec>,
+    samples: &[u8],
+) -> Result<Answer, Fail> {
+    let job = job_for(alloc, book, 0, spec, samples)?;
+    answer_to_job(book, job, samples)
+}
+
+/// Offers a job, whose frame comes back where it is refused.
+fn answer_to_job(book: &mut Book, job: Job, samples: &[u8]) -> Result<Answer, Fail>
+    requires fresh { IsFreshFor book.old.desk 0 job }
+    requires waiting { job.scratch ≡ None }
+{
+    match book.offer_job(0, 0, job) {
+        Ok(number) => Ok(Accepted(number)),
+        Err((refusal, job)) => {
+            let (frame, _image) = job.undo();
+            came_back(refusal, &frame, samples)
+        }
+    }
+}
+
 #[test]
 fn a_job_is_made_outside(rt: HostRuntime) -> Result<(), Fail> {
     let alloc = rt.alloc();
     let setup = setup_of(alloc, 1, &[PLAIN])?;
-    let spec = setup.streams().first().ok_or("no stream")?.spec().clone()?;
+    let spec = first_spec(&setup)?;
     let mut book = Book::new(alloc, setup, 16)?;
-    let job = job_for(alloc, &book, 0, &spec, &[0x01])?;
-    assert_eq!(rt; offered_job(&mut book, job), Ok(0));
-    assert_eq!(rt; worked(&mut book, 0, 1)?, ((0, 0, 1), Settled::Finished(0)));
-    assert_eq!(rt; collected(&mut book, 0)?, (Some(0x01), Some(0xFE)));
-    assert_eq!(rt; book.close(0), Ok(()));
-    let job = job_for(alloc, &book, 0, &spec, &[0x5A])?;
-    match book.offer_job(0, 0, job) {
-        Ok(_) => assert!(rt; false, "a frame behind the close"),
-        Err((refusal, job)) => {
-            assert_eq!(rt; refusal, Refusal::Core(Core::Closed));
-            let (frame, _image) = job.undo();
-            assert_eq!(rt; frame.data(), [0x5A].as_slice());
-        }
-    }
+    serve_jobs(&rt, alloc, &mut book, &spec)
+}
+
+/// The chain of the first stream.
+fn first_spec(setup: &Setup) -> Result<Arc<JobSpec>, Fail> {
+    let stream = setup.streams().first().ok_or("no stream")?;
+    Ok(stream.spec().clone()?)
+}
+
+/// A job is offered, and another one behind the close.
+fn serve_jobs(
+    rt: &impl Abort,
+    alloc: Global,
+    book: &mut Book,
+    spec: &Arc<JobSpec>,
+) -> Result<(), Fail> {
+    let offered = offered_job(alloc, book, spec, &[0x01])?;
+    same(rt, offered, Accepted(0));
+    follow(rt, alloc, book, COLLECTED)?;
+    let refused = offered_job(alloc, book, spec, &[0x5A])?;
+    same(rt, refused, Refused(Refusal::Core(Core::Closed)));
     Ok(())
+}
+
+/// Offers a frame in the memory of an image of zeros.
+pub(super) fn offered_over(
+    alloc: Global,
+    book: &mut Book,
+    s: u32,
+    samples: &[u8],
+) -> Result<Answer, Fail> {
+    let (frame, image) = (frame_of(alloc, samples)?, image_for(alloc, book, s)?);
+    match book.offer_over(alloc, s, 0, frame, image) {
+        Ok(number) => Ok(Accepted(number)),
+        Err((refusal, frame, image)) => both_back(refusal, &frame, &image, samples),
+    }
+}
+
+/// The answer of an offer whose frame came back with the image.
+fn both_back(
+    refusal: Refusal,
+    frame: &Frame,
+    image: &Frame,
+    samples: &[u8],
+) -> Result<Answer, Fail> {
+    if frame.data() != samples || image.data().len() != 1 {
+        return Err("another frame or another image came back".into());
+    }
+    Ok(Returned(refusal, image.data().first().copied()))
 }
 
 #[test]
 fn an_image_lends_a_book_its_memory(rt: HostRuntime) -> Result<(), Fail> {
-    let alloc = rt.alloc();
-    let mut book = book_of(alloc, &[PLAIN])?;
-    let (frame, image) = (frame_of(alloc, &[0x5A])?, image_for(alloc, &book, 0)?);
-    match book.offer_over(alloc, 0, 0, frame, image) {
-        Ok(number) => assert_eq!(rt; number, 0),
-        Err((refusal, _, _)) => return Err(refusal.into()),
-    }
-    assert_eq!(rt; worked(&mut book, 0, 1)?, ((0, 0, 1), Settled::Finished(0)));
-    assert_eq!(rt; collected(&mut book, 0)?, (Some(0x5A), Some(0xA5)));
-    assert_eq!(rt; book.close(0), Ok(()));
-    let (frame, image) = (frame_of(alloc, &[0x01])?, image_for(alloc, &book, 0)?);
-    match book.offer_over(alloc, 0, 0, frame, image) {
-        Ok(_) => assert!(rt; false, "a frame behind the close"),
-        Err((refusal, frame, image)) => {
-            assert_eq!(rt; refusal, Refusal::Core(Core::Closed));
-            assert_eq!(rt;
-                (frame.data(), image.data()),
-                ([0x01].as_slice(), [0x00].as_slice())
-            );
-        }
-    }
+    let _book = book_after(&rt, rt.alloc(), &[PLAIN], OVER_ZEROS)?;
     Ok(())
 }
 
-/// Collects an image of the one stream, and offers a frame in its memory.
-fn offer_over_next<L: Ledger>(
+/// Collects an image of stream `s` of a hub, and offers a frame in its memory.
+pub(super) fn hub_offered_over<L: Ledger>(
     rt: &impl Wait,
     alloc: Global,
     seated: &mut Seated<L>,
+    s: u32,
     samples: &[u8],
-) -> Result<Result<u64, OverRefused>, Fail> {
-    let frame = frame_of(alloc, samples)?;
+) -> Result<Answer, Fail> {
     let Seated { hub, streams, .. } = seated;
-    let seat = streams.first_mut().ok_or("no seat")?;
+    let seat = streams.get_mut(s as usize).ok_or("no seat")?;
+    let frame = frame_of(alloc, samples)?;
     let pair = match hub.try_collect(rt, seat) {
         Ok(pair) => pair,
-        Err(refused) => return Err(refused.refusal.into()),
+        Err(refused) => return Ok(Refused(refused.refusal)),
     };
-    Ok(hub.offer_over(rt, alloc, seat, 0, frame, pair.image))
+    match hub.offer_over(rt, alloc, seat, 0, frame, pair.image) {
+        Ok(number) => Ok(Accepted(number)),
+        Err(refused) => {
+            let (frame, image) = refused.back.ok_or("nothing came back")?;
+            both_back(refused.refusal, &frame, &image, samples)
+        }
+    }
 }
 
 #[test]
 fn an_image_lends_a_hub_its_memory(rt: HostRuntime) -> Result<(), Fail> {
-    over::<Brand, _>(&rt, rt.alloc(), Blank::new(80))
+    let ended = over::<Brand, _>(&rt, rt.alloc(), Blank::new(80))?;
+    same(&rt, ended.journal().len(), 9);
+    Ok(())
 }
 
-fn over<L: Ledger, R: Wait + Abort>(rt: &R, alloc: Global, blank: Blank) -> Result<(), Fail>
+fn over<L: Ledger, R: Wait + Abort>(rt: &R, alloc: Global, blank: Blank) -> Result<Ended, Fail>
     requires name { blank.name ≡ L.name }
     requires parts { blank.parts ≡ L.parts }
     requires enough { blank.parts ≡ 80 }
 {
-    let mut seated = seated_of::<L>(alloc, blank, 1, &[PLAIN])?;
-    assert_eq!(rt; seated.offered(rt, alloc, 0, &[0x00])?, 0);
-    assert_eq!(rt; seated.worked(rt, 0, 1)?, ((0, 0, 1), Settled::Finished(0)));
-    match offer_over_next(rt, alloc, &mut seated, &[0x01])? {
-        Ok(number) => assert_eq!(rt; number, 1),
-        Err(refused) => return Err(refused.refusal.into()),
-    }
-    assert_eq!(rt; seated.worked(rt, 0, 1)?, ((0, 1, 1), Settled::Finished(1)));
-    assert_eq!(rt; seated.close(rt, 0), Ok(()));
-    match offer_over_next(rt, alloc, &mut seated, &[0x5A])? {
-        Ok(_) => assert!(rt; false, "a frame behind the close"),
-        Err(refused) => {
-            assert_eq!(rt; refused.refusal, Refusal::Core(Core::Closed));
-            let (frame, image) = refused.back.ok_or("nothing came back")?;
-            assert_eq!(rt;
-                (frame.data(), image.data()),
-                ([0x5A].as_slice(), [0xFE].as_slice())
-            );
-        }
-    }
-    let ended = seated.ended()?;
-    assert_eq!(rt; ended.journal().len(), 9);
-    Ok(())
-}
-
-/// The number of the job's frame.
-fn offered_job(book: &mut Book, job: Job) -> Result<u64, Refusal>
-    requires { IsFreshFor book.old.desk 0 job }
-{
-    match book.offer_job(0, 0, job) {
-        Ok(number) => Ok(number),
-        Err((refusal, _)) => Err(refusal),
-    }
+    let seated = seated_after::<L, R>(rt, alloc, blank, 1, &[PLAIN], OVER_IMAGES)?;
+    Ok(seated.ended(rt))
 }

@@ -1,7 +1,9 @@
 //! A hub beside all its seats, as one thread calls it.
 ghost use Rattle.std.specs.Prelude.{◌≡◌};
 
-use super::{Core, Served, frame_of, setup_of, stepped, told};
+use super::jobs::hub_offered_over;
+use super::steps::{Answer, Call, Step, closed};
+use super::{Core, Served, came_back, frame_of, same, setup_of, stepped, told};
 use frame_view::Frame;
 use lease::Lease;
 use serve_core::Collected;
@@ -10,6 +12,7 @@ use serve_hub::{
     WorkSeat,
 };
 use std::alloc::Global;
+use std::process::Abort;
 use std::sync::ledger::{Blank, Ledger};
 use std::sync::{Arc, Wait};
 use std::test::Fail;
@@ -27,7 +30,7 @@ pub(super) struct Seated<L: Ledger> {
 }
 
 /// A hub of these streams, for at most 16 entries.
-pub(super) fn seated_of<L: Ledger>(
+fn seated_of<L: Ledger>(
     alloc: Global,
     blank: Blank,
     workers: u64,
@@ -46,56 +49,84 @@ pub(super) fn seated_of<L: Ledger>(
     })
 }
 
+/// A hub of these streams, for at most 16 entries, after these calls.
+pub(super) fn seated_after<L: Ledger, R: Wait + Abort>(
+    rt: &R,
+    alloc: Global,
+    blank: Blank,
+    workers: u64,
+    streams: &[Served<'_>],
+    steps: &[Step],
+) -> Result<Seated<L>, Fail>
+    requires name { blank.name ≡ L.name }
+    requires parts { blank.parts ≡ L.parts }
+    requires enough { blank.parts ≡ 80 }
+{
+    let mut seated = seated_of::<L>(alloc, blank, workers, streams)?;
+    seated.follow(rt, alloc, steps)?;
+    Ok(seated)
+}
+
 impl<L: Ledger> Seated<L> {
+    /// Calls the hub in turn, and compares each answer.
+    pub(super) fn follow<R: Wait + Abort>(
+        &mut self,
+        rt: &R,
+        alloc: Global,
+        steps: &[Step],
+    ) -> Result<(), Fail> {
+        for step in steps {
+            let (call, want) = *step;
+            let got = self.answer_to(rt, alloc, call)?;
+            same(rt, (call, got), (call, want));
+        }
+        Ok(())
+    }
+
+    /// What the hub answers to a call.
+    fn answer_to(&mut self, rt: &impl Wait, alloc: Global, call: Call) -> Result<Answer, Fail> {
+        match call {
+            Call::Offer(s, sample) => self.offered(rt, alloc, s, &[sample]),
+            Call::OfferTall(s) => self.offered(rt, alloc, s, &[1, 2, 3, 4]),
+            Call::OfferOver(s, sample) => hub_offered_over(rt, alloc, self, s, &[sample]),
+            Call::Work(w, bands) => Ok(self.worked(rt, w, bands)),
+            Call::Collect(s) => Ok(self.collected(rt, s)),
+            Call::Close(s) => Ok(closed(self.close(rt, s))),
+        }
+    }
+
+    /// Offers a frame, which comes back where it is refused.
     pub(super) fn offer(
         &mut self,
         rt: &impl Wait,
         alloc: Global,
         s: u32,
         frame: Arc<Frame>,
-    ) -> Result<u64, Refusal> {
+    ) -> Result<u64, OfferRefused> {
         let Seated { hub, streams, .. } = self;
-        let Some(seat) = streams.get_mut(s as usize) else {
-            return Err(NO_STREAM);
-        };
-        match hub.offer(rt, alloc, seat, 0, frame) {
-            Ok(number) => Ok(number),
-            Err(refused) => Err(refused.refusal),
+        match streams.get_mut(s as usize) {
+            Some(seat) => hub.offer(rt, alloc, seat, 0, frame),
+            None => Err(OfferRefused {
+                refusal: NO_STREAM,
+                frame: Some(frame),
+            }),
         }
     }
 
-    /// Offers a frame, which may be refused for want of memory alone.
-    pub(super) fn offered(
+    /// Offers a frame of these samples, which comes back where it is refused.
+    fn offered(
         &mut self,
         rt: &impl Wait,
         alloc: Global,
         s: u32,
         samples: &[u8],
-    ) -> Result<u64, Fail> {
+    ) -> Result<Answer, Fail> {
         let frame = frame_of(alloc, samples)?;
-        Ok(self.offer(rt, alloc, s, frame)?)
-    }
-
-    /// Offers a frame that is refused.
-    pub(super) fn offer_refused(
-        &mut self,
-        rt: &impl Wait,
-        alloc: Global,
-        s: u32,
-    ) -> Result<Option<Refusal>, Fail> {
-        let frame = frame_of(alloc, &[0x5A])?;
-        let Seated { hub, streams, .. } = self;
-        let seat = streams.get_mut(s as usize).ok_or("no seat")?;
-        match hub.offer(rt, alloc, seat, 0, frame) {
-            Ok(_) => Ok(None),
+        match self.offer(rt, alloc, s, frame) {
+            Ok(number) => Ok(Answer::Accepted(number)),
             Err(refused) => {
-                let OfferRefused { refusal, frame } = refused;
-                let frame = frame.ok_or("no frame")?;
-                if frame.data() == [0x5A].as_slice() {
-                    Ok(Some(refusal))
-                } else {
-                    Err("another frame came back".into())
-                }
+                let frame = refused.frame.ok_or("no frame")?;
+                came_back(refused.refusal, &frame, samples)
             }
         }
     }
@@ -124,17 +155,13 @@ impl<L: Ledger> Seated<L> {
     }
 
     /// The first sample of the source and of the image that stream `s` gives.
-    pub(super) fn collected(
-        &mut self,
-        rt: &impl Wait,
-        s: u32,
-    ) -> Result<(Option<u8>, Option<u8>), Refusal> {
+    pub(super) fn collected(&mut self, rt: &impl Wait, s: u32) -> Answer {
         match self.try_collect(rt, s) {
             Ok(pair) => {
                 let source = pair.source.data().first().copied();
-                Ok((source, pair.image.data().first().copied()))
+                Answer::Given(source, pair.image.data().first().copied())
             }
-            Err(refused) => Err(refused.refusal),
+            Err(refused) => Answer::Refused(refused.refusal),
         }
     }
 
@@ -151,17 +178,6 @@ impl<L: Ledger> Seated<L> {
         match workers.get_mut(w as usize) {
             Some(seat) => hub.try_lease(rt, seat),
             None => Err(NO_WORKER),
-        }
-    }
-
-    /// Why worker `w` gets no lease.
-    pub(super) fn lease_refused(&mut self, rt: &impl Wait, w: u32) -> Option<Refusal> {
-        match self.try_lease(rt, w) {
-            Ok(lease) => {
-                let _job = lease.into_job();
-                None
-            }
-            Err(refusal) => Some(refusal),
         }
     }
 
@@ -202,16 +218,17 @@ impl<L: Ledger> Seated<L> {
         }
     }
 
-    /// A lease that is settled after this many bands: what it told, and what became of its frame.
-    pub(super) fn worked(
-        &mut self,
-        rt: &impl Wait,
-        w: u32,
-        bands: u32,
-    ) -> Result<((u32, u64, u32), Settled), Refusal> {
-        let lease = self.try_lease(rt, w)?;
+    /// A lease that is settled after this many bands.
+    pub(super) fn worked(&mut self, rt: &impl Wait, w: u32, bands: u32) -> Answer {
+        let lease = match self.try_lease(rt, w) {
+            Ok(lease) => lease,
+            Err(refusal) => return Answer::Refused(refusal),
+        };
         let lent = told(&lease);
-        Ok((lent, self.settled(rt, w, stepped(lease, bands))?))
+        match self.settled(rt, w, stepped(lease, bands)) {
+            Ok(done) => Answer::Worked(lent, done),
+            Err(refusal) => Answer::Refused(refusal),
+        }
     }
 
     pub(super) fn finish(self) -> Result<Ended, Mismatch<L>> {
@@ -224,10 +241,10 @@ impl<L: Ledger> Seated<L> {
     }
 
     /// The end of a hub whose seats are all here, with no lease out.
-    pub(super) fn ended(self) -> Result<Ended, Fail> {
+    pub(super) fn ended(self, rt: &impl Abort) -> Ended {
         match self.finish() {
-            Ok(ended) => Ok(ended),
-            Err(mismatch) => Err(Fail::from(mismatch.fault)),
+            Ok(ended) => ended,
+            Err(mismatch) => panic!(rt; "not ended for {:?}", mismatch.fault),
         }
     }
 }

@@ -1,11 +1,12 @@
 //! Seats that come too early, and leases that come to the wrong seat or hub.
 ghost use Rattle.std.specs.Prelude.{◌≡◌};
 
-use super::leases::{TALL, stray};
-use super::seated::{Seated, seated_of};
-use super::{Core, PLAIN, stepped, told};
+use super::leases::{TALL, TALL_FRAME, strays};
+use super::seated::{Seated, seated_after};
+use super::steps::{Answer, Call};
+use super::{Core, PLAIN, same, stepped, told};
 use lease::Lease;
-use serve_hub::{Came, CollectRefused, Fault, Refusal, Settled};
+use serve_hub::{Came, CollectRefused, Ended, Fault, Refusal, Settled};
 use std::alloc::Global;
 use std::marker::Brand;
 use std::process::Abort;
@@ -22,7 +23,7 @@ fn came_back<L: Ledger, R: Wait + Abort>(
 ) -> Lease {
     match seated.settle(rt, w, lease) {
         Err((refusal, Some(lease))) => {
-            assert_eq!(rt; refusal, Refusal::StrayLease);
+            same(rt, refusal, Refusal::StrayLease);
             lease
         }
         Err((_, None)) => panic!(rt; "a stray lease was kept"),
@@ -35,7 +36,7 @@ fn not_ended<L: Ledger, R: Abort>(rt: &R, seated: Seated<L>, fault: Fault) -> Se
     match seated.finish() {
         Ok(_) => panic!(rt; "ended in spite of {fault:?}"),
         Err(mismatch) => {
-            assert_eq!(rt; mismatch.fault, fault);
+            same(rt, mismatch.fault, fault);
             Seated {
                 hub: mismatch.hub,
                 streams: mismatch.streams,
@@ -63,24 +64,30 @@ fn early<L: Ledger, M: Ledger, R: Wait + Abort>(
     requires other_parts { other.parts ≡ M.parts }
     requires other_enough { other.parts ≡ 80 }
 {
-    let mut seated = seated_of::<L>(alloc, blank, 2, &[PLAIN, PLAIN])?;
-    let mut stranger = seated_of::<M>(alloc, other, 1, &[PLAIN])?;
-    assert_eq!(rt; stranger.offered(rt, alloc, 0, &[0x00])?, 0);
-    assert_eq!(rt; seated.offered(rt, alloc, 0, &[0x00])?, 0);
-    assert_eq!(rt; seated.offered(rt, alloc, 1, &[0x00])?, 0);
+    let frame = [(Call::Offer(0, 0x00), Answer::Accepted(0))];
+    let mut stranger = seated_after::<M, R>(rt, alloc, other, 1, &[PLAIN], &frame)?;
+    let frames = [
+        (Call::Offer(0, 0x00), Answer::Accepted(0)),
+        (Call::Offer(1, 0x00), Answer::Accepted(0)),
+    ];
+    let seated = seated_after::<L, R>(rt, alloc, blank, 2, &[PLAIN, PLAIN], &frames)?;
     let mut seated = settled_in_time(rt, seated);
-    let lease = stranger.try_lease(rt, 0)?;
-    assert_eq!(rt;
-        seated.settled(rt, 0, lease),
-        Err(Refusal::Core(Core::NoLease))
-    );
-    let last = seated.workers.pop().ok_or("no seat")?;
+    let lease = stranger.try_lease(rt, 0).expect(rt, "a lease");
+    let refused = seated.settled(rt, 0, lease);
+    same(rt, refused, Err(Refusal::Core(Core::NoLease)));
+    let ended = with_all_seats(rt, seated);
+    same(rt, ended.journal().len(), 6);
+    Ok(())
+}
+
+/// The end of a hub, which can't be ended while a seat is missing.
+fn with_all_seats<L: Ledger, R: Abort>(rt: &R, seated: Seated<L>) -> Ended {
+    let mut seated = seated;
+    let last = seated.workers.pop().expect(rt, "a seat");
     let seated = not_ended(rt, seated, Fault::SeatMissing);
     let mut seated = not_ended(rt, seated, Fault::SeatMissing);
-    seated.workers.push(last)?;
-    let ended = seated.ended()?;
-    assert_eq!(rt; ended.journal().len(), 6);
-    Ok(())
+    seated.workers.push(last).expect(rt, "a place");
+    seated.ended(rt)
 }
 
 /// Both workers lease. The second can't settle the first one's lease, and the hub can't be ended before each
@@ -89,11 +96,11 @@ fn settled_in_time<L: Ledger, R: Wait + Abort>(rt: &R, seated: Seated<L>) -> Sea
     let mut seated = seated;
     let first = seated.lease(rt, 0).expect(rt, "a lease");
     let second = seated.try_lease(rt, 1).expect(rt, "a lease");
-    assert_eq!(rt; (told(&first), told(&second)), ((0, 0, 1), (1, 0, 1)));
+    same(rt, (told(&first), told(&second)), ((0, 0, 1), (1, 0, 1)));
     let first = came_back(rt, &mut seated, 1, first);
     let mut seated = not_ended(rt, seated, Fault::LeaseOut);
-    assert_eq!(rt; seated.settled(rt, 0, first), Ok(Settled::Returned));
-    assert_eq!(rt; seated.settled(rt, 1, second), Ok(Settled::Returned));
+    same(rt, seated.settled(rt, 0, first), Ok(Settled::Returned));
+    same(rt, seated.settled(rt, 1, second), Ok(Settled::Returned));
     seated
 }
 
@@ -108,31 +115,24 @@ fn strayed<L: Ledger, R: Wait + Abort>(rt: &R, alloc: Global, blank: Blank) -> R
     requires parts { blank.parts ≡ L.parts }
     requires enough { blank.parts ≡ 80 }
 {
-    let mut seated = seated_of::<L>(alloc, blank, 1, &[TALL])?;
-    assert_eq!(rt; seated.offered(rt, alloc, 0, &[1, 2, 3, 4])?, 0);
-    let (smaller, later) = strays(alloc)?;
-    let lease = seated.try_lease(rt, 0).expect(rt, "a lease");
-    assert_eq!(rt; told(&lease), (0, 0, 2));
-    let smaller = came_back(rt, &mut seated, 0, smaller);
-    let later = came_back(rt, &mut seated, 0, later);
-    let _jobs = (smaller.into_job(), later.into_job());
-    assert_eq!(rt;
-        seated.settled(rt, 0, stepped(lease, 2)),
-        Ok(Settled::Finished(0))
-    );
-    Ok(())
+    let mut seated = seated_after::<L, R>(rt, alloc, blank, 1, &[TALL], TALL_FRAME)?;
+    settle_strays(rt, alloc, &mut seated)
 }
 
-/// A lease of one band, and one of the second frame.
-fn strays(alloc: Global) -> Result<(Lease, Lease), Fail> {
-    let smaller = stray(alloc, 0, 1)?;
-    match stray(alloc, 1, 2) {
-        Ok(later) => Ok((smaller, later)),
-        Err(e) => {
-            let _job = smaller.into_job();
-            Err(e)
-        }
-    }
+fn settle_strays<L: Ledger, R: Wait + Abort>(
+    rt: &R,
+    alloc: Global,
+    seated: &mut Seated<L>,
+) -> Result<(), Fail> {
+    let (smaller, later) = strays(alloc)?;
+    let lease = seated.try_lease(rt, 0).expect(rt, "a lease");
+    same(rt, told(&lease), (0, 0, 2));
+    let smaller = came_back(rt, seated, 0, smaller);
+    let later = came_back(rt, seated, 0, later);
+    let _jobs = (smaller.into_job(), later.into_job());
+    let done = seated.settled(rt, 0, stepped(lease, 2));
+    same(rt, done, Ok(Settled::Finished(0)));
+    Ok(())
 }
 
 /// Two hubs can't tell each other's leases where stream, number, grant, first band and chain are the same.
@@ -154,33 +154,43 @@ fn crosswise<L: Ledger, M: Ledger, R: Wait + Abort>(
     requires other_parts { other.parts ≡ M.parts }
     requires other_enough { other.parts ≡ 80 }
 {
-    let mut one = seated_of::<L>(alloc, blank, 1, &[PLAIN])?;
-    let mut two = seated_of::<M>(alloc, other, 1, &[PLAIN])?;
-    assert_eq!(rt; one.offered(rt, alloc, 0, &[0x00])?, 0);
-    assert_eq!(rt; two.offered(rt, alloc, 0, &[0x01])?, 0);
-    let first = stepped(one.try_lease(rt, 0).expect(rt, "a lease"), 1);
-    let second = stepped(two.try_lease(rt, 0).expect(rt, "a lease"), 1);
-    assert_eq!(rt; one.settled(rt, 0, second), Ok(Settled::Finished(0)));
-    assert_eq!(rt; two.settled(rt, 0, first), Ok(Settled::Finished(0)));
-    assert_eq!(rt; torn(rt, &mut one)?, Some(0xFE));
-    assert_eq!(rt; torn(rt, &mut two)?, Some(0xFF));
-    let (one, two) = (one.ended()?, two.ended()?);
-    assert_eq!(rt; (one.journal().len(), two.journal().len()), (4, 4));
+    let dark = [(Call::Offer(0, 0x00), Answer::Accepted(0))];
+    let mut one = seated_after::<L, R>(rt, alloc, blank, 1, &[PLAIN], &dark)?;
+    let light = [(Call::Offer(0, 0x01), Answer::Accepted(0))];
+    let mut two = seated_after::<M, R>(rt, alloc, other, 1, &[PLAIN], &light)?;
+    exchange(rt, &mut one, &mut two);
+    same(rt, torn(rt, &mut one), Some(0xFE));
+    same(rt, torn(rt, &mut two), Some(0xFF));
+    let (one, two) = (one.ended(rt), two.ended(rt));
+    same(rt, (one.journal().len(), two.journal().len()), (4, 4));
     Ok(())
 }
 
+/// The worker of each hub settles the other's lease.
+fn exchange<L: Ledger, M: Ledger, R: Wait + Abort>(
+    rt: &R,
+    one: &mut Seated<L>,
+    two: &mut Seated<M>,
+) {
+    let first = stepped(one.try_lease(rt, 0).expect(rt, "a lease"), 1);
+    let second = stepped(two.try_lease(rt, 0).expect(rt, "a lease"), 1);
+    let done = (one.settled(rt, 0, second), two.settled(rt, 0, first));
+    let finished = Ok(Settled::Finished(0));
+    same(rt, done, (finished, finished));
+}
+
 /// The first sample of an image of another frame than the oldest that the seat keeps, which it gives up.
-fn torn<L: Ledger, R: Wait + Abort>(rt: &R, seated: &mut Seated<L>) -> Result<Option<u8>, Fail> {
+fn torn<L: Ledger, R: Wait + Abort>(rt: &R, seated: &mut Seated<L>) -> Option<u8> {
     match seated.try_collect(rt, 0) {
-        Ok(_) => Err("not torn".into()),
+        Ok(_) => panic!(rt; "not torn"),
         Err(refused) => {
             let CollectRefused { refusal, pair } = refused;
-            assert_eq!(rt; refusal, Refusal::Torn(Came::Source));
+            same(rt, refusal, Refusal::Torn(Came::Source));
             for seat in &seated.streams {
-                assert_eq!(rt; seat.kept(), 0);
+                same(rt, seat.kept(), 0);
             }
-            let pair = pair.ok_or("no image")?;
-            Ok(pair.image.data().first().copied())
+            let pair = pair.expect(rt, "an image");
+            pair.image.data().first().copied()
         }
     }
 }

@@ -3,7 +3,7 @@ ghost use Rattle.std.specs.Prelude.{◌≡◌};
 ghost use Rattle.std.specs.Thread.{IsSend, IsSync};
 
 use super::clients::Client;
-use super::{PLAIN, setup_of, stepped};
+use super::{PLAIN, same, setup_of, stepped};
 use serve_hub::{Ended, Hub, LeaseRefused, StreamSeat, WorkSeat};
 use std::alloc::Global;
 use std::marker::Brand;
@@ -76,13 +76,29 @@ fn session<L: Ledger + Send + Sync, R: Threads + Wait + Abort + Sync>(
 {
     let setup = setup_of(alloc, plan.workers, &vec![in alloc; PLAIN; plan.streams]?)?;
     let (hub, seats, workers) = Hub::<L>::new(alloc, blank, setup, 10_000)?;
-    let clients = clients_of(alloc, seats)?;
-    let (workers, clients) = run(rt, &hub, workers, clients, plan)?;
-    let seats = seats_of(rt, alloc, clients, plan.frames)?;
+    let (seats, workers) = served(rt, alloc, &hub, seats, workers, plan)?;
     match hub.finish(seats, workers) {
-        Ok(ended) => check(rt, &ended, plan),
+        Ok(ended) => {
+            check(rt, &ended, plan);
+            Ok(())
+        }
         Err(mismatch) => Err(mismatch.fault.into()),
     }
+}
+
+/// The seats, once all frames are served.
+fn served<L: Ledger + Send + Sync, R: Threads + Wait + Abort + Sync>(
+    rt: &R,
+    alloc: Global,
+    hub: &Hub<L>,
+    seats: Vec<StreamSeat<L>>,
+    workers: Vec<WorkSeat<L>>,
+    plan: Plan,
+) -> Result<(Vec<StreamSeat<L>>, Vec<WorkSeat<L>>), Fail> {
+    let clients = clients_of(alloc, seats)?;
+    let (workers, clients) = run(rt, hub, workers, clients, plan)?;
+    let seats = seats_of(rt, alloc, clients, plan.frames)?;
+    Ok((seats, workers))
 }
 
 fn clients_of<L: Ledger>(alloc: Global, seats: Vec<StreamSeat<L>>) -> Result<Vec<Client<L>>, Fail> {
@@ -102,31 +118,32 @@ fn seats_of<L: Ledger>(
 ) -> Result<Vec<StreamSeat<L>>, Fail> {
     let mut seats = Vec::new(alloc);
     for client in clients {
-        client.outcome?;
-        assert_eq!(rt; client.delivered, count);
+        let served = (client.outcome, client.delivered);
+        same(rt, served, (Ok(()), count));
         seats.push(client.seat)?;
     }
     Ok(seats)
 }
 
 /// What the end of a session tells: each frame is four calls, and one band.
-fn check(rt: &impl Abort, ended: &Ended, plan: Plan) -> Result<(), Fail> {
+fn check(rt: &impl Abort, ended: &Ended, plan: Plan) {
     let streams = plan.streams as u64;
     let calls = streams.saturating_mul(plan.frames.saturating_mul(4).saturating_add(1));
-    assert_eq!(rt; ended.journal().len() as u64, calls);
+    same(rt, ended.journal().len() as u64, calls);
     for s in 0..plan.streams.min(64) {
-        let counts = ended.counts(s as u32).ok_or("no counts")?;
-        assert_eq!(rt;
+        let counts = ended.counts(s as u32).expect(rt, "counts");
+        same(
+            rt,
             (counts.accepted, counts.collected, counts.charged),
-            (plan.frames, plan.frames, plan.frames)
+            (plan.frames, plan.frames, plan.frames),
         );
     }
     assert!(rt; ended.bands(0) <= plan.stop);
-    assert_eq!(rt;
+    same(
+        rt,
         bands(rt, ended, plan.workers),
-        streams.saturating_mul(plan.frames)
+        streams.saturating_mul(plan.frames),
     );
-    Ok(())
 }
 
 /// How many bands the workers settled, each of which is a unit.
@@ -134,7 +151,7 @@ fn bands(rt: &impl Abort, ended: &Ended, workers: u64) -> u64 {
     let mut sum = 0u64;
     for w in 0..workers.min(16) {
         let bands = ended.bands(w as u32);
-        assert_eq!(rt; ended.units(w as u32), Some(bands));
+        same(rt, ended.units(w as u32), Some(bands));
         sum = sum.saturating_add(bands);
     }
     sum

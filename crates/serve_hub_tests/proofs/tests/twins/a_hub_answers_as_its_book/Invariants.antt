@@ -1,4 +1,4 @@
 use Rattle.serve_hub_tests.proofs.tests.twins.a_hub_answers_as_its_book.Given as goal
 
-abbrev pub ghosts-both : goal.ghosts-both
-ghosts-both g a = record { name = a.blank.name; parts = a.blank.parts }
+abbrev pub ghosts-ended_after_one_frame : goal.ghosts-ended_after_one_frame
+ghosts-ended_after_one_frame g a = record { name = a.blank.name; parts = a.blank.parts }
