@@ -23,3 +23,6 @@ loop-i-preserved c =
       line = c.in_ok-image-2.ensures.line ∙ c.loop-i.invariant.line;
       format = c.in_ok-image-2.ensures.format;
     }
+
+pub image_by-requires-in-loop-i-clause-reaches : goal.image_by-requires-in-loop-i-clause-reaches
+image_by-requires-in-loop-i-clause-reaches c = c.loop-i.invariant.format
