@@ -1,7 +1,8 @@
 // Jobs of small frames, step by step.
-ghost use Rattle.std.specs.Prelude.{◌≡◌, ◌<◌, IfOk, IsSome};
+ghost use Rattle.std.specs.Prelude.{◌≡◌, ◌<◌, IfOk, IsSome, None};
 ghost use Rattle.std.specs.Arc.{arc_value};
 ghost use Rattle.filters.specs.Chain.{format_of, last_format};
+ghost use Rattle.filters.specs.Steps.{steps_of};
 ghost use Rattle.lease.specs.Canvases.{IsScratch};
 
 use filters::{Chain, parse_ops};
@@ -9,6 +10,7 @@ use frame_view::{Frame, Geometry};
 use lease::{GrantSpent, Job, JobRefused, JobSpec, Lease, OverRefused, Scratch};
 use row_bands::BandHeight;
 use std::alloc::Global;
+use std::fmt::Debug;
 use std::process::Abort;
 use std::sync::Arc;
 use std::sync::atomic::{AtomicU32, Ordering};
@@ -27,29 +29,61 @@ const PAIR: Geometry = Geometry {
     chroma: Chroma::Mono,
 };
 
+const TRIPLE: Geometry = Geometry {
+    width: 1,
+    height: 3,
+    chroma: Chroma::Mono,
+};
+
+const QUADRUPLE: Geometry = Geometry {
+    width: 1,
+    height: 4,
+    chroma: Chroma::Mono,
+};
+
 const WIDE: Geometry = Geometry {
     width: 2,
     height: 1,
     chroma: Chroma::Mono,
 };
 
+/// Compares what a call gave with what is wanted.
+fn same<T: PartialEq + Debug + Drop>(rt: &impl Abort, got: T, want: T) {
+    assert_eq!(rt; got, want);
+}
+
+/// Compares a list with the one that is wanted.
+fn same_list<T: PartialEq + Debug>(rt: &impl Abort, got: &[T], want: &[T]) {
+    assert_eq!(rt; got, want);
+}
+
+/// Compares a frame with the line and the samples that are wanted.
+fn same_frame(rt: &impl Abort, frame: &Frame, line: &[u8], samples: &[u8]) {
+    same_list(rt, frame.line(), line);
+    same_list(rt, frame.data(), samples);
+}
+
+/// So many steps of a job are done, of so many.
+fn same_steps(rt: &impl Abort, job: &Job, done: u32, steps: u32)
+    ensures done { job.now.done ≡ done }
+    ensures steps { steps_of job.now.chain ≡ steps }
+{
+    assert_eq!(rt; (job.done(), job.steps()), (done, steps));
+}
+
 fn spec_in_bands(
     alloc: Global,
     ops: &str,
     geometry: Geometry,
     rows: u32,
-) -> Result<Arc<JobSpec>, Fail>
-    ensures { IfOk result (λ spec. (arc_value spec).geometry ≡ geometry) }
-{
+) -> Result<Arc<JobSpec>, Fail> {
     let band_height = BandHeight::new(rows).ok_or("no height")?;
     let ops = parse_ops(alloc, ops.as_bytes())?;
     let chain = Chain::new(alloc, ops, geometry, band_height)?;
     Ok(Arc::new(alloc, JobSpec::new(chain))?)
 }
 
-fn spec_of(alloc: Global, ops: &str, geometry: Geometry) -> Result<Arc<JobSpec>, Fail>
-    ensures { IfOk result (λ spec. (arc_value spec).geometry ≡ geometry) }
-{
+fn spec_of(alloc: Global, ops: &str, geometry: Geometry) -> Result<Arc<JobSpec>, Fail> {
     spec_in_bands(alloc, ops, geometry, 2)
 }
 
@@ -60,6 +94,15 @@ fn frame(alloc: Global, geometry: Geometry, line: &[u8], samples: &[u8]) -> Resu
     Ok(Frame::new(geometry, line.to_vec(alloc)?, samples.to_vec(alloc)?)?)
 }
 
+fn source_of(
+    alloc: Global,
+    geometry: Geometry,
+    line: &[u8],
+    samples: &[u8],
+) -> Result<Arc<Frame>, Fail> {
+    Ok(Arc::new(alloc, frame(alloc, geometry, line, samples)?)?)
+}
+
 /// An image that was written back, of the size of the spec's images.
 fn image_of(alloc: Global, spec: &JobSpec, line: &[u8], samples: &[u8]) -> Result<Frame, Fail>
     ensures { IfOk result (λ image.
@@ -68,16 +111,29 @@ fn image_of(alloc: Global, spec: &JobSpec, line: &[u8], samples: &[u8]) -> Resul
     frame(alloc, spec.chain().out_geometry(), line, samples)
 }
 
-/// A job that no step is done of.
-fn started(alloc: Global, spec: &Arc<JobSpec>, source: Frame, scratch: Scratch) -> Result<Job, Fail>
+/// A job of a frame of the spec's size, that no step is done of.
+fn started(
+    alloc: Global,
+    spec: &Arc<JobSpec>,
+    scratch: Scratch,
+    line: &[u8],
+    samples: &[u8],
+) -> Result<Job, Fail>
     requires { IsScratch (arc_value spec.now) scratch }
     ensures chain { IfOk result (λ job. job.chain ≡ arc_value spec.now) }
     ensures started { IfOk result (λ job. IsSome job.scratch) }
 {
-    let source = Arc::new(alloc, source)?;
+    let source = source_of(alloc, spec.chain().geometry(), line, samples)?;
     let mut job = Job::new(alloc, spec.clone()?, source)?;
     job.start(scratch);
     Ok(job)
+}
+
+/// A job that no step is done of, with scratch of its own.
+fn job_of(alloc: Global, spec: &Arc<JobSpec>, line: &[u8], samples: &[u8]) -> Result<Job, Fail>
+    ensures { IfOk result (λ job. IsSome job.scratch) }
+{
+    started(alloc, spec, Scratch::new(alloc, spec)?, line, samples)
 }
 
 /// Does so many steps under one lease, which then grants no more.
@@ -91,13 +147,12 @@ fn stepped(rt: &impl Abort, job: Job, grant: u32) -> Job
     let done = job.done();
     let mut lease = Lease::new(job, 3, 41, grant);
     for used in 0..grant {
-        assert_eq!(rt; lease.used(), used);
-        assert_eq!(rt; lease.step(), Ok(()));
+        same(rt, lease.used(), used);
+        same(rt, lease.step(), Ok(()));
     }
-    assert_eq!(rt; lease.step(), Err(GrantSpent));
-    assert_eq!(rt; (lease.granted(), lease.used()), (grant, grant));
-    assert!(rt; lease.done() >= done);
-    assert_eq!(rt; lease.done() - done, grant);
+    same(rt, lease.step(), Err(GrantSpent));
+    same(rt, (lease.granted(), lease.used()), (grant, grant));
+    same(rt, lease.done().checked_sub(done), Some(grant));
     lease.into_job()
 }
 
@@ -107,20 +162,16 @@ fn a_job_keeps_what_is_done(rt: HostRuntime) -> Result<(), Fail> {
     let alloc = rt.alloc();
     let spec = spec_of(alloc, "invert", COLUMN)?;
     let samples = [0, 1, 2, 3, 4, 5, 6, 7, 8, 9];
-    let source = frame(alloc, COLUMN, b"FRAME", &samples)?;
-    let scratch = Scratch::new(alloc, &spec)?;
-    let job = started(alloc, &spec, source, scratch)?;
-    assert_eq!(rt; (job.steps(), job.done()), (5, 0));
+    let job = job_of(alloc, &spec, b"FRAME", &samples)?;
+    same_steps(&rt, &job, 0, 5);
     let job = stepped(&rt, job, 2);
-    assert_eq!(rt; job.done(), 2);
+    same(&rt, job.done(), 2);
     let job = stepped(&rt, job, 3);
-    assert_eq!(rt; job.done(), 5);
-    assert_eq!(rt; job.done(), job.steps());
+    same_steps(&rt, &job, 5, 5);
     let (source, image, _) = job.into_image();
     let inverted = [0xFF, 0xFE, 0xFD, 0xFC, 0xFB, 0xFA, 0xF9, 0xF8, 0xF7, 0xF6];
-    assert_eq!(rt; source.data(), samples.as_slice());
-    assert_eq!(rt; image.data(), inverted.as_slice());
-    assert_eq!(rt; image.line(), b"FRAME".as_slice());
+    same_list(&rt, source.data(), &samples);
+    same_frame(&rt, &image, b"FRAME", &inverted);
     Ok(())
 }
 
@@ -129,62 +180,70 @@ fn a_job_keeps_what_is_done(rt: HostRuntime) -> Result<(), Fail> {
 fn a_lease_without_a_step_changes_nothing(rt: HostRuntime) -> Result<(), Fail> {
     let alloc = rt.alloc();
     let spec = spec_of(alloc, "invert", COLUMN)?;
-    let source = frame(alloc, COLUMN, b"FRAME", &[0, 1, 2, 3, 4, 5, 6, 7, 8, 9])?;
-    let scratch = Scratch::new(alloc, &spec)?;
-    let job = started(alloc, &spec, source, scratch)?;
+    let job = job_of(alloc, &spec, b"FRAME", &[0, 1, 2, 3, 4, 5, 6, 7, 8, 9])?;
     let job = stepped(&rt, job, 2);
-    assert_eq!(rt; (job.done(), job.steps()), (2, 5));
+    same_steps(&rt, &job, 2, 5);
     let lease = Lease::new(job, 0, 0, 2);
-    assert_eq!(rt; (lease.used(), lease.spent(), lease.done()), (0, 0, 2));
+    same(&rt, told(&lease), (0, 0, 2));
     let job = lease.into_job();
-    assert_eq!(rt; job.done(), 2);
+    same(&rt, job.done(), 2);
     let job = stepped(&rt, job, 2);
-    assert_eq!(rt; job.done(), 4);
+    same(&rt, job.done(), 4);
     Ok(())
+}
+
+/// How many steps are done under a lease, what they cost, and how many of the job's are done.
+fn told(lease: &Lease) -> (u32, u32, u32) {
+    (lease.used(), lease.spent(), lease.done())
 }
 
 #[test]
 fn a_lease_tells_what_it_is(rt: HostRuntime) -> Result<(), Fail> {
     let alloc = rt.alloc();
     let spec = spec_of(alloc, "blur:2+hflip", COLUMN)?;
-    let source = frame(alloc, COLUMN, b"FRAME Ip", &[5; 10])?;
-    let scratch = Scratch::new(alloc, &spec)?;
-    let job = started(alloc, &spec, source, scratch)?;
-    assert_eq!(rt; (job.done(), job.steps()), (0, 10));
+    let job = job_of(alloc, &spec, b"FRAME Ip", &[5; 10])?;
+    same_steps(&rt, &job, 0, 10);
     let mut lease = Lease::new(job, 6, 70, 7);
-    assert_eq!(rt; (lease.stream(), lease.seq(), lease.granted()), (6, 70, 7));
-    assert_eq!(rt; lease.source().line(), b"FRAME Ip".as_slice());
-    assert_eq!(rt; lease.source().data(), [5; 10].as_slice());
-    assert_eq!(rt; lease.spec().chain().cost(), 20);
-    assert_eq!(rt; lease.step(), Ok(()));
-    assert_eq!(rt; (lease.used(), lease.spent(), lease.done()), (1, 3, 1));
+    same(
+        &rt,
+        (lease.stream(), lease.seq(), lease.granted()),
+        (6, 70, 7),
+    );
+    same_frame(&rt, lease.source(), b"FRAME Ip", &[5; 10]);
+    same(&rt, lease.spec().chain().cost(), 20);
+    same(&rt, lease.step(), Ok(()));
+    same(&rt, told(&lease), (1, 3, 1));
     for _ in 0..5 {
-        assert_eq!(rt; lease.step(), Ok(()));
+        same(&rt, lease.step(), Ok(()));
     }
-    assert_eq!(rt; (lease.used(), lease.spent(), lease.done()), (6, 16, 6));
+    same(&rt, told(&lease), (6, 16, 6));
     let job = lease.into_job();
-    assert_eq!(rt; job.done(), 6);
+    same(&rt, job.done(), 6);
     Ok(())
 }
 
-/// The image of a frame, by as many leases as it has steps, and the scratch.
+/// Filters a frame by as many leases as it has steps, compares its image, and gives the scratch back.
 fn filtered(
     rt: &impl Abort,
     alloc: Global,
     spec: &Arc<JobSpec>,
-    source: Frame,
     scratch: Scratch,
-) -> Result<(Frame, Scratch), Fail>
+    line: &[u8],
+    samples: &[u8],
+    image: &[u8],
+) -> Result<Scratch, Fail>
     requires { IsScratch (arc_value spec.now) scratch }
-    ensures { IfOk result (λ made. IsScratch (arc_value spec.now) made.1) }
+    ensures { IfOk result (IsScratch (arc_value spec.now)) }
 {
-    let mut job = started(alloc, spec, source, scratch)?;
-    for _ in 0..job.steps() {
+    let mut job = started(alloc, spec, scratch, line, samples)?;
+    let steps = job.steps();
+    for _ in 0..steps {
         job = stepped(rt, job, 1);
     }
-    assert_eq!(rt; job.done(), job.steps());
-    let (_, image, scratch) = job.into_image();
-    Ok((image, scratch))
+    same_steps(rt, &job, steps, steps);
+    let (_, made, scratch) = job.into_image();
+    same_frame(rt, &made, line, image);
+    Ok(scratch)
 }
 
 /// The blur of 0 and 90 is 30 and 60, that of 9 and 0 is 6 and 3.
@@ -193,17 +252,9 @@ fn frames_in_turn_have_the_images_that_each_has_alone(rt: HostRuntime) -> Result
     let alloc = rt.alloc();
     let spec = spec_of(alloc, "blur:1+vflip", PAIR)?;
     let scratch = Scratch::new(alloc, &spec)?;
-    let first = frame(alloc, PAIR, b"FRAME", &[0, 90])?;
-    let (image, scratch) = filtered(&rt, alloc, &spec, first, scratch)?;
-    assert_eq!(rt; image.data(), [60, 30].as_slice());
-    let second = frame(alloc, PAIR, b"FRAME Ip", &[9, 0])?;
-    let (image, scratch) = filtered(&rt, alloc, &spec, second, scratch)?;
-    assert_eq!(rt; image.data(), [3, 6].as_slice());
-    assert_eq!(rt; image.line(), b"FRAME Ip".as_slice());
-    let third = frame(alloc, PAIR, b"FRAME", &[0, 90])?;
-    let (image, _) = filtered(&rt, alloc, &spec, third, scratch)?;
-    assert_eq!(rt; image.data(), [60, 30].as_slice());
-    assert_eq!(rt; image.line(), b"FRAME".as_slice());
+    let scratch = filtered(&rt, alloc, &spec, scratch, b"FRAME", &[0, 90], &[60, 30])?;
+    let scratch = filtered(&rt, alloc, &spec, scratch, b"FRAME Ip", &[9, 0], &[3, 6])?;
+    filtered(&rt, alloc, &spec, scratch, b"FRAME", &[0, 90], &[60, 30])?;
     Ok(())
 }
 
@@ -213,10 +264,9 @@ fn each_step_writes_its_own_band(rt: HostRuntime) -> Result<(), Fail> {
     let alloc = rt.alloc();
     let spec = spec_of(alloc, "invert+vflip", COLUMN)?;
     let scratch = Scratch::new(alloc, &spec)?;
-    let source = frame(alloc, COLUMN, b"FRAME", &[0, 1, 2, 3, 4, 5, 6, 7, 8, 9])?;
-    let (image, _) = filtered(&rt, alloc, &spec, source, scratch)?;
+    let samples = [0, 1, 2, 3, 4, 5, 6, 7, 8, 9];
     let wanted = [0xF6, 0xF7, 0xF8, 0xF9, 0xFA, 0xFB, 0xFC, 0xFD, 0xFE, 0xFF];
-    assert_eq!(rt; image.data(), wanted.as_slice());
+    filtered(&rt, alloc, &spec, scratch, b"FRAME", &samples, &wanted)?;
     Ok(())
 }
 
@@ -225,20 +275,26 @@ fn each_step_writes_its_own_band(rt: HostRuntime) -> Result<(), Fail> {
 fn a_refused_frame_comes_back(rt: HostRuntime) -> Result<(), Fail> {
     let alloc = rt.alloc();
     let spec = spec_of(alloc, "invert", PAIR)?;
-    let wide = Arc::new(alloc, frame(alloc, WIDE, b"FRAME", &[1, 2])?)?;
+    wide_comes_back(&rt, alloc, &spec)?;
+    waits_or_comes_back(&rt, alloc, &spec)
+}
+
+fn wide_comes_back(rt: &impl Abort, alloc: Global, spec: &Arc<JobSpec>) -> Result<(), Fail> {
+    let wide = source_of(alloc, WIDE, b"FRAME", &[1, 2])?;
     match Job::new(alloc, spec.clone()?, wide) {
-        Err(JobRefused::WrongSize(source)) => assert_eq!(rt; source.data(), [1, 2].as_slice()),
+        Err(JobRefused::WrongSize(source)) => same_list(rt, source.data(), &[1, 2]),
         Err(JobRefused::NoMemory(_source)) => assert!(rt; false, "the size comes first"),
         Ok(_job) => assert!(rt; false, "accepted"),
     }
-    let source = Arc::new(alloc, frame(alloc, PAIR, b"FRAME Ip", &[3, 4])?)?;
+    Ok(())
+}
+
+fn waits_or_comes_back(rt: &impl Abort, alloc: Global, spec: &Arc<JobSpec>) -> Result<(), Fail> {
+    let source = source_of(alloc, PAIR, b"FRAME Ip", &[3, 4])?;
     match Job::new(alloc, spec.clone()?, source) {
         Err(JobRefused::WrongSize(_source)) => assert!(rt; false, "the size is right"),
-        Err(JobRefused::NoMemory(source)) => {
-            assert_eq!(rt; source.data(), [3, 4].as_slice());
-            assert_eq!(rt; source.line(), b"FRAME Ip".as_slice());
-        }
-        Ok(job) => assert_eq!(rt; (job.steps(), job.done()), (1, 0)),
+        Err(JobRefused::NoMemory(source)) => same_frame(rt, &source, b"FRAME Ip", &[3, 4]),
+        Ok(job) => same_steps(rt, &job, 0, 1),
     }
     Ok(())
 }
@@ -247,28 +303,54 @@ fn a_refused_frame_comes_back(rt: HostRuntime) -> Result<(), Fail> {
 fn a_refused_image_comes_back(rt: HostRuntime) -> Result<(), Fail> {
     let alloc = rt.alloc();
     let spec = spec_of(alloc, "invert", PAIR)?;
-    let wide = Arc::new(alloc, frame(alloc, WIDE, b"FRAME", &[1, 2])?)?;
-    let image = image_of(alloc, &spec, b"FRAME", &[8, 9])?;
+    wide_and_image_come_back(&rt, alloc, &spec)?;
+    waits_or_both_come_back(&rt, alloc, &spec)
+}
+
+fn wide_and_image_come_back(
+    rt: &impl Abort,
+    alloc: Global,
+    spec: &Arc<JobSpec>,
+) -> Result<(), Fail> {
+    let wide = source_of(alloc, WIDE, b"FRAME", &[1, 2])?;
+    let image = image_of(alloc, spec, b"FRAME", &[8, 9])?;
     match Job::over(alloc, spec.clone()?, wide, image) {
         Err(OverRefused::WrongSize(source, image)) => {
-            assert_eq!(rt; source.data(), [1, 2].as_slice());
-            assert_eq!(rt; image.data(), [8, 9].as_slice());
+            same_list(rt, source.data(), &[1, 2]);
+            same_list(rt, image.data(), &[8, 9]);
         }
         Err(OverRefused::NoMemory(_source, _image)) => assert!(rt; false, "the size comes first"),
         Ok(_job) => assert!(rt; false, "accepted"),
     }
-    let source = Arc::new(alloc, frame(alloc, PAIR, b"FRAME Ip", &[3, 4])?)?;
-    let image = image_of(alloc, &spec, b"FRAME It", &[8, 9])?;
+    Ok(())
+}
+
+fn waits_or_both_come_back(
+    rt: &impl Abort,
+    alloc: Global,
+    spec: &Arc<JobSpec>,
+) -> Result<(), Fail> {
+    let source = source_of(alloc, PAIR, b"FRAME Ip", &[3, 4])?;
+    let image = image_of(alloc, spec, b"FRAME It", &[8, 9])?;
     match Job::over(alloc, spec.clone()?, source, image) {
         Err(OverRefused::WrongSize(_source, _image)) => assert!(rt; false, "the size is right"),
         Err(OverRefused::NoMemory(source, image)) => {
-            assert_eq!(rt; source.data(), [3, 4].as_slice());
-            assert_eq!(rt; image.data(), [8, 9].as_slice());
-            assert_eq!(rt; image.line(), b"FRAME It".as_slice());
+            same_list(rt, source.data(), &[3, 4]);
+            same_frame(rt, &image, b"FRAME It", &[8, 9]);
         }
-        Ok(job) => assert_eq!(rt; (job.steps(), job.done()), (1, 0)),
+        Ok(job) => same_steps(rt, &job, 0, 1),
     }
     Ok(())
+}
+
+/// A job over an image of this line, and samples that it doesn't keep.
+fn job_over(alloc: Global, spec: &Arc<JobSpec>, line: &[u8]) -> Result<Job, Fail>
+    ensures chain { IfOk result (λ job. job.chain ≡ arc_value spec.now) }
+    ensures waiting { IfOk result (λ job. job.scratch ≡ None) }
+{
+    let image = image_of(alloc, spec, line, &[200, 100])?;
+    let source = source_of(alloc, PAIR, b"FRAME Ip", &[9, 0])?;
+    Ok(Job::over(alloc, spec.clone()?, source, image)?)
 }
 
 /// The samples of the image that is written over don't matter, but its line is its frame's.
@@ -276,17 +358,15 @@ fn a_refused_image_comes_back(rt: HostRuntime) -> Result<(), Fail> {
 fn a_job_over_an_image_makes_its_own(rt: HostRuntime) -> Result<(), Fail> {
     let alloc = rt.alloc();
     let spec = spec_of(alloc, "blur:1+vflip", PAIR)?;
-    let source = Arc::new(alloc, frame(alloc, PAIR, b"FRAME Ip", &[9, 0])?)?;
-    let image = image_of(alloc, &spec, b"FRAME", &[200, 100])?;
-    let mut job = Job::over(alloc, spec.clone()?, source, image)?;
-    job.start(Scratch::new(alloc, &spec)?);
-    let mut job = stepped(&rt, job, 1);
-    job = stepped(&rt, job, 1);
-    assert_eq!(rt; job.done(), job.steps());
+    let scratch = Scratch::new(alloc, &spec)?;
+    let mut job = job_over(alloc, &spec, b"FRAME")?;
+    job.start(scratch);
+    let job = stepped(&rt, job, 1);
+    let job = stepped(&rt, job, 1);
+    same_steps(&rt, &job, 2, 2);
     let (source, image, _) = job.into_image();
-    assert_eq!(rt; source.data(), [9, 0].as_slice());
-    assert_eq!(rt; image.data(), [3, 6].as_slice());
-    assert_eq!(rt; image.line(), b"FRAME Ip".as_slice());
+    same_list(&rt, source.data(), &[9, 0]);
+    same_frame(&rt, &image, b"FRAME Ip", &[3, 6]);
     Ok(())
 }
 
@@ -295,14 +375,14 @@ fn a_job_over_an_image_makes_its_own(rt: HostRuntime) -> Result<(), Fail> {
 fn an_image_of_an_equal_line_takes_no_memory(rt: HostRuntime) -> Result<(), Fail> {
     let alloc = rt.alloc();
     let spec = spec_of(alloc, "invert", PAIR)?;
-    let source = Arc::new(alloc, frame(alloc, PAIR, b"FRAME Ip", &[9, 0])?)?;
+    let source = source_of(alloc, PAIR, b"FRAME Ip", &[9, 0])?;
     let image = image_of(alloc, &spec, b"FRAME Ip", &[200, 100])?;
     match Job::over(alloc, spec, source, image) {
         Err(_refused) => assert!(rt; false, "a growth was asked for"),
         Ok(job) => {
             let (source, image) = job.undo();
-            assert_eq!(rt; source.data(), [9, 0].as_slice());
-            assert_eq!(rt; image.data(), [200, 100].as_slice());
+            same_list(&rt, source.data(), &[9, 0]);
+            same_list(&rt, image.data(), &[200, 100]);
         }
     }
     Ok(())
@@ -313,35 +393,33 @@ fn an_image_of_an_equal_line_takes_no_memory(rt: HostRuntime) -> Result<(), Fail
 #[test]
 fn a_halved_band_is_noted_twice(rt: HostRuntime) -> Result<(), Fail> {
     let alloc = rt.alloc();
-    let geometry = Geometry {
-        width: 1,
-        height: 3,
-        chroma: Chroma::Mono,
-    };
-    let spec = spec_of(alloc, "invert", geometry)?;
-    let source = frame(alloc, geometry, b"FRAME", &[0, 1, 2])?;
-    let job = started(alloc, &spec, source, Scratch::new(alloc, &spec)?)?;
+    let spec = spec_of(alloc, "invert", TRIPLE)?;
+    let job = job_of(alloc, &spec, b"FRAME", &[0, 1, 2])?;
     let notes = [AtomicU32::new(0), AtomicU32::new(0)];
     let note = |half: u32|
         requires { half < 2 }
     {
         notes[half as usize].fetch_add(1, Ordering::SeqCst);
     };
-    assert_eq!(rt; (job.done(), job.steps()), (0, 2));
+    same_steps(&rt, &job, 0, 2);
     let mut lease = Lease::new(job, 0, 0, 2);
     for used in 0..2 {
-        assert_eq!(rt; lease.used(), used);
-        assert_eq!(rt; lease.step_halves(&rt, &note), Ok(()));
-        assert_eq!(rt; notes[0].load(Ordering::SeqCst), 1);
-        assert_eq!(rt; notes[1].load(Ordering::SeqCst), 1);
+        same(&rt, lease.used(), used);
+        same(&rt, lease.step_halves(&rt, &note), Ok(()));
+        same(&rt, notes[0].load(Ordering::SeqCst), 1);
+        same(&rt, notes[1].load(Ordering::SeqCst), 1);
     }
-    assert_eq!(rt; lease.step_halves(&rt, &note), Err(GrantSpent));
-    assert_eq!(rt; (lease.used(), lease.spent()), (2, 2));
-    let job = lease.into_job();
-    assert_eq!(rt; job.done(), job.steps());
-    let (_, image, _) = job.into_image();
-    assert_eq!(rt; image.data(), [0xFF, 0xFE, 0xFD].as_slice());
+    same(&rt, lease.step_halves(&rt, &note), Err(GrantSpent));
+    same(&rt, (lease.used(), lease.spent()), (2, 2));
+    same_image(&rt, lease.into_job(), 2, &[0xFF, 0xFE, 0xFD]);
     Ok(())
+}
+
+/// All steps of a job are done, which are so many, and its image has these samples.
+fn same_image(rt: &impl Abort, job: Job, steps: u32, samples: &[u8]) {
+    same_steps(rt, &job, steps, steps);
+    let (_, image, _) = job.into_image();
+    same_list(rt, image.data(), samples);
 }
 
 /// Waits until the other part is noted too, or gives up after many looks.
@@ -361,25 +439,16 @@ fn meet(noted: &[AtomicU32; 2], met: &AtomicU32, half: u32)
 #[test]
 fn two_threads_write_the_parts_of_a_step(rt: HostRuntime) -> Result<(), Fail> {
     let alloc = rt.alloc();
-    let geometry = Geometry {
-        width: 1,
-        height: 4,
-        chroma: Chroma::Mono,
-    };
-    let spec = spec_in_bands(alloc, "invert", geometry, 4)?;
-    let source = frame(alloc, geometry, b"FRAME", &[1, 2, 3, 4])?;
-    let job = started(alloc, &spec, source, Scratch::new(alloc, &spec)?)?;
+    let spec = spec_in_bands(alloc, "invert", QUADRUPLE, 4)?;
+    let job = job_of(alloc, &spec, b"FRAME", &[1, 2, 3, 4])?;
     let noted = [AtomicU32::new(0), AtomicU32::new(0)];
     let met = AtomicU32::new(0);
-    assert_eq!(rt; (job.done(), job.steps()), (0, 1));
+    same_steps(&rt, &job, 0, 1);
     let mut lease = Lease::new(job, 0, 0, 1);
     let stepped = lease.step_halves(&rt, &|half| meet(&noted, &met, half));
-    assert_eq!(rt; stepped, Ok(()));
+    same(&rt, stepped, Ok(()));
     let met = met.load(Ordering::SeqCst);
     assert_eq!(rt; met, 2, "was a thread or its memory refused?");
-    let job = lease.into_job();
-    assert_eq!(rt; job.done(), job.steps());
-    let (_, image, _) = job.into_image();
-    assert_eq!(rt; image.data(), [254, 253, 252, 251].as_slice());
+    same_image(&rt, lease.into_job(), 1, &[254, 253, 252, 251]);
     Ok(())
 }

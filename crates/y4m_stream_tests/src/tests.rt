@@ -2,9 +2,12 @@
 use filters::parse_ops;
 use row_bands::BandHeight;
 use std::alloc::Global;
+use std::fmt::Debug;
 use std::io::{self, ErrorKind, Read, Write};
+use std::process::Abort;
 use std::test::Fail;
-use y4m_stream::{FilterFault, OverRead, OverWrite, filter_stream};
+use y4m_header::Header;
+use y4m_stream::{FilterFault, OverRead, OverWrite, StreamWriter, WriteFault, filter_stream};
 
 mod devices;
 mod hostile;
@@ -14,6 +17,21 @@ mod overlapped;
 mod prefixes;
 mod reader;
 mod writing;
+
+/// Compares what a call gave with what is wanted.
+fn same<T: PartialEq + Debug + Drop>(rt: &impl Abort, got: T, want: T) {
+    assert_eq!(rt; got, want);
+}
+
+/// The same, where another answer may come for want of memory.
+fn same_unless_refused<T: PartialEq + Debug + Drop>(rt: &impl Abort, got: T, want: T) {
+    assert_eq!(rt; got, want, "unless memory was refused");
+}
+
+/// Compares a list with the one that is wanted.
+fn same_list<T: PartialEq + Debug>(rt: &impl Abort, got: &[T], want: &[T]) {
+    assert_eq!(rt; got, want);
+}
 
 /// Gives its bytes, at most `step` at a time, then answers the end `ends` times, and then fails.
 #[derive(Drop)]
@@ -74,8 +92,8 @@ fn filter<R: Read + Drop, W: Write + Drop>(
     input: R,
     output: W,
 ) -> Result<(W, Result<u64, FilterFault>), Fail> {
-    let ops = parse_ops(alloc, ops.as_bytes())?;
     let height = BandHeight::new(16).ok_or("height")?;
+    let ops = parse_ops(alloc, ops.as_bytes())?;
     let (output, answer) = filter_stream(
         alloc,
         OverRead::new(input),
@@ -84,6 +102,25 @@ fn filter<R: Read + Drop, W: Write + Drop>(
         height,
     );
     Ok((output.into_inner(), answer))
+}
+
+/// Filters a stream as `filter` does, and tells how many bytes of the room are written.
+fn filter_into<R: Read + Drop>(
+    alloc: Global,
+    ops: &str,
+    input: R,
+    room: &mut [u8; 64],
+) -> Result<(usize, Result<u64, FilterFault>), Fail> {
+    let (rest, answer) = filter(alloc, ops, input, room.as_mut_slice())?;
+    Ok((64 - rest.len().min(64), answer))
+}
+
+/// Why no writer is opened.
+fn open_fault<W: Write + Drop>(output: W, header: &Header) -> Option<WriteFault> {
+    match StreamWriter::open(OverWrite::new(output), header) {
+        Ok(_) => None,
+        Err((_, fault)) => Some(fault),
+    }
 }
 
 /// A stream of three frames. The last one's data look like text.

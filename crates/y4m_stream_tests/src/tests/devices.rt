@@ -1,13 +1,18 @@
 // Devices that fail once and would go on, that take nothing, and that come back.
-use super::{INVERTED, STREAM, filter, whole_part};
+use super::reader::is_next;
+use super::{
+    INVERTED, STREAM, filter_into, open_fault, same, same_list, same_unless_refused, whole_part,
+};
 use filters::parse_ops;
 use row_bands::BandHeight;
+use std::alloc::Global;
 use std::io::{self, ErrorKind, Read, Write};
+use std::process::Abort;
 use std::test::Fail;
 use y4m_header::Header;
 use y4m_stream::{
-    FilterFault, OverRead, OverWrite, ReadFault, StreamReader, StreamWriter, WriteFault,
-    filter_between, filter_bytes, put_all,
+    FilterFault, OverRead, OverWrite, ReadFault, StreamReader, WriteFault, filter_between,
+    filter_bytes, put_all,
 };
 
 /// Gives its bytes, seven at a time; but the read before which so many others were made fails, and is as if
@@ -46,15 +51,15 @@ fn no_read_is_tried_again(rt: HostRuntime) -> Result<(), Fail> {
             before: Some(before),
         };
         let mut room = [0; 64];
-        let (rest, result) = filter(rt.alloc(), "invert", input, room.as_mut_slice())?;
-        let written = 64 - rest.len().min(64);
-        assert_eq!(rt;
-            result,
-            Err(FilterFault::Read(ReadFault::Device)),
-            "{before}"
-        );
+        let (written, result) = filter_into(rt.alloc(), "invert", input, &mut room)?;
+        let device = Err(FilterFault::Read(ReadFault::Device));
         let (_, end) = whole_part(given);
-        assert_eq!(rt; Some(&room[..written]), INVERTED.get(..end), "{before}");
+        same(&rt, (before, result), (before, device));
+        same(
+            &rt,
+            (before, room.get(..written)),
+            (before, INVERTED.get(..end)),
+        );
     }
     Ok(())
 }
@@ -65,16 +70,11 @@ fn a_reader_that_met_a_failed_read_has_failed(rt: HostRuntime) -> Result<(), Fai
         left: STREAM,
         before: Some(5),
     };
-    let mut reader = StreamReader::open(rt.alloc(), OverRead::new(input))?;
-    assert_eq!(rt;
-        reader.next_frame(rt.alloc()).err(),
-        Some(ReadFault::Device)
-    );
-    assert_eq!(rt;
-        reader.next_frame(rt.alloc()).err(),
-        Some(ReadFault::Failed)
-    );
-    assert_eq!(rt; reader.into_source().into_inner().left.len(), 61 - 35);
+    let alloc = rt.alloc();
+    let mut reader = StreamReader::open(alloc, OverRead::new(input))?;
+    same(&rt, is_next(alloc, &mut reader), Err(ReadFault::Device));
+    same(&rt, is_next(alloc, &mut reader), Err(ReadFault::Failed));
+    same(&rt, reader.into_source().into_inner().left.len(), 61 - 35);
     Ok(())
 }
 
@@ -95,46 +95,50 @@ impl Write for Full {
 #[test]
 fn a_writer_that_takes_nothing_has_failed(rt: HostRuntime) -> Result<(), Fail> {
     let header = Header::parse(rt.alloc(), b"YUV4MPEG2 W1 H1 Cmono")?;
-    match StreamWriter::open(OverWrite::new(Full), &header) {
-        Ok(_) => return Err("opened".into()),
-        Err((_, fault)) => assert_eq!(rt; fault, WriteFault::Device(0)),
-    }
-    assert_eq!(rt; put_all(&mut OverWrite::new(Full), b"abc"), Err(0));
-    assert_eq!(rt; put_all(&mut OverWrite::new(Full), b""), Ok(()));
+    same(&rt, open_fault(Full, &header), Some(WriteFault::Device(0)));
+    same(&rt, put_all(&mut OverWrite::new(Full), b"abc"), Err(0));
+    same(&rt, put_all(&mut OverWrite::new(Full), b""), Ok(()));
     Ok(())
 }
 
 #[test]
 fn both_ends_come_back(rt: HostRuntime) -> Result<(), Fail> {
-    let height = BandHeight::new(2).ok_or("height")?;
-    let ops = parse_ops(rt.alloc(), b"invert")?;
-    let left = STREAM.get(..45).ok_or("one frame and a part")?;
-    let (input, output, result) = filter_between(
-        rt.alloc(),
-        OverRead::new(left),
-        OverWrite::new(Vec::new(rt.alloc())),
-        ops,
-        height,
-    );
-    let cut = Err(FilterFault::Read(ReadFault::Truncated));
-    assert_eq!(rt; result, cut, "unless memory was refused");
-    assert!(rt; input.into_inner().is_empty());
-    assert_eq!(rt; Some(output.into_inner().as_slice()), INVERTED.get(..38));
+    filter_gives_both_back(&rt, rt.alloc())?;
+    reader_gives_its_source_back(&rt, rt.alloc())?;
+    filtered_bytes_give_the_writer_back(&rt, rt.alloc())
+}
 
-    let (input, fault) = match StreamReader::open_or_return(
-        rt.alloc(),
-        OverRead::new(b"F".as_slice()),
-    ) {
+/// One frame of the stream is whole.
+fn filter_gives_both_back(rt: &impl Abort, alloc: Global) -> Result<(), Fail> {
+    let height = BandHeight::new(2).ok_or("height")?;
+    let left = STREAM.get(..45).ok_or("one frame and a part")?;
+    let ops = parse_ops(alloc, b"invert")?;
+    let output = OverWrite::new(Vec::new(alloc));
+    let (input, output, result) = filter_between(alloc, OverRead::new(left), output, ops, height);
+    let cut = Err(FilterFault::Read(ReadFault::Truncated));
+    same_unless_refused(rt, result, cut);
+    assert!(rt; input.into_inner().is_empty());
+    let written = output.into_inner();
+    same(rt, Some(written.as_slice()), INVERTED.get(..38));
+    Ok(())
+}
+
+fn reader_gives_its_source_back(rt: &impl Abort, alloc: Global) -> Result<(), Fail> {
+    let (input, fault) = match StreamReader::open_or_return(alloc, OverRead::new(b"F".as_slice())) {
         Ok(_) => return Err("opened".into()),
         Err(failed) => failed,
     };
-    assert_eq!(rt; fault, ReadFault::Truncated);
+    same(rt, fault, ReadFault::Truncated);
     assert!(rt; input.into_inner().is_empty());
+    Ok(())
+}
 
-    let ops = parse_ops(rt.alloc(), b"invert")?;
-    let output = OverWrite::new(Vec::new(rt.alloc()));
-    let (output, result) = filter_bytes(rt.alloc(), STREAM, output, ops, height);
-    assert_eq!(rt; result, Ok(3), "unless memory was refused");
-    assert_eq!(rt; output.into_inner().as_slice(), INVERTED);
+fn filtered_bytes_give_the_writer_back(rt: &impl Abort, alloc: Global) -> Result<(), Fail> {
+    let height = BandHeight::new(2).ok_or("height")?;
+    let ops = parse_ops(alloc, b"invert")?;
+    let output = OverWrite::new(Vec::new(alloc));
+    let (output, result) = filter_bytes(alloc, STREAM, output, ops, height);
+    same_unless_refused(rt, result, Ok(3));
+    same_list(rt, &output.into_inner(), INVERTED);
     Ok(())
 }

@@ -1,5 +1,5 @@
 // What is told where a growth is refused: each test passes with any one refused, and with none.
-use super::{ENDS, INVERTED, STREAM};
+use super::{ENDS, INVERTED, STREAM, same};
 use filters::{FilterError, parse_ops};
 use row_bands::BandHeight;
 use std::process::Abort;
@@ -15,10 +15,7 @@ fn is_told_behind_whole_images(
     assert!(rt; INVERTED.starts_with(output));
     let written = output.len();
     match answer {
-        Ok(frames) => {
-            assert_eq!(rt; frames, 3);
-            assert_eq!(rt; written, 61);
-        }
+        Ok(frames) => same(rt, (frames, written), (3, 61)),
         Err(FilterFault::Read(ReadFault::NoMemory) | FilterFault::Ops(FilterError::NoMemory)) => {
             assert!(rt;
                 written == 0 || ENDS[..3].contains(&written),
@@ -32,14 +29,14 @@ fn is_told_behind_whole_images(
 
 #[test]
 fn want_of_memory_is_told_behind_whole_images(rt: HostRuntime) -> Result<(), Fail> {
+    let height = BandHeight::new(2).ok_or("height")?;
     let ops = match parse_ops(rt.alloc(), b"vflip+invert+vflip") {
         Ok(ops) => ops,
         Err(fault) => {
-            assert_eq!(rt; fault, FilterError::NoMemory);
+            same(&rt, fault, FilterError::NoMemory);
             return Ok(());
         }
     };
-    let height = BandHeight::new(2).ok_or("height")?;
     let mut room = [0; 64];
     let (rest, result) = filter_stream(
         rt.alloc(),
@@ -55,14 +52,14 @@ fn want_of_memory_is_told_behind_whole_images(rt: HostRuntime) -> Result<(), Fai
 
 #[test]
 fn two_threads_tell_it_behind_whole_images(rt: HostRuntime) -> Result<(), Fail> {
+    let height = BandHeight::new(2).ok_or("height")?;
     let ops = match parse_ops(rt.alloc(), b"vflip+invert+vflip") {
         Ok(ops) => ops,
         Err(fault) => {
-            assert_eq!(rt; fault, FilterError::NoMemory);
+            same(&rt, fault, FilterError::NoMemory);
             return Ok(());
         }
     };
-    let height = BandHeight::new(2).ok_or("height")?;
     let mut room = [0; 64];
     let (rest, result) = filter_overlapped(
         &rt,

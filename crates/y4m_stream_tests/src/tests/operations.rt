@@ -1,5 +1,5 @@
 // Streams served by the operations of a text.
-use super::filter;
+use super::{filter, filter_into, same, same_unless_refused};
 use filters::{FilterError, Op, parse_ops};
 use frame_view::Geometry;
 use row_bands::BandHeight;
@@ -18,88 +18,89 @@ fn serves(
     output: &[u8],
 ) -> Result<(), Fail> {
     let mut room = [0; 64];
-    let (rest, result) = filter(alloc, ops, input, room.as_mut_slice())?;
-    let written = 64 - rest.len().min(64);
+    let (written, result) = filter_into(alloc, ops, input, &mut room)?;
     result?;
-    assert_eq!(rt; &room[..written], output, "{ops}");
+    same(rt, (ops, room.get(..written)), (ops, Some(output)));
     Ok(())
 }
 
+/// Operations, a stream, and the stream of its images.
+const SERVED: [(&str, &[u8], &[u8]); 14] = [
+    (
+        "invert",
+        b"YUV4MPEG2 W2 H1 Cmono\n",
+        b"YUV4MPEG2 W2 H1 Cmono\n",
+    ),
+    (
+        "thresh:128",
+        b"YUV4MPEG2 W2 H1 Cmono\nFRAME\n\x00\x80",
+        b"YUV4MPEG2 W2 H1 Cmono\nFRAME\n\x00\xff",
+    ),
+    (
+        "clamp:16,235",
+        b"YUV4MPEG2 H1  W2 Cmono\nFRAME Ip\n\x05\xfa",
+        b"YUV4MPEG2 H1  W2 Cmono\nFRAME Ip\n\x10\xeb",
+    ),
+    (
+        "hflip",
+        b"YUV4MPEG2 W002 H1 Cmono\nFRAME\n\x01\x02",
+        b"YUV4MPEG2 W002 H1 Cmono\nFRAME\n\x02\x01",
+    ),
+    (
+        "crop:0,0,2,1",
+        b"YUV4MPEG2 W002 H1 Cmono\nFRAME\n\x01\x02",
+        b"YUV4MPEG2 W2 H1 Cmono\nFRAME\n\x01\x02",
+    ),
+    (
+        "blur:1",
+        b"YUV4MPEG2 W3 H1 Cmono\nFRAME\n\x00\x5a\x00",
+        b"YUV4MPEG2 W3 H1 Cmono\nFRAME\n\x1e\x1e\x1e",
+    ),
+    (
+        "crop:1,0,3,1+crop:0,0,2,1",
+        b"YUV4MPEG2 W4 H1 Cmono\nFRAME\n\x01\x02\x03\x04FRAME Ip\n\x05\x06\x07\x08",
+        b"YUV4MPEG2 W2 H1 Cmono\nFRAME\n\x02\x03FRAME Ip\n\x06\x07",
+    ),
+    (
+        "hflip+invert+hflip+vflip+hflip+hflip+vflip+invert",
+        b"YUV4MPEG2 W2 H2 Cmono\nFRAME\n\x01\x02\x03\x04",
+        b"YUV4MPEG2 W2 H2 Cmono\nFRAME\n\x01\x02\x03\x04",
+    ),
+    (
+        "thresh:128+clamp:16,235",
+        b"YUV4MPEG2 W2 H1 Cmono\nFRAME\n\x10\xf0",
+        b"YUV4MPEG2 W2 H1 Cmono\nFRAME\n\x10\xeb",
+    ),
+    (
+        "clamp:16,235+thresh:128",
+        b"YUV4MPEG2 W2 H1 Cmono\nFRAME\n\x10\xf0",
+        b"YUV4MPEG2 W2 H1 Cmono\nFRAME\n\x00\xff",
+    ),
+    (
+        "invert",
+        b"YUV4MPEG2 W1 H1 C444alpha\nFRAME\n\x00\x10\x20\x30",
+        b"YUV4MPEG2 W1 H1 C444alpha\nFRAME\n\xff\xef\xdf\x30",
+    ),
+    (
+        "thresh:3+vflip",
+        b"YUV4MPEG2 W2 H2\nFRAME\n\x01\x02\x03\x04\x50\x60",
+        b"YUV4MPEG2 W2 H2\nFRAME\n\xff\xff\x00\x00\x80\x80",
+    ),
+    (
+        "crop:2,0,2,2",
+        b"YUV4MPEG2 W4 H2 C422\nFRAME\n\x00\x01\x02\x03\x04\x05\x06\x07\x10\x11\x12\x13\x20\x21\x22\x23",
+        b"YUV4MPEG2 W2 H2 C422\nFRAME\n\x02\x03\x06\x07\x11\x13\x21\x23",
+    ),
+    (
+        "vflip",
+        b"YUV4MPEG2 W2 H4 C420jpeg\nFRAME Xa\n\x00\x01\x02\x03\x04\x05\x06\x07\x20\x21\x30\x31",
+        b"YUV4MPEG2 W2 H4 C420jpeg\nFRAME Xa\n\x06\x07\x04\x05\x02\x03\x00\x01\x21\x20\x31\x30",
+    ),
+];
+
 #[test]
 fn each_stream_is_served_by_its_operations(rt: HostRuntime) -> Result<(), Fail> {
-    let cases: [(&str, &[u8], &[u8]); 14] = [
-        (
-            "invert",
-            b"YUV4MPEG2 W2 H1 Cmono\n",
-            b"YUV4MPEG2 W2 H1 Cmono\n",
-        ),
-        (
-            "thresh:128",
-            b"YUV4MPEG2 W2 H1 Cmono\nFRAME\n\x00\x80",
-            b"YUV4MPEG2 W2 H1 Cmono\nFRAME\n\x00\xff",
-        ),
-        (
-            "clamp:16,235",
-            b"YUV4MPEG2 H1  W2 Cmono\nFRAME Ip\n\x05\xfa",
-            b"YUV4MPEG2 H1  W2 Cmono\nFRAME Ip\n\x10\xeb",
-        ),
-        (
-            "hflip",
-            b"YUV4MPEG2 W002 H1 Cmono\nFRAME\n\x01\x02",
-            b"YUV4MPEG2 W002 H1 Cmono\nFRAME\n\x02\x01",
-        ),
-        (
-            "crop:0,0,2,1",
-            b"YUV4MPEG2 W002 H1 Cmono\nFRAME\n\x01\x02",
-            b"YUV4MPEG2 W2 H1 Cmono\nFRAME\n\x01\x02",
-        ),
-        (
-            "blur:1",
-            b"YUV4MPEG2 W3 H1 Cmono\nFRAME\n\x00\x5a\x00",
-            b"YUV4MPEG2 W3 H1 Cmono\nFRAME\n\x1e\x1e\x1e",
-        ),
-        (
-            "crop:1,0,3,1+crop:0,0,2,1",
-            b"YUV4MPEG2 W4 H1 Cmono\nFRAME\n\x01\x02\x03\x04FRAME Ip\n\x05\x06\x07\x08",
-            b"YUV4MPEG2 W2 H1 Cmono\nFRAME\n\x02\x03FRAME Ip\n\x06\x07",
-        ),
-        (
-            "hflip+invert+hflip+vflip+hflip+hflip+vflip+invert",
-            b"YUV4MPEG2 W2 H2 Cmono\nFRAME\n\x01\x02\x03\x04",
-            b"YUV4MPEG2 W2 H2 Cmono\nFRAME\n\x01\x02\x03\x04",
-        ),
-        (
-            "thresh:128+clamp:16,235",
-            b"YUV4MPEG2 W2 H1 Cmono\nFRAME\n\x10\xf0",
-            b"YUV4MPEG2 W2 H1 Cmono\nFRAME\n\x10\xeb",
-        ),
-        (
-            "clamp:16,235+thresh:128",
-            b"YUV4MPEG2 W2 H1 Cmono\nFRAME\n\x10\xf0",
-            b"YUV4MPEG2 W2 H1 Cmono\nFRAME\n\x00\xff",
-        ),
-        (
-            "invert",
-            b"YUV4MPEG2 W1 H1 C444alpha\nFRAME\n\x00\x10\x20\x30",
-            b"YUV4MPEG2 W1 H1 C444alpha\nFRAME\n\xff\xef\xdf\x30",
-        ),
-        (
-            "thresh:3+vflip",
-            b"YUV4MPEG2 W2 H2\nFRAME\n\x01\x02\x03\x04\x50\x60",
-            b"YUV4MPEG2 W2 H2\nFRAME\n\xff\xff\x00\x00\x80\x80",
-        ),
-        (
-            "crop:2,0,2,2",
-            b"YUV4MPEG2 W4 H2 C422\nFRAME\n\x00\x01\x02\x03\x04\x05\x06\x07\x10\x11\x12\x13\x20\x21\x22\x23",
-            b"YUV4MPEG2 W2 H2 C422\nFRAME\n\x02\x03\x06\x07\x11\x13\x21\x23",
-        ),
-        (
-            "vflip",
-            b"YUV4MPEG2 W2 H4 C420jpeg\nFRAME Xa\n\x00\x01\x02\x03\x04\x05\x06\x07\x20\x21\x30\x31",
-            b"YUV4MPEG2 W2 H4 C420jpeg\nFRAME Xa\n\x06\x07\x04\x05\x02\x03\x00\x01\x21\x20\x31\x30",
-        ),
-    ];
-    for (ops, input, output) in cases {
+    for (ops, input, output) in SERVED {
         serves(&rt, rt.alloc(), ops, input, output)?;
     }
     Ok(())
@@ -115,6 +116,35 @@ fn one_frame(alloc: Global, line: &[u8], bytes: usize) -> Result<Vec<u8>, AllocE
     Ok(stream)
 }
 
+/// The header line says that a frame has so many bytes.
+fn has_frames_of(rt: &impl Abort, alloc: Global, line: &[u8], bytes: usize) -> Result<(), Fail> {
+    let header = Header::parse(alloc, line)?;
+    same(rt, (line, Geometry::of(&header).bytes()), (line, bytes));
+    Ok(())
+}
+
+/// These operations leave a frame as it is.
+const MIRRORED_TWICE: &str = "hflip+vflip+vflip+hflip";
+
+/// A stream comes back whole where it is mirrored twice.
+fn comes_back(rt: &impl Abort, alloc: Global, stream: &[u8]) -> Result<(), Fail> {
+    let (image, result) = filter(alloc, MIRRORED_TWICE, stream, Vec::new(alloc))?;
+    same_unless_refused(rt, (result, image.as_slice()), (Ok(1), stream));
+    Ok(())
+}
+
+/// A stream whose frame lacks a byte comes back without the frame.
+fn is_cut(rt: &impl Abort, alloc: Global, cut: &[u8], header: usize) -> Result<(), Fail> {
+    let (image, result) = filter(alloc, MIRRORED_TWICE, cut, Vec::new(alloc))?;
+    let truncated = Err(FilterFault::Read(ReadFault::Truncated));
+    same_unless_refused(
+        rt,
+        (result, Some(image.as_slice())),
+        (truncated, cut.get(..header)),
+    );
+    Ok(())
+}
+
 /// Mirrored twice, a frame is as it was.
 #[test]
 fn frames_have_the_bytes_of_their_header_line(rt: HostRuntime) -> Result<(), Fail> {
@@ -128,57 +158,52 @@ fn frames_have_the_bytes_of_their_header_line(rt: HostRuntime) -> Result<(), Fai
         (b"YUV4MPEG2 W31 H20 Cmono", 31 * 20),
         (b"YUV4MPEG2 W4099 H2 Cmono", 4099 * 2),
     ];
+    let alloc = rt.alloc();
     for (line, bytes) in cases {
-        let header = Header::parse(rt.alloc(), line)?;
-        assert_eq!(rt; Geometry::of(&header).bytes(), bytes);
-        let stream = one_frame(rt.alloc(), line, bytes)?;
-        let ops = "hflip+vflip+vflip+hflip";
-        let (image, result) = filter(rt.alloc(), ops, stream.as_slice(), Vec::new(rt.alloc()))?;
-        assert_eq!(rt; result, Ok(1), "unless memory was refused");
-        assert!(rt; image == stream, "{header:?}");
-        let cut = one_frame(rt.alloc(), line, bytes.saturating_sub(1))?;
-        let (image, result) = filter(rt.alloc(), ops, cut.as_slice(), Vec::new(rt.alloc()))?;
-        let truncated = Err(FilterFault::Read(ReadFault::Truncated));
-        assert_eq!(rt; result, truncated, "unless memory was refused");
-        assert_eq!(rt; Some(image.as_slice()), cut.get(..line.len() + 1));
+        has_frames_of(&rt, alloc, line, bytes)?;
+        comes_back(&rt, alloc, &one_frame(alloc, line, bytes)?)?;
+        let cut = one_frame(alloc, line, bytes.saturating_sub(1))?;
+        is_cut(&rt, alloc, &cut, line.len() + 1)?;
     }
     Ok(())
 }
 
+/// Nothing is written of a stream that makes no chain with these operations.
+fn writes_nothing(
+    rt: &impl Abort,
+    alloc: Global,
+    ops: Vec<Op>,
+    height: BandHeight,
+    input: &[u8],
+    fault: FilterError,
+) {
+    let output = OverWrite::new(Vec::new(alloc));
+    let (output, result) = filter_stream(alloc, OverRead::new(input), output, ops, height);
+    same(rt, result, Err(FilterFault::Ops(fault)));
+    assert!(rt; output.into_inner().is_empty());
+}
+
 #[test]
 fn where_there_is_no_chain_nothing_is_written(rt: HostRuntime) -> Result<(), Fail> {
+    let alloc = rt.alloc();
+    let high = BandHeight::new(16).ok_or("height")?;
+    let low = BandHeight::new(2).ok_or("height")?;
     let input = b"YUV4MPEG2 W4 H2 C422\nFRAME".as_slice();
-    let (output, result) = filter(rt.alloc(), "crop:1,0,2,2", input, Vec::new(rt.alloc()))?;
-    assert_eq!(rt; result, Err(FilterFault::Ops(FilterError::BadCrop)));
-    assert!(rt; output.is_empty());
+    let crop = parse_ops(alloc, b"crop:1,0,2,2")?;
+    writes_nothing(&rt, alloc, crop, high, input, FilterError::BadCrop);
+    let nine = nine_mirrors(alloc)?;
+    writes_nothing(&rt, alloc, nine, low, input, FilterError::TooManyOps);
+    let column = b"YUV4MPEG2 W1 H16384 Cmono\n".as_slice();
+    let five = parse_ops(alloc, b"hflip+hflip+hflip+hflip+hflip")?;
+    writes_nothing(&rt, alloc, five, low, column, FilterError::TooManySteps);
+    Ok(())
+}
 
-    let mut nine = Vec::new(rt.alloc());
+/// One operation more than a chain has at most.
+fn nine_mirrors(alloc: Global) -> Result<Vec<Op>, AllocError> {
+    let mut nine = Vec::new(alloc);
     for _ in 0..9 {
         nine.push(Op::HFlip)?;
     }
-    let height = BandHeight::new(2).ok_or("height")?;
-    let (output, result) = filter_stream(
-        rt.alloc(),
-        OverRead::new(input),
-        OverWrite::new(Vec::new(rt.alloc())),
-        nine,
-        height,
-    );
-    let output = output.into_inner();
-    assert_eq!(rt; result, Err(FilterFault::Ops(FilterError::TooManyOps)));
-    assert!(rt; output.is_empty());
-
-    let high = b"YUV4MPEG2 W1 H16384 Cmono\n".as_slice();
-    let five = parse_ops(rt.alloc(), b"hflip+hflip+hflip+hflip+hflip")?;
-    let (output, result) = filter_stream(
-        rt.alloc(),
-        OverRead::new(high),
-        OverWrite::new(Vec::new(rt.alloc())),
-        five,
-        height,
-    );
-    let output = output.into_inner();
-    assert_eq!(rt; result, Err(FilterFault::Ops(FilterError::TooManySteps)));
-    assert!(rt; output.is_empty());
-    Ok(())
+    Ok(nine)
 }

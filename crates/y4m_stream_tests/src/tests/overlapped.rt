@@ -1,10 +1,11 @@
 // Frames that are read while the images before them are written.
 use super::devices::FailsOnce;
-use super::{ENDS, INVERTED, Pieces, Room, STREAM, filter, whole_part};
+use super::{INVERTED, Pieces, Room, STREAM, filter, same, same_unless_refused, whole_part};
 use filters::parse_ops;
 use row_bands::BandHeight;
 use std::alloc::{AllocError, Global};
 use std::io::{self, ErrorKind, Read, Write};
+use std::process::Abort;
 use std::test::Fail;
 use std::thread::Threads;
 use y4m_stream::{FilterFault, OverRead, OverWrite, ReadFault, WriteFault, filter_overlapped};
@@ -17,8 +18,8 @@ fn overlap<T: Threads, R: Read + Drop + Send, W: Write + Drop>(
     input: R,
     output: W,
 ) -> Result<(W, Result<u64, FilterFault>), Fail> {
-    let ops = parse_ops(alloc, ops.as_bytes())?;
     let height = BandHeight::new(16).ok_or("height")?;
+    let ops = parse_ops(alloc, ops.as_bytes())?;
     let (output, answer) = filter_overlapped(
         rt,
         alloc,
@@ -30,24 +31,80 @@ fn overlap<T: Threads, R: Read + Drop + Send, W: Write + Drop>(
     Ok((output.into_inner(), answer))
 }
 
-/// A stream of frames of 4 by 2 samples, every second with a tag. Sample i of frame n is 31 n + i. Where it
-/// is to be the image by `vflip+invert`, the rows are swapped and each sample v is 255 - v.
+/// Filters a stream as `overlap` does, and tells how many bytes of the room are written.
+fn overlap_into<T: Threads, R: Read + Drop + Send>(
+    rt: &T,
+    alloc: Global,
+    input: R,
+    room: &mut [u8; 64],
+) -> Result<(usize, Result<u64, FilterFault>), Fail> {
+    let (rest, answer) = overlap(rt, alloc, "invert", input, room.as_mut_slice())?;
+    Ok((64 - rest.len().min(64), answer))
+}
+
+/// A stream of frames of 4 by 2 samples, every second with a tag. Where it is to be the image by
+/// `vflip+invert`, the rows are swapped and each sample v is 255 - v.
 fn frames(alloc: Global, count: u8, is_image: bool) -> Result<Vec<u8>, AllocError> {
     let mut text = b"YUV4MPEG2 W4 H2 F25:1 Cmono\n".to_vec(alloc)?;
     for n in 0..count {
-        let line: &[u8] = if n % 2 == 0 {
-            b"FRAME\n"
-        } else {
-            b"FRAME Ip\n"
-        };
-        text.extend_from_slice(line)?;
-        for i in 0..8u8 {
-            let place = if is_image { (i + 4) % 8 } else { i };
-            let sample = n.wrapping_mul(31).wrapping_add(place);
-            text.push(if is_image { 255 - sample } else { sample })?;
-        }
+        append_frame(&mut text, n, is_image)?;
     }
     Ok(text)
+}
+
+/// Appends frame n, whose sample i is 31 n + i.
+fn append_frame(text: &mut Vec<u8>, n: u8, is_image: bool) -> Result<(), AllocError> {
+    let line: &[u8] = if n % 2 == 0 {
+        b"FRAME\n"
+    } else {
+        b"FRAME Ip\n"
+    };
+    text.extend_from_slice(line)?;
+    for i in 0..8u8 {
+        let place = if is_image { (i + 4) % 8 } else { i };
+        let sample = n.wrapping_mul(31).wrapping_add(place);
+        text.push(if is_image { 255 - sample } else { sample })?;
+    }
+    Ok(())
+}
+
+/// Two threads filter a stream of so many frames into the image.
+fn two_write<T: Threads + Abort>(
+    rt: &T,
+    alloc: Global,
+    count: u8,
+    input: &[u8],
+    image: &[u8],
+) -> Result<(), Fail> {
+    let pieces = Pieces {
+        left: input,
+        step: 7,
+        ends: usize::MAX,
+    };
+    let (output, result) = overlap(rt, alloc, "vflip+invert", pieces, Vec::new(alloc))?;
+    same_unless_refused(
+        rt,
+        (result, output.as_slice()),
+        (Ok(u64::from(count)), image),
+    );
+    Ok(())
+}
+
+/// One thread filters a stream of so many frames into the image.
+fn one_writes(
+    rt: &impl Abort,
+    alloc: Global,
+    count: u8,
+    input: &[u8],
+    image: &[u8],
+) -> Result<(), Fail> {
+    let (output, result) = filter(alloc, "vflip+invert", input, Vec::new(alloc))?;
+    same_unless_refused(
+        rt,
+        (result, output.as_slice()),
+        (Ok(u64::from(count)), image),
+    );
+    Ok(())
 }
 
 #[test]
@@ -55,19 +112,8 @@ fn two_threads_write_what_one_writes(rt: HostRuntime) -> Result<(), Fail> {
     for count in [0, 1, 2, 5] {
         let input = frames(rt.alloc(), count, false)?;
         let image = frames(rt.alloc(), count, true)?;
-        let pieces = Pieces {
-            left: &input,
-            step: 7,
-            ends: usize::MAX,
-        };
-        let output = Vec::new(rt.alloc());
-        let (output, result) = overlap(&rt, rt.alloc(), "vflip+invert", pieces, output)?;
-        assert_eq!(rt; result, Ok(u64::from(count)), "unless memory was refused");
-        assert_eq!(rt; output.as_slice(), image.as_slice());
-        let output = Vec::new(rt.alloc());
-        let (output, result) = filter(rt.alloc(), "vflip+invert", input.as_slice(), output)?;
-        assert_eq!(rt; result, Ok(u64::from(count)), "unless memory was refused");
-        assert_eq!(rt; output.as_slice(), image.as_slice());
+        two_write(&rt, rt.alloc(), count, &input, &image)?;
+        one_writes(&rt, rt.alloc(), count, &input, &image)?;
     }
     Ok(())
 }
@@ -82,12 +128,15 @@ fn images_before_a_failed_read_are_written(rt: HostRuntime) -> Result<(), Fail> 
             before: Some(before),
         };
         let mut room = [0; 64];
-        let (rest, result) = overlap(&rt, rt.alloc(), "invert", input, room.as_mut_slice())?;
-        let written = 64 - rest.len().min(64);
+        let (written, result) = overlap_into(&rt, rt.alloc(), input, &mut room)?;
         let device = Err(FilterFault::Read(ReadFault::Device));
-        assert_eq!(rt; result, device, "{before}");
         let (_, end) = whole_part(given);
-        assert_eq!(rt; Some(&room[..written]), INVERTED.get(..end), "{before}");
+        same(&rt, (before, result), (before, device));
+        same(
+            &rt,
+            (before, room.get(..written)),
+            (before, INVERTED.get(..end)),
+        );
     }
     Ok(())
 }
@@ -97,16 +146,15 @@ fn images_before_a_cut_are_written(rt: HostRuntime) -> Result<(), Fail> {
     for len in 0..STREAM.len() {
         let input = STREAM.get(..len).ok_or("prefix")?;
         let mut room = [0; 64];
-        let (rest, result) = overlap(&rt, rt.alloc(), "invert", input, room.as_mut_slice())?;
-        let written = 64 - rest.len().min(64);
+        let (written, result) = overlap_into(&rt, rt.alloc(), input, &mut room)?;
         let (frames, end) = whole_part(len);
         let expected = if len == end && len > 0 {
             Ok(frames)
         } else {
             Err(FilterFault::Read(ReadFault::Truncated))
         };
-        assert_eq!(rt; result, expected, "{len} bytes");
-        assert_eq!(rt; Some(&room[..written]), INVERTED.get(..end), "{len} bytes");
+        same(&rt, (len, result), (len, expected));
+        same(&rt, (len, room.get(..written)), (len, INVERTED.get(..end)));
     }
     Ok(())
 }
@@ -128,26 +176,39 @@ impl Read for Broken<'_> {
     }
 }
 
+/// The reader fails at the end of a frame, and the writer after `len` bytes, which are fewer. Where memory
+/// is refused, the reader doesn't come to fail.
+fn fail_both<T: Threads + Abort>(
+    rt: &T,
+    alloc: Global,
+    len: usize,
+    end: usize,
+) -> Result<(), Fail> {
+    let left = STREAM.get(..end).ok_or("frames")?;
+    let mut input = Broken { left, failed: 0 };
+    let mut text = [0; 64];
+    let room = text.get_mut(..len).ok_or("room")?;
+    let output = Room {
+        left: room,
+        step: 5,
+        calls: 0,
+    };
+    let (_, result) = overlap(rt, alloc, "invert", &mut input, output)?;
+    let device = Err(FilterFault::Write(WriteFault::Device(len as u64)));
+    same_unless_refused(rt, (len, result, input.failed), (len, device, 1));
+    same(rt, text.get(..len), INVERTED.get(..len));
+    Ok(())
+}
+
 #[test]
 fn the_writes_fault_is_answered_where_both_fail(rt: HostRuntime) -> Result<(), Fail> {
-    for (begin, end) in ENDS.into_iter().zip([38, 51, 61]) {
-        for len in begin..end {
-            let mut input = Broken {
-                left: STREAM.get(..end).ok_or("frames")?,
-                failed: 0,
-            };
-            let mut text = [0; 64];
-            let output = Room {
-                left: text.get_mut(..len).ok_or("room")?,
-                step: 5,
-                calls: 0,
-            };
-            let (_, result) = overlap(&rt, rt.alloc(), "invert", &mut input, output)?;
-            let device = WriteFault::Device(len as u64);
-            assert_eq!(rt; result, Err(FilterFault::Write(device)), "{len} bytes");
-            assert_eq!(rt; input.failed, 1, "{len} bytes, unless memory was refused");
-            assert_eq!(rt; text.get(..len), INVERTED.get(..len));
-        }
+    for len in 28..61 {
+        let end = match len {
+            28..=37 => 38,
+            38..=50 => 51,
+            _ => 61,
+        };
+        fail_both(&rt, rt.alloc(), len, end)?;
     }
     Ok(())
 }

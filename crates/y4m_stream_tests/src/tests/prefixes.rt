@@ -1,5 +1,5 @@
 // The first bytes of a stream give the images of its frames that are whole in them.
-use super::{INVERTED, Pieces, STREAM, filter, whole_part};
+use super::{INVERTED, Pieces, STREAM, filter_into, same, whole_part};
 use std::alloc::Global;
 use std::process::Abort;
 use std::test::Fail;
@@ -16,8 +16,7 @@ fn invert_prefix(
     let left = STREAM.get(..len).ok_or("prefix")?;
     let input = Pieces { left, step, ends };
     let mut room = [0; 64];
-    let (rest, result) = filter(alloc, "invert", input, room.as_mut_slice())?;
-    let written = 64 - rest.len().min(64);
+    let (written, result) = filter_into(alloc, "invert", input, &mut room)?;
     let (frames, end) = whole_part(len);
     let expected = if ends == 0 {
         Err(FilterFault::Read(ReadFault::Device))
@@ -26,9 +25,17 @@ fn invert_prefix(
     } else {
         Err(FilterFault::Read(ReadFault::Truncated))
     };
-    assert_eq!(rt; result, expected, "{len} bytes by {step}");
-    let image = INVERTED.get(..end).ok_or("part")?;
-    assert_eq!(rt; &room[..written], image, "{len} bytes by {step}");
+    same(rt, (len, step, result), (len, step, expected));
+    let image = INVERTED.get(..end);
+    same(rt, (len, step, room.get(..written)), (len, step, image));
+    Ok(())
+}
+
+/// Inverts each prefix, read in such pieces.
+fn invert_prefixes(rt: &impl Abort, alloc: Global, step: usize, ends: usize) -> Result<(), Fail> {
+    for len in 0..62 {
+        invert_prefix(rt, alloc, len, step, ends)?;
+    }
     Ok(())
 }
 
@@ -38,9 +45,7 @@ const STEPS: [usize; 3] = [1, 7, 4096];
 #[test]
 fn each_prefix_gives_its_whole_frames(rt: HostRuntime) -> Result<(), Fail> {
     for step in STEPS {
-        for len in 0..62 {
-            invert_prefix(&rt, rt.alloc(), len, step, usize::MAX)?;
-        }
+        invert_prefixes(&rt, rt.alloc(), step, usize::MAX)?;
     }
     Ok(())
 }
@@ -48,9 +53,7 @@ fn each_prefix_gives_its_whole_frames(rt: HostRuntime) -> Result<(), Fail> {
 #[test]
 fn a_failed_read_keeps_the_images_before_it(rt: HostRuntime) -> Result<(), Fail> {
     for step in STEPS {
-        for len in 0..62 {
-            invert_prefix(&rt, rt.alloc(), len, step, 0)?;
-        }
+        invert_prefixes(&rt, rt.alloc(), step, 0)?;
     }
     Ok(())
 }
@@ -59,12 +62,11 @@ fn a_failed_read_keeps_the_images_before_it(rt: HostRuntime) -> Result<(), Fail>
 fn each_prefix_of_a_stream_of_three_planes(rt: HostRuntime) -> Result<(), Fail> {
     let text = b"YUV4MPEG2 W2 H2\nFRAME\n\x01\x02\x03\x04\x50\x60".as_slice();
     let image = b"YUV4MPEG2 W2 H2\nFRAME\n\xfe\xfd\xfc\xfb\xaf\x9f".as_slice();
-    assert_eq!(rt; text.len(), 28);
+    same(&rt, text.len(), 28);
     for len in 0..29 {
         let input = text.get(..len).ok_or("prefix")?;
         let mut room = [0; 64];
-        let (rest, result) = filter(rt.alloc(), "invert", input, room.as_mut_slice())?;
-        let written = 64 - rest.len().min(64);
+        let (written, result) = filter_into(rt.alloc(), "invert", input, &mut room)?;
         let cut = Err(FilterFault::Read(ReadFault::Truncated));
         let (end, expected) = match len {
             0..=15 => (0, cut),
@@ -72,9 +74,8 @@ fn each_prefix_of_a_stream_of_three_planes(rt: HostRuntime) -> Result<(), Fail> 
             17..=27 => (16, cut),
             _ => (28, Ok(1)),
         };
-        assert_eq!(rt; result, expected, "{len} bytes");
-        let image = image.get(..end).ok_or("part")?;
-        assert_eq!(rt; &room[..written], image, "{len} bytes");
+        same(&rt, (len, result), (len, expected));
+        same(&rt, (len, room.get(..written)), (len, image.get(..end)));
     }
     Ok(())
 }

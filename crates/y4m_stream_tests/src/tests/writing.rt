@@ -1,5 +1,5 @@
 // Writers that fail, that take little at a time, and that count their calls.
-use super::{INVERTED, Room, STREAM, filter};
+use super::{INVERTED, Room, STREAM, filter, open_fault, same, same_list};
 use frame_view::{Frame, Geometry};
 use std::alloc::Global;
 use std::process::Abort;
@@ -22,22 +22,33 @@ fn invert_into(rt: &impl Abort, alloc: Global, room: usize, step: usize) -> Resu
     } else {
         Err(FilterFault::Write(WriteFault::Device(room as u64)))
     };
-    assert_eq!(rt; result, expected, "{room} bytes by {step}");
-    let written = INVERTED.get(..room.min(61)).ok_or("part")?;
-    assert!(rt; taken.starts_with(written), "{room} bytes by {step}");
+    same(rt, (room, step, result), (room, step, expected));
+    let end = room.min(61);
+    same(
+        rt,
+        (room, step, taken.get(..end)),
+        (room, step, INVERTED.get(..end)),
+    );
+    Ok(())
+}
+
+/// Inverts the stream into each room that is too small, and into one that isn't.
+fn invert_into_each(rt: &impl Abort, alloc: Global, step: usize) -> Result<(), Fail> {
+    for room in 0..63 {
+        invert_into(rt, alloc, room, step)?;
+    }
     Ok(())
 }
 
 #[test]
 fn a_failed_write_carries_what_went_out(rt: HostRuntime) -> Result<(), Fail> {
     for step in [1, 4096] {
-        for room in 0..63 {
-            invert_into(&rt, rt.alloc(), room, step)?;
-        }
+        invert_into_each(&rt, rt.alloc(), step)?;
     }
     Ok(())
 }
 
+/// They are the header line, and a line and data for each frame.
 #[test]
 fn each_piece_of_text_is_one_write(rt: HostRuntime) -> Result<(), Fail> {
     let mut taken = [0; 64];
@@ -47,12 +58,7 @@ fn each_piece_of_text_is_one_write(rt: HostRuntime) -> Result<(), Fail> {
         calls: 0,
     };
     let (output, result) = filter(rt.alloc(), "invert", STREAM, output)?;
-    assert_eq!(rt; result, Ok(3));
-    assert_eq!(rt;
-        output.calls,
-        7,
-        "the header line, and a line and data for each frame"
-    );
+    same(&rt, (result, output.calls), (Ok(3), 7));
     Ok(())
 }
 
@@ -65,17 +71,16 @@ fn a_header_line_that_goes_out_in_part_is_counted(rt: HostRuntime) -> Result<(),
         step: 4096,
         calls: 0,
     };
-    match StreamWriter::open(OverWrite::new(output), &header) {
-        Ok(_) => return Err("opened".into()),
-        Err((_, fault)) => assert_eq!(rt; fault, WriteFault::Device(5)),
-    }
-    assert_eq!(rt; taken, *b"YUV4M");
+    let fault = open_fault(output, &header);
+    same(&rt, fault, Some(WriteFault::Device(5)));
+    same_list(&rt, &taken, b"YUV4M");
     Ok(())
 }
 
 #[test]
 fn a_writer_counts_from_the_header_line_on(rt: HostRuntime) -> Result<(), Fail> {
     let header = Header::parse(rt.alloc(), b"YUV4MPEG2 W1 H1 Cmono")?;
+    let frame = Frame::blank(rt.alloc(), Geometry::of(&header), b"FRAME")?;
     let mut taken = [0; 25];
     let output = Room {
         left: taken.as_mut_slice(),
@@ -85,11 +90,10 @@ fn a_writer_counts_from_the_header_line_on(rt: HostRuntime) -> Result<(), Fail> 
     let Ok(mut writer) = StreamWriter::open(OverWrite::new(output), &header) else {
         return Err("not opened".into());
     };
-    let frame = Frame::blank(rt.alloc(), Geometry::of(&header), b"FRAME")?;
-    assert_eq!(rt; writer.put(&frame), Err(WriteFault::Device(25)));
-    assert_eq!(rt; writer.put(&frame), Err(WriteFault::Failed));
+    same(&rt, writer.put(&frame), Err(WriteFault::Device(25)));
+    same(&rt, writer.put(&frame), Err(WriteFault::Failed));
     let (_, finished) = writer.finish();
-    assert_eq!(rt; finished, Err(WriteFault::Failed));
-    assert_eq!(rt; taken, *b"YUV4MPEG2 W1 H1 Cmono\nFRA");
+    same(&rt, finished, Err(WriteFault::Failed));
+    same_list(&rt, &taken, b"YUV4MPEG2 W1 H1 Cmono\nFRA");
     Ok(())
 }
