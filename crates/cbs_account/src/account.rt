@@ -150,6 +150,3 @@ impl Account {
         }
     }
 }
-
-#[cfg(test)]
-mod tests;

@@ -75,6 +75,3 @@ impl Admission {
         Ok(())
     }
 }
-
-#[cfg(test)]
-mod tests;

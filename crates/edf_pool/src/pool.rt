@@ -84,6 +84,3 @@ fn set_leaf(nodes: &mut [Node; NODES], leaf: usize, node: Node, compares: &mut C
         nodes[i] = compares.lesser(left, right);
     }
 }
-
-#[cfg(test)]
-mod tests;

@@ -211,6 +211,3 @@ impl<T> FrameQueue<T> {
         ring.destroy_empty();
     }
 }
-
-#[cfg(test)]
-mod tests;

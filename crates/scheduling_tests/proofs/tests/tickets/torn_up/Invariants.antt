@@ -1,5 +1,5 @@
 use Rattle.std.proofs.Common.{IsFalse, length}
-use Rattle.stream_queue.proofs.queue.tests.torn_up.Given as goal
+use Rattle.scheduling_tests.proofs.tests.tickets.torn_up.Given as goal
 
 abbrev pub invariant-loop-ticket : goal.invariant-loop-ticket
 invariant-loop-ticket l = IsFalse l.queue.is_out

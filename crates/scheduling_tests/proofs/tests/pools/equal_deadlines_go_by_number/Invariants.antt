@@ -1,5 +1,5 @@
 use Rattle.std.proofs.Common.{◌≡◌, length}
-use Rattle.edf_pool.proofs.pool.tests.equal_deadlines_go_by_number.Given as goal
+use Rattle.scheduling_tests.proofs.tests.pools.equal_deadlines_go_by_number.Given as goal
 
 abbrev pub invariant-loop-s : goal.invariant-loop-s
 invariant-loop-s g l = length l.pool ≡ 64
