@@ -3,131 +3,204 @@ use super::Size::Pair;
 use super::{PLAIN, Served, geometry_of, spec_of, specs_of};
 use serve_core::{Setup, SetupError, StreamSpec};
 use std::alloc::Global;
+use std::process::Abort;
 use std::test::Fail;
 
-/// The first fault of a setup, if it has one.
-fn fault(
-    alloc: Global,
-    workers: u64,
-    quantum: u64,
-    streams: &[Served<'_>],
-) -> Result<Option<SetupError>, Fail> {
-    Ok(Setup::new(workers, quantum, specs_of(alloc, streams)?).err())
-}
+const THIRD: Served<'_> = Served {
+    account: (1, 3),
+    ..PLAIN
+};
 
-const fn with_account(q: u64, t: u64) -> Served<'static> {
-    Served {
-        account: (q, t),
-        ..PLAIN
-    }
-}
+const WHOLE: Served<'_> = Served {
+    account: (4, 4),
+    ..PLAIN
+};
+
+const EXCESS: Served<'_> = Served {
+    account: (5, 4),
+    ..PLAIN
+};
+
+const SMALL: Served<'_> = Served {
+    account: (1, 64),
+    ..PLAIN
+};
+
+/// What is set up: how many workers, which quantum, and the streams; and the first fault, if there is one.
+type Case<'a> = (&'a str, u64, u64, &'a [Served<'a>], Option<SetupError>);
+
+const BAD_LIMITS: Option<SetupError> = Some(SetupError::BadLimits);
 
 /// The share of (1, 3) is 333,334 millionths of a worker.
+const SHARES: &[Case<'_>] = &[
+    ("two thirds", 1, 4, &[THIRD, THIRD], None),
+    (
+        "three thirds",
+        1,
+        4,
+        &[THIRD, THIRD, THIRD],
+        Some(SetupError::Overload(2)),
+    ),
+    ("three thirds of two", 2, 4, &[THIRD, THIRD, THIRD], None),
+    ("a whole", 1, 4, &[WHOLE], None),
+    (
+        "an excess",
+        1,
+        4,
+        &[EXCESS],
+        Some(SetupError::BadBandwidth(0)),
+    ),
+    (
+        "an excess behind a third",
+        1,
+        4,
+        &[THIRD, EXCESS],
+        Some(SetupError::BadBandwidth(1)),
+    ),
+    (
+        "an excess behind an overload",
+        1,
+        4,
+        &[WHOLE, THIRD, EXCESS],
+        Some(SetupError::Overload(1)),
+    ),
+];
+
+const LIMITS: &[Case<'_>] = &[
+    ("no worker", 0, 4, &[PLAIN], BAD_LIMITS),
+    ("1 worker", 1, 4, &[PLAIN], None),
+    ("16 workers", 16, 4, &[PLAIN], None),
+    ("17 workers", 17, 4, &[PLAIN], BAD_LIMITS),
+    ("a quantum of 0", 1, 0, &[PLAIN], BAD_LIMITS),
+    ("a quantum of 1", 1, 1, &[PLAIN], None),
+    ("a quantum of 64", 1, 64, &[PLAIN], None),
+    ("a quantum of 65", 1, 65, &[PLAIN], BAD_LIMITS),
+    ("no stream", 1, 4, &[], BAD_LIMITS),
+    ("64 streams", 1, 4, &[SMALL; 64], None),
+    ("65 streams", 16, 4, &[SMALL; 65], BAD_LIMITS),
+    (
+        "one place each",
+        1,
+        4,
+        &[Served {
+            queue: 1,
+            outbox: 1,
+            frames: 1,
+            ..PLAIN
+        }],
+        None,
+    ),
+    (
+        "the most places",
+        1,
+        4,
+        &[Served {
+            queue: 256,
+            outbox: 256,
+            frames: 16_777_216,
+            ..PLAIN
+        }],
+        None,
+    ),
+    (
+        "no place in the queue",
+        1,
+        4,
+        &[Served {
+            queue: 0,
+            outbox: 1,
+            frames: 1,
+            ..PLAIN
+        }],
+        BAD_LIMITS,
+    ),
+    (
+        "257 places in the queue",
+        1,
+        4,
+        &[Served {
+            queue: 257,
+            outbox: 1,
+            frames: 1,
+            ..PLAIN
+        }],
+        BAD_LIMITS,
+    ),
+    (
+        "no place in the outbox",
+        1,
+        4,
+        &[Served {
+            queue: 1,
+            outbox: 0,
+            frames: 1,
+            ..PLAIN
+        }],
+        BAD_LIMITS,
+    ),
+    (
+        "257 places in the outbox",
+        1,
+        4,
+        &[Served {
+            queue: 1,
+            outbox: 257,
+            frames: 1,
+            ..PLAIN
+        }],
+        BAD_LIMITS,
+    ),
+    (
+        "no frame",
+        1,
+        4,
+        &[Served {
+            queue: 1,
+            outbox: 1,
+            frames: 0,
+            ..PLAIN
+        }],
+        BAD_LIMITS,
+    ),
+    (
+        "16,777,217 frames",
+        1,
+        4,
+        &[Served {
+            queue: 1,
+            outbox: 1,
+            frames: 16_777_217,
+            ..PLAIN
+        }],
+        BAD_LIMITS,
+    ),
+    // They come before the bandwidth of an earlier stream.
+    (
+        "bad limits are told first",
+        1,
+        4,
+        &[EXCESS, Served { queue: 0, ..PLAIN }],
+        BAD_LIMITS,
+    ),
+];
+
+/// Compares the first fault of each setup.
+fn are_faulty(rt: &impl Abort, alloc: Global, cases: &[Case<'_>]) -> Result<(), Fail> {
+    for (name, workers, quantum, streams, wanted) in cases {
+        let fault = Setup::new(*workers, *quantum, specs_of(alloc, streams)?).err();
+        assert_eq!(rt; fault, *wanted, "{name}");
+    }
+    Ok(())
+}
+
 #[test]
 fn shares_are_given_stream_by_stream(rt: HostRuntime) -> Result<(), Fail> {
-    let alloc = rt.alloc();
-    let third = with_account(1, 3);
-    let whole = with_account(4, 4);
-    let excess = with_account(5, 4);
-    assert_eq!(rt; fault(alloc, 1, 4, &[third; 2])?, None);
-    assert_eq!(rt;
-        fault(alloc, 1, 4, &[third; 3])?,
-        Some(SetupError::Overload(2))
-    );
-    assert_eq!(rt; fault(alloc, 2, 4, &[third; 3])?, None);
-    assert_eq!(rt; fault(alloc, 1, 4, &[whole])?, None);
-    assert_eq!(rt;
-        fault(alloc, 1, 4, &[excess])?,
-        Some(SetupError::BadBandwidth(0))
-    );
-    assert_eq!(rt;
-        fault(alloc, 1, 4, &[third, excess])?,
-        Some(SetupError::BadBandwidth(1))
-    );
-    assert_eq!(rt;
-        fault(alloc, 1, 4, &[whole, third, excess])?,
-        Some(SetupError::Overload(1))
-    );
-    Ok(())
+    are_faulty(&rt, rt.alloc(), SHARES)
 }
 
 #[test]
-fn workers_and_quantum_have_limits(rt: HostRuntime) -> Result<(), Fail> {
-    for (workers, quantum, is_setup) in [
-        (0, 4, false),
-        (1, 4, true),
-        (16, 4, true),
-        (17, 4, false),
-        (1, 0, false),
-        (1, 1, true),
-        (1, 64, true),
-        (1, 65, false),
-    ] {
-        let fault = fault(rt.alloc(), workers, quantum, &[PLAIN])?;
-        let wanted = if is_setup {
-            None
-        } else {
-            Some(SetupError::BadLimits)
-        };
-        assert_eq!(rt; fault, wanted, "{workers} workers, a quantum of {quantum}");
-    }
-    Ok(())
-}
-
-#[test]
-fn there_are_1_to_64_streams(rt: HostRuntime) -> Result<(), Fail> {
-    let alloc = rt.alloc();
-    let small = with_account(1, 64);
-    assert_eq!(rt; fault(alloc, 1, 4, &[])?, Some(SetupError::BadLimits));
-    assert_eq!(rt; fault(alloc, 1, 4, &[small; 64])?, None);
-    assert_eq!(rt;
-        fault(alloc, 16, 4, &[small; 65])?,
-        Some(SetupError::BadLimits)
-    );
-    Ok(())
-}
-
-#[test]
-fn places_and_frames_have_limits(rt: HostRuntime) -> Result<(), Fail> {
-    for (queue, outbox, frames, is_setup) in [
-        (1, 1, 1, true),
-        (256, 256, 16_777_216, true),
-        (0, 1, 1, false),
-        (257, 1, 1, false),
-        (1, 0, 1, false),
-        (1, 257, 1, false),
-        (1, 1, 0, false),
-        (1, 1, 16_777_217, false),
-    ] {
-        let stream = Served {
-            queue,
-            outbox,
-            frames,
-            ..PLAIN
-        };
-        let wanted = if is_setup {
-            None
-        } else {
-            Some(SetupError::BadLimits)
-        };
-        let fault = fault(rt.alloc(), 1, 4, &[stream])?;
-        assert_eq!(rt;
-            fault,
-            wanted,
-            "places {queue} and {outbox}, {frames} frames"
-        );
-    }
-    Ok(())
-}
-
-/// They come before the bandwidth of an earlier stream.
-#[test]
-fn bad_limits_are_told_first(rt: HostRuntime) -> Result<(), Fail> {
-    let alloc = rt.alloc();
-    let nowhere = Served { queue: 0, ..PLAIN };
-    let fault = fault(alloc, 1, 4, &[with_account(5, 4), nowhere])?;
-    assert_eq!(rt; fault, Some(SetupError::BadLimits));
-    Ok(())
+fn setups_have_limits(rt: HostRuntime) -> Result<(), Fail> {
+    are_faulty(&rt, rt.alloc(), LIMITS)
 }
 
 #[test]
