@@ -34,163 +34,148 @@ pub fn expect_lines(rt: &impl Abort, alloc: Global, script: &[u8], lines: &str, 
     expect_replay(rt, alloc, script, lines, whole);
 }
 
-/// Each of these scripts prints these lines, and is run to its end or has a fault.
-pub fn expect_each(rt: &impl Abort, alloc: Global, scripts: &[(&str, &str)], whole: bool) {
-    for (script, lines) in scripts {
-        expect_lines(rt, alloc, script.as_bytes(), lines, whole);
+/// A script, what it prints, and whether it is run to its end.
+pub type Case<'a> = (&'a str, &'a str, bool);
+
+/// Each of these scripts prints its lines, and is run to its end or has a fault.
+pub fn expect_each(rt: &impl Abort, alloc: Global, cases: &[Case<'_>]) {
+    for (script, lines, whole) in cases {
+        expect_lines(rt, alloc, script.as_bytes(), lines, *whole);
     }
 }
 
-#[test]
-fn budgets_and_deadlines_follow_the_published_rules(rt: HostRuntime) {
-    expect_each(
-        &rt,
-        rt.alloc(),
-        &[
-            (
-                "account 2 10\nidle 0\ncharge 1\ncharge 1\n",
-                "budget 2 deadline 0\nbudget 2 deadline 10\nbudget 1 deadline 10\nbudget 2 deadline 20\n",
-            ),
-            (
-                "account 2 10\nidle 0\ncharge 1\nidle 5\n",
-                "budget 2 deadline 0\nbudget 2 deadline 10\nbudget 1 deadline 10\nbudget 2 deadline 15\n",
-            ),
-            (
-                "account 2 10\nidle 0\ncharge 1\nidle 4\n",
-                "budget 2 deadline 0\nbudget 2 deadline 10\nbudget 1 deadline 10\nbudget 1 deadline 10\n",
-            ),
-            (
-                "account 2 10\nidle 0\ncharge 1\ncharge 1\nidle 30\n",
-                "budget 2 deadline 0\nbudget 2 deadline 10\nbudget 1 deadline 10\nbudget 2 deadline 20\n\
-             budget 2 deadline 40\n",
-            ),
-            (
-                "account 3 10\nidle 0\ncharge 7\n",
-                "budget 3 deadline 0\nbudget 3 deadline 10\nbudget 2 deadline 30\n",
-            ),
-            (
-                "account 2 10\ncharge 3\naccount 4 4\ncharge 0\n",
-                "budget 2 deadline 0\nbudget 1 deadline 10\nbudget 4 deadline 0\nbudget 4 deadline 0\n",
-            ),
-            ("", ""),
-        ],
-        true,
-    );
-}
+const BAD_LINE: &str = "line 1: BadLine\n";
 
-#[test]
-fn a_fault_is_the_last_line(rt: HostRuntime) {
-    expect_each(
-        &rt,
-        rt.alloc(),
-        &[
-            ("account 5 4", "line 1: BadBandwidth\n"),
-            ("account 0 4", "line 1: BadBandwidth\n"),
-            ("account 1 1048577", "line 1: BadBandwidth\n"),
-            (
-                "account 2 10\ncharge 1099511627777\ncharge 1\n",
-                "budget 2 deadline 0\nline 2: Range\n",
-            ),
-            (
-                "account 2 10\nidle 1152921504606846977\nidle 1\n",
-                "budget 2 deadline 0\nline 2: BadLine\n",
-            ),
-            ("idle 0\naccount 2 10\n", "line 1: BadLine\n"),
-            ("charge 1\n", "line 1: BadLine\n"),
-            (
-                "account 2 10\nstart\n",
-                "budget 2 deadline 0\nline 2: BadLine\n",
-            ),
-            ("account\n", "line 1: BadLine\n"),
-        ],
+const SCRIPTS: &[Case<'_>] = &[
+    // Budgets and deadlines follow the published rules.
+    (
+        "account 2 10\nidle 0\ncharge 1\ncharge 1\n",
+        "budget 2 deadline 0\nbudget 2 deadline 10\nbudget 1 deadline 10\nbudget 2 deadline 20\n",
+        true,
+    ),
+    (
+        "account 2 10\nidle 0\ncharge 1\nidle 5\n",
+        "budget 2 deadline 0\nbudget 2 deadline 10\nbudget 1 deadline 10\nbudget 2 deadline 15\n",
+        true,
+    ),
+    (
+        "account 2 10\nidle 0\ncharge 1\nidle 4\n",
+        "budget 2 deadline 0\nbudget 2 deadline 10\nbudget 1 deadline 10\nbudget 1 deadline 10\n",
+        true,
+    ),
+    (
+        "account 2 10\nidle 0\ncharge 1\ncharge 1\nidle 30\n",
+        "budget 2 deadline 0\nbudget 2 deadline 10\nbudget 1 deadline 10\nbudget 2 deadline 20\n\
+         budget 2 deadline 40\n",
+        true,
+    ),
+    (
+        "account 3 10\nidle 0\ncharge 7\n",
+        "budget 3 deadline 0\nbudget 3 deadline 10\nbudget 2 deadline 30\n",
+        true,
+    ),
+    (
+        "account 2 10\ncharge 3\naccount 4 4\ncharge 0\n",
+        "budget 2 deadline 0\nbudget 1 deadline 10\nbudget 4 deadline 0\nbudget 4 deadline 0\n",
+        true,
+    ),
+    ("", "", true),
+    // A fault is the last line.
+    ("account 5 4", "line 1: BadBandwidth\n", false),
+    ("account 0 4", "line 1: BadBandwidth\n", false),
+    ("account 1 1048577", "line 1: BadBandwidth\n", false),
+    (
+        "account 2 10\ncharge 1099511627777\ncharge 1\n",
+        "budget 2 deadline 0\nline 2: Range\n",
         false,
-    );
-}
-
-#[test]
-fn numbers_reach_their_limits(rt: HostRuntime) {
-    expect_each(
-        &rt,
-        rt.alloc(),
-        &[
-            (
-                "account 1 1048576\nidle 1152921504606846976\n",
-                "budget 1 deadline 0\nbudget 1 deadline 1152921504607895552\n",
-            ),
-            (
-                "account 1048576 1048576\ncharge 1099511627776\n",
-                "budget 1048576 deadline 0\nbudget 1048576 deadline 1099511627776\n",
-            ),
-            (
-                "account 0000000000000000002 0010\nidle 0000000000000000000\n",
-                "budget 2 deadline 0\nbudget 2 deadline 10\n",
-            ),
-        ],
-        true,
-    );
-    expect_each(
-        &rt,
-        rt.alloc(),
-        &[
-            // Each charge puts the deadline off by 2^60; the fourth would put it at 2^62.
-            (
-                "account 1 1048576\ncharge 1099511627776\ncharge 1099511627776\ncharge 1099511627776\n\
-             charge 1099511627776\n",
-                "budget 1 deadline 0\nbudget 1 deadline 1152921504606846976\n\
-             budget 1 deadline 2305843009213693952\nbudget 1 deadline 3458764513820540928\n\
-             line 5: Range\n",
-            ),
-            (
-                "account 1 1\ncharge 9999999999999999999\n",
-                "budget 1 deadline 0\nline 2: Range\n",
-            ),
-            (
-                "account 1 1\nidle 9999999999999999999\n",
-                "budget 1 deadline 0\nline 2: BadLine\n",
-            ),
-            ("account 00000000000000000002 10\n", "line 1: BadLine\n"),
-            ("account 2 18446744073709551616\n", "line 1: BadLine\n"),
-        ],
+    ),
+    (
+        "account 2 10\nidle 1152921504606846977\nidle 1\n",
+        "budget 2 deadline 0\nline 2: BadLine\n",
         false,
-    );
-}
-
-#[test]
-fn comments_and_empty_lines_are_counted(rt: HostRuntime) {
-    let script = "# a server\n\naccount 2 10\n#\n\n\ncharge 1\n\n#idle 3\nidle 2 2";
-    let lines = "budget 2 deadline 0\nbudget 1 deadline 0\nline 10: BadLine\n";
-    expect_each(&rt, rt.alloc(), &[(script, lines)], false);
-    let silent = [("#\n\n# account 5 4", ""), ("\n", "")];
-    expect_each(&rt, rt.alloc(), &silent, true);
-}
-
-#[test]
-fn words_stand_between_single_spaces(rt: HostRuntime) {
-    for line in [
-        "account  2 10",
-        " account 2 10",
-        "account 2 10 ",
-        "account 2 10\r",
-        "account 2 10 3",
-        "account 2",
-        "account 2\t10",
-        "Account 2 10",
-        "account +2 10",
-        "account 2 1O",
-        "accounts 2 10",
-        " ",
-        " # a comment",
-    ] {
-        expect_lines(&rt, rt.alloc(), line.as_bytes(), "line 1: BadLine\n", false);
-    }
-    expect_lines(
-        &rt,
-        rt.alloc(),
-        b"account 2 10",
-        "budget 2 deadline 0\n",
+    ),
+    ("idle 0\naccount 2 10\n", "line 1: BadLine\n", false),
+    ("charge 1\n", "line 1: BadLine\n", false),
+    (
+        "account 2 10\nstart\n",
+        "budget 2 deadline 0\nline 2: BadLine\n",
+        false,
+    ),
+    ("account\n", "line 1: BadLine\n", false),
+    // Numbers reach their limits.
+    (
+        "account 1 1048576\nidle 1152921504606846976\n",
+        "budget 1 deadline 0\nbudget 1 deadline 1152921504607895552\n",
         true,
-    );
-    expect_lines(&rt, rt.alloc(), b"\xff\x00 1", "line 1: BadLine\n", false);
+    ),
+    (
+        "account 1048576 1048576\ncharge 1099511627776\n",
+        "budget 1048576 deadline 0\nbudget 1048576 deadline 1099511627776\n",
+        true,
+    ),
+    (
+        "account 0000000000000000002 0010\nidle 0000000000000000000\n",
+        "budget 2 deadline 0\nbudget 2 deadline 10\n",
+        true,
+    ),
+    // Each charge puts the deadline off by 2^60; the fourth would put it at 2^62.
+    (
+        "account 1 1048576\ncharge 1099511627776\ncharge 1099511627776\ncharge 1099511627776\n\
+         charge 1099511627776\n",
+        "budget 1 deadline 0\nbudget 1 deadline 1152921504606846976\n\
+         budget 1 deadline 2305843009213693952\nbudget 1 deadline 3458764513820540928\n\
+         line 5: Range\n",
+        false,
+    ),
+    (
+        "account 1 1\ncharge 9999999999999999999\n",
+        "budget 1 deadline 0\nline 2: Range\n",
+        false,
+    ),
+    (
+        "account 1 1\nidle 9999999999999999999\n",
+        "budget 1 deadline 0\nline 2: BadLine\n",
+        false,
+    ),
+    (
+        "account 00000000000000000002 10\n",
+        "line 1: BadLine\n",
+        false,
+    ),
+    (
+        "account 2 18446744073709551616\n",
+        "line 1: BadLine\n",
+        false,
+    ),
+    // Comments and empty lines are counted.
+    (
+        "# a server\n\naccount 2 10\n#\n\n\ncharge 1\n\n#idle 3\nidle 2 2",
+        "budget 2 deadline 0\nbudget 1 deadline 0\nline 10: BadLine\n",
+        false,
+    ),
+    ("#\n\n# account 5 4", "", true),
+    ("\n", "", true),
+    // Words stand between single spaces.
+    ("account 2 10", "budget 2 deadline 0\n", true),
+    ("account  2 10", BAD_LINE, false),
+    (" account 2 10", BAD_LINE, false),
+    ("account 2 10 ", BAD_LINE, false),
+    ("account 2 10\r", BAD_LINE, false),
+    ("account 2 10 3", BAD_LINE, false),
+    ("account 2", BAD_LINE, false),
+    ("account 2\t10", BAD_LINE, false),
+    ("Account 2 10", BAD_LINE, false),
+    ("account +2 10", BAD_LINE, false),
+    ("account 2 1O", BAD_LINE, false),
+    ("accounts 2 10", BAD_LINE, false),
+    (" ", BAD_LINE, false),
+    (" # a comment", BAD_LINE, false),
+];
+
+#[test]
+fn account_scripts_print_their_lines(rt: HostRuntime) {
+    expect_each(&rt, rt.alloc(), SCRIPTS);
+    expect_lines(&rt, rt.alloc(), b"\xff\x00 1", BAD_LINE, false);
 }
 
 /// Gives one byte a read, and counts the bytes.

@@ -18,44 +18,47 @@ fn expect_line(
 }
 
 #[test]
-fn each_reply_has_its_line(rt: HostRuntime) -> Result<(), Fail> {
-    let alloc = rt.alloc();
-    expect_line(&rt, alloc, &Reply::Accepted(0), "accepted 0\n")?;
-    expect_line(
-        &rt,
-        alloc,
-        &Reply::Leased(1, 16_777_215, 4),
-        "leased b 16777215 grant 4\n",
-    )?;
-    expect_line(&rt, alloc, &Reply::Stepped, "stepped\n")?;
-    expect_line(&rt, alloc, &Reply::Returned, "returned\n")?;
-    expect_line(&rt, alloc, &Reply::Finished(7), "finished 7\n")?;
-    expect_line(&rt, alloc, &Reply::Ticked, "ticked\n")?;
-    expect_line(&rt, alloc, &Reply::Closing, "closing\n")?;
+fn each_reply_has_its_line(rt: HostRuntime) -> Result<(), AllocError> {
+    for (reply, line) in [
+        (Reply::Accepted(0), "accepted 0\n"),
+        (
+            Reply::Leased(1, 16_777_215, 4),
+            "leased b 16777215 grant 4\n",
+        ),
+        (Reply::Stepped, "stepped\n"),
+        (Reply::Returned, "returned\n"),
+        (Reply::Finished(7), "finished 7\n"),
+        (Reply::Ticked, "ticked\n"),
+        (Reply::Closing, "closing\n"),
+    ] {
+        expect_line(&rt, rt.alloc(), &reply, line)?;
+    }
     Ok(())
 }
 
+const REFUSALS: &[(Refusal, &str)] = &[
+    (Refusal::NoStream, "refused 1 NoStream\n"),
+    (Refusal::Closed, "refused 2 Closed\n"),
+    (Refusal::WrongSize, "refused 3 WrongSize\n"),
+    (Refusal::TooManyFrames, "refused 4 TooManyFrames\n"),
+    (Refusal::Full, "refused 5 Full\n"),
+    (Refusal::NoMemory, "refused 6 NoMemory\n"),
+    (Refusal::NoWorker, "refused 7 NoWorker\n"),
+    (Refusal::Busy, "refused 8 Busy\n"),
+    (Refusal::NoneReady, "refused 9 NoneReady\n"),
+    (Refusal::NoLease, "refused 10 NoLease\n"),
+    (Refusal::GrantSpent, "refused 11 GrantSpent\n"),
+    (Refusal::Past, "refused 12 Past\n"),
+    (Refusal::ClockEnd, "refused 13 ClockEnd\n"),
+    (Refusal::AlreadyClosed, "refused 14 AlreadyClosed\n"),
+    (Refusal::Empty, "refused 15 Empty\n"),
+    (Refusal::Drained, "refused 16 Drained\n"),
+];
+
 #[test]
-fn each_refusal_has_its_number_and_its_word(rt: HostRuntime) -> Result<(), Fail> {
-    for (refusal, line) in [
-        (Refusal::NoStream, "refused 1 NoStream\n"),
-        (Refusal::Closed, "refused 2 Closed\n"),
-        (Refusal::WrongSize, "refused 3 WrongSize\n"),
-        (Refusal::TooManyFrames, "refused 4 TooManyFrames\n"),
-        (Refusal::Full, "refused 5 Full\n"),
-        (Refusal::NoMemory, "refused 6 NoMemory\n"),
-        (Refusal::NoWorker, "refused 7 NoWorker\n"),
-        (Refusal::Busy, "refused 8 Busy\n"),
-        (Refusal::NoneReady, "refused 9 NoneReady\n"),
-        (Refusal::NoLease, "refused 10 NoLease\n"),
-        (Refusal::GrantSpent, "refused 11 GrantSpent\n"),
-        (Refusal::Past, "refused 12 Past\n"),
-        (Refusal::ClockEnd, "refused 13 ClockEnd\n"),
-        (Refusal::AlreadyClosed, "refused 14 AlreadyClosed\n"),
-        (Refusal::Empty, "refused 15 Empty\n"),
-        (Refusal::Drained, "refused 16 Drained\n"),
-    ] {
-        expect_line(&rt, rt.alloc(), &Reply::Refused(refusal), line)?;
+fn each_refusal_has_its_number_and_its_word(rt: HostRuntime) -> Result<(), AllocError> {
+    for (refusal, line) in REFUSALS {
+        expect_line(&rt, rt.alloc(), &Reply::Refused(*refusal), line)?;
     }
     Ok(())
 }

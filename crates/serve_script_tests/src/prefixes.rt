@@ -75,84 +75,87 @@ fn expect_prefixes(
     Ok(())
 }
 
-#[test]
-fn each_prefix_of_a_session_script_is_a_script(rt: HostRuntime) -> Result<(), Fail> {
-    let lines = [
-        ("# one stream, on one worker", ""),
-        ("workers 1", "ok\n"),
-        ("quantum 4", "ok\n"),
-        ("band 16", "ok\n"),
-        ("frames 16777216", "ok\n"),
-        ("", ""),
-        (
-            "stream a 2 10 4 1 invert YUV4MPEG2 W1 H1 Cmono",
-            "stream 0\n",
-        ),
-        ("start", "started\n"),
-        ("arrive a 00", "accepted 0\n"),
-        ("tick 7", "ticked\n"),
-        ("arrive a 01", "accepted 1\n"),
-        (
-            "state a",
-            "budget 2 deadline 10 accepted 2 finished 0 collected 0 charged 0\n",
-        ),
-        ("lease 0", "leased a 0 grant 1\n"),
-        ("band 0", "stepped\n"),
-        ("settle 0", "finished 0\n"),
-        ("lease 0", "refused 9 NoneReady\n"),
-        ("collect a", "image FF\n"),
-        ("lease 0", "leased a 1 grant 1\n"),
-        ("close a", "closing\n"),
-        ("tick 11", "ticked\n"),
-    ];
-    let cuts = [
-        ("band ", Told::Fault("BadLine")),
-        ("band 1", Told::Fault("BadLimits")),
-        ("frames ", Told::Fault("BadLine")),
-        ("frames 1677721", Told::Answer("ok\n")),
-        ("stream a 2 10 4 1 invert", Told::Fault("BadLine")),
-        ("stream a 2 10 4 1 invert YUV4MPEG", Told::Fault("NotY4m")),
-        (
-            "stream a 2 10 4 1 invert YUV4MPEG2 ",
-            Told::Fault("MissingSize"),
-        ),
-        (
-            "stream a 2 10 4 1 invert YUV4MPEG2 W",
-            Told::Fault("BadNumber"),
-        ),
-        (
-            "stream a 2 10 4 1 invert YUV4MPEG2 W1 ",
-            Told::Fault("MissingSize"),
-        ),
-        (
-            "stream a 2 10 4 1 invert YUV4MPEG2 W1 H",
-            Told::Fault("BadNumber"),
-        ),
-        (
-            "stream a 2 10 4 1 invert YUV4MPEG2 W1 H1 ",
-            Told::Fault("NotDivisible"),
-        ),
-        (
-            "stream a 2 10 4 1 invert YUV4MPEG2 W1 H1 Cmon",
-            Told::Fault("UnknownChroma"),
-        ),
-        ("tick ", Told::Fault("BadLine")),
-        ("tick 1", Told::Answer("refused 12 Past\n")),
-    ];
-    expect_prefixes(&rt, rt.alloc(), &lines, &cuts)
-}
+/// A line of a script, and what it prints.
+type Line<'a> = (&'a str, &'a str);
+
+const SESSION: &[Line<'_>] = &[
+    ("# one stream, on one worker", ""),
+    ("workers 1", "ok\n"),
+    ("quantum 4", "ok\n"),
+    ("band 16", "ok\n"),
+    ("frames 16777216", "ok\n"),
+    ("", ""),
+    (
+        "stream a 2 10 4 1 invert YUV4MPEG2 W1 H1 Cmono",
+        "stream 0\n",
+    ),
+    ("start", "started\n"),
+    ("arrive a 00", "accepted 0\n"),
+    ("tick 7", "ticked\n"),
+    ("arrive a 01", "accepted 1\n"),
+    (
+        "state a",
+        "budget 2 deadline 10 accepted 2 finished 0 collected 0 charged 0\n",
+    ),
+    ("lease 0", "leased a 0 grant 1\n"),
+    ("band 0", "stepped\n"),
+    ("settle 0", "finished 0\n"),
+    ("lease 0", "refused 9 NoneReady\n"),
+    ("collect a", "image FF\n"),
+    ("lease 0", "leased a 1 grant 1\n"),
+    ("close a", "closing\n"),
+    ("tick 11", "ticked\n"),
+];
+
+const SESSION_CUTS: &[Cut<'_>] = &[
+    ("band ", Told::Fault("BadLine")),
+    ("band 1", Told::Fault("BadLimits")),
+    ("frames ", Told::Fault("BadLine")),
+    ("frames 1677721", Told::Answer("ok\n")),
+    ("stream a 2 10 4 1 invert", Told::Fault("BadLine")),
+    ("stream a 2 10 4 1 invert YUV4MPEG", Told::Fault("NotY4m")),
+    (
+        "stream a 2 10 4 1 invert YUV4MPEG2 ",
+        Told::Fault("MissingSize"),
+    ),
+    (
+        "stream a 2 10 4 1 invert YUV4MPEG2 W",
+        Told::Fault("BadNumber"),
+    ),
+    (
+        "stream a 2 10 4 1 invert YUV4MPEG2 W1 ",
+        Told::Fault("MissingSize"),
+    ),
+    (
+        "stream a 2 10 4 1 invert YUV4MPEG2 W1 H",
+        Told::Fault("BadNumber"),
+    ),
+    (
+        "stream a 2 10 4 1 invert YUV4MPEG2 W1 H1 ",
+        Told::Fault("NotDivisible"),
+    ),
+    (
+        "stream a 2 10 4 1 invert YUV4MPEG2 W1 H1 Cmon",
+        Told::Fault("UnknownChroma"),
+    ),
+    ("tick ", Told::Fault("BadLine")),
+    ("tick 1", Told::Answer("refused 12 Past\n")),
+];
+
+const ACCOUNT: &[Line<'_>] = &[
+    ("account 2 10", "budget 2 deadline 0\n"),
+    ("idle 0", "budget 2 deadline 10\n"),
+    ("charge 1", "budget 1 deadline 10\n"),
+    ("charge 1", "budget 2 deadline 20\n"),
+];
+
+const ACCOUNT_CUTS: &[Cut<'_>] = &[
+    ("account 2 ", Told::Fault("BadLine")),
+    ("account 2 1", Told::Fault("BadBandwidth")),
+];
 
 #[test]
-fn each_prefix_of_an_account_script_is_a_script(rt: HostRuntime) -> Result<(), Fail> {
-    let lines = [
-        ("account 2 10", "budget 2 deadline 0\n"),
-        ("idle 0", "budget 2 deadline 10\n"),
-        ("charge 1", "budget 1 deadline 10\n"),
-        ("charge 1", "budget 2 deadline 20\n"),
-    ];
-    let cuts = [
-        ("account 2 ", Told::Fault("BadLine")),
-        ("account 2 1", Told::Fault("BadBandwidth")),
-    ];
-    expect_prefixes(&rt, rt.alloc(), &lines, &cuts)
+fn each_prefix_of_a_script_is_a_script(rt: HostRuntime) -> Result<(), Fail> {
+    expect_prefixes(&rt, rt.alloc(), SESSION, SESSION_CUTS)?;
+    expect_prefixes(&rt, rt.alloc(), ACCOUNT, ACCOUNT_CUTS)
 }

@@ -1,112 +1,12 @@
-use crate::accounts::{expect_each, expect_lines};
+use crate::accounts::{Case, expect_each, expect_lines};
 use serve_script::{ReplayFault, replay};
 use std::alloc::{AllocError, Global};
 use std::str;
 use std::test::Fail;
 use y4m_stream::{OverRead, OverWrite};
 
-#[test]
-fn an_arrival_behind_another_leaves_the_account(rt: HostRuntime) {
-    let script = "stream a 2 10 4 4 invert YUV4MPEG2 W1 H1 Cmono\n\
-                  start\n\
-                  arrive a 00\n\
-                  tick 7\n\
-                  arrive a 01\n\
-                  state a\n";
-    let lines = "stream 0\n\
-                 started\n\
-                 accepted 0\n\
-                 ticked\n\
-                 accepted 1\n\
-                 budget 2 deadline 10 accepted 2 finished 0 collected 0 charged 0\n";
-    expect_lines(&rt, rt.alloc(), script.as_bytes(), lines, true);
-}
-
-#[test]
-fn the_earliest_deadline_is_leased(rt: HostRuntime) {
-    let script = "workers 2\n\
-                  stream a 2 10 4 4 invert YUV4MPEG2 W1 H1 Cmono\n\
-                  stream b 1 4 4 4 invert YUV4MPEG2 W1 H1 Cmono\n\
-                  start\n\
-                  arrive a 00\n\
-                  arrive b 00\n\
-                  lease 0\n\
-                  lease 1\n\
-                  lease 0\n\
-                  lease 2\n\
-                  band 1\n\
-                  band 1\n\
-                  settle 1\n\
-                  settle 1\n\
-                  state a\n";
-    let lines = "ok\n\
-                 stream 0\n\
-                 stream 1\n\
-                 started\n\
-                 accepted 0\n\
-                 accepted 0\n\
-                 leased b 0 grant 1\n\
-                 leased a 0 grant 1\n\
-                 refused 8 Busy\n\
-                 refused 7 NoWorker\n\
-                 stepped\n\
-                 refused 11 GrantSpent\n\
-                 finished 0\n\
-                 refused 10 NoLease\n\
-                 budget 1 deadline 10 accepted 1 finished 1 collected 0 charged 1\n";
-    expect_lines(&rt, rt.alloc(), script.as_bytes(), lines, true);
-}
-
-#[test]
-fn equal_deadlines_are_leased_by_number(rt: HostRuntime) {
-    let script = "workers 3\n\
-                  stream a 1 4 4 4 invert YUV4MPEG2 W1 H1 Cmono\n\
-                  stream b 1 4 4 4 invert YUV4MPEG2 W1 H1 Cmono\n\
-                  start\n\
-                  arrive a 00\n\
-                  arrive b 00\n\
-                  lease 0\n\
-                  lease 1\n\
-                  lease 2\n";
-    let lines = "ok\n\
-                 stream 0\n\
-                 stream 1\n\
-                 started\n\
-                 accepted 0\n\
-                 accepted 0\n\
-                 leased a 0 grant 1\n\
-                 leased b 0 grant 1\n\
-                 refused 9 NoneReady\n";
-    expect_lines(&rt, rt.alloc(), script.as_bytes(), lines, true);
-}
-
-#[test]
-fn a_full_outbox_keeps_a_stream_from_leases(rt: HostRuntime) {
-    let script = "stream a 2 10 4 1 invert YUV4MPEG2 W1 H1 Cmono\n\
-                  start\n\
-                  arrive a 00\n\
-                  arrive a 01\n\
-                  lease 0\n\
-                  band 0\n\
-                  settle 0\n\
-                  lease 0\n\
-                  collect a\n\
-                  lease 0\n";
-    let lines = "stream 0\n\
-                 started\n\
-                 accepted 0\n\
-                 accepted 1\n\
-                 leased a 0 grant 1\n\
-                 stepped\n\
-                 finished 0\n\
-                 refused 9 NoneReady\n\
-                 image FF\n\
-                 leased a 1 grant 1\n";
-    expect_lines(&rt, rt.alloc(), script.as_bytes(), lines, true);
-}
-
 /// A stream from its first frame until it is drained.
-const DRAINED: (&str, &str) = (
+const DRAINED: Case<'_> = (
     "stream a 1 4 1 4 invert YUV4MPEG2 W1 H1 Cmono\n\
      start\n\
      arrive a 00\n\
@@ -133,210 +33,293 @@ const DRAINED: (&str, &str) = (
      finished 0\n\
      image FF\n\
      refused 16 Drained\n",
+    true,
 );
 
-#[test]
-fn a_closed_stream_is_drained(rt: HostRuntime) {
-    expect_each(&rt, rt.alloc(), &[DRAINED], true);
-}
-
-#[test]
-fn a_frame_is_leased_in_parts(rt: HostRuntime) {
-    let script = "quantum 4\n\
-                  band 2\n\
-                  stream a 2 10 4 4 invert YUV4MPEG2 W1 H10 Cmono\n\
-                  start\n\
-                  arrive a 00010203040506070809\n\
-                  lease 0\n\
-                  band 0\n\
-                  band 0\n\
-                  band 0\n\
-                  settle 0\n\
-                  lease 0\n\
-                  state a\n\
-                  settle 0\n\
-                  lease 0\n";
-    let lines = "ok\n\
-                 ok\n\
-                 stream 0\n\
-                 started\n\
-                 accepted 0\n\
-                 leased a 0 grant 2\n\
-                 stepped\n\
-                 stepped\n\
-                 refused 11 GrantSpent\n\
-                 returned\n\
-                 leased a 0 grant 2\n\
-                 budget 2 deadline 20 accepted 1 finished 0 collected 0 charged 2\n\
-                 returned\n\
-                 leased a 0 grant 2\n";
-    expect_lines(&rt, rt.alloc(), script.as_bytes(), lines, true);
-}
-
-#[test]
-fn the_clock_has_an_end_and_never_goes_back(rt: HostRuntime) {
-    let script = "stream a 1 4 4 4 invert YUV4MPEG2 W1 H1 Cmono\n\
-                  start\n\
-                  tick 1152921504606846976\n\
-                  tick 1152921504606846977\n\
-                  tick 5\n";
-    let lines = "stream 0\nstarted\nticked\nrefused 13 ClockEnd\nrefused 12 Past\n";
-    expect_lines(&rt, rt.alloc(), script.as_bytes(), lines, true);
-}
-
-#[test]
-fn frames_are_counted_and_measured(rt: HostRuntime) {
-    let script = "frames 1\n\
-                  stream a 1 4 4 4 invert YUV4MPEG2 W2 H1 Cmono\n\
-                  start\n\
-                  arrive a 00\n\
-                  arrive a 0001\n\
-                  arrive a 0001\n\
-                  arrive z 00\n";
-    let lines = "ok\n\
-                 stream 0\n\
-                 started\n\
-                 refused 3 WrongSize\n\
-                 accepted 0\n\
-                 refused 4 TooManyFrames\n\
-                 refused 1 NoStream\n";
-    expect_lines(&rt, rt.alloc(), script.as_bytes(), lines, true);
-}
-
-#[test]
-fn a_band_of_a_blur_costs_its_radius_more(rt: HostRuntime) {
-    expect_each(
-        &rt,
-        rt.alloc(),
-        &[
-            (
-                "quantum 4\n\
-                 band 2\n\
-                 stream a 3 10 4 4 blur:1 YUV4MPEG2 W1 H10 Cmono\n\
-                 start\n\
-                 arrive a 00010203040506070809\n\
-                 lease 0\n\
-                 band 0\n\
-                 settle 0\n\
-                 state a\n\
-                 lease 0\n\
-                 band 0\n\
-                 state a\n",
-                "ok\n\
-                 ok\n\
-                 stream 0\n\
-                 started\n\
-                 accepted 0\n\
-                 leased a 0 grant 1\n\
-                 stepped\n\
-                 returned\n\
-                 budget 1 deadline 10 accepted 1 finished 0 collected 0 charged 2\n\
-                 leased a 0 grant 1\n\
-                 stepped\n\
-                 budget 2 deadline 20 accepted 1 finished 0 collected 0 charged 4\n",
-            ),
-            (
-                "stream a 1 4 4 4 blur:8 YUV4MPEG2 W1 H1 Cmono\n\
-                 start\n\
-                 arrive a 5A\n\
-                 lease 0\n\
-                 band 0\n\
-                 state a\n\
-                 settle 0\n\
-                 collect a\n",
-                "stream 0\n\
-                 started\n\
-                 accepted 0\n\
-                 leased a 0 grant 1\n\
-                 stepped\n\
-                 budget 1 deadline 40 accepted 1 finished 0 collected 0 charged 9\n\
-                 finished 0\n\
-                 image 5A\n",
-            ),
-        ],
+const SCRIPTS: &[Case<'_>] = &[
+    // An arrival behind another leaves the account.
+    (
+        "stream a 2 10 4 4 invert YUV4MPEG2 W1 H1 Cmono\n\
+         start\n\
+         arrive a 00\n\
+         tick 7\n\
+         arrive a 01\n\
+         state a\n",
+        "stream 0\n\
+         started\n\
+         accepted 0\n\
+         ticked\n\
+         accepted 1\n\
+         budget 2 deadline 10 accepted 2 finished 0 collected 0 charged 0\n",
         true,
-    );
-    let costly = "band 2\n\
-                  stream a 1 4 4 4 blur:3 YUV4MPEG2 W1 H16384 Cmono\n\
-                  stream b 1 4 4 4 blur:4 YUV4MPEG2 W1 H16384 Cmono\n";
-    let lines = "ok\nstream 0\nline 3: TooManySteps\n";
-    expect_lines(&rt, rt.alloc(), costly.as_bytes(), lines, false);
-}
-
-#[test]
-fn comments_and_empty_lines_print_nothing(rt: HostRuntime) {
-    let script = "# account 2 10\n\
-                  \n\
-                  stream a 1 4 4 4 invert YUV4MPEG2 W1 H1 Cmono\n\
-                  #\n\
-                  start\n\
-                  \n\
-                  # a frame\n\
-                  arrive a 00\n\
-                  \n\
-                  state b";
-    let lines = "stream 0\nstarted\naccepted 0\nrefused 1 NoStream\n";
-    expect_lines(&rt, rt.alloc(), script.as_bytes(), lines, true);
-    let script = "workers 1\n\n#\nstart";
-    expect_lines(
-        &rt,
-        rt.alloc(),
-        script.as_bytes(),
-        "ok\nline 4: BadLimits\n",
+    ),
+    // The earliest deadline is leased.
+    (
+        "workers 2\n\
+         stream a 2 10 4 4 invert YUV4MPEG2 W1 H1 Cmono\n\
+         stream b 1 4 4 4 invert YUV4MPEG2 W1 H1 Cmono\n\
+         start\n\
+         arrive a 00\n\
+         arrive b 00\n\
+         lease 0\n\
+         lease 1\n\
+         lease 0\n\
+         lease 2\n\
+         band 1\n\
+         band 1\n\
+         settle 1\n\
+         settle 1\n\
+         state a\n",
+        "ok\n\
+         stream 0\n\
+         stream 1\n\
+         started\n\
+         accepted 0\n\
+         accepted 0\n\
+         leased b 0 grant 1\n\
+         leased a 0 grant 1\n\
+         refused 8 Busy\n\
+         refused 7 NoWorker\n\
+         stepped\n\
+         refused 11 GrantSpent\n\
+         finished 0\n\
+         refused 10 NoLease\n\
+         budget 1 deadline 10 accepted 1 finished 1 collected 0 charged 1\n",
+        true,
+    ),
+    // Equal deadlines are leased by number.
+    (
+        "workers 3\n\
+         stream a 1 4 4 4 invert YUV4MPEG2 W1 H1 Cmono\n\
+         stream b 1 4 4 4 invert YUV4MPEG2 W1 H1 Cmono\n\
+         start\n\
+         arrive a 00\n\
+         arrive b 00\n\
+         lease 0\n\
+         lease 1\n\
+         lease 2\n",
+        "ok\n\
+         stream 0\n\
+         stream 1\n\
+         started\n\
+         accepted 0\n\
+         accepted 0\n\
+         leased a 0 grant 1\n\
+         leased b 0 grant 1\n\
+         refused 9 NoneReady\n",
+        true,
+    ),
+    // A full outbox keeps a stream from leases.
+    (
+        "stream a 2 10 4 1 invert YUV4MPEG2 W1 H1 Cmono\n\
+         start\n\
+         arrive a 00\n\
+         arrive a 01\n\
+         lease 0\n\
+         band 0\n\
+         settle 0\n\
+         lease 0\n\
+         collect a\n\
+         lease 0\n",
+        "stream 0\n\
+         started\n\
+         accepted 0\n\
+         accepted 1\n\
+         leased a 0 grant 1\n\
+         stepped\n\
+         finished 0\n\
+         refused 9 NoneReady\n\
+         image FF\n\
+         leased a 1 grant 1\n",
+        true,
+    ),
+    // A closed stream is drained.
+    DRAINED,
+    // A frame is leased in parts.
+    (
+        "quantum 4\n\
+         band 2\n\
+         stream a 2 10 4 4 invert YUV4MPEG2 W1 H10 Cmono\n\
+         start\n\
+         arrive a 00010203040506070809\n\
+         lease 0\n\
+         band 0\n\
+         band 0\n\
+         band 0\n\
+         settle 0\n\
+         lease 0\n\
+         state a\n\
+         settle 0\n\
+         lease 0\n",
+        "ok\n\
+         ok\n\
+         stream 0\n\
+         started\n\
+         accepted 0\n\
+         leased a 0 grant 2\n\
+         stepped\n\
+         stepped\n\
+         refused 11 GrantSpent\n\
+         returned\n\
+         leased a 0 grant 2\n\
+         budget 2 deadline 20 accepted 1 finished 0 collected 0 charged 2\n\
+         returned\n\
+         leased a 0 grant 2\n",
+        true,
+    ),
+    // The clock has an end and never goes back.
+    (
+        "stream a 1 4 4 4 invert YUV4MPEG2 W1 H1 Cmono\n\
+         start\n\
+         tick 1152921504606846976\n\
+         tick 1152921504606846977\n\
+         tick 5\n",
+        "stream 0\nstarted\nticked\nrefused 13 ClockEnd\nrefused 12 Past\n",
+        true,
+    ),
+    // Frames are counted and measured.
+    (
+        "frames 1\n\
+         stream a 1 4 4 4 invert YUV4MPEG2 W2 H1 Cmono\n\
+         start\n\
+         arrive a 00\n\
+         arrive a 0001\n\
+         arrive a 0001\n\
+         arrive z 00\n",
+        "ok\n\
+         stream 0\n\
+         started\n\
+         refused 3 WrongSize\n\
+         accepted 0\n\
+         refused 4 TooManyFrames\n\
+         refused 1 NoStream\n",
+        true,
+    ),
+    // A band of a blur costs its radius more.
+    (
+        "quantum 4\n\
+         band 2\n\
+         stream a 3 10 4 4 blur:1 YUV4MPEG2 W1 H10 Cmono\n\
+         start\n\
+         arrive a 00010203040506070809\n\
+         lease 0\n\
+         band 0\n\
+         settle 0\n\
+         state a\n\
+         lease 0\n\
+         band 0\n\
+         state a\n",
+        "ok\n\
+         ok\n\
+         stream 0\n\
+         started\n\
+         accepted 0\n\
+         leased a 0 grant 1\n\
+         stepped\n\
+         returned\n\
+         budget 1 deadline 10 accepted 1 finished 0 collected 0 charged 2\n\
+         leased a 0 grant 1\n\
+         stepped\n\
+         budget 2 deadline 20 accepted 1 finished 0 collected 0 charged 4\n",
+        true,
+    ),
+    (
+        "stream a 1 4 4 4 blur:8 YUV4MPEG2 W1 H1 Cmono\n\
+         start\n\
+         arrive a 5A\n\
+         lease 0\n\
+         band 0\n\
+         state a\n\
+         settle 0\n\
+         collect a\n",
+        "stream 0\n\
+         started\n\
+         accepted 0\n\
+         leased a 0 grant 1\n\
+         stepped\n\
+         budget 1 deadline 40 accepted 1 finished 0 collected 0 charged 9\n\
+         finished 0\n\
+         image 5A\n",
+        true,
+    ),
+    (
+        "band 2\n\
+         stream a 1 4 4 4 blur:3 YUV4MPEG2 W1 H16384 Cmono\n\
+         stream b 1 4 4 4 blur:4 YUV4MPEG2 W1 H16384 Cmono\n",
+        "ok\nstream 0\nline 3: TooManySteps\n",
         false,
-    );
-}
+    ),
+    // Comments and empty lines print nothing.
+    (
+        "# account 2 10\n\
+         \n\
+         stream a 1 4 4 4 invert YUV4MPEG2 W1 H1 Cmono\n\
+         #\n\
+         start\n\
+         \n\
+         # a frame\n\
+         arrive a 00\n\
+         \n\
+         state b",
+        "stream 0\nstarted\naccepted 0\nrefused 1 NoStream\n",
+        true,
+    ),
+    ("workers 1\n\n#\nstart", "ok\nline 4: BadLimits\n", false),
+    // A name that no stream has is no stream.
+    (
+        "stream a 1 4 4 4 invert YUV4MPEG2 W1 H1 Cmono\n\
+         start\n\
+         state z\n\
+         state A\n\
+         close z\n\
+         collect z\n\
+         arrive z 00\n\
+         state a\n",
+        "stream 0\n\
+         started\n\
+         refused 1 NoStream\n\
+         refused 1 NoStream\n\
+         refused 1 NoStream\n\
+         refused 1 NoStream\n\
+         refused 1 NoStream\n\
+         budget 1 deadline 0 accepted 0 finished 0 collected 0 charged 0\n",
+        true,
+    ),
+    // Digits have either case.
+    (
+        "stream a 1 4 4 4 invert YUV4MPEG2 W2 H1 Cmono\n\
+         stream B-1 1 4 4 4 hflip YUV4MPEG2 W4 H1 Cmono\n\
+         start\n\
+         arrive a aB0c\n\
+         lease 0\n\
+         band 0\n\
+         settle 0\n\
+         collect a\n\
+         arrive B-1 DEadbeEF\n\
+         lease 0\n\
+         band 0\n\
+         settle 0\n\
+         collect B-1\n",
+        "stream 0\n\
+         stream 1\n\
+         started\n\
+         accepted 0\n\
+         leased a 0 grant 1\n\
+         stepped\n\
+         finished 0\n\
+         image 54F3\n\
+         accepted 0\n\
+         leased B-1 0 grant 1\n\
+         stepped\n\
+         finished 0\n\
+         image EFBEADDE\n",
+        true,
+    ),
+];
 
 #[test]
-fn a_name_that_no_stream_has_is_no_stream(rt: HostRuntime) {
-    let script = "stream a 1 4 4 4 invert YUV4MPEG2 W1 H1 Cmono\n\
-                  start\n\
-                  state z\n\
-                  state A\n\
-                  close z\n\
-                  collect z\n\
-                  arrive z 00\n\
-                  state a\n";
-    let lines = "stream 0\n\
-                 started\n\
-                 refused 1 NoStream\n\
-                 refused 1 NoStream\n\
-                 refused 1 NoStream\n\
-                 refused 1 NoStream\n\
-                 refused 1 NoStream\n\
-                 budget 1 deadline 0 accepted 0 finished 0 collected 0 charged 0\n";
-    expect_lines(&rt, rt.alloc(), script.as_bytes(), lines, true);
-}
-
-#[test]
-fn digits_have_either_case(rt: HostRuntime) {
-    let script = "stream a 1 4 4 4 invert YUV4MPEG2 W2 H1 Cmono\n\
-                  stream B-1 1 4 4 4 hflip YUV4MPEG2 W4 H1 Cmono\n\
-                  start\n\
-                  arrive a aB0c\n\
-                  lease 0\n\
-                  band 0\n\
-                  settle 0\n\
-                  collect a\n\
-                  arrive B-1 DEadbeEF\n\
-                  lease 0\n\
-                  band 0\n\
-                  settle 0\n\
-                  collect B-1\n";
-    let lines = "stream 0\n\
-                 stream 1\n\
-                 started\n\
-                 accepted 0\n\
-                 leased a 0 grant 1\n\
-                 stepped\n\
-                 finished 0\n\
-                 image 54F3\n\
-                 accepted 0\n\
-                 leased B-1 0 grant 1\n\
-                 stepped\n\
-                 finished 0\n\
-                 image EFBEADDE\n";
-    expect_lines(&rt, rt.alloc(), script.as_bytes(), lines, true);
+fn session_scripts_print_their_lines(rt: HostRuntime) {
+    expect_each(&rt, rt.alloc(), SCRIPTS);
 }
 
 /// A script of two streams, of 1 and of 32,768 samples, at which a frame of so many samples arrives.
@@ -352,35 +335,45 @@ fn arrival_of(alloc: Global, name: &str, samples: usize) -> Result<Vec<u8>, Allo
     Ok(script)
 }
 
+/// A stream, how many samples arrive at it, what the script prints, and whether it is run to its end.
+const ARRIVALS: &[(&str, usize, &str, bool)] = &[
+    (
+        "z",
+        16_384,
+        "stream 0\nstream 1\nstarted\nrefused 1 NoStream\n",
+        true,
+    ),
+    (
+        "a",
+        16_384,
+        "stream 0\nstream 1\nstarted\nrefused 3 WrongSize\n",
+        true,
+    ),
+    (
+        "b",
+        32_768,
+        "stream 0\nstream 1\nstarted\naccepted 0\n",
+        true,
+    ),
+    ("z", 16_385, TOO_MANY, false),
+    ("a", 16_385, TOO_MANY, false),
+    ("b", 32_767, TOO_MANY, false),
+];
+
+const TOO_MANY: &str = "stream 0\nstream 1\nstarted\nline 4: BadLine\n";
+
 #[test]
 fn many_samples_are_a_frame_of_their_stream_alone(rt: HostRuntime) -> Result<(), Fail> {
-    for (name, samples, lines) in [
-        (
-            "z",
-            16_384,
-            "stream 0\nstream 1\nstarted\nrefused 1 NoStream\n",
-        ),
-        (
-            "a",
-            16_384,
-            "stream 0\nstream 1\nstarted\nrefused 3 WrongSize\n",
-        ),
-        ("b", 32_768, "stream 0\nstream 1\nstarted\naccepted 0\n"),
-    ] {
-        let script = arrival_of(rt.alloc(), name, samples)?;
-        expect_lines(&rt, rt.alloc(), &script, lines, true);
-    }
-    let too_many = "stream 0\nstream 1\nstarted\nline 4: BadLine\n";
-    for (name, samples) in [("z", 16_385), ("a", 16_385), ("b", 32_767)] {
-        let script = arrival_of(rt.alloc(), name, samples)?;
-        expect_lines(&rt, rt.alloc(), &script, too_many, false);
+    for (name, samples, lines, whole) in ARRIVALS {
+        let script = arrival_of(rt.alloc(), name, *samples)?;
+        expect_lines(&rt, rt.alloc(), &script, lines, *whole);
     }
     Ok(())
 }
 
 #[test]
 fn a_session_that_lacks_memory_says_so(rt: HostRuntime) -> Result<(), Fail> {
-    let (script, lines) = DRAINED;
+    let (script, lines, _) = DRAINED;
     let mut room = [0; 512];
     let output = OverWrite::new(room.as_mut_slice());
     let (output, outcome) = replay(rt.alloc(), OverRead::new(script.as_bytes()), output);
