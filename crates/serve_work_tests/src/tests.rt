@@ -1,9 +1,8 @@
 //! Streams of two by two samples that a worker and a client serve, with bytes that were worked out by hand.
 mod clients;
-mod faults;
 mod gates;
 mod many;
 mod sessions;
 mod stops;
 
-use sessions::{HEADER, Open, PLAIN, Plan, Room, Still, Told, served, stream_of};
+use sessions::{HEADER, Open, PLAIN, Plan, Room, Still, served, stream_of};

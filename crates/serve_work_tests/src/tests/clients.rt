@@ -1,52 +1,83 @@
-//! Streams that are served to their ends.
-use super::{HEADER, PLAIN, Plan, Told, served};
-use serve_work::Stop;
+//! Streams that one client serves: to their ends, and up to a fault.
+use super::{HEADER, PLAIN, Plan, served};
+use serve_work::{Cause, Stop};
+use std::alloc::Global;
 use std::marker::Brand;
 use std::process::Abort;
+use std::sync::Wait;
 use std::sync::ledger::Blank;
 use std::test::Fail;
+use std::thread::Threads;
+use y4m_stream::{ReadFault, WriteFault};
+
+/// A stream, and what it comes to: why the client stops, how many frames were accepted and how many images
+/// delivered by then, and what was written.
+#[derive(Drop)]
+struct Case<'a> {
+    name: &'a str,
+    input: &'a [u8],
+    plan: Plan<'static>,
+    end: (Stop, u64, u64),
+    written: &'a [u8],
+}
+
+/// Serves a stream, and compares what it comes to.
+fn comes_to(
+    rt: &(impl Abort + Threads + Wait + Sync),
+    alloc: Global,
+    case: &Case<'_>,
+) -> Result<(), Fail> {
+    let told = served::<Brand, _>(rt, alloc, Blank::new(80), case.input, case.plan)?;
+    let name = case.name;
+    assert_eq!(rt;
+        (told.stop, told.accepted, told.delivered),
+        case.end,
+        "{name}"
+    );
+    assert_eq!(rt; told.written.as_slice(), case.written, "{name}");
+    Ok(())
+}
 
 /// Three frames. The last one's samples look like text.
-const THREE: &[u8] =
+const TEXT: &[u8] =
     b"YUV4MPEG2 W2 H2 Cmono\nFRAME\n\x00\x01\xfe\xffFRAME\n\x10\x20\x30\x40FRAME\nFRAM";
 
 /// The same, each sample v being 255 - v.
 const INVERTED: &[u8] =
     b"YUV4MPEG2 W2 H2 Cmono\nFRAME\n\xff\xfe\x01\x00FRAME\n\xef\xdf\xcf\xbfFRAME\n\xb9\xad\xbe\xb2";
 
-/// What was written, where the client stopped whole with so many frames.
-fn whole(rt: &impl Abort, told: Told, frames: u64) -> Vec<u8> {
-    assert_eq!(rt; told.stop, Stop::Whole);
-    assert_eq!(rt; told.accepted, frames);
-    assert_eq!(rt; told.delivered, frames);
-    told.written
-}
+const WHOLE: &[Case<'_>] = &[
+    Case {
+        name: "a header alone is written",
+        input: HEADER,
+        plan: PLAIN,
+        end: (Stop::Whole, 0, 0),
+        written: HEADER,
+    },
+    Case {
+        name: "three frames are inverted",
+        input: TEXT,
+        plan: PLAIN,
+        end: (Stop::Whole, 3, 3),
+        written: INVERTED,
+    },
+    Case {
+        name: "frames are cut to a sample",
+        input: TEXT,
+        plan: Plan {
+            ops: "crop:0,0,1,1",
+            ..PLAIN
+        },
+        end: (Stop::Whole, 3, 3),
+        written: b"YUV4MPEG2 W1 H1 Cmono\nFRAME\n\x00FRAME\n\x10FRAME\nF",
+    },
+];
 
 #[test]
-fn a_header_alone_is_written(rt: HostRuntime) -> Result<(), Fail> {
-    let told = served::<Brand, _>(&rt, rt.alloc(), Blank::new(80), HEADER, PLAIN)?;
-    assert_eq!(rt; whole(&rt, told, 0).as_slice(), HEADER);
-    Ok(())
-}
-
-#[test]
-fn three_frames_are_inverted(rt: HostRuntime) -> Result<(), Fail> {
-    let told = served::<Brand, _>(&rt, rt.alloc(), Blank::new(80), THREE, PLAIN)?;
-    assert_eq!(rt; whole(&rt, told, 3).as_slice(), INVERTED);
-    Ok(())
-}
-
-#[test]
-fn frames_are_cut_to_a_sample(rt: HostRuntime) -> Result<(), Fail> {
-    let plan = Plan {
-        ops: "crop:0,0,1,1",
-        ..PLAIN
-    };
-    let told = served::<Brand, _>(&rt, rt.alloc(), Blank::new(80), THREE, plan)?;
-    assert_eq!(rt;
-        whole(&rt, told, 3).as_slice(),
-        b"YUV4MPEG2 W1 H1 Cmono\nFRAME\n\x00FRAME\n\x10FRAME\nF".as_slice()
-    );
+fn streams_are_served_to_their_ends(rt: HostRuntime) -> Result<(), Fail> {
+    for case in WHOLE {
+        comes_to(&rt, rt.alloc(), case)?;
+    }
     Ok(())
 }
 
@@ -63,7 +94,80 @@ fn twenty_frames_pass_a_queue_of_four(rt: HostRuntime) -> Result<(), Fail> {
             images.push(255 - sample)?;
         }
     }
-    let told = served::<Brand, _>(&rt, rt.alloc(), Blank::new(80), &input, PLAIN)?;
-    assert_eq!(rt; whole(&rt, told, 20), images);
+    let case = Case {
+        name: "twenty frames",
+        input: &input,
+        plan: PLAIN,
+        end: (Stop::Whole, 20, 20),
+        written: &images,
+    };
+    comes_to(&rt, rt.alloc(), &case)
+}
+
+/// Two frames, and the same without the last byte.
+const TWO: &[u8] = b"YUV4MPEG2 W2 H2 Cmono\nFRAME\n\x00\x01\xfe\xffFRAME\n\x10\x20\x30\x40";
+
+const CUT: &[u8] = b"YUV4MPEG2 W2 H2 Cmono\nFRAME\n\x00\x01\xfe\xffFRAME\n\x10\x20\x30";
+
+/// Three frames.
+const THREE: &[u8] =
+    b"YUV4MPEG2 W2 H2 Cmono\nFRAME\n\x00\x01\xfe\xffFRAME\n\x10\x20\x30\x40FRAME\n\x11\x22\x33\x44";
+
+/// The header line and the first image.
+const ONE_IMAGE: &[u8] = b"YUV4MPEG2 W2 H2 Cmono\nFRAME\n\xff\xfe\x01\x00";
+
+const FAULTS: &[Case<'_>] = &[
+    Case {
+        name: "a cut frame is truncated",
+        input: CUT,
+        plan: PLAIN,
+        end: (Stop::Read(ReadFault::Truncated), 1, 1),
+        written: ONE_IMAGE,
+    },
+    Case {
+        name: "a writer fails after the header",
+        input: THREE,
+        plan: Plan { room: 22, ..PLAIN },
+        end: (Stop::Write(WriteFault::Device(22)), 3, 0),
+        written: HEADER,
+    },
+    Case {
+        name: "a writer fails in the second image",
+        input: THREE,
+        plan: Plan { room: 39, ..PLAIN },
+        end: (Stop::Write(WriteFault::Device(39)), 3, 1),
+        written: b"YUV4MPEG2 W2 H2 Cmono\nFRAME\n\xff\xfe\x01\x00FRAME\n\xef",
+    },
+    Case {
+        name: "a writer fails in the header",
+        input: THREE,
+        plan: Plan { room: 9, ..PLAIN },
+        end: (Stop::Write(WriteFault::Device(9)), 0, 0),
+        written: b"YUV4MPEG2",
+    },
+    Case {
+        name: "a second frame is one too many",
+        input: TWO,
+        plan: Plan { frames: 1, ..PLAIN },
+        end: (Stop::Refused(Cause::TooManyFrames), 1, 1),
+        written: ONE_IMAGE,
+    },
+    Case {
+        name: "the clock is past its end",
+        input: TWO,
+        plan: Plan {
+            moment: (1 << 60) + 1,
+            ..PLAIN
+        },
+        end: (Stop::Refused(Cause::ClockEnd), 0, 0),
+        written: HEADER,
+    },
+];
+
+#[test]
+fn clients_stop_at_a_fault(rt: HostRuntime) -> Result<(), Fail> {
+    for case in FAULTS {
+        comes_to(&rt, rt.alloc(), case)?;
+    }
     Ok(())
 }

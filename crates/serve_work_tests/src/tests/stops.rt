@@ -2,21 +2,33 @@
 use super::many::{AllServed, Hall, OneServed, Stream, WIDE, serve_all};
 use super::{HEADER, PLAIN, Plan};
 use serve_work::{Cause, SessionFault, Stop};
+use std::alloc::Global;
 use std::process::Abort;
+use std::sync::Wait;
 use std::test::Fail;
+use std::thread::Threads;
 use y4m_stream::{ReadFault, WriteFault};
 
 /// Three frames. The last one's samples look like text.
 const THREE: &[u8] =
     b"YUV4MPEG2 W2 H2 Cmono\nFRAME\n\x00\x01\xfe\xffFRAME\n\x10\x20\x30\x40FRAME\nFRAM";
 
-/// The same, each sample v being 255 - v.
+/// The first two of them, the same without the last byte, and the first alone.
+const TWO: &[u8] = b"YUV4MPEG2 W2 H2 Cmono\nFRAME\n\x00\x01\xfe\xffFRAME\n\x10\x20\x30\x40";
+
+const CUT: &[u8] = b"YUV4MPEG2 W2 H2 Cmono\nFRAME\n\x00\x01\xfe\xffFRAME\n\x10\x20\x30";
+
+const ONE: &[u8] = b"YUV4MPEG2 W2 H2 Cmono\nFRAME\n\x00\x01\xfe\xff";
+
+/// The three, each sample v being 255 - v.
 const INVERTED: &[u8] =
     b"YUV4MPEG2 W2 H2 Cmono\nFRAME\n\xff\xfe\x01\x00FRAME\n\xef\xdf\xcf\xbfFRAME\n\xb9\xad\xbe\xb2";
 
-/// The same, each frame turned by half a turn.
+/// The three, each frame turned by half a turn, and the first two of those.
 const TURNED: &[u8] =
     b"YUV4MPEG2 W2 H2 Cmono\nFRAME\n\xff\xfe\x01\x00FRAME\n\x40\x30\x20\x10FRAME\nMARF";
+
+const TURNED_TWO: &[u8] = b"YUV4MPEG2 W2 H2 Cmono\nFRAME\n\xff\xfe\x01\x00FRAME\n\x40\x30\x20\x10";
 
 /// The first image of the three, and the first two.
 const FIRST: &[u8] = b"YUV4MPEG2 W2 H2 Cmono\nFRAME\n\xff\xfe\x01\x00";
@@ -30,117 +42,224 @@ const BROKEN: &[u8] = b"YUV4MPEG2 W2 H2 Cmono\nFRAME\n\xff\xfe\x01\x00FRAME\n\xe
 const WIDER: &[u8] =
     b"YUV4MPEG2 W2 H2 Cmono\nFRAME\n\x00\x01\xfe\xff\x02\x03FRAME\n\x10\x20\x30\x40\x50\x60";
 
-/// Three frames that are served with these operations.
-const fn three(ops: &'static str) -> Stream<'static> {
-    Stream {
-        input: THREE,
-        breaks: false,
-        plan: Plan { ops, ..PLAIN },
-    }
-}
+/// Three frames that are inverted, and three that are turned.
+const PLAIN_THREE: Stream<'_> = Stream {
+    input: THREE,
+    breaks: false,
+    plan: PLAIN,
+};
+
+const TURNED_THREE: Stream<'_> = Stream {
+    plan: Plan {
+        ops: "hflip+vflip",
+        ..PLAIN
+    },
+    ..PLAIN_THREE
+};
 
 /// What is told of a stream: why it stopped, how many frames were accepted, delivered and charged, and what
 /// was written.
-#[derive(Clone, Copy)]
+#[derive(Drop)]
 struct Told<'a> {
-    stop: Stop,
-    counts: (u64, u64, u64),
+    end: (Stop, u64, u64, u64),
     written: &'a [u8],
 }
 
+const WHOLE: Told<'_> = Told {
+    end: (Stop::Whole, 3, 3, 3),
+    written: INVERTED,
+};
+
+const WHOLE_TURNED: Told<'_> = Told {
+    end: (Stop::Whole, 3, 3, 6),
+    written: TURNED,
+};
+
+/// The stream was served so.
+fn was_served(rt: &impl Abort, served: OneServed<'_>, told: &Told<'_>, name: &str) {
+    let end = (
+        served.stop,
+        served.accepted,
+        served.delivered,
+        served.charged,
+    );
+    assert_eq!(rt; end, told.end, "{name}");
+    let written = served.writer.into_inner().taken;
+    assert_eq!(rt; written.as_slice(), told.written, "{name}");
+}
+
 /// The streams were served so.
-fn were_served(rt: &impl Abort, all: AllServed<'_>, wanted: &[Told<'_>]) {
-    assert_eq!(rt; all.len(), wanted.len());
+fn were_served(rt: &impl Abort, all: AllServed<'_>, wanted: &[Told<'_>], name: &str) {
+    assert_eq!(rt; all.len(), wanted.len(), "{name}");
     for (served, told) in all.into_iter().zip(wanted) {
-        assert_eq!(rt; served.stop, told.stop);
-        assert_eq!(rt;
-            (served.accepted, served.delivered, served.charged),
-            told.counts
-        );
-        assert_eq!(rt; served.writer.into_inner().taken.as_slice(), told.written);
+        was_served(rt, served, told, name);
     }
 }
 
-#[test]
-fn two_streams_are_served(rt: HostRuntime) -> Result<(), Fail> {
-    let streams = [three("invert"), three("hflip+vflip")];
-    let all = serve_all(&rt, rt.alloc(), &streams, WIDE)??;
-    let wanted = [
-        came_to(Stop::Whole, (3, 3, 3), INVERTED),
-        came_to(Stop::Whole, (3, 3, 6), TURNED),
-    ];
-    were_served(&rt, all, &wanted);
+/// A session's streams, and what comes of them.
+#[derive(Drop)]
+struct Session<'a> {
+    name: &'a str,
+    hall: Hall,
+    streams: &'a [Stream<'a>],
+    told: &'a [Told<'a>],
+}
+
+/// Serves a session, and compares what comes of it.
+fn goes(
+    rt: &(impl Abort + Threads + Wait + Sync),
+    alloc: Global,
+    session: &Session<'_>,
+) -> Result<(), Fail> {
+    let all = serve_all(rt, alloc, session.streams, session.hall)??;
+    were_served(rt, all, session.told, session.name);
     Ok(())
 }
 
-/// A stream that stops so, with what was accepted, delivered and charged.
-const fn came_to(stop: Stop, counts: (u64, u64, u64), written: &[u8]) -> Told<'_> {
-    Told {
-        stop,
-        counts,
-        written,
-    }
-}
+const SESSIONS: &[Session<'_>] = &[
+    Session {
+        name: "two streams are served",
+        hall: WIDE,
+        streams: &[PLAIN_THREE, TURNED_THREE],
+        told: &[WHOLE, WHOLE_TURNED],
+    },
+    Session {
+        name: "each stream stops by itself",
+        hall: Hall { workers: 3, ..WIDE },
+        streams: &[
+            Stream {
+                input: TWO,
+                breaks: true,
+                ..PLAIN_THREE
+            },
+            Stream {
+                plan: Plan { room: 39, ..PLAIN },
+                ..PLAIN_THREE
+            },
+            Stream {
+                plan: Plan { frames: 1, ..PLAIN },
+                ..PLAIN_THREE
+            },
+            Stream {
+                input: CUT,
+                ..PLAIN_THREE
+            },
+            PLAIN_THREE,
+        ],
+        told: &[
+            Told {
+                end: (Stop::Read(ReadFault::Device), 2, 2, 2),
+                written: FIRST_TWO,
+            },
+            Told {
+                end: (Stop::Write(WriteFault::Device(39)), 3, 1, 3),
+                written: BROKEN,
+            },
+            Told {
+                end: (Stop::Refused(Cause::TooManyFrames), 1, 1, 1),
+                written: FIRST,
+            },
+            Told {
+                end: (Stop::Read(ReadFault::Truncated), 1, 1, 1),
+                written: FIRST,
+            },
+            WHOLE,
+        ],
+    },
+    Session {
+        name: "a clock past its end stops all",
+        hall: Hall {
+            moment: (1 << 60) + 1,
+            ..WIDE
+        },
+        streams: &[PLAIN_THREE, PLAIN_THREE],
+        told: &[
+            Told {
+                end: (Stop::Refused(Cause::ClockEnd), 0, 0, 0),
+                written: HEADER,
+            },
+            Told {
+                end: (Stop::Refused(Cause::ClockEnd), 0, 0, 0),
+                written: HEADER,
+            },
+        ],
+    },
+    Session {
+        name: "a journal may be filled to its last entry",
+        hall: Hall { limit: 32, ..WIDE },
+        streams: TWO_STREAMS,
+        told: &[WHOLE, WHOLE_TURNED],
+    },
+];
+
+/// Two streams whose history has 32 entries: six offers, two closes and six collections, and nine leases with
+/// as many settlements.
+const TWO_STREAMS: &[Stream<'_>] = &[PLAIN_THREE, TURNED_THREE];
 
 #[test]
-fn each_stream_stops_by_itself(rt: HostRuntime) -> Result<(), Fail> {
-    let cut = THREE.get(..42).ok_or("two frames")?;
-    let mut streams = [three("invert"); 5];
-    streams[0] = Stream {
-        input: cut,
-        breaks: true,
-        ..streams[0]
-    };
-    streams[1].plan.room = 39;
-    streams[2].plan.frames = 1;
-    streams[3].input = THREE.get(..41).ok_or("one byte less")?;
-    let hall = Hall { workers: 3, ..WIDE };
-    let all = serve_all(&rt, rt.alloc(), &streams, hall)??;
-    let wanted = [
-        came_to(Stop::Read(ReadFault::Device), (2, 2, 2), FIRST_TWO),
-        came_to(Stop::Write(WriteFault::Device(39)), (3, 1, 3), BROKEN),
-        came_to(Stop::Refused(Cause::TooManyFrames), (1, 1, 1), FIRST),
-        came_to(Stop::Read(ReadFault::Truncated), (1, 1, 1), FIRST),
-        came_to(Stop::Whole, (3, 3, 3), INVERTED),
-    ];
-    were_served(&rt, all, &wanted);
+fn each_session_comes_to_what_is_told(rt: HostRuntime) -> Result<(), Fail> {
+    for session in SESSIONS {
+        goes(&rt, rt.alloc(), session)?;
+    }
     Ok(())
 }
 
 /// A line that is no frame line is told behind the frames before it, while another stream goes on.
 #[test]
 fn a_line_that_is_no_frame_line_stops_its_own_stream(rt: HostRuntime) -> Result<(), Fail> {
-    let mut long = THREE.get(..42).ok_or("two frames")?.to_vec(rt.alloc())?;
+    let mut long = TWO.to_vec(rt.alloc())?;
     long.extend_from_slice(b"FRAME X")?;
     // 1,025 bytes with the line feed
     long.extend_from_slice(&[b'a'; 1017])?;
     long.extend_from_slice(b"\nabcd")?;
-    let plain = three("invert");
     let streams = [
         Stream {
             input: WIDER,
-            ..plain
+            ..PLAIN_THREE
         },
         Stream {
             input: &long,
-            ..plain
+            ..PLAIN_THREE
         },
         Stream {
             input: b"YUV4MPEG2 W2 H2 Cmono\nFRAMES\n\x00\x01\xfe\xff",
-            ..plain
+            ..PLAIN_THREE
         },
-        plain,
+        PLAIN_THREE,
     ];
-    let all = serve_all(&rt, rt.alloc(), &streams, WIDE)??;
-    let wanted = [
-        came_to(Stop::Read(ReadFault::NotFrame), (1, 1, 1), FIRST),
-        came_to(Stop::Read(ReadFault::LineTooLong), (2, 2, 2), FIRST_TWO),
-        came_to(Stop::Read(ReadFault::NotFrame), (0, 0, 0), HEADER),
-        came_to(Stop::Whole, (3, 3, 3), INVERTED),
-    ];
-    were_served(&rt, all, &wanted);
-    Ok(())
+    let session = Session {
+        name: "no frame line",
+        hall: WIDE,
+        streams: &streams,
+        told: NO_FRAME_LINES,
+    };
+    goes(&rt, rt.alloc(), &session)
 }
+
+const NO_FRAME_LINES: &[Told<'_>] = &[
+    Told {
+        end: (Stop::Read(ReadFault::NotFrame), 1, 1, 1),
+        written: FIRST,
+    },
+    Told {
+        end: (Stop::Read(ReadFault::LineTooLong), 2, 2, 2),
+        written: FIRST_TWO,
+    },
+    Told {
+        end: (Stop::Read(ReadFault::NotFrame), 0, 0, 0),
+        written: HEADER,
+    },
+    WHOLE,
+];
+
+/// Three frames, whose operations cost three units.
+const DEAR: Stream<'_> = Stream {
+    plan: Plan {
+        ops: "blur:1+invert",
+        ..PLAIN
+    },
+    ..PLAIN_THREE
+};
 
 #[test]
 fn thirty_two_streams_and_sixteen_workers(rt: HostRuntime) -> Result<(), Fail> {
@@ -149,111 +268,114 @@ fn thirty_two_streams_and_sixteen_workers(rt: HostRuntime) -> Result<(), Fail> {
         limit: 10_000,
         moment: 1 << 60,
     };
-    let all = serve_all(&rt, rt.alloc(), &[three("blur:1+invert"); 32], hall)??;
+    let all = serve_all(&rt, rt.alloc(), &[DEAR; 32], hall)??;
     assert_eq!(rt; all.len(), 32);
     for served in all {
-        assert_eq!(rt; served.stop, Stop::Whole);
-        assert_eq!(rt;
-            (served.accepted, served.delivered, served.charged),
-            (3, 3, 9)
+        let end = (
+            served.stop,
+            served.accepted,
+            served.delivered,
+            served.charged,
         );
+        assert_eq!(rt; end, (Stop::Whole, 3, 3, 9));
     }
-    Ok(())
-}
-
-#[test]
-fn a_clock_past_its_end_stops_all(rt: HostRuntime) -> Result<(), Fail> {
-    let hall = Hall {
-        moment: (1 << 60) + 1,
-        ..WIDE
-    };
-    let all = serve_all(&rt, rt.alloc(), &[three("invert"); 2], hall)??;
-    let wanted = [came_to(Stop::Refused(Cause::ClockEnd), (0, 0, 0), HEADER); 2];
-    were_served(&rt, all, &wanted);
     Ok(())
 }
 
 /// A session whose workers are refused their threads ends too: `bench/threads` refuses them.
 #[test]
 fn a_session_without_threads_wants_memory(rt: HostRuntime) -> Result<(), Fail> {
-    match serve_all(&rt, rt.alloc(), &[three("invert")], WIDE)? {
-        Ok(all) => were_served(&rt, all, &[came_to(Stop::Whole, (3, 3, 3), INVERTED)]),
+    match serve_all(&rt, rt.alloc(), &[PLAIN_THREE], WIDE)? {
+        Ok(all) => were_served(&rt, all, &[WHOLE], "with threads"),
         Err(fault) => assert_eq!(rt; fault, SessionFault::NoMemory),
     }
     Ok(())
 }
 
-#[test]
-fn a_journal_has_limits(rt: HostRuntime) -> Result<(), Fail> {
+/// How many streams there are, how many entries there may be, and whether that is enough.
+const LIMITS: &[(usize, usize, bool)] = &[
+    (1, 15, false),
+    (15, 16, false),
+    (1, 1_048_577, false),
+    (1, 16, true),
+    (14, 16, true),
+    (15, 17, true),
+];
+
+/// A session of so many streams without frames, with room for so many entries.
+fn limited(
+    rt: &(impl Abort + Threads + Wait + Sync),
+    alloc: Global,
+    streams: usize,
+    limit: usize,
+) -> Result<Result<(), SessionFault>, Fail> {
     let empty = Stream {
         input: HEADER,
-        ..three("invert")
+        ..PLAIN_THREE
     };
-    // How many streams there are, and how many entries there may be.
-    let refused = [(1, 15), (15, 16), (1, 1_048_577)];
-    for (streams, limit) in refused {
-        let all = vec![in rt.alloc(); empty; streams]?;
-        let hall = Hall {
-            workers: 8,
-            limit,
-            ..WIDE
-        };
-        match serve_all(&rt, rt.alloc(), &all, hall)? {
-            Err(fault) => assert_eq!(rt; fault, SessionFault::BadLimit),
-            Ok(_) => return Err("the limit was accepted".into()),
-        }
+    let hall = Hall {
+        workers: 8,
+        limit,
+        ..WIDE
+    };
+    let streams = vec![in alloc; empty; streams]?;
+    let all = match serve_all(rt, alloc, &streams, hall)? {
+        Ok(all) => all,
+        Err(fault) => return Ok(Err(fault)),
+    };
+    for served in all {
+        was_served(rt, served, &NO_FRAMES, "a limit");
     }
-    for (streams, limit) in [(1, 16), (14, 16), (15, 17)] {
-        let all = vec![in rt.alloc(); empty; streams]?;
-        let hall = Hall {
-            workers: 8,
-            limit,
-            ..WIDE
-        };
-        for served in serve_all(&rt, rt.alloc(), &all, hall)?? {
-            assert_eq!(rt; served.stop, Stop::Whole);
-            assert_eq!(rt; served.writer.into_inner().taken.as_slice(), HEADER);
-        }
-    }
-    Ok(())
+    Ok(Ok(()))
 }
 
-/// Two streams whose history has 32 entries: six offers, two closes and six collections, and nine leases with
-/// as many settlements.
-const fn two() -> [Stream<'static>; 2] {
-    [three("invert"), three("hflip+vflip")]
-}
+const NO_FRAMES: Told<'_> = Told {
+    end: (Stop::Whole, 0, 0, 0),
+    written: HEADER,
+};
 
 #[test]
-fn a_journal_may_be_filled_to_its_last_entry(rt: HostRuntime) -> Result<(), Fail> {
-    let hall = Hall { limit: 32, ..WIDE };
-    let all = serve_all(&rt, rt.alloc(), &two(), hall)??;
-    let wanted = [
-        came_to(Stop::Whole, (3, 3, 3), INVERTED),
-        came_to(Stop::Whole, (3, 3, 6), TURNED),
-    ];
-    were_served(&rt, all, &wanted);
+fn a_journal_has_limits(rt: HostRuntime) -> Result<(), Fail> {
+    for (streams, limit, is_enough) in LIMITS {
+        let wanted = if *is_enough {
+            Ok(())
+        } else {
+            Err(SessionFault::BadLimit)
+        };
+        assert_eq!(rt;
+            limited(&rt, rt.alloc(), *streams, *limit)?,
+            wanted,
+            "{limit}"
+        );
+    }
     Ok(())
 }
 
-/// With one entry less the last collection has no place, whichever stream's it is.
+/// What comes of the two streams where the last collection has no place, whichever stream's it is.
+const LACKS_ONE: &[[Told<'_>; 2]; 2] = &[
+    [
+        WHOLE,
+        Told {
+            end: (Stop::Refused(Cause::HistoryFull), 3, 2, 6),
+            written: TURNED_TWO,
+        },
+    ],
+    [
+        Told {
+            end: (Stop::Refused(Cause::HistoryFull), 3, 2, 3),
+            written: FIRST_TWO,
+        },
+        WHOLE_TURNED,
+    ],
+];
+
 #[test]
 fn a_journal_that_lacks_an_entry_lacks_an_image(rt: HostRuntime) -> Result<(), Fail> {
     let hall = Hall { limit: 31, ..WIDE };
-    let all = serve_all(&rt, rt.alloc(), &two(), hall)??;
-    let full = Stop::Refused(Cause::HistoryFull);
-    let turned_two = TURNED.get(..42).ok_or("two images")?;
-    let wanted = match all.first() {
-        Some(first) if first.stop == Stop::Whole => [
-            came_to(Stop::Whole, (3, 3, 3), INVERTED),
-            came_to(full, (3, 2, 6), turned_two),
-        ],
-        _ => [
-            came_to(full, (3, 2, 3), FIRST_TWO),
-            came_to(Stop::Whole, (3, 3, 6), TURNED),
-        ],
-    };
-    were_served(&rt, all, &wanted);
+    let all = serve_all(&rt, rt.alloc(), TWO_STREAMS, hall)??;
+    let is_first_whole = all.first().is_some_and(|first| first.stop == Stop::Whole);
+    let wanted = &LACKS_ONE[if is_first_whole { 0 } else { 1 }];
+    were_served(&rt, all, wanted, "31 entries");
     Ok(())
 }
 
@@ -261,8 +383,8 @@ fn a_journal_that_lacks_an_entry_lacks_an_image(rt: HostRuntime) -> Result<(), F
 #[test]
 fn offers_meet_a_full_journal(rt: HostRuntime) -> Result<(), Fail> {
     let one = Stream {
-        input: THREE.get(..32).ok_or("one frame")?,
-        ..three("invert")
+        input: ONE,
+        ..PLAIN_THREE
     };
     let hall = Hall {
         workers: 8,
@@ -271,10 +393,12 @@ fn offers_meet_a_full_journal(rt: HostRuntime) -> Result<(), Fail> {
     };
     let mut accepted = 0u64;
     for served in serve_all(&rt, rt.alloc(), &[one; 14], hall)?? {
-        assert_eq!(rt; served.stop, Stop::Refused(Cause::HistoryFull));
-        assert_eq!(rt; (served.delivered, served.charged), (0, 0));
         accepted = accepted.saturating_add(served.accepted);
-        assert_eq!(rt; served.writer.into_inner().taken.as_slice(), HEADER);
+        let told = Told {
+            end: (Stop::Refused(Cause::HistoryFull), served.accepted, 0, 0),
+            written: HEADER,
+        };
+        was_served(&rt, served, &told, "16 entries");
     }
     assert_eq!(rt; accepted, 2);
     Ok(())
@@ -291,23 +415,15 @@ fn is_whole(rt: &impl Abort, served: OneServed<'_>, images: &[u8], units: [u64; 
         assert_eq!(rt; served.stop, Stop::Refused(Cause::HistoryFull));
     }
     let (accepted, delivered) = (served.accepted, served.delivered);
-    assert!(rt;
-        delivered <= accepted && accepted <= 3,
-        "{delivered} of {accepted}"
-    );
-    assert!(rt; !is_whole || delivered == 3, "{delivered} of {accepted}");
+    let are_counts = delivered <= accepted && accepted <= 3 && (!is_whole || delivered == 3);
+    assert!(rt; are_counts, "{delivered} of {accepted}");
     let (accepted, delivered) = (accepted as usize, delivered as usize);
     let charged = served.charged;
-    assert!(rt;
-        units[delivered] <= charged && charged <= units[accepted],
-        "{charged} units"
-    );
+    let is_charged = units[delivered] <= charged && charged <= units[accepted];
+    assert!(rt; is_charged, "{charged} units");
     let written = served.writer.into_inner().taken;
-    assert!(rt;
-        images.starts_with(written.as_slice()),
-        "{delivered} of {accepted}"
-    );
-    assert_eq!(rt; written.len(), ENDS[delivered]);
+    let is_written = images.starts_with(written.as_slice()) && written.len() == ENDS[delivered];
+    assert!(rt; is_written, "{delivered} of {accepted}");
     is_whole
 }
 
@@ -315,7 +431,7 @@ fn is_whole(rt: &impl Abort, served: OneServed<'_>, images: &[u8], units: [u64; 
 fn a_short_journal_ends_streams_behind_whole_images(rt: HostRuntime) -> Result<(), Fail> {
     for limit in 16..31 {
         let hall = Hall { limit, ..WIDE };
-        let mut all = serve_all(&rt, rt.alloc(), &two(), hall)??;
+        let mut all = serve_all(&rt, rt.alloc(), TWO_STREAMS, hall)??;
         let (Some(turned), Some(inverted), None) = (all.pop(), all.pop(), all.pop()) else {
             return Err("there are two streams".into());
         };
