@@ -21,8 +21,8 @@ impl Screen {
 
     /// Compares what was written since the last time, and in how many writes.
     fn shows(&mut self, rt: &impl Abort, text: &str, writes: u64) {
-        assert_eq!(rt; str::from_utf8(&self.text).ok(), Some(text));
-        assert_eq!(rt; self.writes, writes);
+        let shown = (str::from_utf8(&self.text).ok(), self.writes);
+        assert_eq!(rt; shown, (Some(text), writes));
         self.text.clear();
         self.writes = 0;
     }
@@ -53,21 +53,24 @@ fn a_line_has_a_stream_s_name_and_both_counts(rt: HostRuntime) -> Result<(), Fai
     Ok(())
 }
 
+/// A moment, and how many writes are made at it.
+const DUE: &[(u64, u64)] = &[
+    (0, 0),
+    (199, 0),
+    (230, 1),
+    (429, 0),
+    (20, 0),
+    (430, 1),
+    (629, 0),
+];
+
 #[test]
 fn lines_are_due_five_times_a_second(rt: HostRuntime) -> Result<(), Fail> {
     let board = Board::new(rt.alloc(), &["soft"])?;
     let mut screen = Screen::new(rt.alloc());
-    for (time, writes) in [
-        (0, 0),
-        (199, 0),
-        (230, 1),
-        (429, 0),
-        (20, 0),
-        (430, 1),
-        (629, 0),
-    ] {
-        board.draw(&mut screen, time);
-        assert_eq!(rt; screen.writes, writes);
+    for (time, writes) in DUE {
+        board.draw(&mut screen, *time);
+        assert_eq!(rt; screen.writes, *writes);
         screen.writes = 0;
     }
     Ok(())

@@ -1,5 +1,5 @@
 use super::memory::NoFiles;
-use super::{runs, says, words_of, written};
+use super::{Run, all_run, says, words_of, written};
 use serve_report::main_on;
 use std::alloc::Global;
 use std::io::{self, Write};
@@ -8,60 +8,76 @@ use std::sync::Wait;
 use std::test::Fail;
 use std::thread::Threads;
 
-#[test]
-fn the_parser_tells_wrong_words_in_its_own(rt: HostRuntime) -> Result<(), Fail> {
-    for (line, said) in [
-        (
-            "filter",
-            "error: the following required arguments were not provided:\n  <OPS>\n\n\
-             Usage: y4mserve filter <OPS>\n\nFor more information, try '--help'.\n",
-        ),
-        (
-            "filer invert",
-            "error: unrecognized subcommand 'filer'\n\n  tip: a similar subcommand exists: 'filter'\n\n\
-             Usage: y4mserve <COMMAND>\n\nFor more information, try '--help'.\n",
-        ),
-        (
-            "filter invert hflip",
-            "error: unexpected argument 'hflip' found\n\n\
-             Usage: y4mserve filter [OPTIONS] <OPS>\n\nFor more information, try '--help'.\n",
-        ),
-        (
-            "replay now",
-            "error: unexpected argument 'now' found\n\n\
-             Usage: y4mserve replay\n\nFor more information, try '--help'.\n",
-        ),
-    ] {
-        runs(&rt, rt.alloc(), line, b"", b"", said, 2)?;
-    }
-    Ok(())
-}
+/// Words, and what is said of them.
+const WRONG_WORDS: &[(&str, &str)] = &[
+    // The parser tells wrong words in its own.
+    (
+        "filter",
+        "error: the following required arguments were not provided:\n  <OPS>\n\n\
+         Usage: y4mserve filter <OPS>\n\nFor more information, try '--help'.\n",
+    ),
+    (
+        "filer invert",
+        "error: unrecognized subcommand 'filer'\n\n  tip: a similar subcommand exists: 'filter'\n\n\
+         Usage: y4mserve <COMMAND>\n\nFor more information, try '--help'.\n",
+    ),
+    (
+        "filter invert hflip",
+        "error: unexpected argument 'hflip' found\n\n\
+         Usage: y4mserve filter [OPTIONS] <OPS>\n\nFor more information, try '--help'.\n",
+    ),
+    (
+        "replay now",
+        "error: unexpected argument 'now' found\n\n\
+         Usage: y4mserve replay\n\nFor more information, try '--help'.\n",
+    ),
+    // It tells the range of a number.
+    (
+        "filter --band 130 invert",
+        "error: invalid value '130' for '--band <B>': 130 is not in 2..=128\n\n\
+         For more information, try '--help'.\n",
+    ),
+    (
+        "filter --band 0 invert",
+        "error: invalid value '0' for '--band <B>': 0 is not in 2..=128\n\n\
+         For more information, try '--help'.\n",
+    ),
+    (
+        "filter --band two invert",
+        "error: invalid value 'two' for '--band <B>': invalid digit found in string\n\n\
+         For more information, try '--help'.\n",
+    ),
+    (
+        "filter --threads 3 invert",
+        "error: invalid value '3' for '--threads <N>': 3 is not in 1..=2\n\n\
+         For more information, try '--help'.\n",
+    ),
+    // Words that it takes are checked in order.
+    ("filter --band 3 invert", "y4mserve: bad band\n"),
+    ("filter --band 127 blur:9", "y4mserve: bad band\n"),
+    ("filter blur:9", "y4mserve: BadOp\n"),
+    ("filter --quiet blur:0", "y4mserve: BadOp\n"),
+    ("filter thresh:256", "y4mserve: BadOp\n"),
+    ("filter --band 2 clamp:9,3", "y4mserve: BadOp\n"),
+    (
+        "filter hflip+hflip+hflip+hflip+hflip+hflip+hflip+hflip+hflip",
+        "y4mserve: TooManyOps\n",
+    ),
+];
 
 #[test]
-fn the_parser_tells_the_range_of_a_number(rt: HostRuntime) -> Result<(), Fail> {
-    for (line, said) in [
-        (
-            "filter --band 130 invert",
-            "error: invalid value '130' for '--band <B>': 130 is not in 2..=128\n\n\
-             For more information, try '--help'.\n",
-        ),
-        (
-            "filter --band 0 invert",
-            "error: invalid value '0' for '--band <B>': 0 is not in 2..=128\n\n\
-             For more information, try '--help'.\n",
-        ),
-        (
-            "filter --band two invert",
-            "error: invalid value 'two' for '--band <B>': invalid digit found in string\n\n\
-             For more information, try '--help'.\n",
-        ),
-        (
-            "filter --threads 3 invert",
-            "error: invalid value '3' for '--threads <N>': 3 is not in 1..=2\n\n\
-             For more information, try '--help'.\n",
-        ),
-    ] {
-        runs(&rt, rt.alloc(), line, b"", b"", said, 2)?;
+fn wrong_words_are_told(rt: HostRuntime) -> Result<(), Fail> {
+    for (line, said) in WRONG_WORDS {
+        let left = says(
+            &rt,
+            rt.alloc(),
+            line,
+            b"".as_slice(),
+            &mut [0; 256],
+            said,
+            2,
+        )?;
+        assert_eq!(rt; left, 256, "{line}");
     }
     Ok(())
 }
@@ -87,34 +103,26 @@ fn no_words_are_wrong_words(rt: HostRuntime) {
     assert!(rt; written(&errors, left).starts_with(b"error: 'y4mserve' requires a subcommand"));
 }
 
-#[test]
-fn words_that_the_parser_takes_are_checked_in_order(rt: HostRuntime) -> Result<(), Fail> {
-    for (line, said) in [
-        ("filter --band 3 invert", "y4mserve: bad band\n"),
-        ("filter --band 127 blur:9", "y4mserve: bad band\n"),
-        ("filter blur:9", "y4mserve: BadOp\n"),
-        ("filter --quiet blur:0", "y4mserve: BadOp\n"),
-        ("filter thresh:256", "y4mserve: BadOp\n"),
-        ("filter --band 2 clamp:9,3", "y4mserve: BadOp\n"),
-        (
-            "filter hflip+hflip+hflip+hflip+hflip+hflip+hflip+hflip+hflip",
-            "y4mserve: TooManyOps\n",
-        ),
-    ] {
-        runs(&rt, rt.alloc(), line, b"", b"", said, 2)?;
-    }
-    Ok(())
-}
+const TALL: &[u8] = b"YUV4MPEG2 W1 H16384 Cmono\n";
+
+/// 4 times 8,192 bands of 2 rows are just within the limit of 32,768.
+const RIGHT_WORDS: &[Run<'_>] = &[
+    ("filter --band 2 hflip+hflip+hflip+hflip", TALL, TALL, "", 0),
+    (
+        "filter --band 2 hflip+hflip+hflip+hflip+hflip",
+        TALL,
+        b"",
+        "y4mserve: ops TooManySteps\n",
+        1,
+    ),
+    // The program tells its version.
+    ("--version", b"", b"y4mserve 0.1.0\n", "", 0),
+    ("-V", b"", b"y4mserve 0.1.0\n", "", 0),
+];
 
 #[test]
-fn bands_have_the_rows_of_the_words(rt: HostRuntime) -> Result<(), Fail> {
-    let header = b"YUV4MPEG2 W1 H16384 Cmono\n";
-    // 4 times 8,192 bands of 2 rows are just within the limit of 32,768.
-    let fits = "filter --band 2 hflip+hflip+hflip+hflip";
-    runs(&rt, rt.alloc(), fits, header, header, "", 0)?;
-    let over = "filter --band 2 hflip+hflip+hflip+hflip+hflip";
-    let said = "y4mserve: ops TooManySteps\n";
-    runs(&rt, rt.alloc(), over, header, b"", said, 1)
+fn words_that_are_right_are_followed(rt: HostRuntime) -> Result<(), Fail> {
+    all_run(&rt, rt.alloc(), RIGHT_WORDS)
 }
 
 /// Asks for help, and compares the front of what comes.
@@ -136,7 +144,7 @@ fn helps(
 }
 
 /// The operations and the faults of a stream, of which the page of `filter` speaks.
-const FILTER_WORDS: [&str; 37] = [
+const FILTER_WORDS: &[&str] = &[
     "Usage: y4mserve filter [OPTIONS] <OPS>\n",
     "--band <B>",
     "2 to 128",
@@ -176,102 +184,84 @@ const FILTER_WORDS: [&str; 37] = [
     "NoMemory",
 ];
 
-#[test]
-fn the_help_of_filter_is_a_page_to_work_from(rt: HostRuntime) -> Result<(), Fail> {
-    for line in ["filter --help", "help filter", "filter invert --help"] {
-        helps(
-            &rt,
-            rt.alloc(),
-            line,
-            "Reads a YUV4MPEG2 stream",
-            &FILTER_WORDS,
-        )?;
-    }
-    let front = "Filters a stream from standard input to standard output\n\n\
-                 Usage: y4mserve filter [OPTIONS] <OPS>\n";
-    helps(
-        &rt,
-        rt.alloc(),
+const REPLAY_WORDS: &[&str] = &[
+    "Usage: y4mserve replay\n",
+    "account Q T",
+    "idle R",
+    "charge K",
+    "line N: WORD",
+    "BadLine",
+    "BadBandwidth",
+    "Range",
+    "TooLong",
+    "NoMemory",
+];
+
+const SERVE_WORDS: &[&str] = &[
+    "Usage: y4mserve serve [OPTIONS] <NAME:IN:OUT:Q:T:OPS>...\n",
+    "-q, --quiet\n",
+    "--workers <N>",
+    "1 to 16",
+    "[default: 2]",
+    "--quantum <K>",
+    "1 to 64",
+    "[default: 8]",
+    "--band <B>",
+    "blur:R",
+    "deadline",
+    "units 816",
+    "open",
+    "ops E",
+    "create",
+    "write N",
+    "TooManyFrames",
+    "ClockEnd",
+    "HistoryFull",
+    "torn",
+    "bad stream WORD",
+    "repeated name NAME",
+    "BadBandwidth NAME",
+    "Overload NAME",
+    "session Mismatch",
+];
+
+const PROGRAM_WORDS: &[&str] = &[
+    "Usage: y4mserve <COMMAND>\n",
+    "filter",
+    "replay",
+    "serve",
+    "help",
+    "--version",
+];
+
+/// Words that ask for help, how what comes begins, and what stands in it.
+const HELPS: &[(&str, &str, &[&str])] = &[
+    ("filter --help", "Reads a YUV4MPEG2 stream", FILTER_WORDS),
+    ("help filter", "Reads a YUV4MPEG2 stream", FILTER_WORDS),
+    (
+        "filter invert --help",
+        "Reads a YUV4MPEG2 stream",
+        FILTER_WORDS,
+    ),
+    (
         "filter -h",
-        front,
+        "Filters a stream from standard input to standard output\n\n\
+         Usage: y4mserve filter [OPTIONS] <OPS>\n",
         &["--band <B>", "--threads <N>", "-q, --quiet"],
-    )
-}
+    ),
+    ("replay --help", "Reads a script", REPLAY_WORDS),
+    ("help replay", "Reads a script", REPLAY_WORDS),
+    ("serve --help", "Filters many streams at once", SERVE_WORDS),
+    ("help serve", "Filters many streams at once", SERVE_WORDS),
+    ("--help", "Filters YUV4MPEG2 streams", PROGRAM_WORDS),
+    ("-h", "Filters YUV4MPEG2 streams", PROGRAM_WORDS),
+    ("help", "Filters YUV4MPEG2 streams", PROGRAM_WORDS),
+];
 
 #[test]
-fn the_help_of_replay_has_its_commands_and_faults(rt: HostRuntime) -> Result<(), Fail> {
-    let words = [
-        "Usage: y4mserve replay\n",
-        "account Q T",
-        "idle R",
-        "charge K",
-        "line N: WORD",
-        "BadLine",
-        "BadBandwidth",
-        "Range",
-        "TooLong",
-        "NoMemory",
-    ];
-    helps(&rt, rt.alloc(), "replay --help", "Reads a script", &words)?;
-    helps(&rt, rt.alloc(), "help replay", "Reads a script", &words)
-}
-
-#[test]
-fn the_help_of_serve_is_a_page_to_work_from(rt: HostRuntime) -> Result<(), Fail> {
-    let words = [
-        "Usage: y4mserve serve [OPTIONS] <NAME:IN:OUT:Q:T:OPS>...\n",
-        "-q, --quiet\n",
-        "--workers <N>",
-        "1 to 16",
-        "[default: 2]",
-        "--quantum <K>",
-        "1 to 64",
-        "[default: 8]",
-        "--band <B>",
-        "blur:R",
-        "deadline",
-        "units 816",
-        "open",
-        "ops E",
-        "create",
-        "write N",
-        "TooManyFrames",
-        "ClockEnd",
-        "HistoryFull",
-        "torn",
-        "bad stream WORD",
-        "repeated name NAME",
-        "BadBandwidth NAME",
-        "Overload NAME",
-        "session Mismatch",
-    ];
-    for line in ["serve --help", "help serve"] {
-        helps(
-            &rt,
-            rt.alloc(),
-            line,
-            "Filters many streams at once",
-            &words,
-        )?;
-    }
-    Ok(())
-}
-
-#[test]
-fn the_program_helps_and_tells_its_version(rt: HostRuntime) -> Result<(), Fail> {
-    let words = [
-        "Usage: y4mserve <COMMAND>\n",
-        "filter",
-        "replay",
-        "serve",
-        "help",
-        "--version",
-    ];
-    for line in ["--help", "-h", "help"] {
-        helps(&rt, rt.alloc(), line, "Filters YUV4MPEG2 streams", &words)?;
-    }
-    for line in ["--version", "-V"] {
-        runs(&rt, rt.alloc(), line, b"", b"y4mserve 0.1.0\n", "", 0)?;
+fn each_help_is_a_page_to_work_from(rt: HostRuntime) -> Result<(), Fail> {
+    for (line, front, words) in HELPS {
+        helps(&rt, rt.alloc(), line, front, words)?;
     }
     Ok(())
 }
@@ -307,15 +297,18 @@ impl Write for Counted {
     }
 }
 
+/// Words, and in how many writes the program says what is wrong, and writes what it gives.
+const LINES: &[(&str, (u64, u64))] = &[
+    ("filter blur:9", (1, 0)),
+    ("filter --band 5 invert", (1, 0)),
+    ("filter invert", (1, 0)),
+    ("filer", (1, 0)),
+    ("--version", (0, 1)),
+];
+
 #[test]
 fn what_is_said_goes_out_in_one_write(rt: HostRuntime) -> Result<(), Fail> {
-    for (line, lines) in [
-        ("filter blur:9", 1),
-        ("filter --band 5 invert", 1),
-        ("filter invert", 1),
-        ("filer", 1),
-        ("--version", 0),
-    ] {
+    for (line, lines) in LINES {
         let words = words_of(rt.alloc(), line)?;
         let mut errors = Counted { writes: 0 };
         let mut output = Counted { writes: 0 };
@@ -328,8 +321,7 @@ fn what_is_said_goes_out_in_one_write(rt: HostRuntime) -> Result<(), Fail> {
             &mut errors,
             &NoFiles,
         );
-        assert_eq!(rt; errors.writes, lines, "{line}");
-        assert_eq!(rt; output.writes, 1 - lines, "{line}");
+        assert_eq!(rt; (errors.writes, output.writes), *lines, "{line}");
     }
     Ok(())
 }

@@ -100,9 +100,12 @@ pub fn serves_under<R: Abort + Threads + Wait + Sync, V: Watch + Sync>(
     let (status, left, unsaid) = runs_in(rt, alloc, line, files, watch, &mut lines, &mut faults)?;
     let report = str::from_utf8(written(&lines, left)).ok();
     let said = str::from_utf8(written(&faults, unsaid)).ok();
-    assert_eq!(rt; said, Some(expected.errors), "{line}");
-    assert_eq!(rt; report, Some(expected.report), "{line}");
-    assert_eq!(rt; status, expected.status, "{line}");
+    let wanted = (
+        Some(expected.errors),
+        Some(expected.report),
+        expected.status,
+    );
+    assert_eq!(rt; (said, report, status), wanted, "{line}");
     Ok(())
 }
 
@@ -134,17 +137,29 @@ pub fn serves_two<R: Abort + Threads + Wait + Sync>(
     Ok(())
 }
 
+const HEADER: &[u8] = b"YUV4MPEG2 W2 H2 F25:1 Ip A1:1 Cmono XA=b\n";
+
+/// The first stream's text, what is written of it, and the report of both.
+const SERVED: &[(&[u8], &[u8], &str)] = &[
+    (
+        A,
+        A_INVERTED,
+        "a accepted 3 delivered 3 charged 3 stop whole\n\
+         b accepted 3 delivered 3 charged 6 stop whole\nunits 9\n",
+    ),
+    (
+        HEADER,
+        HEADER,
+        "a accepted 0 delivered 0 charged 0 stop whole\n\
+         b accepted 3 delivered 3 charged 6 stop whole\nunits 6\n",
+    ),
+];
+
 #[test]
 fn two_streams_are_served_at_once(rt: HostRuntime) -> Result<(), Fail> {
-    let header = b"YUV4MPEG2 W2 H2 F25:1 Ip A1:1 Cmono XA=b\n".as_slice();
-    for (text, inverted, row, units) in [
-        (A, A_INVERTED, "accepted 3 delivered 3 charged 3", 9),
-        (header, header, "accepted 0 delivered 0 charged 0", 6),
-    ] {
-        let other = "b accepted 3 delivered 3 charged 6 stop whole";
-        let report = format!(in rt.alloc(); "a {row} stop whole\n{other}\nunits {units}\n")?;
+    for (text, written, report) in SERVED {
         let expected = Expected {
-            report: report.as_str(),
+            report,
             errors: "",
             status: 0,
         };
@@ -153,7 +168,7 @@ fn two_streams_are_served_at_once(rt: HostRuntime) -> Result<(), Fail> {
             rt.alloc(),
             given("a.y4m", text),
             4096,
-            inverted,
+            written,
             expected,
         )?;
     }

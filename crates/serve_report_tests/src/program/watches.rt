@@ -172,12 +172,8 @@ fn watched<R: Read + Drop + Send>(
         rt, alloc, &words, input, &mut room, &mut rest, &NoFiles, watch,
     );
     let left = rest.len();
-    assert_eq!(rt;
-        str::from_utf8(written(&faults, left)).ok(),
-        Some(said),
-        "{line}"
-    );
-    assert_eq!(rt; answer, status, "{line}");
+    let told = str::from_utf8(written(&faults, left)).ok();
+    assert_eq!(rt; (told, answer), (Some(said), status), "{line}");
     Ok(8192 - room.len().min(8192))
 }
 
@@ -192,77 +188,49 @@ fn a_terminal_is_no_output_of_filter(rt: HostRuntime) -> Result<(), Fail> {
         most: 99,
         reads: 0,
     };
+    let line = "filter invert";
     let said = "y4mserve: output is a terminal\n";
-    let count = watched(
-        &rt,
-        rt.alloc(),
-        "filter invert",
-        &mut input,
-        &watch,
-        said,
-        2,
-    )?;
-    assert_eq!(rt; count, 0);
-    assert_eq!(rt; input.reads, 0);
-    assert_eq!(rt; watch.asked(), 1);
+    let count = watched(&rt, rt.alloc(), line, &mut input, &watch, said, 2)?;
+    assert_eq!(rt; (count, input.reads, watch.asked()), (0, 0, 1));
     Ok(())
 }
+
+/// Words and an input, what is said, the status, and how much is written.
+const BEFORE: &[(&str, &[u8], &str, u8, usize)] = &[
+    ("filter blur:9", b"", "y4mserve: BadOp\n", 2, 0),
+    ("filter --band 9 invert", b"", "y4mserve: bad band\n", 2, 0),
+    ("replay", b"account 2 10", "", 0, 20),
+];
 
 #[test]
 fn wrong_words_and_help_come_before_terminals(rt: HostRuntime) -> Result<(), Fail> {
     let watch = Told::new(true, true);
+    for (line, input, said, status, count) in BEFORE {
+        let given = watched(&rt, rt.alloc(), line, *input, &watch, said, *status)?;
+        assert_eq!(rt; given, *count, "{line}");
+    }
     let empty = b"".as_slice();
-    watched(
-        &rt,
-        rt.alloc(),
-        "filter blur:9",
-        empty,
-        &watch,
-        "y4mserve: BadOp\n",
-        2,
-    )?;
-    watched(
-        &rt,
-        rt.alloc(),
-        "filter --band 9 invert",
-        empty,
-        &watch,
-        "y4mserve: bad band\n",
-        2,
-    )?;
     let count = watched(&rt, rt.alloc(), "filter --help", empty, &watch, "", 0)?;
-    assert!(rt; count > 0);
-    let count = watched(
-        &rt,
-        rt.alloc(),
-        "replay",
-        b"account 2 10".as_slice(),
-        &watch,
-        "",
-        0,
-    )?;
-    assert_eq!(rt; count, 20);
-    assert_eq!(rt; watch.asked(), 0);
+    assert!(rt; count > 0 && watch.asked() == 0, "{count} bytes");
     Ok(())
 }
+
+const AWAITED: &[(&str, &str)] = &[
+    (
+        "filter invert",
+        "y4mserve: waiting for a stream (.y4m) on standard input, which is a terminal; \
+         for help: y4mserve filter --help\n",
+    ),
+    ("filter --quiet invert", ""),
+];
 
 #[test]
 fn a_terminal_that_is_awaited_is_told_once(rt: HostRuntime) -> Result<(), Fail> {
     let watch = Told::new(true, false);
-    let said = "y4mserve: waiting for a stream (.y4m) on standard input, which is a terminal; \
-                for help: y4mserve filter --help\n";
-    let count = watched(&rt, rt.alloc(), "filter invert", THREE, &watch, said, 0)?;
-    assert_eq!(rt; count, THREE.len());
-    let count = watched(
-        &rt,
-        rt.alloc(),
-        "filter --quiet invert",
-        THREE,
-        &watch,
-        "",
-        0,
-    )?;
-    assert_eq!(rt; count, THREE.len());
+    for (line, said) in AWAITED {
+        let count = watched(&rt, rt.alloc(), line, THREE, &watch, said, 0)?;
+        assert_eq!(rt; count, THREE.len(), "{line}");
+    }
     Ok(())
 }
 
@@ -276,44 +244,63 @@ fn each_frame_is_told_however_it_comes(rt: HostRuntime) -> Result<(), Fail> {
             reads: 0,
         };
         let count = watched(&rt, rt.alloc(), "filter vflip", input, &watch, "", 0)?;
-        assert_eq!(rt; count, THREE.len());
-        assert_eq!(rt; watch.asked(), 1);
-        assert_eq!(rt; watch.frames(0), (3, 3, THREE.len() as u64));
-        assert_eq!(rt; watch.ended(), 1);
+        let told = (count, watch.asked(), watch.frames(0), watch.ended());
+        let whole = THREE.len();
+        assert_eq!(rt; told, (whole, 1, (3, 3, whole as u64), 1), "{most} bytes");
     }
     Ok(())
 }
 
-#[test]
-fn frames_before_a_fault_are_told(rt: HostRuntime) -> Result<(), Fail> {
-    let watch = Told::new(false, false);
-    let cut = &THREE[..THREE.len() - 1];
-    let said = "y4mserve: read Truncated\n";
-    watched(&rt, rt.alloc(), "filter invert", cut, &watch, said, 1)?;
-    assert_eq!(rt; watch.frames(0), (2, 2, 16 + (6 + 6) + (9 + 6)));
-    assert_eq!(rt; watch.ended(), 1);
-    Ok(())
-}
+/// The same without its last byte.
+const CUT: &[u8] = b"YUV4MPEG2 W2 H2\nFRAME\n123456FRAME Ip\n\nFRAMEFRAME\nabcde";
 
 /// A header of 22 bytes, and 2 frames of 8 samples.
 const WIDE: &[u8] = b"YUV4MPEG2 W4 H2 Cmono\nFRAME\n01234567FRAME\n89abcdef";
 
-#[test]
-fn images_are_counted_by_their_own_size(rt: HostRuntime) -> Result<(), Fail> {
-    let watch = Told::new(false, false);
-    let line = "filter crop:1,0,2,1";
-    let count = watched(&rt, rt.alloc(), line, WIDE, &watch, "", 0)?;
-    assert_eq!(rt; count, 22 + 2 * (6 + 2));
-    assert_eq!(rt; watch.frames(0), (2, 2, 38));
-    Ok(())
-}
+/// What is told of frames: how many were read and written, and the bytes that were written.
+type Frames = (u64, u64, u64);
+
+/// Words and an input, what is said, the status, how much is written, the frames, and how often all ends.
+const FOLLOWED: &[(&str, &[u8], &str, u8, usize, Frames, u64)] = &[
+    // Frames before a fault are told.
+    (
+        "filter invert",
+        CUT,
+        "y4mserve: read Truncated\n",
+        1,
+        16 + (6 + 6) + (9 + 6),
+        (2, 2, 16 + (6 + 6) + (9 + 6)),
+        1,
+    ),
+    // Images are counted by their own size.
+    (
+        "filter crop:1,0,2,1",
+        WIDE,
+        "",
+        0,
+        22 + 2 * (6 + 2),
+        (2, 2, 38),
+        1,
+    ),
+    // A quiet run tells no frames.
+    (
+        "filter -q invert",
+        WIDE,
+        "",
+        0,
+        22 + 2 * (6 + 8),
+        (0, 0, 0),
+        0,
+    ),
+];
 
 #[test]
-fn a_quiet_run_tells_no_frames(rt: HostRuntime) -> Result<(), Fail> {
-    let watch = Told::new(false, false);
-    watched(&rt, rt.alloc(), "filter -q invert", WIDE, &watch, "", 0)?;
-    assert_eq!(rt; watch.asked(), 1);
-    assert_eq!(rt; watch.frames(0), (0, 0, 0));
-    assert_eq!(rt; watch.ended(), 0);
+fn frames_are_told_as_they_are_written(rt: HostRuntime) -> Result<(), Fail> {
+    for (line, input, said, status, count, frames, ended) in FOLLOWED {
+        let watch = Told::new(false, false);
+        let given = watched(&rt, rt.alloc(), line, *input, &watch, said, *status)?;
+        let told = (given, watch.asked(), watch.frames(0), watch.ended());
+        assert_eq!(rt; told, (*count, 1, *frames, *ended), "{line}");
+    }
     Ok(())
 }

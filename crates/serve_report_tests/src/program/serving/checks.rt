@@ -27,88 +27,118 @@ fn refuses<R: Abort + Threads + Wait + Sync>(
     Ok(())
 }
 
-/// Each stands with a fault that is looked for later, in the same word or in one after it.
+/// Words, what is said of them, and the status.
+const REFUSED: &[(&str, &str, u8)] = &[
+    // Each stands with a fault that is looked for later, in the same word or in one after it.
+    ("serve --band 3 a:i:o:1", "y4mserve: bad band\n", 2),
+    (
+        "serve a:i:o:1:invert b:i:o:1:2:sepia",
+        "y4mserve: bad stream a:i:o:1:invert\n",
+        2,
+    ),
+    (
+        "serve a:i:o:1:2:invert a:i:o:1:2:sepia",
+        "y4mserve: repeated name a\n",
+        2,
+    ),
+    (
+        "serve a:i:o:1:2:sepia a:i:o:1:2:invert",
+        "y4mserve: BadOp a\n",
+        2,
+    ),
+    (
+        "serve a:i:o:5:4:invert b:i:o:1:2:blur:9",
+        "y4mserve: BadOp b\n",
+        2,
+    ),
+    (
+        "serve a:i:o:5:4:invert+invert+invert+invert+invert+invert+invert+invert+invert",
+        "y4mserve: TooManyOps a\n",
+        2,
+    ),
+    // Shares are given in order.
+    (
+        "serve --workers 1 a:i:o:1:3:invert b:i:o:1:3:invert c:i:o:1:3:invert",
+        "y4mserve: Overload c\n",
+        1,
+    ),
+    (
+        "serve a:i:o:5:4:invert b:i:o:0:4:invert",
+        "y4mserve: BadBandwidth a\n",
+        1,
+    ),
+    (
+        "serve a:i:o:1:1048577:invert",
+        "y4mserve: BadBandwidth a\n",
+        1,
+    ),
+    (
+        "serve --workers 1 a:i:o:4:4:invert b:i:o:1:1048576:invert c:i:o:0:4:invert",
+        "y4mserve: Overload b\n",
+        1,
+    ),
+    // The parser tells the ranges.
+    (
+        "serve --workers 17 a:i:o:1:2:invert",
+        "error: invalid value '17' for '--workers <N>': 17 is not in 1..=16\n\n\
+             For more information, try '--help'.\n",
+        2,
+    ),
+    (
+        "serve --quantum 0 a:i:o:1:2:invert",
+        "error: invalid value '0' for '--quantum <K>': 0 is not in 1..=64\n\n\
+             For more information, try '--help'.\n",
+        2,
+    ),
+    (
+        "serve --band 130 a:i:o:1:2:invert",
+        "error: invalid value '130' for '--band <B>': 130 is not in 2..=128\n\n\
+             For more information, try '--help'.\n",
+        2,
+    ),
+];
+
 #[test]
 fn words_are_checked_in_order(rt: HostRuntime) -> Result<(), Fail> {
-    for (line, said) in [
-        ("serve --band 3 a:i:o:1", "y4mserve: bad band\n"),
-        (
-            "serve a:i:o:1:invert b:i:o:1:2:sepia",
-            "y4mserve: bad stream a:i:o:1:invert\n",
-        ),
-        (
-            "serve a:i:o:1:2:invert a:i:o:1:2:sepia",
-            "y4mserve: repeated name a\n",
-        ),
-        (
-            "serve a:i:o:1:2:sepia a:i:o:1:2:invert",
-            "y4mserve: BadOp a\n",
-        ),
-        (
-            "serve a:i:o:5:4:invert b:i:o:1:2:blur:9",
-            "y4mserve: BadOp b\n",
-        ),
-        (
-            "serve a:i:o:5:4:invert+invert+invert+invert+invert+invert+invert+invert+invert",
-            "y4mserve: TooManyOps a\n",
-        ),
-    ] {
-        refuses(&rt, rt.alloc(), line, said, 2)?;
+    for (line, said, status) in REFUSED {
+        refuses(&rt, rt.alloc(), line, said, *status)?;
     }
     Ok(())
+}
+
+const BAD_WORDS: &[&str] = &[
+    "a",
+    "a:i:o:1:2",
+    ":i:o:1:2:invert",
+    "a.b:i:o:1:2:invert",
+    "abcdefghijklmnopqrstuvwxyz0123456:i:o:1:2:invert",
+    "a::o:1:2:invert",
+    "a:i::1:2:invert",
+    "a:i:o::2:invert",
+    "a:i:o:1::invert",
+    "a:i:o:-1:2:invert",
+    "a:i:o:1:2x:invert",
+    "a:i:o:1:12345678901234567890:invert",
+];
+
+/// A word that is no stream is told whole.
+fn refuses_word<R: Abort + Threads + Wait + Sync>(
+    rt: &R,
+    alloc: Global,
+    word: &str,
+) -> Result<(), Fail> {
+    let line = format!(in alloc; "serve {word}")?;
+    let said = format!(in alloc; "y4mserve: bad stream {word}\n")?;
+    refuses(rt, alloc, line.as_str(), said.as_str(), 2)
 }
 
 #[test]
 fn a_stream_word_has_six_parts(rt: HostRuntime) -> Result<(), Fail> {
-    for word in [
-        "a",
-        "a:i:o:1:2",
-        ":i:o:1:2:invert",
-        "a.b:i:o:1:2:invert",
-        "abcdefghijklmnopqrstuvwxyz0123456:i:o:1:2:invert",
-        "a::o:1:2:invert",
-        "a:i::1:2:invert",
-        "a:i:o::2:invert",
-        "a:i:o:1::invert",
-        "a:i:o:-1:2:invert",
-        "a:i:o:1:2x:invert",
-        "a:i:o:1:12345678901234567890:invert",
-    ] {
-        let line = format!(in rt.alloc(); "serve {word}")?;
-        let said = format!(in rt.alloc(); "y4mserve: bad stream {word}\n")?;
-        refuses(&rt, rt.alloc(), line.as_str(), said.as_str(), 2)?;
+    for word in BAD_WORDS {
+        refuses_word(&rt, rt.alloc(), word)?;
     }
-    Ok(())
-}
-
-#[test]
-fn a_long_word_is_told_whole(rt: HostRuntime) -> Result<(), Fail> {
-    let word = "0123456789".repeat(rt.alloc(), 20)?;
-    let line = format!(in rt.alloc(); "serve {word}")?;
-    let said = format!(in rt.alloc(); "y4mserve: bad stream {word}\n")?;
-    refuses(&rt, rt.alloc(), line.as_str(), said.as_str(), 2)
-}
-
-#[test]
-fn shares_are_given_in_order(rt: HostRuntime) -> Result<(), Fail> {
-    for (line, said) in [
-        (
-            "serve --workers 1 a:i:o:1:3:invert b:i:o:1:3:invert c:i:o:1:3:invert",
-            "y4mserve: Overload c\n",
-        ),
-        (
-            "serve a:i:o:5:4:invert b:i:o:0:4:invert",
-            "y4mserve: BadBandwidth a\n",
-        ),
-        ("serve a:i:o:1:1048577:invert", "y4mserve: BadBandwidth a\n"),
-        (
-            "serve --workers 1 a:i:o:4:4:invert b:i:o:1:1048576:invert c:i:o:0:4:invert",
-            "y4mserve: Overload b\n",
-        ),
-    ] {
-        refuses(&rt, rt.alloc(), line, said, 1)?;
-    }
-    Ok(())
+    let long = "0123456789".repeat(rt.alloc(), 20)?;
+    refuses_word(&rt, rt.alloc(), long.as_str())
 }
 
 /// Words for so many streams, none of which has a form.
@@ -120,39 +150,18 @@ fn formless(alloc: Global, front: &str, count: u64) -> Result<String, AllocError
     Ok(line)
 }
 
-#[test]
-fn there_are_at_most_64_streams(rt: HostRuntime) -> Result<(), Fail> {
-    for (front, count, said) in [
-        ("serve --band 3", 65, "y4mserve: bad band\n"),
-        ("serve", 65, "y4mserve: too many streams\n"),
-        ("serve", 64, "y4mserve: bad stream x\n"),
-    ] {
-        let line = formless(rt.alloc(), front, count)?;
-        refuses(&rt, rt.alloc(), line.as_str(), said, 2)?;
-    }
-    Ok(())
-}
+/// Words before those of so many streams, and what is said of them.
+const MANY: &[(&str, u64, &str)] = &[
+    ("serve --band 3", 65, "y4mserve: bad band\n"),
+    ("serve", 65, "y4mserve: too many streams\n"),
+    ("serve", 64, "y4mserve: bad stream x\n"),
+];
 
 #[test]
-fn the_parser_tells_the_ranges_of_serve(rt: HostRuntime) -> Result<(), Fail> {
-    for (line, said) in [
-        (
-            "serve --workers 17 a:i:o:1:2:invert",
-            "error: invalid value '17' for '--workers <N>': 17 is not in 1..=16\n\n\
-             For more information, try '--help'.\n",
-        ),
-        (
-            "serve --quantum 0 a:i:o:1:2:invert",
-            "error: invalid value '0' for '--quantum <K>': 0 is not in 1..=64\n\n\
-             For more information, try '--help'.\n",
-        ),
-        (
-            "serve --band 130 a:i:o:1:2:invert",
-            "error: invalid value '130' for '--band <B>': 130 is not in 2..=128\n\n\
-             For more information, try '--help'.\n",
-        ),
-    ] {
-        refuses(&rt, rt.alloc(), line, said, 2)?;
+fn there_are_at_most_64_streams(rt: HostRuntime) -> Result<(), Fail> {
+    for (front, count, said) in MANY {
+        let line = formless(rt.alloc(), front, *count)?;
+        refuses(&rt, rt.alloc(), line.as_str(), said, 2)?;
     }
     Ok(())
 }

@@ -7,80 +7,79 @@ use std::sync::Wait;
 use std::test::Fail;
 use std::thread::Threads;
 
-/// Where the first image of the first stream ends.
-const ONE_IMAGE: usize = 32;
-
 /// What is reported of the second stream.
 const OTHER: &str = "\nb accepted 3 delivered 3 charged 6 stop whole\n";
 
-#[test]
-fn a_fault_stops_its_own_stream(rt: HostRuntime) -> Result<(), Fail> {
-    let fails = Given {
-        name: "a.y4m",
-        text: &A[..ONE_IMAGE],
-        fails: true,
-    };
-    // The second frame lacks its last byte.
-    let cut = given("a.y4m", &A[..ONE_IMAGE + 9]);
-    let image = &A_INVERTED[..ONE_IMAGE];
-    for (input, most, text, row, units) in [
-        (
-            cut,
-            4096,
-            image,
-            "accepted 1 delivered 1 charged 1 stop read Truncated",
-            7,
-        ),
-        (
-            fails,
-            4096,
-            image,
-            "accepted 1 delivered 1 charged 1 stop read Device",
-            7,
-        ),
-        (
-            given("a.y4m", A),
-            22,
-            &A[..22],
-            "accepted 3 delivered 0 charged 3 stop write 22",
-            9,
-        ),
-    ] {
-        let other = OTHER;
-        let report = format!(in rt.alloc(); "a {row}{other}units {units}\n")?;
-        let expected = Expected {
-            report: report.as_str(),
-            errors: "",
-            status: 1,
-        };
-        serves_two(&rt, rt.alloc(), input, most, text, expected)?;
-    }
-    Ok(())
-}
+/// A first stream that stops: its text, whether its reads fail behind that, how many bytes its writer takes,
+/// how many bytes of its images are written, its line, and the units of all.
+type Stopped<'a> = (&'a [u8], bool, usize, usize, &'a str, u64);
+
+/// Where the first image of the first stream ends.
+const ONE_IMAGE: usize = 32;
+
+/// The second frame lacks its last byte.
+const CUT: &[u8] = b"YUV4MPEG2 W2 H2 Cmono\nFRAME\n\x00\x01\xFE\xFFFRAME\n\x10\x20\x30";
+
+const ONE: &[u8] = b"YUV4MPEG2 W2 H2 Cmono\nFRAME\n\x00\x01\xFE\xFF";
 
 /// Frames of six samples, where the header says four.
 const WIDER: &[u8] =
     b"YUV4MPEG2 W2 H2 Cmono\nFRAME\n\x00\x01\xFE\xFF\x02\x03FRAME\n\x10\x20\x30\x40\x50\x60";
 
-#[test]
-fn frames_of_another_size_are_followed_by_no_frame_line(rt: HostRuntime) -> Result<(), Fail> {
-    let report = "a accepted 1 delivered 1 charged 1 stop read NotFrame\n\
-                  b accepted 3 delivered 3 charged 6 stop whole\n\
-                  units 7\n";
-    let expected = Expected {
-        report,
-        errors: "",
-        status: 1,
-    };
-    let image = &A_INVERTED[..ONE_IMAGE];
-    serves_two(
-        &rt,
-        rt.alloc(),
-        given("a.y4m", WIDER),
+const STOPPED: &[Stopped<'_>] = &[
+    (
+        CUT,
+        false,
         4096,
-        image,
-        expected,
-    )
+        ONE_IMAGE,
+        "accepted 1 delivered 1 charged 1 stop read Truncated",
+        7,
+    ),
+    (
+        ONE,
+        true,
+        4096,
+        ONE_IMAGE,
+        "accepted 1 delivered 1 charged 1 stop read Device",
+        7,
+    ),
+    (
+        A,
+        false,
+        22,
+        22,
+        "accepted 3 delivered 0 charged 3 stop write 22",
+        9,
+    ),
+    // Frames of another size are followed by no frame line.
+    (
+        WIDER,
+        false,
+        4096,
+        ONE_IMAGE,
+        "accepted 1 delivered 1 charged 1 stop read NotFrame",
+        7,
+    ),
+];
+
+#[test]
+fn a_fault_stops_its_own_stream(rt: HostRuntime) -> Result<(), Fail> {
+    for (text, fails, most, end, row, units) in STOPPED {
+        let input = Given {
+            name: "a.y4m",
+            text,
+            fails: *fails,
+        };
+        let report = format!(in rt.alloc(); "a {row}{OTHER}units {units}\n")?;
+        let expected = Expected {
+            report: report.as_str(),
+            errors: "",
+            status: 1,
+        };
+        let images = A_INVERTED.get(..*end).ok_or("the images")?;
+        serves_two(&rt, rt.alloc(), input, *most, images, expected)?;
+    }
+    Ok(())
 }
 
 /// Runs two streams of which the first stops before the session; its output is not made.
@@ -113,32 +112,31 @@ fn stops_early<R: Abort + Threads + Wait + Sync>(
     Ok(())
 }
 
+const CROP: &str = "a:a.y4m:a.out:1:2:crop:0,0,4,4";
+
+/// The word of the first stream, its text, and how it stops.
+const EARLY: &[(&str, &[u8], &str)] = &[
+    (CROP, b"", "read Truncated"),
+    (
+        CROP,
+        b"YUV4MPEG2 W2 H2 C420p10\n",
+        "read Header UnknownChroma",
+    ),
+    (CROP, b"YUV4MPEG2 W0 H2\n", "read Header BadNumber"),
+    (CROP, A, "ops BadCrop"),
+    // Five times 8,192 bands of 2 rows.
+    (
+        "a:a.y4m:a.out:1:2:hflip+hflip+hflip+hflip+hflip",
+        b"YUV4MPEG2 W1 H16384 Cmono\n",
+        "ops TooManySteps",
+    ),
+    ("a:none.y4m:a.out:1:2:invert", A, "open"),
+    ("a:a.y4m:none/a.out:1:2:invert", A, "create"),
+];
+
 #[test]
 fn a_stream_that_stops_before_its_output_makes_none(rt: HostRuntime) -> Result<(), Fail> {
-    let crop = "a:a.y4m:a.out:1:2:crop:0,0,4,4";
-    // Five times 8,192 bands of 2 rows.
-    let mirror = "a:a.y4m:a.out:1:2:hflip+hflip+hflip+hflip+hflip";
-    for (word, text, stop) in [
-        (crop, b"".as_slice(), "read Truncated"),
-        (
-            crop,
-            b"YUV4MPEG2 W2 H2 C420p10\n".as_slice(),
-            "read Header UnknownChroma",
-        ),
-        (
-            crop,
-            b"YUV4MPEG2 W0 H2\n".as_slice(),
-            "read Header BadNumber",
-        ),
-        (crop, A, "ops BadCrop"),
-        (
-            mirror,
-            b"YUV4MPEG2 W1 H16384 Cmono\n".as_slice(),
-            "ops TooManySteps",
-        ),
-        ("a:none.y4m:a.out:1:2:invert", A, "open"),
-        ("a:a.y4m:none/a.out:1:2:invert", A, "create"),
-    ] {
+    for (word, text, stop) in EARLY {
         stops_early(&rt, rt.alloc(), word, text, stop)?;
     }
     Ok(())

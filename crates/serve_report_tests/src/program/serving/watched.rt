@@ -15,6 +15,18 @@ const ONE: &[u8] = b"YUV4MPEG2 W2 H2 Cmono\nFRAME\n1234";
 const BOTH: &str = "a accepted 3 delivered 3 charged 3 stop whole\n\
                     b accepted 1 delivered 1 charged 2 stop whole\nunits 5\n";
 
+/// What a watch is told of a run: how often streams begin, the frames of both, and how often all ends.
+type Said = (u64, (u64, u64, u64), (u64, u64, u64), u64);
+
+fn said_to(watch: &Told<'_>) -> Said {
+    (
+        watch.begun(),
+        watch.frames(0),
+        watch.frames(1),
+        watch.ended(),
+    )
+}
+
 /// Serves two streams under a watch, the first from this file.
 fn serves_two_under(
     rt: &(impl Abort + Threads + Wait + Sync),
@@ -43,10 +55,8 @@ fn serves_two_under(
 fn frames_are_told_as_those_of_their_stream(rt: HostRuntime) -> Result<(), Fail> {
     let watch = Told::of_streams(&["a", "b"]);
     serves_two_under(&rt, rt.alloc(), TWO, "a.y4m", &watch, BOTH, 0)?;
-    assert_eq!(rt; watch.begun(), 1);
-    assert_eq!(rt; watch.frames(0), (3, 3, 22 + 3 * (6 + 4)));
-    assert_eq!(rt; watch.frames(1), (1, 1, 22 + 6 + 4));
-    assert_eq!(rt; watch.ended(), 1);
+    let wanted = (1, (3, 3, 22 + 3 * (6 + 4)), (1, 1, 22 + 6 + 4), 1);
+    assert_eq!(rt; said_to(&watch), wanted);
     Ok(())
 }
 
@@ -56,10 +66,7 @@ fn a_stream_keeps_its_number_where_one_before_it_stops(rt: HostRuntime) -> Resul
     let report = "a accepted 0 delivered 0 charged 0 stop open\n\
                   b accepted 1 delivered 1 charged 2 stop whole\nunits 2\n";
     serves_two_under(&rt, rt.alloc(), TWO, "elsewhere", &watch, report, 1)?;
-    assert_eq!(rt; watch.begun(), 1);
-    assert_eq!(rt; watch.frames(0), (0, 0, 0));
-    assert_eq!(rt; watch.frames(1), (1, 1, 32));
-    assert_eq!(rt; watch.ended(), 1);
+    assert_eq!(rt; said_to(&watch), (1, (0, 0, 0), (1, 1, 32), 1));
     Ok(())
 }
 
@@ -73,10 +80,7 @@ fn nothing_is_told_of_a_quiet_run_or_to_a_watch_that_follows_none(
         (TWO, Told::of_none(&["a", "b"])),
     ] {
         serves_two_under(&rt, rt.alloc(), line, "a.y4m", &watch, BOTH, 0)?;
-        assert_eq!(rt; watch.begun(), 0);
-        assert_eq!(rt; watch.frames(0), (0, 0, 0));
-        assert_eq!(rt; watch.frames(1), (0, 0, 0));
-        assert_eq!(rt; watch.ended(), 0);
+        assert_eq!(rt; said_to(&watch), (0, (0, 0, 0), (0, 0, 0), 0));
     }
     Ok(())
 }
@@ -92,7 +96,6 @@ fn no_stream_begins_where_the_words_are_wrong(rt: HostRuntime) -> Result<(), Fai
     };
     let line = "serve a:a.y4m:a.out:1:2:blur:9";
     serves_under(&rt, rt.alloc(), line, &files, &watch, expected)?;
-    assert_eq!(rt; watch.begun(), 0);
-    assert_eq!(rt; watch.ended(), 0);
+    assert_eq!(rt; said_to(&watch), (0, (0, 0, 0), (0, 0, 0), 0));
     Ok(())
 }
