@@ -16,6 +16,19 @@ fn replay_into<R: Read + Drop, W: Write>(
     (output.into_inner(), outcome)
 }
 
+/// Replays what a reader gives into memory, which refuses bytes for want of memory alone.
+fn replay_into_memory<R: Read + Drop>(
+    alloc: Global,
+    input: R,
+) -> (Vec<u8>, Result<bool, ReplayFault>) {
+    let (printed, outcome) = replay_into(alloc, input, Vec::new(alloc));
+    let outcome = match outcome {
+        Err(ReplayFault::Write) => Err(ReplayFault::NoMemory),
+        told => told,
+    };
+    (printed, outcome)
+}
+
 /// Replays what a reader gives, and compares what it prints and answers.
 fn expect_replay<R: Read + Drop>(
     rt: &impl Abort,
@@ -24,7 +37,7 @@ fn expect_replay<R: Read + Drop>(
     lines: &str,
     whole: bool,
 ) {
-    let (printed, outcome) = replay_into(alloc, script, Vec::new(alloc));
+    let (printed, outcome) = replay_into_memory(alloc, script);
     assert_eq!(rt; outcome, Ok(whole));
     assert_eq!(rt; str::from_utf8(&printed), Ok(lines));
 }
@@ -266,7 +279,7 @@ fn a_failed_read_prints_nothing(rt: HostRuntime) {
     let input = Torn {
         rest: b"account 2 10\ncharge 1\n",
     };
-    let (printed, outcome) = replay_into(rt.alloc(), input, Vec::new(rt.alloc()));
+    let (printed, outcome) = replay_into_memory(rt.alloc(), input);
     assert_eq!(rt; outcome, Err(ReplayFault::Read));
     assert!(rt; printed.is_empty());
 }
@@ -339,7 +352,7 @@ fn a_long_script_of_great_charges_is_run_to_its_end(rt: HostRuntime) -> Result<(
     let charges = "charge 1099511627776\n".repeat(rt.alloc(), 49_931)?;
     script.push_str(charges.as_str())?;
     assert_eq!(rt; script.len(), 1_048_575);
-    let (printed, outcome) = replay_into(rt.alloc(), script.as_bytes(), Vec::new(rt.alloc()));
+    let (printed, outcome) = replay_into_memory(rt.alloc(), script.as_bytes());
     assert_eq!(rt; outcome, Ok(true));
     // Each charge of 2^40 units puts the deadline off by 2^40.
     let end = b"\nbudget 1048576 deadline 54899715086483456\n".as_slice();
