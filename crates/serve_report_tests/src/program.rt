@@ -159,9 +159,9 @@ const STREAMS: &[Run<'_>] = &[
         "y4mserve: TooManyOps\n",
         2,
     ),
-    // Where a band has 16 rows, four blurs cost a frame of 16,384 rows 1,024 times 32 units, which is the most
-    // that it may cost. In bands of 14 rows it would be 1,171 times 32, and in bands of 18 rows one operation
-    // more would be let in too: 911 times 33.
+    // Where a band has 16 rows, four blurs cost a frame of 16,384 rows 1,024 times 32 units, which is the
+    // most that it may cost. In bands of 14 rows it would be 1,171 times 32, and in bands of 18 rows one
+    // operation more would be let in too: 911 times 33.
     ("filter blur:7+blur:7+blur:7+blur:7", TALL, TALL, "", 0),
     (
         "filter blur:7+blur:7+blur:7+blur:7+hflip",
