@@ -7,6 +7,7 @@ use crate::geometry::Geometry;
 use crate::lend_planes;
 use crate::plane::Plane;
 use std::alloc::{AllocError, Global};
+use std::fmt;
 use thiserror::Error;
 
 /// One frame: its geometry, its frame line without the line feed, and the samples of its planes.
@@ -24,10 +25,19 @@ pub struct Frame {
 
 /// The data isn't as long as the geometry asks. The line and the data that were handed over come back.
 #[derive(Debug, Drop, Error)]
-#[error("WrongLength")]
 pub struct WrongLength {
     pub line: Vec<u8>,
     pub samples: Vec<u8>,
+}
+
+impl fmt::Display for WrongLength {
+    ghost use Rattle.std.specs.Prelude.{Some, codes};
+
+    ghost output = { λ _. Some (codes "WrongLength") };
+
+    fn fmt<W: fmt::Write>(&self, f: &mut fmt::Formatter<W>) -> fmt::Result {
+        f.write_str("WrongLength")
+    }
 }
 
 impl Frame {

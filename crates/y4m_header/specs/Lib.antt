@@ -5,5 +5,6 @@ pub mod Line
 pub mod HeaderLine
 pub mod FrameLine
 pub mod Refusal
+pub mod Words
 pub mod Resized
 pub mod StreamText
