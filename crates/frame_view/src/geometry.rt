@@ -92,7 +92,7 @@ impl Geometry {
         }
     }
 
-    /// The bytes of a frame's data, one for each sample; at most 67,108,864.
+    /// The bytes of a frame's data, one for each sample.
     #[tactic(auto, using(crate::proofs::Places::planes_fill))]
     pub fn bytes(self) -> usize
         ensures value { result ≡ frame_len self }

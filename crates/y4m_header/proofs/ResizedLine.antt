@@ -13,8 +13,7 @@ use Rattle.std.proofs.lemmas.List.Splits.{slice_split_at, slice_split_first, joi
 use Rattle.std.proofs.Math.Nat.{mul-le-mul}
 use Rattle.y4m_header.specs.declared.chroma.Chroma.{Chroma}
 use Rattle.y4m_header.specs.declared.chroma.Chroma.TheVariants.{S420, S422, S411, S444, S444Alpha, Mono}
-use Rattle.y4m_header.specs.declared.limits.TheConstants.{LONGEST_SIDE}
-use Rattle.y4m_header.specs.declared.line.TheConstants.{LONGEST_LINE}
+use Rattle.y4m_header.specs.declared.limits.TheConstants.{LONGEST_LINE, LONGEST_SIDE}
 use Rattle.y4m_header.specs.Chroma.{data_len}
 use Rattle.y4m_header.specs.Line.{space, pieces, word, tag_value, values}
 use Rattle.y4m_header.specs.HeaderLine.{width_letter, height_letter, chroma_letter, widths, heights}

@@ -5,8 +5,7 @@ use Rattle.std.specs.Str.Parse.{digits_value}
 use Rattle.std.proofs.lemmas.Bool.Decides.{nat_tests}
 use Rattle.std.proofs.lemmas.Fmt.{digits_decimal, decimal_is_IsNumeral, digits_value-decimal}
 use Rattle.std.proofs.lemmas.Fmt.{length-decimal-le}
-use Rattle.y4m_header.specs.declared.limits.TheConstants.{LONGEST_SIDE}
-use Rattle.y4m_header.specs.declared.size.TheConstants.{MOST_SIZE_DIGITS}
+use Rattle.y4m_header.specs.declared.limits.TheConstants.{LONGEST_SIDE, MOST_SIZE_DIGITS}
 use Rattle.y4m_header.specs.Text.{is_number}
 use Rattle.y4m_header.specs.HeaderLine.{IsSize}
 use Rattle.y4m_header.proofs.Numbers.{AreDigits, numerals, each_digit, digits_value-lt}

@@ -2,8 +2,7 @@
 use Rattle.std.specs.Prelude.{◌≡◌, ℕ, ◌%◌, ◌<◌, ◌≤◌, List, [], ◌∷◌, length, IsTrue, codes, slice_get}
 use Rattle.std.specs.Str.Parse.{digits_value}
 use Rattle.y4m_header.specs.declared.chroma.Chroma.{Chroma}
-use Rattle.y4m_header.specs.declared.limits.TheConstants.{LONGEST_SIDE, LARGEST_DATA}
-use Rattle.y4m_header.specs.declared.size.TheConstants.{MOST_SIZE_DIGITS}
+use Rattle.y4m_header.specs.declared.limits.TheConstants.{LONGEST_SIDE, LARGEST_DATA, MOST_SIZE_DIGITS}
 use Rattle.y4m_header.specs.Chroma.{NamesChroma, horizontal_divisor, vertical_divisor, data_len}
 use Rattle.y4m_header.specs.Line.{IsLine, word, values}
 use Rattle.y4m_header.specs.Text.{is_number}

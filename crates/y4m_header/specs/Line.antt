@@ -2,7 +2,7 @@
 use Rattle.std.specs.Prelude.{◌≢◌, ℕ, ◌≤◌, List, [], ◌∷◌, length, drop, Option, Some, None, All}
 use Rattle.std.specs.Prelude.{if◌then◌else◌, ◌==◌}
 use Rattle.std.specs.List.{filter_map, before_first}
-use Rattle.y4m_header.specs.declared.line.TheConstants.{LONGEST_LINE}
+use Rattle.y4m_header.specs.declared.limits.TheConstants.{LONGEST_LINE}
 use Rattle.y4m_header.specs.Text.{parts}
 
 -- the byte behind each line

@@ -9,8 +9,8 @@ use thiserror::Error;
 /// Why a line is no header line, or no frame line.
 #[derive(Clone, Copy, Debug, PartialEq, Eq, Error)]
 pub enum HeaderError {
-    /// The line isn't `YUV4MPEG2` followed by its end or a space, holds a line feed, or is longer than 1,023
-    /// bytes.
+    /// The line isn't `YUV4MPEG2` followed by its end or a space, holds a line feed, or is longer than
+    /// `LONGEST_LINE`.
     NotY4m,
     /// A value of W or H isn't 1 to 9 digits that stand for at least 1.
     BadNumber,
@@ -26,8 +26,8 @@ pub enum HeaderError {
     TooLarge,
     /// There was no memory for the line.
     NoMemory,
-    /// The line isn't `FRAME` followed by its end or a space, holds a line feed, or is longer than 1,023
-    /// bytes.
+    /// The line isn't `FRAME` followed by its end or a space, holds a line feed, or is longer than
+    /// `LONGEST_LINE`.
     NotFrame,
 }
 

@@ -1,10 +1,19 @@
-// Which sizes go with a chroma form.
+// The limits of what is read, and which sizes go with a chroma form.
 ghost use Rattle.std.specs.Prelude.{◌≡◌, ◌≤◌, ◌↔◌, IsTrue, MatchBool};
 ghost use Rattle.y4m_header.specs.Chroma.{data_len};
 ghost use Rattle.y4m_header.specs.HeaderLine.{IsDivided, IsWithinLimits};
 ghost use Rattle.y4m_header.specs.Refusal.{IsTooLarge};
 
 use crate::chroma::Chroma;
+
+/// The longest line, without its line feed.
+pub const LONGEST_LINE: usize = 1023;
+
+/// So many decimal digits write a number of 64 bits, whatever they are.
+pub const MOST_DIGITS: usize = 19;
+
+/// The most digits of a width or a height.
+pub const MOST_SIZE_DIGITS: usize = 9;
 
 /// The greatest width and the greatest height, in pixels.
 pub const LONGEST_SIDE: u32 = 16_384;

@@ -2,10 +2,8 @@
 ghost use Rattle.std.specs.Prelude.{◌≡◌, ◌↔◌, IsTrue};
 ghost use Rattle.y4m_header.specs.Line.{IsLine, word};
 
+use crate::limits::LONGEST_LINE;
 use crate::text::cut;
-
-/// The longest line, without its line feed.
-pub const LONGEST_LINE: usize = 1023;
 
 /// Whether the bytes are a line.
 pub fn is_line(line: &[u8]) -> bool

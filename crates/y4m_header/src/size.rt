@@ -3,10 +3,8 @@ ghost use Rattle.std.specs.Prelude.{◌≡◌, ◌↔◌, IsTrue};
 ghost use Rattle.std.specs.Str.Parse.{digits_value};
 ghost use Rattle.y4m_header.specs.HeaderLine.{IsSize};
 
+use crate::limits::MOST_SIZE_DIGITS;
 use crate::text::{decimal_number, digits_value};
-
-/// The most digits that a size has.
-pub const MOST_SIZE_DIGITS: usize = 9;
 
 /// Whether a value of W or H is one that such a tag may have.
 pub fn is_size(value: &[u8]) -> bool

@@ -7,8 +7,7 @@ ghost use Rattle.std.specs.Option.{option_copied};
 ghost use Rattle.std.specs.Str.Parse.{digits_value};
 ghost use Rattle.y4m_header.specs.Text.{number_of, parts, parts_left, text_after};
 
-/// So many decimal digits write a number of 64 bits, whatever they are.
-pub const MOST_DIGITS: usize = 19;
+pub use crate::limits::MOST_DIGITS;
 
 /// The index of the first byte of this value.
 pub fn place_of(byte: u8, text: &[u8]) -> Option<usize>
