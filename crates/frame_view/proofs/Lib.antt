@@ -6,6 +6,5 @@ pub mod Over
 pub mod Written
 pub mod Parted
 pub mod LentTogether
-pub mod PutRow
 pub mod Filled
 pub mod OtherRows

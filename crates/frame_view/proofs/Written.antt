@@ -6,7 +6,7 @@ use Rattle.frame_view.specs.declared.geometry.Geometry.{Geometry}
 use Rattle.frame_view.specs.declared.frame.Frame.{Frame}
 use Rattle.frame_view.specs.Places.{plane_width, plane_height, row_start}
 use Rattle.frame_view.specs.Written.{IsRows, HasRows}
-use Rattle.frame_view.specs.Lending.{with_samples}
+use Rattle.frame_view.specs.Lending.{with_samples, with_rows}
 use Rattle.frame_view.proofs.Places.{row_in_frame}
 use Rattle.frame_view.proofs.Gaps.{gap, row_gap, row_below}
 use Rattle.frame_view.specs.Rows.{sample, run_of}
@@ -36,6 +36,15 @@ lent_rows picture p from to old ws hp hf ht h =
       before = λ i l. rw e (over-before old.samples.items at ws i room' l);
       after = λ i l. rw e (over-after old.samples.items at ws i room' (omega arith));
     }
+
+-- a row that comes back in its place is the row of the frame
+pub put_back : (p y : ℕ) (old : Frame) (row new : List ℕ) → p < plane_count old.geometry.chroma → y < plane_height old.geometry p
+    → length row ≡ plane_width old.geometry p → new ≡ row → HasRows (λ _ _ x. slice_index row x) p y (y + 1) old (with_rows old p y new)
+put_back p y old row new hp hy r e =
+    rw e (lent_rows (λ _ _ x. slice_index row x) p y (y + 1) old row hp (omega arith) (omega arith) (record {
+      len = grind arith;
+      samples = λ z x a b l. ap (slice_index row) (let d : z - y ≡ 0 = omega arith in rw d (omega arith));
+    }))
 
 either_side : (y f : ℕ) → (y < f) ⊎ (f ≤ y)
 either_side y f = grind arith

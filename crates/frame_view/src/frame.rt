@@ -106,13 +106,7 @@ impl Frame {
         requires columns { length row.now ≡ plane_width self.old.geometry p }
         ensures { HasRows (λ _ _ x. slice_index row.now x) p y (y + 1) self.old self.new }
     {
-        lend_planes!(&mut *self => luma, cb, cr, alpha);
-        match p {
-            0 => luma.put_row(y, row),
-            1 => cb.put_row(y, row),
-            2 => cr.put_row(y, row),
-            _ => alpha.put_row(y, row),
-        }
+        self.row_mut(p, y).copy_from_slice(row);
     }
 
     /// Its size and the sampling of its chroma planes; they never change.
