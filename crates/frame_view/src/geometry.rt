@@ -33,7 +33,7 @@ pub struct PlaneSize {
 }
 
 /// One of the four planes that a frame lends at once; a plane that it hasn't has no columns and no samples.
-#[derive(Clone, Copy, Debug, PartialEq, Eq)]
+#[derive(Clone, Copy)]
 pub struct LentPlane {
     pub columns: usize,
     /// The samples of all its rows.
@@ -41,7 +41,7 @@ pub struct LentPlane {
 }
 
 /// The four planes that a frame lends at once.
-#[derive(Clone, Copy, Debug, PartialEq, Eq)]
+#[derive(Clone, Copy)]
 pub struct LentPlanes {
     pub luma: LentPlane,
     pub cb: LentPlane,

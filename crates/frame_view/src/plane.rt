@@ -5,7 +5,7 @@ ghost use Rattle.std.specs.Prelude.{◌≡◌, ◌*◌, length};
 ///
 /// It is a list of rows, from the top; each has as many samples as the plane has columns. A sample is one
 /// byte.
-#[derive(Clone, Copy, Debug)]
+#[derive(Clone, Copy)]
 pub struct Plane<'a> {
     pub columns: usize,
     pub rows: usize,

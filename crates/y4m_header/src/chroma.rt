@@ -18,7 +18,7 @@ pub enum Chroma {
 }
 
 /// The horizontal and the vertical divisor of the planes Cb and Cr.
-#[derive(Clone, Copy, Debug, PartialEq, Eq)]
+#[derive(Clone, Copy)]
 pub struct Divisors {
     pub horizontal: u32,
     pub vertical: u32,

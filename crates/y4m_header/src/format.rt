@@ -12,7 +12,7 @@ use crate::line::{is_line, word};
 use crate::size::stated_size;
 use crate::tags::{all_sizes, tags_with};
 
-#[derive(Clone, Copy, Debug)]
+#[derive(Clone, Copy)]
 pub struct Format {
     pub width: u32,
     pub height: u32,

@@ -18,7 +18,7 @@ fn tag_value(letter: u8, piece: &[u8]) -> Option<&[u8]>
 }
 
 /// The tags of a line that have one letter.
-#[derive(Clone, Copy, Debug)]
+#[derive(Clone, Copy)]
 pub struct Tags<'a> {
     /// What the first of them says.
     pub first: Option<&'a [u8]>,
