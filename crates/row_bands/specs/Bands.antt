@@ -37,3 +37,7 @@ EachRowInOneBand g b = (p y : ℕ) → p < plane_count g.chroma → y < plane_he
 -- to a multiple of the vertical divisor
 abbrev pub half_row : Geometry → ℕ → ℕ → ℕ
 half_row g from to = (from + (to - from) / 2) / vertical_divisor g.chroma * vertical_divisor g.chroma
+
+-- the luma rows from one on to another can be halved: some of them stand above the row that halves them
+abbrev pub CanBeHalved : Geometry → ℕ → ℕ → Type 0
+CanBeHalved g from to = from < half_row g from to

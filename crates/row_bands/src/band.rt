@@ -25,7 +25,7 @@ impl Band<'_> {
     ghost use Rattle.frame_view.specs.Places.{plane_width, plane_height};
     ghost use Rattle.frame_view.specs.Rows.{row_of};
     ghost use Rattle.frame_view.specs.Frame.{samples_of};
-    ghost use Rattle.row_bands.specs.Bands.{rows_above, half_row};
+    ghost use Rattle.row_bands.specs.Bands.{rows_above, half_row, CanBeHalved};
     ghost use Rattle.row_bands.specs.Band.{band_frame, band_geometry};
     ghost use Rattle.row_bands.specs.Halves.{part_of};
     ghost use Rattle.row_bands.specs.Lending.{LendsBandRows, LendsPlane};
@@ -51,8 +51,7 @@ impl Band<'_> {
     /// rows. None where the upper one would have no rows.
     #[tactic(auto, using(crate::proofs::Bands::half_above_middle, crate::proofs::Bands::half_is_whole))]
     pub fn half(&self) -> Option<usize>
-        ensures there { IsSome result
-            ↔ (self.now.from < half_row (band_geometry self.now) self.now.from self.now.to) }
+        ensures there { IsSome result ↔ CanBeHalved (band_geometry self.now) self.now.from self.now.to }
         ensures value { IfSome result
             (λ row. row ≡ half_row (band_geometry self.now) self.now.from self.now.to) }
         ensures whole { IfSome result (λ row. row % vertical_divisor (band_geometry self.now).chroma ≡ 0) }
