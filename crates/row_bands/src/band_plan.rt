@@ -5,6 +5,7 @@ ghost use Rattle.frame_view.specs.Places.{plane_height};
 ghost use Rattle.row_bands.specs.Bands.{band_count, rows_above, luma_from, luma_to, EachRowInOneBand};
 
 use crate::band_height::BandHeight;
+use crate::limits::MOST_BANDS;
 use frame_view::{Geometry, is_chroma_plane};
 
 /// The bands of a frame, from the top: each has the rows of the same part of the picture in every plane.
@@ -28,7 +29,7 @@ impl BandPlan {
     pub fn count(self) -> usize
         ensures value { result ≡ band_count self.geometry self.height.rows }
         ensures some { 1 ≤ result }
-        ensures few { result ≤ 8192 }
+        ensures few { result ≤ MOST_BANDS }
     {
         (self.geometry.height as usize).div_ceil(self.height.rows())
     }
