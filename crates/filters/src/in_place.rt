@@ -1,10 +1,11 @@
 // Tables on a frame in its own place.
-ghost use Rattle.std.specs.Prelude.{◌≡◌, ◌-◌, map, nat_le, min, max, if◌then◌else◌};
+ghost use Rattle.std.specs.Prelude.{◌≡◌, map};
 ghost use Rattle.frame_view.specs.Frame.{line_of};
 ghost use Rattle.filters.specs.declared.op.Op.{Op};
 ghost use Rattle.filters.specs.Pixel.{luma_entry, chroma_entry};
 ghost use Rattle.filters.specs.ChainImage.{IsImage, value_of};
 
+use crate::mapping::{AtLeast, Inverted, Within, map_in_place};
 use crate::op::Table;
 use frame_view::{Frame, lend_planes};
 
@@ -24,9 +25,9 @@ fn change_luma(table: Table, samples: &mut [u8])
     ensures { samples.new ≡ map (luma_entry table) samples.old }
 {
     match table {
-        Table::Invert => invert(samples),
-        Table::Threshold(limit) => threshold(limit, samples),
-        Table::Clamp { low, high } => clamp(low, high, samples),
+        Table::Invert => map_in_place(Inverted, samples),
+        Table::Threshold(limit) => map_in_place(AtLeast(limit), samples),
+        Table::Clamp { low, high } => map_in_place(Within { low, high }, samples),
     }
 }
 
@@ -34,32 +35,8 @@ fn change_chroma(table: Table, samples: &mut [u8])
     ensures { samples.new ≡ map (chroma_entry table) samples.old }
 {
     match table {
-        Table::Invert => invert(samples),
+        Table::Invert => map_in_place(Inverted, samples),
         Table::Threshold(_) => samples.fill(128),
         Table::Clamp { .. } => {}
-    }
-}
-
-fn invert(samples: &mut [u8])
-    ensures { samples.new ≡ map (λ v. 255 - v) samples.old }
-{
-    for i in 0..samples.len() {
-        samples[i] = 255 - samples[i];
-    }
-}
-
-fn threshold(limit: u8, samples: &mut [u8])
-    ensures { samples.new ≡ map (λ v. if nat_le limit v then 255 else 0) samples.old }
-{
-    for i in 0..samples.len() {
-        samples[i] = if samples[i] >= limit { 255 } else { 0 };
-    }
-}
-
-fn clamp(low: u8, high: u8, samples: &mut [u8])
-    ensures { samples.new ≡ map (λ v. min (max v low) high) samples.old }
-{
-    for i in 0..samples.len() {
-        samples[i] = samples[i].max(low).min(high);
     }
 }

@@ -8,6 +8,7 @@ pub mod error;
 mod flip;
 pub mod in_place;
 pub mod limits;
+mod mapping;
 mod number;
 pub mod op;
 pub mod ops_text;

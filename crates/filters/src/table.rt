@@ -1,7 +1,8 @@
 // Rows through a table.
-ghost use Rattle.std.specs.Prelude.{◌≡◌, ◌-◌, length, map, nat_le, min, max, if◌then◌else◌};
+ghost use Rattle.std.specs.Prelude.{◌≡◌, length, map};
 ghost use Rattle.filters.specs.Pixel.{entry, luma_entry, chroma_entry};
 
+use crate::mapping::{AtLeast, Inverted, Within, map_row};
 use crate::op::Table;
 use frame_view::is_chroma_plane;
 
@@ -24,9 +25,9 @@ fn luma_row(table: Table, source: &[u8], target: &mut [u8])
     ensures { target.new ≡ map (luma_entry table) source.now }
 {
     match table {
-        Table::Invert => invert_row(source, target),
-        Table::Threshold(limit) => threshold_row(limit, source, target),
-        Table::Clamp { low, high } => clamp_row(low, high, source, target),
+        Table::Invert => map_row(Inverted, source, target),
+        Table::Threshold(limit) => map_row(AtLeast(limit), source, target),
+        Table::Clamp { low, high } => map_row(Within { low, high }, source, target),
     }
 }
 
@@ -35,35 +36,8 @@ fn chroma_row(table: Table, source: &[u8], target: &mut [u8])
     ensures { target.new ≡ map (chroma_entry table) source.now }
 {
     match table {
-        Table::Invert => invert_row(source, target),
+        Table::Invert => map_row(Inverted, source, target),
         Table::Threshold(_) => target.fill(128),
         Table::Clamp { .. } => target.copy_from_slice(source),
-    }
-}
-
-fn invert_row(source: &[u8], target: &mut [u8])
-    requires { length source.now ≡ length target.old }
-    ensures { target.new ≡ map (λ v. 255 - v) source.now }
-{
-    for i in 0..source.len() {
-        target[i] = 255 - source[i];
-    }
-}
-
-fn threshold_row(limit: u8, source: &[u8], target: &mut [u8])
-    requires { length source.now ≡ length target.old }
-    ensures { target.new ≡ map (λ v. if nat_le limit v then 255 else 0) source.now }
-{
-    for i in 0..source.len() {
-        target[i] = if source[i] >= limit { 255 } else { 0 };
-    }
-}
-
-fn clamp_row(low: u8, high: u8, source: &[u8], target: &mut [u8])
-    requires { length source.now ≡ length target.old }
-    ensures { target.new ≡ map (λ v. min (max v low) high) source.now }
-{
-    for i in 0..source.len() {
-        target[i] = source[i].max(low).min(high);
     }
 }
