@@ -9,7 +9,7 @@ use Rattle.frame_view.specs.declared.geometry.Geometry.{Geometry}
 use Rattle.filters.specs.declared.op.Op.{Op}
 use Rattle.filters.specs.declared.op.Op.TheVariants.{Table, HFlip, VFlip, Crop, Blur}
 use Rattle.filters.specs.declared.op.Crop.{Crop as Rectangle}
-use Rattle.filters.specs.Image.{HasGoodRadius, IsRectangleOf, IsDoable}
+use Rattle.filters.specs.Ops.{HasGoodRadius, IsRectangleOf, IsDoable}
 use Rattle.filters.specs.Chain.{ChainValue, Format, IsImageGeometry, format_of, format_after, format_at}
 use Rattle.filters.specs.Chain.{last_format, AreDoable}
 use Rattle.filters.proofs.Doable.{IsDoable-prop}

@@ -8,9 +8,9 @@ use Rattle.std.proofs.lemmas.List.Sums.{sum_by_more, sum_by-cons}
 use Rattle.frame_view.specs.declared.geometry.Geometry.{Geometry}
 use Rattle.filters.specs.declared.op.Op.{Op}
 use Rattle.filters.specs.Chain.{Format, IsImageGeometry, format_of, format_after, last_format}
-use Rattle.filters.specs.Image.{image_height}
+use Rattle.filters.specs.Ops.{image_height, op_cost}
 use Rattle.filters.specs.Steps.{band_counts, step_count}
-use Rattle.filters.specs.Costs.{costs_by, op_cost}
+use Rattle.filters.specs.Costs.{costs_by}
 use Rattle.filters.proofs.Costs.{sum_of_run}
 use Rattle.filters.specs.ChainOutputs.{formats_after, AreOutputs, output_counts}
 

@@ -5,7 +5,7 @@ use Rattle.std.specs.Int.{div_ceil}
 use Rattle.std.proofs.lemmas.Bool.{cases_order}
 use Rattle.std.proofs.lemmas.List.Sums.{sum_by_more}
 use Rattle.filters.specs.declared.op.Op.{Op}
-use Rattle.filters.specs.Image.{image_height}
+use Rattle.filters.specs.Ops.{image_height}
 use Rattle.filters.specs.Chain.{ChainValue, Format, format_of, format_at, format_after, last_format}
 use Rattle.frame_view.specs.declared.geometry.Geometry.{Geometry}
 use Rattle.row_bands.specs.Bands.{band_count}

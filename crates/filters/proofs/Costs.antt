@@ -15,10 +15,10 @@ use Rattle.filters.specs.declared.chain.steps.StepRun.{StepRun}
 use Rattle.filters.specs.declared.op.Op.{Op}
 use Rattle.filters.specs.declared.op.Op.TheVariants.{Table, HFlip, VFlip, Crop, Blur}
 use Rattle.frame_view.specs.declared.geometry.Geometry.{Geometry}
-use Rattle.filters.specs.Image.{HasGoodRadius, IsDoable, image_height}
+use Rattle.filters.specs.Ops.{HasGoodRadius, IsDoable, image_height, op_cost}
 use Rattle.filters.specs.Chain.{ChainValue}
 use Rattle.filters.specs.Steps.{band_counts, counts_of, IsStep}
-use Rattle.filters.specs.Costs.{op_cost, costs_by, step_costs, IsRun}
+use Rattle.filters.specs.Costs.{costs_by, step_costs, IsRun}
 use Rattle.filters.proofs.ChainSteps.{one_step}
 
 pub some_cost : (op : Op) → 1 ≤ op_cost op

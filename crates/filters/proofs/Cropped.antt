@@ -9,7 +9,7 @@ use Rattle.frame_view.specs.Places.{plane_width, plane_height, by_plane, is_chro
 use Rattle.filters.specs.declared.op.Op.TheVariants.{Crop}
 use Rattle.filters.specs.declared.op.Crop.{Crop as Rectangle}
 use Rattle.filters.specs.Pixel.{offset}
-use Rattle.filters.specs.Image.{IsRectangleOf}
+use Rattle.filters.specs.Ops.{IsRectangleOf}
 use Rattle.filters.specs.Chain.{IsImageGeometry}
 
 quotients_across : (c : Chroma) (x w n : ℕ) → x % horizontal_divisor c ≡ 0 → x + w ≤ n

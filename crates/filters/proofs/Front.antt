@@ -15,7 +15,8 @@ use Rattle.filters.specs.declared.op.Op.{Op}
 use Rattle.filters.specs.declared.op.Op.TheVariants.{Table, HFlip, VFlip, Crop, Blur}
 use Rattle.filters.specs.declared.op.Table.{Table as TableOp}
 use Rattle.filters.specs.Chain.{ChainValue, Format, last_format}
-use Rattle.filters.specs.Front.{KeepLines, front_of, image_in, is_table, last_canvas}
+use Rattle.filters.specs.Ops.{is_table}
+use Rattle.filters.specs.Front.{KeepLines, front_of, image_in, last_canvas}
 
 -- tables leave the format
 pub front_format : (ops : List Op) (format : Format)

@@ -1,11 +1,11 @@
 -- Operations that follow one another: the formats between them, and whether each can be done.
-use Rattle.std.specs.Prelude.{◌≡◌, ℕ, ◌≤◌, List, [], ◌∷◌, take, Bool, true, false, ⊤}
+use Rattle.std.specs.Prelude.{◌≡◌, ℕ, ◌≤◌, List, [], ◌∷◌, take, ⊤}
 use Rattle.y4m_header.specs.declared.chroma.Chroma.{Chroma}
 use Rattle.frame_view.specs.declared.geometry.Geometry.{Geometry}
 use Rattle.row_bands.specs.declared.band_height.BandHeight.{BandHeight}
 use Rattle.filters.specs.declared.op.Op.{Op}
-use Rattle.filters.specs.declared.op.Op.TheVariants.{Table, HFlip, VFlip, Crop, Blur}
-use Rattle.filters.specs.Image.{IsDoable, image_width, image_height}
+use Rattle.filters.specs.Ops.{IsDoable, image_width, image_height}
+pub use Rattle.filters.specs.Ops.{is_crop}
 
 -- the size of frames, and how their chroma planes are sampled
 pub record Format : Type 0 where
@@ -42,13 +42,6 @@ AreDoable (op ∷ ops) g =
 pub record IsChainLength (count : ℕ) : Type 0 where
   pub some : 1 ≤ count
   pub few : count ≤ 8
-
-abbrev pub is_crop : Op → Bool
-is_crop (Table table) = false
-is_crop HFlip = false
-is_crop VFlip = false
-is_crop (Crop crop) = true
-is_crop (Blur blur) = false
 
 -- what a chain is: its operations, in order, the geometry that it was made for, and the height of its bands
 pub record ChainValue : Type 0 where

@@ -2,19 +2,11 @@
 use Rattle.std.specs.Prelude.{◌≡◌, ℕ, ◌+◌, ◌≤◌, List, [], ◌∷◌, ◌++◌, drop, replicate, sum, slice_index}
 use Rattle.std.specs.Int.{div_ceil}
 use Rattle.filters.specs.declared.op.Op.{Op}
-use Rattle.filters.specs.declared.op.Op.TheVariants.{Table, HFlip, VFlip, Crop, Blur}
 use Rattle.filters.specs.declared.chain.steps.StepRun.{StepRun}
-use Rattle.filters.specs.Image.{image_height}
+use Rattle.filters.specs.Ops.{image_height}
+pub use Rattle.filters.specs.Ops.{op_cost}
 use Rattle.filters.specs.Chain.{ChainValue}
 use Rattle.filters.specs.Steps.{IsStep, counts_of, steps_of}
-
--- what one band of an operation costs
-abbrev pub op_cost : Op → ℕ
-op_cost (Table table) = 1
-op_cost HFlip = 1
-op_cost VFlip = 1
-op_cost (Crop crop) = 1
-op_cost (Blur blur) = 1 + blur.radius
 
 -- the costs of the steps of a frame of h rows: each operation's cost, for each band of b rows of its output
 abbrev pub costs_by : List Op → ℕ → ℕ → List ℕ

@@ -1,23 +1,15 @@
 -- The tables in front of a chain, which are done in the frame itself, and canvases for the operations behind
 -- them.
 use Rattle.std.specs.Prelude.{◌≡◌, ℕ, ◌+◌, ◌-◌, ◌<◌, List, length, slice_get, slice_index_or, Option}
-use Rattle.std.specs.Prelude.{Bool, true, false, option_map, unwrap_or}
+use Rattle.std.specs.Prelude.{option_map, unwrap_or}
 use Rattle.std.specs.List.{prefix_len}
 use Rattle.frame_view.specs.declared.frame.Frame.{Frame}
 use Rattle.frame_view.specs.Frame.{line_of}
 use Rattle.row_bands.specs.declared.canvas.Canvas.{Canvas}
 use Rattle.row_bands.specs.Canvas.{frame_of}
-use Rattle.filters.specs.declared.op.Op.{Op}
-use Rattle.filters.specs.declared.op.Op.TheVariants.{Table, HFlip, VFlip, Crop, Blur}
+pub use Rattle.filters.specs.Ops.{is_table}
 use Rattle.filters.specs.Chain.{ChainValue}
 use Rattle.filters.specs.ChainImage.{IsCanvasAt}
-
-abbrev pub is_table : Op → Bool
-is_table (Table table) = true
-is_table HFlip = false
-is_table VFlip = false
-is_table (Crop crop) = false
-is_table (Blur blur) = false
 
 -- how many tables stand before the first other operation
 abbrev pub front_of : ChainValue → ℕ

@@ -2,6 +2,7 @@ pub mod OpsText
 pub mod Scan
 pub mod Blur
 pub mod Pixel
+pub mod Ops
 pub mod Image
 pub mod Chain
 pub mod Steps

@@ -4,7 +4,7 @@ use Rattle.filters.specs.declared.error.FilterError.{FilterError}
 use Rattle.filters.specs.declared.error.FilterError.TheVariants.{BadOp, TooManyOps, BadCrop}
 use Rattle.filters.specs.declared.error.FilterError.TheVariants.{TooManySteps, NoMemory}
 use Rattle.filters.specs.declared.limits.TheConstants.{MOST_COST}
-use Rattle.filters.specs.Image.{HasGoodRadius}
+use Rattle.filters.specs.Ops.{HasGoodRadius}
 use Rattle.filters.specs.Chain.{ChainValue, IsChainLength, AreDoable}
 use Rattle.filters.specs.Costs.{cost_of}
 

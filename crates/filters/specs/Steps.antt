@@ -2,7 +2,7 @@
 use Rattle.std.specs.Prelude.{◌≡◌, ℕ, ◌+◌, ◌<◌, List, [], ◌∷◌, length, take, sum, slice_index}
 use Rattle.std.specs.Int.{div_ceil}
 use Rattle.filters.specs.declared.op.Op.{Op}
-use Rattle.filters.specs.Image.{image_height}
+use Rattle.filters.specs.Ops.{image_height}
 use Rattle.filters.specs.Chain.{ChainValue}
 
 -- how many bands of b rows the output of each operation has, for frames of h rows

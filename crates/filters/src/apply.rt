@@ -5,7 +5,8 @@ ghost use Rattle.row_bands.specs.Bands.{band_count, luma_from, luma_to};
 ghost use Rattle.row_bands.specs.Canvas.{frame_of, height_of};
 ghost use Rattle.row_bands.specs.Band.{band_geometry};
 ghost use Rattle.row_bands.specs.Written.{HasBand, IsPainted};
-ghost use Rattle.filters.specs.Image.{IsDoable, image_pixel};
+ghost use Rattle.filters.specs.Ops.{IsDoable};
+ghost use Rattle.filters.specs.Image.{image_pixel};
 ghost use Rattle.filters.specs.Chain.{IsImageGeometry};
 ghost use Rattle.filters.specs.ChainImage.{IsImage, value_of};
 

@@ -1,5 +1,4 @@
 // Operations that follow one another.
-mod fits;
 mod front;
 mod images;
 mod plan;
@@ -13,11 +12,11 @@ ghost use Rattle.filters.specs.Steps.{steps_of};
 ghost use Rattle.filters.specs.Costs.{cost_of};
 ghost use Rattle.filters.specs.Refusal.{IsChain, IsChainRefusedAs};
 
-use crate::chain::fits::{has_good_radius, is_crop};
 use crate::chain::plan::{Totals, outputs_of, totals_of};
 use crate::error::FilterError;
 use crate::limits::{MOST_COST, MOST_OPS};
 use crate::op::Op;
+use crate::op::facts::{has_good_radius, is_crop};
 use frame_view::Geometry;
 use row_bands::BandHeight;
 use std::alloc::Global;
@@ -79,8 +78,8 @@ fn check_chain(
 impl Chain {
     ghost use Rattle.std.specs.Prelude.{◌<◌, ◌+◌, Some, slice_get};
     ghost use Rattle.std.specs.List.{list_any};
-    ghost use Rattle.filters.specs.Image.{HasGoodRadius, IsDoable};
-    ghost use Rattle.filters.specs.Chain.{IsImageGeometry, format_of, format_at, last_format, is_crop};
+    ghost use Rattle.filters.specs.Ops.{HasGoodRadius, IsDoable, is_crop};
+    ghost use Rattle.filters.specs.Chain.{IsImageGeometry, format_of, format_at, last_format};
 
     /// The chain of these operations. `NoMemory` is answered where they make a chain, and the memory for the
     /// sizes of its images is refused; the operations are let go with each refusal.

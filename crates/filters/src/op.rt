@@ -1,4 +1,5 @@
 // The operations of a chain.
+pub(crate) mod facts;
 
 /// One operation on a whole frame.
 #[derive(Clone, Copy, Debug, PartialEq, Eq)]
@@ -39,23 +40,4 @@ pub struct Crop {
 #[derive(Clone, Copy, Debug, PartialEq, Eq)]
 pub struct Blur {
     pub radius: u32,
-}
-
-impl Op {
-    ghost use Rattle.std.specs.Prelude.{◌≡◌, ◌≤◌};
-    ghost use Rattle.filters.specs.Image.{HasGoodRadius};
-    ghost use Rattle.filters.specs.Costs.{op_cost};
-
-    /// What one band of the operation costs, in units: 1, and for a blur its radius more.
-    pub fn cost(self) -> u32
-        requires { HasGoodRadius self }
-        ensures value { result ≡ op_cost self }
-        ensures some { 1 ≤ result }
-        ensures few { result ≤ 9 }
-    {
-        match self {
-            Op::Blur(blur) => 1 + blur.radius,
-            Op::Table(_) | Op::HFlip | Op::VFlip | Op::Crop(_) => 1,
-        }
-    }
 }

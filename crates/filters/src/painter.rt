@@ -1,6 +1,7 @@
 // An operation as a painter of its image.
 ghost use Rattle.frame_view.specs.Frame.{samples_of};
-ghost use Rattle.filters.specs.Image.{IsDoable, image_pixel};
+ghost use Rattle.filters.specs.Ops.{IsDoable};
+ghost use Rattle.filters.specs.Image.{image_pixel};
 ghost use Rattle.filters.specs.Chain.{IsImageGeometry};
 
 use crate::op::Op;

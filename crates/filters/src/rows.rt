@@ -5,7 +5,8 @@ ghost use Rattle.frame_view.specs.Places.{plane_width, plane_height};
 ghost use Rattle.frame_view.specs.Frame.{samples_of};
 ghost use Rattle.frame_view.specs.Written.{IsRows};
 ghost use Rattle.filters.specs.Pixel.{offset};
-ghost use Rattle.filters.specs.Image.{HasGoodRadius, IsDoable, IsRectangleOf, image_pixel};
+ghost use Rattle.filters.specs.Ops.{HasGoodRadius, IsDoable, IsRectangleOf};
+ghost use Rattle.filters.specs.Image.{image_pixel};
 ghost use Rattle.filters.specs.Chain.{IsImageGeometry};
 
 use crate::blur::blur_rows;

@@ -2,21 +2,13 @@
 ghost use Rattle.std.specs.Prelude.{◌≡◌, ◌≤◌, length, take};
 ghost use Rattle.frame_view.specs.Frame.{line_of};
 ghost use Rattle.filters.specs.ChainImage.{IsImageByAll, value_of};
-ghost use Rattle.filters.specs.Front.{front_of, is_table};
+ghost use Rattle.filters.specs.Front.{front_of};
 
 use crate::chain::Chain;
 use crate::in_place::apply_in_place;
 use crate::op::Op;
+use crate::op::facts::is_table;
 use frame_view::Frame;
-
-fn is_table(op: &Op) -> bool
-    ensures { result ≡ is_table op.now }
-{
-    match op {
-        Op::Table(_) => true,
-        Op::HFlip | Op::VFlip | Op::Crop(_) | Op::Blur(_) => false,
-    }
-}
 
 /// Makes a frame its own image by the tables in front.
 pub fn apply_front(chain: &Chain, frame: &mut Frame)

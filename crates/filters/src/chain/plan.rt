@@ -5,8 +5,8 @@ ghost use Rattle.filters.specs.Steps.{step_count, IsStep};
 ghost use Rattle.filters.specs.Costs.{costs_by};
 ghost use Rattle.filters.specs.ChainOutputs.{AreOutputs, output_counts};
 
-use crate::chain::fits::{is_doable, output_of};
 use crate::op::Op;
+use crate::op::facts::{is_doable, output_of};
 use frame_view::Geometry;
 use row_bands::{BandHeight, BandPlan};
 use std::alloc::{AllocError, Global};

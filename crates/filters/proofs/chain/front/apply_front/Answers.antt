@@ -2,7 +2,8 @@ use Rattle.std.proofs.Common.{◌≡◌, ◌<◌, length, arith, refl, sym, ap, 
 use Rattle.std.proofs.lemmas.List.Sums.{prefix_len-le-length}
 use Rattle.filters.specs.declared.op.Op.{Op}
 use Rattle.filters.specs.ChainImage.{IsImage, value_of}
-use Rattle.filters.specs.Front.{front_of, is_table}
+use Rattle.filters.specs.Ops.{is_table}
+use Rattle.filters.specs.Front.{front_of}
 use Rattle.filters.proofs.ChainImages.{image_more}
 use Rattle.filters.proofs.Front.{front_ends, no_table, table_more}
 use Rattle.filters.proofs.chain.front.apply_front.Goals as goal

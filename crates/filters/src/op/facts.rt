@@ -1,7 +1,8 @@
-// Which operations a frame can take, and what they make of its geometry.
+// What holds of one operation: which frames it can be done on, the geometry of its images, what a band of it
+// costs, and of which kind it is.
 ghost use Rattle.std.specs.Prelude.{◌≡◌, ◌≤◌, ◌<◌, ◌+◌, ◌%◌, ◌↔◌, IsTrue};
-ghost use Rattle.filters.specs.Image.{HasGoodRadius, IsRectangleOf, IsDoable};
-ghost use Rattle.filters.specs.Chain.{IsImageGeometry, is_crop};
+ghost use Rattle.filters.specs.Ops.{HasGoodRadius, IsDoable, IsRectangleOf, is_crop, is_table, op_cost};
+ghost use Rattle.filters.specs.Chain.{IsImageGeometry};
 
 use crate::limits::MOST_RADIUS;
 use crate::op::{Crop, Op};
@@ -71,6 +72,32 @@ pub fn output_of(op: Op, geometry: Geometry) -> Geometry
     }
 }
 
+impl Op {
+    /// What one band of the operation costs, in units: 1, and for a blur its radius more.
+    pub fn cost(self) -> u32
+        requires { HasGoodRadius self }
+        ensures value { result ≡ op_cost self }
+        ensures some { 1 ≤ result }
+        ensures few { result ≤ 9 }
+    {
+        match self {
+            Op::Blur(blur) => 1 + blur.radius,
+            Op::Table(_) | Op::HFlip | Op::VFlip | Op::Crop(_) => 1,
+        }
+    }
+}
+
+/// Whether the operation is a table. Then a frame can be its own image.
+pub fn is_table(op: &Op) -> bool
+    ensures { result ≡ is_table op.now }
+{
+    match op {
+        Op::Table(_) => true,
+        Op::HFlip | Op::VFlip | Op::Crop(_) | Op::Blur(_) => false,
+    }
+}
+
+/// Whether the operation is a crop. Only its images can have another size than their frames.
 pub fn is_crop(op: &Op) -> bool
     ensures { result ≡ is_crop op.now }
 {
