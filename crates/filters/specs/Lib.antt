@@ -8,6 +8,7 @@ pub mod Chain
 pub mod Steps
 pub mod Costs
 pub mod Refusal
+pub mod Words
 pub mod ChainOutputs
 pub mod ChainInside
 pub mod ChainImage
