@@ -3,6 +3,7 @@ use Rattle.std.specs.Prelude.{◌≡◌, ℕ, ◌≤◌, List, [], ◌∷◌, ta
 use Rattle.y4m_header.specs.declared.chroma.Chroma.{Chroma}
 use Rattle.frame_view.specs.declared.geometry.Geometry.{Geometry}
 use Rattle.row_bands.specs.declared.band_height.BandHeight.{BandHeight}
+use Rattle.filters.specs.declared.limits.TheConstants.{MOST_OPS}
 use Rattle.filters.specs.declared.op.Op.{Op}
 use Rattle.filters.specs.Ops.{IsDoable, image_width, image_height}
 pub use Rattle.filters.specs.Ops.{is_crop}
@@ -41,7 +42,7 @@ AreDoable (op ∷ ops) g =
 -- a chain has 1 to 8 operations
 pub record IsChainLength (count : ℕ) : Type 0 where
   pub some : 1 ≤ count
-  pub few : count ≤ 8
+  pub few : count ≤ MOST_OPS
 
 -- what a chain is: its operations, in order, the geometry that it was made for, and the height of its bands
 pub record ChainValue : Type 0 where

@@ -3,6 +3,7 @@
 use Rattle.std.specs.Prelude.{◌≡◌, ℕ, ◌+◌, ◌%◌, ◌≤◌, ⊤, Bool, true, false}
 use Rattle.y4m_header.specs.Chroma.{horizontal_divisor, vertical_divisor}
 use Rattle.frame_view.specs.declared.geometry.Geometry.{Geometry}
+use Rattle.filters.specs.declared.limits.TheConstants.{MOST_RADIUS}
 use Rattle.filters.specs.declared.op.Op.{Op}
 use Rattle.filters.specs.declared.op.Op.TheVariants.{Table, HFlip, VFlip, Crop, Blur}
 use Rattle.filters.specs.declared.op.Crop.{Crop as Rectangle}
@@ -24,7 +25,7 @@ HasGoodRadius (Table table) = ⊤
 HasGoodRadius HFlip = ⊤
 HasGoodRadius VFlip = ⊤
 HasGoodRadius (Crop crop) = ⊤
-HasGoodRadius (Blur blur) = (1 ≤ blur.radius) × (blur.radius ≤ 8)
+HasGoodRadius (Blur blur) = (1 ≤ blur.radius) × (blur.radius ≤ MOST_RADIUS)
 
 -- the operation can be done on frames of this geometry
 abbrev pub IsDoable : Op → Geometry → Type 0

@@ -20,12 +20,12 @@ use y4m_header::text::cut;
 /// and the memory of their list is refused; no other answer needs memory.
 pub fn parse_ops(alloc: Global, text: &[u8]) -> Result<Vec<Op>, FilterError>
     ensures ops { IfOk result (λ ops. ops_of text.now ≡ Some ops.items) }
-    ensures few { IfOk result (λ ops. length ops.items ≤ 8) }
+    ensures few { IfOk result (λ ops. length ops.items ≤ MOST_OPS) }
 
     // A part that says none is told of before there are too many.
     ensures bad { IsErrOf result FilterError.BadOp ↔ (ops_of text.now ≡ None) }
     ensures many { IsErrOf result FilterError.TooManyOps
-        ↔ IsSomeAnd (ops_of text.now) (λ ops. 8 < length ops) }
+        ↔ IsSomeAnd (ops_of text.now) (λ ops. MOST_OPS < length ops) }
     ensures no_other { IfErr result (λ e.
         (e ≡ FilterError.BadOp) ⊎ (e ≡ FilterError.TooManyOps) ⊎ (e ≡ FilterError.NoMemory)) }
 {

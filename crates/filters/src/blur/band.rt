@@ -7,11 +7,12 @@ ghost use Rattle.filters.specs.Blur.{blurred, clamped, pixel_of, side, sum_below
 use super::columns::{first_columns, next_columns, repeat_ends};
 use super::source::SourcePlane;
 use super::window::mean_squares;
+use crate::limits::MOST_RADIUS;
 
 /// The row whose sums of columns these are. The columns stay; the places beside them and `fours` are written.
 fn mean_row(columns: &mut [u16], radius: usize, fours: &mut [u16], target: &mut [u8])
     requires reach { 1 ≤ radius }
-    requires small { radius ≤ 8 }
+    requires small { radius ≤ MOST_RADIUS }
     requires some { 0 < length target.old }
     requires sized { length target.old + 2 * radius ≡ length columns.old }
     requires fours { length fours.old ≡ length columns.old }
@@ -40,7 +41,7 @@ fn blur_band(
     target: &mut [u8],
 )
     requires reach { 1 ≤ radius }
-    requires small { radius ≤ 8 }
+    requires small { radius ≤ MOST_RADIUS }
     requires some { from < to }
     requires rows { to ≤ plane.now.height }
     requires columns { length columns.old ≡ plane.now.width + 2 * radius }
@@ -69,9 +70,9 @@ fn blur_band_in<const ROOM: usize>(
     target: &mut [u8],
 )
     requires room { plane.now.width + 2 * radius ≤ ROOM }
-    requires most { ROOM ≤ LONGEST_SIDE + 2 * 8 }
+    requires most { ROOM ≤ LONGEST_SIDE + 2 * MOST_RADIUS }
     requires reach { 1 ≤ radius }
-    requires small { radius ≤ 8 }
+    requires small { radius ≤ MOST_RADIUS }
     requires some { from < to }
     requires rows { to ≤ plane.now.height }
     requires sized { length target.old ≡ (to - from) * plane.now.width }
@@ -113,7 +114,7 @@ pub fn blur_rows(
     requires wide { width ≤ LONGEST_SIDE }
     requires high { height ≤ LONGEST_SIDE }
     requires reach { 1 ≤ radius }
-    requires small { radius ≤ 8 }
+    requires small { radius ≤ MOST_RADIUS }
     requires rows { to ≤ height }
     requires sized { length target.old ≡ (to - from) * width }
     ensures { (v x : ℕ) → from + v < to → x < width →

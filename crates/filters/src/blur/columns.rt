@@ -7,6 +7,7 @@ ghost use Rattle.std.specs.Prelude.{◌≡◌, ◌+◌, ◌-◌, ◌*◌, ◌/�
 ghost use Rattle.filters.specs.Blur.{clamped, column_sum, pixel_of, sum_below};
 
 use super::source::{SourcePlane, clamped_place};
+use crate::limits::MOST_RADIUS;
 
 /// Adds a row to the sums of the columns.
 fn add_row(columns: &mut [u16], radius: usize, row: &[u8])
@@ -64,7 +65,7 @@ fn move_row(columns: &mut [u16], radius: usize, entering: &[u8], leaving: &[u8])
 /// Row `k` of those near `y`, from `y - radius` on.
 fn row_near<'a>(plane: &'a SourcePlane, radius: usize, y: usize, k: usize) -> &'a [u8]
     requires down { y < plane.now.height }
-    requires few { k ≤ 17 }
+    requires few { k ≤ 2 * MOST_RADIUS + 1 }
     ensures sized { length result.now ≡ plane.now.width }
     ensures samples { (x : ℕ) → x < plane.now.width →
         slice_index result.now x
@@ -78,7 +79,7 @@ fn row_near<'a>(plane: &'a SourcePlane, radius: usize, y: usize, k: usize) -> &'
 /// of four.
 fn first_groups(plane: &SourcePlane, radius: usize, y: usize, columns: &mut [u16])
     requires down { y < plane.now.height }
-    requires small { radius ≤ 8 }
+    requires small { radius ≤ MOST_RADIUS }
     requires sized { length columns.old ≡ plane.now.width + 2 * radius }
     ensures sums { (x : ℕ) → x < plane.now.width →
         slice_index columns.new (radius + x)
@@ -100,7 +101,7 @@ fn first_groups(plane: &SourcePlane, radius: usize, y: usize, columns: &mut [u16
 /// Sets the sums of the columns to those over the rows near `y`.
 pub fn first_columns(plane: &SourcePlane, radius: usize, y: usize, columns: &mut [u16])
     requires down { y < plane.now.height }
-    requires small { radius ≤ 8 }
+    requires small { radius ≤ MOST_RADIUS }
     requires sized { length columns.old ≡ plane.now.width + 2 * radius }
     ensures { (x : ℕ) → x < plane.now.width →
         slice_index columns.new (radius + x)
@@ -115,7 +116,7 @@ pub fn first_columns(plane: &SourcePlane, radius: usize, y: usize, columns: &mut
 /// Moves the sums of the columns from the rows near `y` to those near `y + 1`.
 pub fn next_columns(plane: &SourcePlane, radius: usize, y: usize, columns: &mut [u16])
     requires down { y < plane.now.height }
-    requires small { radius ≤ 8 }
+    requires small { radius ≤ MOST_RADIUS }
     requires sized { length columns.old ≡ plane.now.width + 2 * radius }
     requires at { (x : ℕ) → x < plane.now.width →
         slice_index columns.old (radius + x)
@@ -132,7 +133,7 @@ pub fn next_columns(plane: &SourcePlane, radius: usize, y: usize, columns: &mut 
 /// Repeats the first and the last column in the places before and after the columns.
 pub fn repeat_ends(columns: &mut [u16], radius: usize)
     requires some { 2 * radius < length columns.old }
-    requires small { radius ≤ 8 }
+    requires small { radius ≤ MOST_RADIUS }
     ensures { (k : ℕ) → k < length columns.old →
         slice_index columns.new k
         ≡ slice_index columns.old (radius + clamped (length columns.old - 2 * radius) radius 0 k) }

@@ -4,6 +4,8 @@ ghost use Rattle.std.specs.Prelude.{◌≡◌, ◌+◌, ◌*◌, ◌≤◌, ◌<
 ghost use Rattle.y4m_header.specs.declared.limits.TheConstants.{LONGEST_SIDE};
 ghost use Rattle.filters.specs.Blur.{clamped, pixel_of};
 
+use crate::limits::MOST_RADIUS;
+
 /// A plane of at most 16,384 columns and rows, its rows one after another.
 #[derive(Clone, Copy)]
 pub struct SourcePlane<'a> {
@@ -35,7 +37,7 @@ impl SourcePlane<'_> {
 pub fn clamped_place(count: usize, radius: usize, at: usize, k: usize) -> usize
     requires short { count ≤ LONGEST_SIDE }
     requires inside { at < count }
-    requires few { k ≤ 17 }
+    requires few { k ≤ 2 * MOST_RADIUS + 1 }
     ensures place { result ≡ clamped count radius at k }
     ensures within { result < count }
 {

@@ -6,6 +6,8 @@
 ghost use Rattle.std.specs.Prelude.{◌≡◌, ◌+◌, ◌-◌, ◌*◌, ◌/◌, ◌≤◌, ◌<◌, ℕ, length, slice_index};
 ghost use Rattle.filters.specs.Blur.{side, sum_below};
 
+use crate::limits::MOST_RADIUS;
+
 /// The rounded mean of a square of up to 15 columns, from its sum. The compiler knows `SIDE`, so that it need
 /// not divide.
 fn mean<const SIDE: usize>(sum: u16) -> u8
@@ -160,7 +162,7 @@ fn widest_means(columns: &[u16], fours: &[u16], target: &mut [u8])
 /// As `mean_squares`, from radius 4 on.
 fn mean_wide_squares(columns: &[u16], radius: usize, fours: &mut [u16], target: &mut [u8])
     requires reach { 4 ≤ radius }
-    requires small { radius ≤ 8 }
+    requires small { radius ≤ MOST_RADIUS }
     requires sized { length target.old + 2 * radius ≡ length columns.now }
     requires fours { length fours.old ≡ length columns.now }
     requires bytes { (k : ℕ) → k < length columns.now → slice_index columns.now k ≤ 255 * side radius }
@@ -184,7 +186,7 @@ fn mean_wide_squares(columns: &[u16], radius: usize, fours: &mut [u16], target: 
 /// over.
 pub fn mean_squares(columns: &[u16], radius: usize, fours: &mut [u16], target: &mut [u8])
     requires reach { 1 ≤ radius }
-    requires small { radius ≤ 8 }
+    requires small { radius ≤ MOST_RADIUS }
     requires sized { length target.old + 2 * radius ≡ length columns.now }
     requires fours { length fours.old ≡ length columns.now }
     requires bytes { (k : ℕ) → k < length columns.now → slice_index columns.now k ≤ 255 * side radius }

@@ -5,6 +5,7 @@ ghost use Rattle.filters.specs.Steps.{step_count, IsStep};
 ghost use Rattle.filters.specs.Costs.{costs_by};
 ghost use Rattle.filters.specs.ChainOutputs.{AreOutputs, output_counts};
 
+use crate::limits::MOST_OPS;
 use crate::op::Op;
 use crate::op::facts::{is_doable, output_of};
 use frame_view::Geometry;
@@ -20,7 +21,7 @@ pub struct Totals {
 
 /// The totals of a frame, if each operation can be done on the frame that reaches it.
 pub fn totals_of(ops: &[Op], geometry: Geometry, band_height: BandHeight) -> Option<Totals>
-    requires { length ops.now ≤ 8 }
+    requires { length ops.now ≤ MOST_OPS }
     ensures doable { IsSome result ↔ AreDoable ops.now geometry }
     ensures steps { IfSome result (λ totals.
         totals.steps ≡ step_count ops.now geometry.height band_height.rows) }

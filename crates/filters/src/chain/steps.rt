@@ -8,7 +8,7 @@ ghost use Rattle.filters.specs.Costs.{IsRun, cost_of, step_costs};
 
 use crate::chain::Chain;
 use crate::chain::plan::op_of_step;
-use crate::limits::{MOST_COST, MOST_OPS};
+use crate::limits::{MOST_BAND_COST, MOST_COST, MOST_OPS};
 use row_bands::BandPlan;
 
 /// Steps of one operation that follow one another: how many there are, and what each of them costs.
@@ -55,7 +55,7 @@ impl Chain {
         requires { k < steps_of self.now }
         ensures value { slice_get (step_costs self.now) k ≡ Some result }
         ensures some { 1 ≤ result }
-        ensures few { result ≤ 9 }
+        ensures few { result ≤ MOST_BAND_COST }
     {
         self.run_of_step(k).cost
     }
@@ -65,7 +65,7 @@ impl Chain {
         requires { k < steps_of self.now }
         ensures run { IsRun self.now k result }
         ensures some { 1 ≤ result.cost }
-        ensures few { result.cost ≤ 9 }
+        ensures few { result.cost ≤ MOST_BAND_COST }
     {
         let (op, band) = self.op_of_step(k);
         let bands = BandPlan::new(self.geometry_after(op + 1), self.band_height).count();

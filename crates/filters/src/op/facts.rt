@@ -4,7 +4,7 @@ ghost use Rattle.std.specs.Prelude.{◌≡◌, ◌≤◌, ◌<◌, ◌+◌, ◌%
 ghost use Rattle.filters.specs.Ops.{HasGoodRadius, IsDoable, IsRectangleOf, is_crop, is_table, op_cost};
 ghost use Rattle.filters.specs.Chain.{IsImageGeometry};
 
-use crate::limits::MOST_RADIUS;
+use crate::limits::{MOST_BAND_COST, MOST_RADIUS};
 use crate::op::{Crop, Op};
 use frame_view::Geometry;
 
@@ -78,7 +78,7 @@ impl Op {
         requires { HasGoodRadius self }
         ensures value { result ≡ op_cost self }
         ensures some { 1 ≤ result }
-        ensures few { result ≤ 9 }
+        ensures few { result ≤ MOST_BAND_COST }
     {
         match self {
             Op::Blur(blur) => 1 + blur.radius,
