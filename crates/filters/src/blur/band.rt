@@ -1,13 +1,19 @@
 //! The blur of a band of rows, by sums of columns that are kept down the band.
 
 ghost use Rattle.std.specs.Prelude.{◌≡◌, ◌+◌, ◌-◌, ◌*◌, ◌/◌, ◌≤◌, ◌<◌, ℕ, length, slice_index};
-ghost use Rattle.y4m_header.specs.declared.limits.TheConstants.{LONGEST_SIDE};
 ghost use Rattle.filters.specs.Blur.{blurred, clamped, pixel_of, side, sum_below};
 
 use super::columns::{first_columns, next_columns, repeat_ends};
 use super::source::SourcePlane;
 use super::window::mean_squares;
 use crate::limits::MOST_RADIUS;
+use y4m_header::LONGEST_SIDE;
+
+/// How many sums there is room for where the plane is narrow: so there is little to clear.
+const NARROW_ROOM: usize = 2048;
+
+/// How many sums the widest plane has, with the places beside its columns.
+const WIDEST_ROOM: usize = LONGEST_SIDE as usize + 2 * MOST_RADIUS as usize;
 
 /// The row whose sums of columns these are. The columns stay; the places beside them and `fours` are written.
 fn mean_row(columns: &mut [u16], radius: usize, fours: &mut [u16], target: &mut [u8])
@@ -70,7 +76,7 @@ fn blur_band_in<const ROOM: usize>(
     target: &mut [u8],
 )
     requires room { plane.now.width + 2 * radius ≤ ROOM }
-    requires most { ROOM ≤ LONGEST_SIDE + 2 * MOST_RADIUS }
+    requires most { ROOM ≤ WIDEST_ROOM }
     requires reach { 1 ≤ radius }
     requires small { radius ≤ MOST_RADIUS }
     requires some { from < to }
@@ -126,11 +132,10 @@ pub fn blur_rows(
             height,
             samples: source,
         };
-        // A narrow plane has a small array to clear.
-        if width + 2 * radius <= 2048 {
-            blur_band_in::<2048>(&plane, radius, from, to, target);
+        if width + 2 * radius <= NARROW_ROOM {
+            blur_band_in::<NARROW_ROOM>(&plane, radius, from, to, target);
         } else {
-            blur_band_in::<16400>(&plane, radius, from, to, target);
+            blur_band_in::<WIDEST_ROOM>(&plane, radius, from, to, target);
         }
     }
 }
