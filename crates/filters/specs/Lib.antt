@@ -13,3 +13,4 @@ pub mod ChainOutputs
 pub mod ChainInside
 pub mod ChainImage
 pub mod Front
+pub mod Canvases

@@ -1,4 +1,5 @@
 // Operations that follow one another.
+pub mod canvases;
 mod front;
 mod images;
 mod plan;

@@ -19,6 +19,7 @@ mod table;
 
 pub use apply::{apply_at, apply_band, apply_op};
 pub use chain::Chain;
+pub use chain::canvases::Images;
 pub use chain::steps::StepRun;
 pub use error::FilterError;
 pub use in_place::apply_in_place;
