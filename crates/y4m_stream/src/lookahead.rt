@@ -19,7 +19,7 @@ pub const LINE_LIMIT: usize = LONGEST_LINE + 1;
 
 /// A source, with at most 1,024 bytes that were read from it beyond what was asked for, in order: a line,
 /// however it came, is whole in them.
-#[derive(Debug, Drop)]
+#[derive(Drop)]
 pub struct Lookahead<R: Source> {
     source: R,
     bytes: [u8; LINE_LIMIT],

@@ -19,7 +19,7 @@ use std::marker::Model;
 use y4m_header::{Header, HeaderError};
 
 /// What the next call does.
-#[derive(Clone, Copy, Debug, PartialEq, Eq)]
+#[derive(Clone, Copy)]
 pub enum Phase {
     /// It reads on.
     Open,
@@ -78,7 +78,7 @@ fn begin_frame<R: Source>(
 /// 1,024 bytes, for the next call. No read that failed is tried again, an interrupted one neither: after its
 /// first fault every call answers `Failed`. The frames that were read before stay whole; `into_source` gives
 /// the source back.
-#[derive(Debug, Drop)]
+#[derive(Drop)]
 pub struct StreamReader<R: Source> {
     input: Lookahead<R>,
     header: Header,

@@ -20,7 +20,7 @@ use y4m_header::Header;
 /// between calls, and no memory is taken. No write or flush that failed is tried again: after its first fault
 /// every call answers `Failed`, and `finish` gives the sink back. It counts the frames and the bytes that
 /// went out.
-#[derive(Debug, Drop)]
+#[derive(Drop)]
 pub struct StreamWriter<W: Sink> {
     sink: W,
     geometry: Geometry,
