@@ -2,14 +2,15 @@
 use Rattle.std.proofs.Common.{ℕ, ◌≡◌, ◌+◌, ◌<◌, List, ◌++◌, length, get_or, slice_set, codes, sym, ap, ◌∙◌}
 use Rattle.std.proofs.Common.{subst}
 use Rattle.frame_view.specs.declared.frame.Frame.{Frame}
+use Rattle.frame_view.specs.declared.geometry.Geometry.{Geometry}
 use Rattle.frame_view.specs.Frame.{line_of, samples_of}
 use Rattle.row_bands.specs.declared.canvas.Canvas.{Canvas}
 use Rattle.row_bands.specs.Canvas.{frame_of, height_of}
-use Rattle.row_bands.specs.Bands.{band_count, luma_from, luma_to}
+use Rattle.row_bands.specs.Bands.{band_count, luma_from, luma_to, CanBeHalved}
 use Rattle.row_bands.specs.Written.{HasBand}
 use Rattle.filters.specs.declared.op.Op.{Op}
 use Rattle.filters.specs.Image.{image_pixel}
-use Rattle.filters.specs.Chain.{ChainValue}
+use Rattle.filters.specs.Chain.{ChainValue, format_of}
 use Rattle.filters.specs.Steps.{counts_of}
 use Rattle.filters.proofs.ChainSteps.{length-band_counts, count_of_output}
 use Rattle.filters.specs.ChainImage.{IsCanvasAt}
@@ -17,6 +18,7 @@ use Rattle.lease.specs.Canvases.{IsScratch}
 use Rattle.std.proofs.lemmas.List.{length-set}
 use Rattle.filters.proofs.ChainImages.{canvas_rest}
 use Rattle.lease.proofs.Lists.{each_set}
+use Rattle.lease.specs.Halved.{CanHalveBand}
 use Rattle.lease.specs.Job.{WritesBand}
 
 pub writes : (chain : ChainValue) (op band : ℕ) (frames frames' : List Frame) (o : Op) (b : ℕ)
@@ -74,3 +76,19 @@ pub rest_line : (chain : ChainValue) (scratch before rest : List Canvas) (i : �
     → scratch ≡ before ++ rest → length before ≡ i → line_of (frame_of (get_or rest 0 d)) ≡ codes "FRAME"
 rest_line chain scratch before rest i d is h e n =
     rw (sym (canvas_rest before rest scratch i d e n)) (is.lines i d h)
+
+-- what can be halved depends on the height and the form of an image alone
+halved_alike : (one other : Geometry) (rows height band : ℕ) → one.height ≡ other.height → one.chroma ≡ other.chroma
+    → rows ≡ height → CanBeHalved other (luma_from height band) (luma_to other height band)
+    → CanBeHalved one (luma_from rows band) (luma_to one rows band)
+halved_alike one other rows height band e f h can = rw (h, e, f) can
+
+-- a band that can be halved in an operation's image can be halved in its canvas
+pub halves_canvas : (chain : ChainValue) (op band : ℕ) (canvas : Canvas) → IsCanvasAt chain op canvas
+    → CanHalveBand chain op band
+    → CanBeHalved (frame_of canvas).geometry (luma_from (height_of canvas) band)
+    (luma_to (frame_of canvas).geometry (height_of canvas) band)
+halves_canvas chain op band canvas is can =
+    let same : format_of (frame_of canvas).geometry ≡ format_of can.image = is.format ∙ sym can.format in
+    halved_alike (frame_of canvas).geometry can.image (height_of canvas) chain.band_height.rows band
+    (ap (λ f. f.height) same) (ap (λ f. f.chroma) same) is.height can.rows

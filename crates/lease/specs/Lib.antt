@@ -1,5 +1,6 @@
 pub mod Canvases
 pub mod Job
+pub mod Halved
 pub mod JobInside
 pub mod Refused
 pub mod Lease

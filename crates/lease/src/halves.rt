@@ -2,13 +2,14 @@
 ghost use Rattle.std.specs.Prelude.{◌≡◌, ℕ, ◌+◌, ◌<◌, length, slice_index_or};
 ghost use Rattle.frame_view.specs.Frame.{line_of, samples_of};
 ghost use Rattle.row_bands.specs.declared.canvas.Canvas.{Canvas};
-ghost use Rattle.row_bands.specs.Bands.{band_count, luma_from, luma_to};
+ghost use Rattle.row_bands.specs.Bands.{band_count, luma_from, luma_to, CanBeHalved};
 ghost use Rattle.row_bands.specs.Canvas.{frame_of, height_of};
 ghost use Rattle.row_bands.specs.Written.{HasBand};
 ghost use Rattle.filters.specs.Image.{IsDoable, image_pixel};
 ghost use Rattle.filters.specs.Chain.{IsImageGeometry};
 ghost use Rattle.filters.specs.Steps.{IsStep, counts_of, steps_of};
 ghost use Rattle.lease.specs.Canvases.{IsImageCanvas, IsScratch};
+ghost use Rattle.lease.specs.Halved.{CanHalveBand, CanHalveStep};
 ghost use Rattle.lease.specs.Job.{frames_by, AreDone, WritesBand};
 
 use crate::step::reaching;
@@ -36,6 +37,9 @@ fn apply_halves<R: Threads, N: Fn(u32) + Sync>(
     ensures rows { HasBand (image_pixel op source.now.geometry (samples_of source.now))
         (luma_from (height_of canvas.old) k) (luma_to (frame_of canvas.old).geometry (height_of canvas.old) k)
         (frame_of canvas.old) (frame_of canvas.new) }
+    ensures noted { CanBeHalved (frame_of canvas.old).geometry (luma_from (height_of canvas.old) k)
+        (luma_to (frame_of canvas.old).geometry (height_of canvas.old) k)
+        → N.post note.now 0 tt × N.post note.now 1 tt }
 {
     let mut band = canvas.band_mut(k);
     match band.half() {
@@ -66,6 +70,7 @@ fn halve_between<R: Threads, N: Fn(u32) + Sync>(
     ensures scratch { IsScratch chain.now scratch.new }
     ensures written { (last : Canvas) → WritesBand chain.now op band
         (frames_by source.now scratch.old last) (frames_by source.now scratch.new last) }
+    ensures noted { CanHalveBand chain.now op band → N.post note.now 0 tt × N.post note.now 1 tt }
 {
     let (before, rest) = scratch.split_at_mut(op);
     apply_halves(
@@ -97,6 +102,8 @@ fn halve_last<R: Threads, N: Fn(u32) + Sync>(
     ensures line { line_of (frame_of canvas.new) ≡ line_of (frame_of canvas.old) }
     ensures written { WritesBand chain.now (length scratch.now) band
         (frames_by source.now scratch.now canvas.old) (frames_by source.now scratch.now canvas.new) }
+    ensures noted { CanHalveBand chain.now (length scratch.now) band
+        → N.post note.now 0 tt × N.post note.now 1 tt }
 {
     apply_halves(
         rt,
@@ -130,6 +137,7 @@ pub fn halve_step<R: Threads, N: Fn(u32) + Sync>(
         (frames_by source.now scratch.old canvas.old) (frames_by source.now scratch.new canvas.new) }
     ensures done { AreDone chain.now (frames_by source.now scratch.old canvas.old) k
         → AreDone chain.now (frames_by source.now scratch.new canvas.new) (k + 1) }
+    ensures noted { CanHalveStep chain.now k → N.post note.now 0 tt × N.post note.now 1 tt }
 {
     let (op, band) = chain.op_of_step(k);
     if op < scratch.len() {

@@ -49,6 +49,7 @@ impl Job {
     ghost use Rattle.filters.specs.Steps.{steps_of};
     ghost use Rattle.filters.specs.Costs.{step_costs};
     ghost use Rattle.lease.specs.Canvases.{IsImageCanvas, IsScratch};
+    ghost use Rattle.lease.specs.Halved.{CanHalveStep};
     ghost use Rattle.lease.specs.Job.{waiting, StepsOn};
     ghost use Rattle.lease.specs.Refused.{frame_in, frame_beside, image_in};
 
@@ -239,6 +240,8 @@ impl Job {
         requires left { self.old.done < steps_of self.old.chain }
         ensures step { StepsOn self.old self.new }
         ensures started { IsSome self.new.scratch }
+        ensures noted { CanHalveStep self.old.chain self.old.done
+            → N.post note.now 0 tt × N.post note.now 1 tt }
     {
         prove!(self.done < self.steps());
         let Some(scratch) = &mut self.scratch else {

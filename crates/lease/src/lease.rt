@@ -39,6 +39,7 @@ impl Lease {
     ghost use Rattle.std.specs.Prelude.{◌≡◌, ◌+◌, ◌≤◌, ◌↔◌, IsSome, IsErr, OnOk, OnErr, slice_index};
     ghost use Rattle.filters.specs.Steps.{steps_of};
     ghost use Rattle.filters.specs.Costs.{step_costs};
+    ghost use Rattle.lease.specs.Halved.{CanHalveStep};
     ghost use Rattle.lease.specs.Job.{StepsOn};
     ghost use Rattle.lease.specs.Lease.{granted_of, spent_of};
 
@@ -82,9 +83,9 @@ impl Lease {
         Ok(())
     }
 
-    /// Does what [`Lease::step`] does, by two threads where the band can be halved. Each of them calls
-    /// `note`, with 0 or 1, before it writes its part of the band. Memory is taken for the other thread
-    /// alone; where it isn't granted, the caller's own writes both parts.
+    /// Does what [`Lease::step`] does. Where the band can be halved, `note` is called with 0 before the part
+    /// above is written and with 1 before the other one, and two threads may write them at the same time.
+    /// Memory is taken for the second thread alone; where it isn't granted, the caller's own writes both.
     pub fn step_halves<R: Threads, N: Fn(u32) + Sync>(
         &mut self,
         rt: &R,
@@ -101,6 +102,8 @@ impl Lease {
             ≡ record self.old { job = self.new.job; used = self.old.used + 1 }) }
         ensures spent { OnOk result (spent_of self.new
             ≡ spent_of self.old + slice_index (step_costs self.old.job.chain) self.old.job.done) }
+        ensures noted { OnOk result (CanHalveStep self.old.job.chain self.old.job.done
+            → N.post note.now 0 tt × N.post note.now 1 tt) }
     {
         if self.used >= self.granted {
             return Err(GrantSpent);

@@ -4,7 +4,7 @@ use Rattle.row_bands.specs.Canvas.{frame_of}
 use Rattle.filters.specs.Chain.{format_of, format_at}
 use Rattle.filters.proofs.ChainImages.{canvas_rest, painted_rest}
 use Rattle.lease.proofs.Frames.{frame_between, part_reached, format_reached, set_between}
-use Rattle.lease.proofs.Writing.{writes, band_inside, same_size, scratch_set, rest_is, rest_line}
+use Rattle.lease.proofs.Writing.{writes, band_inside, halves_canvas, same_size, scratch_set, rest_is, rest_line}
 use Rattle.lease.proofs.halves.halve_between.Goals as goal
 use Rattle.lease.proofs.halves.halve_between.Given.{Over}
 
@@ -69,3 +69,11 @@ returns-clause-written g c last =
     (λ d. part_reached source scratch _ _ last op d parts.value parts.front_len ∙ sym c.reaching.ensures)
     (λ d. frame_between source scratch last op d c.index-rest-0.result c.requires.op ∙ ap frame_of at)
     old.height (set_between source scratch last op canvas c.requires.op) c.apply_halves.ensures.rows)
+
+pub returns-clause-noted : goal.returns-clause-noted
+returns-clause-noted g c can =
+    let parts = c.split_at_mut-before.ensures in
+    let old =
+    rest_is _ _ _ _ c.args.op c.index-rest-0.result c.requires.scratch c.requires.op parts.value
+    parts.front_len in
+    c.apply_halves.ensures.noted (halves_canvas c.args.chain.now _ _ _ old can)

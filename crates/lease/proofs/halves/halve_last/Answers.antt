@@ -3,7 +3,7 @@ use Rattle.std.proofs.lemmas.Option.{get_or_from_slice_get}
 use Rattle.row_bands.specs.Canvas.{frame_of, height_of}
 use Rattle.filters.specs.Chain.{format_of, format_at}
 use Rattle.lease.proofs.Frames.{frame_last, last_at, last_reached, set_last, format_between}
-use Rattle.lease.proofs.Writing.{writes, band_inside}
+use Rattle.lease.proofs.Writing.{writes, band_inside, halves_canvas}
 use Rattle.lease.proofs.halves.halve_last.Goals as goal
 
 pub apply_halves-requires-clause-image : goal.apply_halves-requires-clause-image
@@ -34,3 +34,8 @@ returns-clause-written g c =
     (λ d. frame_last source scratch old d)
     c.requires.canvas.height
     (set_last source scratch old c.apply_halves.new.canvas) c.apply_halves.ensures.rows
+
+pub returns-clause-noted : goal.returns-clause-noted
+returns-clause-noted g c can =
+    c.apply_halves.ensures.noted (halves_canvas c.args.chain.now _ _ c.args.canvas.now
+    (last_at _ c.args.scratch.now _ c.requires.scratch c.requires.canvas) can)

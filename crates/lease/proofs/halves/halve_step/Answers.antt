@@ -33,3 +33,15 @@ returns-else-op-scratch-clause-done g c before =
     done_more _ _ _ c.args.k _ _ (rw last at c.op_of_step-op.ensures.step)
     (omega (arith, length-frames c.args.source.now c.args.scratch.now c.args.canvas.now))
     c.halve_last.ensures.written before
+
+pub returns-then-op-scratch-clause-noted : goal.returns-then-op-scratch-clause-noted
+returns-then-op-scratch-clause-noted g c can =
+    let same = one_step _ _ _ _ can.op can.band c.op_of_step-op.ensures.step can.step in
+    c.halve_between.ensures.noted (rw (same.0, same.1) at can.half)
+
+pub returns-else-op-scratch-clause-noted : goal.returns-else-op-scratch-clause-noted
+returns-else-op-scratch-clause-noted g c can =
+    let same = one_step _ _ _ _ can.op can.band c.op_of_step-op.ensures.step can.step in
+    let last : c.op_of_step-op.result.0 ≡ length c.args.scratch.now =
+    omega (arith, c.if-op-scratch.false, c.op_of_step-op.ensures.op, c.requires.scratch.count) in
+    c.halve_last.ensures.noted (rw (same.0, same.1, last) at can.half)

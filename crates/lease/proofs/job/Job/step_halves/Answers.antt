@@ -48,3 +48,7 @@ returns-clause-step g c =
     rw (sym c.self.view_is, whole g c)
     (steps_on (job_of c.self.inside) _ c.halve_step.new.scratch c.halve_step.new.canvas (started g c)
     (rw (chain_is g c, c.deref-2.ensures) at c.halve_step.ensures.written))
+
+pub returns-clause-noted : goal.returns-clause-noted
+returns-clause-noted g c can =
+    c.halve_step.ensures.noted (rw (chain_is g c) (rw (sym c.self.view_is) at can))
