@@ -3,7 +3,6 @@ use crate::halves::halve_step;
 use crate::job_spec::JobSpec;
 use crate::refused::{JobRefused, OverRefused};
 use crate::scratch::Scratch;
-use crate::size::is_same_geometry;
 use crate::step::write_step;
 use filters::MOST_COST;
 use frame_view::Frame;
@@ -63,7 +62,7 @@ impl Job {
             ↔ ((arc_value source).geometry ≢ (arc_value spec).geometry) }
         ensures back { IfErr result (λ refused. frame_in refused ≡ source) }
     {
-        if !is_same_geometry(source.geometry(), spec.chain().geometry()) {
+        if !spec.fits(source.geometry()) {
             return Err(JobRefused::WrongSize(source));
         }
         let canvas = Canvas::new(
@@ -101,7 +100,7 @@ impl Job {
         ensures back { IfErr result (λ refused. frame_beside refused ≡ source) }
         ensures image_back { IfErr result (λ refused. value_of (image_in refused) ≡ value_of image) }
     {
-        if !is_same_geometry(source.geometry(), spec.chain().geometry()) {
+        if !spec.fits(source.geometry()) {
             return Err(OverRefused::WrongSize(source, image));
         }
         let mut image = image;

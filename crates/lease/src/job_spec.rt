@@ -1,5 +1,6 @@
 // What is done to each frame of a stream.
 use filters::Chain;
+use frame_view::Geometry;
 use std::marker::Model;
 
 /// What is done to each frame of a stream: a chain of operations.
@@ -17,7 +18,7 @@ impl Model for JobSpec {
 }
 
 impl JobSpec {
-    ghost use Rattle.std.specs.Prelude.{◌≡◌};
+    ghost use Rattle.std.specs.Prelude.{◌≡◌, ◌↔◌, IsTrue};
 
     pub fn new(chain: Chain) -> JobSpec
         ensures { result ≡ chain }
@@ -29,5 +30,12 @@ impl JobSpec {
         ensures { result.now ≡ self.now }
     {
         &self.chain
+    }
+
+    /// Whether the chain was made for frames of this geometry.
+    pub(crate) fn fits(&self, geometry: Geometry) -> bool
+        ensures { IsTrue result ↔ (geometry ≡ self.now.geometry) }
+    {
+        geometry == self.chain.geometry()
     }
 }

@@ -10,7 +10,6 @@ pub mod job_spec;
 pub mod lease;
 pub mod refused;
 pub mod scratch;
-mod size;
 mod step;
 
 pub use job::Job;
