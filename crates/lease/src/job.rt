@@ -16,7 +16,7 @@ use std::thread::Threads;
 ///
 /// It has the canvas of the last operation from the beginning, which becomes the image. Those of the
 /// operations before it come with the scratch when the job starts, and go when the image is taken.
-#[derive(Debug, Drop)]
+#[derive(Drop)]
 pub struct Job {
     spec: Arc<JobSpec>,
     source: Arc<Frame>,

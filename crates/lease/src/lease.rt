@@ -4,11 +4,9 @@ use crate::job_spec::JobSpec;
 use frame_view::Frame;
 use std::marker::Model;
 use std::thread::Threads;
-use thiserror::Error;
 
 /// As many steps as the lease grants are done.
-#[derive(Clone, Copy, Debug, PartialEq, Eq, Error)]
-#[error("GrantSpent")]
+#[derive(Clone, Copy, Debug, PartialEq, Eq)]
 pub struct GrantSpent;
 
 /// The leave to do some steps of a started job, which a worker holds.

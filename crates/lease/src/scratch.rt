@@ -6,7 +6,7 @@ use std::marker::Model;
 
 /// The canvases of all operations of a chain but the last, for one frame at a time. Any bytes may stand in
 /// them when a job starts, so one scratch serves all frames of a stream.
-#[derive(Debug, Drop)]
+#[derive(Drop)]
 pub struct Scratch {
     pub(crate) canvases: Vec<Canvas>,
 }

@@ -9,7 +9,7 @@ use crate::limits::MOST_BANDS;
 use frame_view::{Geometry, is_chroma_plane};
 
 /// The bands of a frame, from the top: each has the rows of the same part of the picture in every plane.
-#[derive(Clone, Copy, Debug, PartialEq, Eq)]
+#[derive(Clone, Copy)]
 pub struct BandPlan {
     pub geometry: Geometry,
     pub height: BandHeight,

@@ -7,7 +7,7 @@ use std::alloc::{AllocError, Global};
 use std::marker::Model;
 
 /// A frame that is written band by band.
-#[derive(Debug, Drop)]
+#[derive(Drop)]
 pub struct Canvas {
     frame: Frame,
     height: BandHeight,
