@@ -3,15 +3,10 @@ use Rattle.std.specs.Prelude.{◌≡◌, ℕ, ◌+◌, ◌<◌, ◌≤◌, ◌�
 use Rattle.std.specs.Prelude.{Option, Some, None}
 use Rattle.std.specs.Prelude.{IfSome, unwrap_or, All, true, false, Result, Ok, Err}
 use Rattle.std.specs.Io.KnownBytes.{Appends, Consumes, IsAtEnd, Keeps, prepend_known}
-use Rattle.frame_view.specs.declared.frame.Frame.{Frame}
-use Rattle.frame_view.specs.Frame.{line_of}
-use Rattle.row_bands.specs.Canvas.{frame_of}
 use Rattle.row_bands.specs.declared.band_height.BandHeight.{BandHeight}
 use Rattle.filters.specs.declared.error.FilterError.TheVariants.{NoMemory as NoFilterMemory}
 use Rattle.filters.specs.declared.op.Op.{Op}
 use Rattle.filters.specs.Chain.{ChainValue}
-use Rattle.filters.specs.ChainImage.{IsChainImage, value_of}
-use Rattle.filters.specs.Front.{AreCanvases, image_in, last_canvas}
 use Rattle.filters.specs.Refusal.{IsChain}
 use Rattle.y4m_header.specs.Header.{HeaderValue}
 use Rattle.y4m_header.specs.FrameLine.{IsFrameLine}
@@ -28,7 +23,6 @@ use Rattle.y4m_stream.specs.declared.fault.WriteFault.TheVariants.{Failed as Has
 use Rattle.y4m_stream.specs.declared.fault.FilterFault.{FilterFault}
 use Rattle.y4m_stream.specs.declared.fault.FilterFault.TheVariants.{Read, Ops, Write, TooManyFrames}
 use Rattle.y4m_stream.specs.declared.filter.Filter.{Filter}
-use Rattle.y4m_stream.specs.declared.images.Images.{Images}
 use Rattle.y4m_stream.specs.Failures.{one_more}
 use Rattle.y4m_stream.specs.Front.{IsCutLine, IsFrameAhead, IsLongLine, HasOtherLine, HasGiven}
 use Rattle.y4m_stream.specs.Front.{StandsAtFrame}
@@ -114,20 +108,6 @@ BeginsFrame old new phase phase' (Ok None) =
 BeginsFrame old new phase phase' (Err fault) =
     (header : HeaderValue) → Answers (state_of header phase old) (state_of header phase' new) (Err fault)
 
--- there are the canvases that the chain needs
-abbrev pub IsReady : Images → Type 0
-IsReady images = AreCanvases images.chain images.canvases.items
-
--- the last canvas, or this frame where there is none, holds the image of what the frame was
-abbrev pub HoldsImage : Images → Frame → Frame → Type 0
-HoldsImage images was now =
-    IsChainImage images.chain.ops (value_of was) (value_of (image_in now images.canvases.items))
-
--- the last canvas, if there is one, has the line of this frame
-abbrev pub HasLineOf : Frame → Images → Type 0
-HasLineOf source images =
-    IfSome (last_canvas images.canvases.items) (λ canvas. line_of (frame_of canvas) ≡ line_of source)
-
 -- such is an image that the chain makes of this frame
 pub record HasImage (chain : ChainValue) (frame : FrameText) (P : FrameText → Type 0) : Type 0 where
   pub image : FrameText
@@ -142,7 +122,6 @@ pub record IsFilterFor (ops : List Op) (height : BandHeight) (header : HeaderVal
   pub is_chain : IsChain filter.images.chain
   pub frame : IsOfHeader header filter.frame.geometry
   pub of_chain : filter.frame.geometry ≡ filter.images.chain.geometry
-  pub ready : IsReady filter.images
   pub shown : IsHeaderOfImages filter.images.chain header (unwrap_or filter.resized header)
 
 -- the header line of the chain's images didn't go out whole

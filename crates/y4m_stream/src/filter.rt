@@ -10,11 +10,10 @@ ghost use Rattle.y4m_stream.specs.Writer.{FlushesOrFails, IsOpenedFor};
 
 use crate::device::{Sink, Source};
 use crate::fault::{FilterFault, ReadFault};
-use crate::images::Images;
 use crate::passing::pass_frames;
 use crate::reader::{Phase, StreamReader};
 use crate::writer::StreamWriter;
-use filters::{Chain, FilterError, Op};
+use filters::{Chain, FilterError, Images, Op};
 use frame_view::{Frame, Geometry};
 use row_bands::BandHeight;
 use std::alloc::Global;

@@ -6,7 +6,6 @@ pub mod device;
 pub mod fault;
 mod filter;
 mod frame_line;
-mod images;
 pub mod laws;
 mod line;
 mod lookahead;

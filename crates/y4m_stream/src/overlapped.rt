@@ -1,8 +1,9 @@
 // A stream, filtered from end to end, each frame read while the image before it is made and written.
 ghost use Rattle.std.specs.Prelude.{◌≡◌, ◌<◌, ◌⊎◌, ℕ, List, Option, Ok, true, false, IfOk, IfErr, OnOk};
+ghost use Rattle.filters.specs.Canvases.{HasLineOf};
 ghost use Rattle.y4m_stream.specs.Filtered.{CountsReads, CountsWrites, IsFilteredAhead};
 ghost use Rattle.y4m_stream.specs.Front.{IsFrameAhead};
-ghost use Rattle.y4m_stream.specs.Inside.{FailsBeside, HasFailedAt, HasImage, HasLineOf, IsReady, PassesAll};
+ghost use Rattle.y4m_stream.specs.Inside.{FailsBeside, HasFailedAt, HasImage, PassesAll};
 ghost use Rattle.y4m_stream.specs.Inside.{Stops, filter_writes_told};
 ghost use Rattle.y4m_stream.specs.Reader.{Answers, IsOfHeader, IsOpened, MeetsEnd, TakesFrame, answer_into};
 ghost use Rattle.y4m_stream.specs.Reader.{data_len_of, frame_text_of};
@@ -12,11 +13,10 @@ ghost use Rattle.y4m_stream.specs.declared.passing.TheConstants.{MOST_FRAMES};
 use crate::device::{Sink, Source};
 use crate::fault::{FilterFault, ReadFault, WriteFault};
 use crate::filter::{begin, close};
-use crate::images::Images;
 use crate::passing::{MOST_FRAMES, pass_frames};
 use crate::reader::{Phase, StreamReader};
 use crate::writer::StreamWriter;
-use filters::Op;
+use filters::{Images, Op};
 use frame_view::Frame;
 use row_bands::BandHeight;
 use std::alloc::Global;
@@ -29,13 +29,11 @@ fn paint_and_put<W: Sink>(
     frame: &mut Frame,
     images: &mut Images,
 ) -> Result<(), WriteFault>
-    requires ready { IsReady images.old }
     requires geometry { frame.old.geometry ≡ images.old.chain.geometry }
     requires line { HasLineOf frame.old images.old }
     requires size { IsWriterFor images.old.chain writer.old }
     requires few { writer.old.frames < MOST_FRAMES }
     ensures chain { images.new.chain ≡ images.old.chain }
-    ensures ready { IsReady images.new }
     ensures geometry { frame.new.geometry ≡ frame.old.geometry }
     ensures put { HasImage images.old.chain (frame_text_of frame.old)
         (λ image. Puts writer.old writer.new image result) }
@@ -55,7 +53,6 @@ fn read_and_put<T: Threads, R: Source + Drop + Send, W: Sink>(
     images: &mut Images,
 ) -> (Result<bool, ReadFault>, Result<(), WriteFault>)
     requires header { IsOfHeader reader.old.header next.old.geometry }
-    requires ready { IsReady images.old }
     requires geometry { frame.old.geometry ≡ images.old.chain.geometry }
     requires line { HasLineOf frame.old images.old }
     requires size { IsWriterFor images.old.chain writer.old }
@@ -65,7 +62,6 @@ fn read_and_put<T: Threads, R: Source + Drop + Send, W: Sink>(
         IsFrameAhead (data_len_of reader.old.header) reader.old.rest reader.new.left) }
     ensures next { next.new.geometry ≡ next.old.geometry }
     ensures chain { images.new.chain ≡ images.old.chain }
-    ensures ready { IsReady images.new }
     ensures geometry { frame.new.geometry ≡ frame.old.geometry }
     ensures put { HasImage images.old.chain (frame_text_of frame.old)
         (λ image. Puts writer.old writer.new image result.1) }
@@ -88,7 +84,6 @@ fn pass_image<T: Threads, R: Source + Drop + Send, W: Sink>(
     images: &mut Images,
 ) -> Result<bool, FilterFault>
     requires header { IsOfHeader reader.old.header next.old.geometry }
-    requires ready { IsReady images.old }
     requires geometry { frame.old.geometry ≡ images.old.chain.geometry }
     requires line { HasLineOf frame.old images.old }
     requires size { IsWriterFor images.old.chain writer.old }
@@ -98,7 +93,6 @@ fn pass_image<T: Threads, R: Source + Drop + Send, W: Sink>(
     ensures next { next.new.geometry ≡ next.old.geometry }
     ensures header { reader.new.header ≡ reader.old.header }
     ensures chain { images.new.chain ≡ images.old.chain }
-    ensures ready { IsReady images.new }
     ensures geometry { frame.new.geometry ≡ frame.old.geometry }
     ensures put { OnOk result (HasImage images.old.chain (frame_text_of frame.old)
         (PutsFrame writer.old writer.new)) }
@@ -129,7 +123,6 @@ fn pass_images<T: Threads, R: Source + Drop + Send, W: Sink>(
     requires header { IsOfHeader reader.old.header next.old.geometry }
     requires next { next.old.geometry ≡ images.old.chain.geometry }
     requires chain { frame.old.geometry ≡ images.old.chain.geometry }
-    requires ready { IsReady images.old }
     requires size { IsWriterFor images.old.chain writer.old }
     requires none { writer.old.frames ≡ 0 }
     requires writing { writer.old.failed ≡ false }
@@ -169,7 +162,6 @@ fn pass_beside<T: Threads, R: Source + Drop + Send, W: Sink>(
 ) -> Result<u64, FilterFault>
     requires header { IsOfHeader reader.old.header frame.old.geometry }
     requires chain { frame.old.geometry ≡ images.old.chain.geometry }
-    requires ready { IsReady images.old }
     requires size { IsWriterFor images.old.chain writer.old }
     requires none { writer.old.frames ≡ 0 }
     requires writing { writer.old.failed ≡ false }

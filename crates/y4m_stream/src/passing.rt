@@ -2,7 +2,7 @@
 ghost use Rattle.std.specs.Prelude.{◌≡◌, ◌+◌, ◌<◌, Ok, true, false, IfOk, IfErr};
 ghost use Rattle.y4m_header.specs.StreamText.{FrameText};
 ghost use Rattle.y4m_stream.specs.Filtered.{IsLineAhead, filter_reads_told};
-ghost use Rattle.y4m_stream.specs.Inside.{FailsToPass, HasFailedAt, IsReady, PassesAll, PassesFrame};
+ghost use Rattle.y4m_stream.specs.Inside.{FailsToPass, HasFailedAt, PassesAll, PassesFrame};
 ghost use Rattle.y4m_stream.specs.Inside.{Stops, filter_writes_told};
 ghost use Rattle.y4m_stream.specs.Reader.{IsOfHeader, MeetsEnd};
 ghost use Rattle.y4m_stream.specs.Writer.{IsWriterFor};
@@ -10,9 +10,9 @@ ghost use Rattle.y4m_stream.specs.declared.passing.TheConstants.{MOST_FRAMES};
 
 use crate::device::{Sink, Source};
 use crate::fault::FilterFault;
-use crate::images::Images;
 use crate::reader::{Phase, StreamReader};
 use crate::writer::StreamWriter;
+use filters::Images;
 use frame_view::Frame;
 use std::alloc::Global;
 
@@ -29,7 +29,6 @@ fn pass_frame<R: Source + Drop, W: Sink>(
 ) -> Result<bool, FilterFault>
     requires header { IsOfHeader reader.old.header frame.old.geometry }
     requires chain { frame.old.geometry ≡ images.old.chain.geometry }
-    requires ready { IsReady images.old }
     requires size { IsWriterFor images.old.chain writer.old }
     requires few { writer.old.frames < MOST_FRAMES }
     requires writing { writer.old.failed ≡ false }
@@ -37,7 +36,6 @@ fn pass_frame<R: Source + Drop, W: Sink>(
     ensures frame { frame.new.geometry ≡ frame.old.geometry }
     ensures header { reader.new.header ≡ reader.old.header }
     ensures chain { images.new.chain ≡ images.old.chain }
-    ensures ready { IsReady images.new }
     ensures passed { result ≡ Ok true → (taken image : FrameText)
         × PassesFrame images.old.chain reader.old reader.new writer.old writer.new taken image }
     ensures end { result ≡ Ok false → MeetsEnd reader.old reader.new × (writer.new ≡ writer.old) }
@@ -66,7 +64,6 @@ pub fn pass_frames<R: Source + Drop, W: Sink>(
 ) -> Result<u64, FilterFault>
     requires header { IsOfHeader reader.old.header frame.old.geometry }
     requires chain { frame.old.geometry ≡ images.old.chain.geometry }
-    requires ready { IsReady images.old }
     requires size { IsWriterFor images.old.chain writer.old }
     requires none { writer.old.frames ≡ 0 }
     requires writing { writer.old.failed ≡ false }

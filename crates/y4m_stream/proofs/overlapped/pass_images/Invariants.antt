@@ -1,5 +1,4 @@
 use Rattle.std.proofs.Common.{◌≡◌, false}
-use Rattle.y4m_stream.specs.Inside.{IsReady}
 use Rattle.y4m_stream.specs.Reader.{IsOfHeader, frame_text_of}
 use Rattle.y4m_stream.specs.Writer.{IsWriterFor}
 use Rattle.y4m_stream.proofs.Ahead.{PassesAhead}
@@ -13,7 +12,6 @@ invariant-loop-count g l = record {
   header : IsOfHeader l.reader.header l.next.geometry;
   next : l.next.geometry ≡ l.images.chain.geometry;
   of_chain : l.frame.geometry ≡ l.images.chain.geometry;
-  ready : IsReady l.images;
   size : IsWriterFor l.images.chain l.writer;
   same : l.images.chain ≡ l.fn.images.chain;
   reads : l.reader.failures ≡ l.fn.reader.failures;

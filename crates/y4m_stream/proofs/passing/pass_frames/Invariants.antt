@@ -1,7 +1,6 @@
 use Rattle.std.proofs.Common.{◌≡◌, List, length, false}
 use Rattle.y4m_header.specs.StreamText.{FrameText}
 use Rattle.y4m_stream.specs.declared.reader.Phase.TheVariants.{Open}
-use Rattle.y4m_stream.specs.Inside.{IsReady}
 use Rattle.y4m_stream.specs.Writer.{IsWriterFor}
 use Rattle.y4m_stream.specs.Reader.{IsOfHeader}
 use Rattle.y4m_stream.proofs.MoreFrames.{PassesFrames}
@@ -15,7 +14,6 @@ invariant-loop-count g l = record {
   same_header : l.reader.header ≡ l.fn.reader.header;
   header : IsOfHeader l.reader.header l.frame.geometry;
   of_chain : l.frame.geometry ≡ l.images.chain.geometry;
-  ready : IsReady l.images;
   size : IsWriterFor l.images.chain l.writer;
   same : l.images.chain ≡ l.fn.images.chain;
   reads : l.reader.failures ≡ l.fn.reader.failures;
