@@ -4,6 +4,7 @@ pub mod Puts
 pub mod MoreFrames
 pub mod Ahead
 pub mod Serving
+pub mod Closing
 pub mod Filtered
 pub mod Determined
 pub mod Fronts

@@ -1,7 +1,7 @@
 -- What contracts inside the crate speak of.
 use Rattle.std.specs.Prelude.{◌≡◌, ℕ, ◌+◌, ◌<◌, ◌≤◌, ◌⊎◌, List, [], ◌∷◌, ◌++◌, length, take, drop}
 use Rattle.std.specs.Prelude.{Option, Some, None}
-use Rattle.std.specs.Prelude.{IfSome, unwrap_or, All, true, false, Result, Ok, Err}
+use Rattle.std.specs.Prelude.{IfSome, unwrap_or, All, Bool, true, false, Result, Ok, Err}
 use Rattle.std.specs.Io.KnownBytes.{Appends, Consumes, IsAtEnd, Keeps, prepend_known}
 use Rattle.row_bands.specs.declared.band_height.BandHeight.{BandHeight}
 use Rattle.filters.specs.declared.error.FilterError.TheVariants.{NoMemory as NoFilterMemory}
@@ -11,7 +11,7 @@ use Rattle.filters.specs.Refusal.{IsChain}
 use Rattle.y4m_header.specs.Header.{HeaderValue}
 use Rattle.y4m_header.specs.FrameLine.{IsFrameLine}
 use Rattle.y4m_header.specs.Line.{IsLine}
-use Rattle.y4m_header.specs.StreamText.{FrameText, IsFrameOf, frames_text, text_of}
+use Rattle.y4m_header.specs.StreamText.{FrameText, IsFrameOf, frames_text}
 use Rattle.y4m_stream.specs.declared.fault.ReadFault.{ReadFault}
 use Rattle.y4m_stream.specs.declared.fault.ReadFault.TheVariants.{Device, LineTooLong, Header, NotFrame}
 use Rattle.y4m_stream.specs.declared.fault.ReadFault.TheVariants.{Truncated, NoMemory, Failed}
@@ -25,12 +25,13 @@ use Rattle.y4m_stream.specs.declared.fault.FilterFault.TheVariants.{Read, Ops, W
 use Rattle.y4m_stream.specs.declared.filter.Filter.{Filter}
 use Rattle.y4m_stream.specs.Failures.{one_more}
 use Rattle.y4m_stream.specs.Front.{IsCutLine, IsFrameAhead, IsLongLine, HasOtherLine, HasGiven}
-use Rattle.y4m_stream.specs.Front.{StandsAtFrame}
-use Rattle.y4m_stream.specs.Reader.{ReaderState, IsOfHeader, TakesFrame, Answers, FailsAtFrame, data_len_of}
-use Rattle.y4m_stream.specs.Writer.{WriterState, CutsShort, PutsFrame, write_failures_at}
+use Rattle.y4m_stream.specs.Reader.{ReaderState, IsOfHeader, MeetsEnd, TakesFrame, Answers, FailsAtFrame}
+use Rattle.y4m_stream.specs.Reader.{data_len_of}
+use Rattle.y4m_stream.specs.Writer.{WriterState, CutsShort, FailsToPut, IsWriterFor, PutsFrame}
+use Rattle.y4m_stream.specs.Writer.{write_failures_at}
 use Rattle.y4m_stream.specs.declared.passing.TheConstants.{MOST_FRAMES}
 use Rattle.y4m_stream.specs.Served.{IsAskedFor, IsHeaderOfImages, IsImageText, AreImages, served_header}
-use Rattle.y4m_stream.specs.Filtered.{Progress, HasNext, LacksChain, StopsAt}
+use Rattle.y4m_stream.specs.Filtered.{Progress, LacksChain, StopsAt, filter_reads_told}
 
 -- the bytes that were read from a source and not yet taken, what it has left, and how many of its reads
 -- failed
@@ -120,8 +121,8 @@ pub record IsFilterFor (ops : List Op) (height : BandHeight) (header : HeaderVal
     (filter : Filter) : Type 0 where
   pub asked : IsAskedFor ops height header.width header.height header.chroma filter.images.chain
   pub is_chain : IsChain filter.images.chain
-  pub frame : IsOfHeader header filter.frame.geometry
-  pub of_chain : filter.frame.geometry ≡ filter.images.chain.geometry
+  pub of_header : IsOfHeader header filter.images.chain.geometry
+  pub frame : filter.frame.geometry ≡ filter.images.chain.geometry
   pub shown : IsHeaderOfImages filter.images.chain header (unwrap_or filter.resized header)
 
 -- the header line of the chain's images didn't go out whole
@@ -141,6 +142,14 @@ FailsToBegin (Ops e) ops height header before after =
 FailsToBegin (Write fault) ops height header before after = CutsHeader ops height header before after fault
 FailsToBegin TooManyFrames ops height header before after = ⊥
 
+-- frames can be passed on: the reader is open and the writer hasn't failed, and their frames are of the sizes
+-- of the chain's frames and of its images
+pub record CanPass (chain : ChainValue) (reader : ReaderState) (writer : WriterState) : Type 0 where
+  pub reading : reader.phase ≡ Open
+  pub writing : writer.failed ≡ false
+  pub header : IsOfHeader reader.header chain.geometry
+  pub size : IsWriterFor chain writer
+
 -- a frame was taken, and its image went out
 pub record PassesFrame (chain : ChainValue) (reader reader' : ReaderState) (writer writer' : WriterState)
     (frame image : FrameText) : Type 0 where
@@ -155,18 +164,27 @@ pub record CutsImage (chain : ChainValue) (fault : WriteFault) (reader reader' :
   pub image : FrameText
   pub taken : TakesFrame reader reader' frame
   pub made : IsImageText chain frame image
-  pub cut : CutsShort writer.contents writer'.contents (text_of image) writer.bytes fault
+  pub fails : FailsToPut writer writer' image fault
 
 -- no frame is passed on, for this reason
-abbrev pub FailsToPass : ChainValue → FilterFault → ReaderState → ReaderState
-    → WriterState → WriterState → Type 0
-FailsToPass chain (Read fault) reader reader' writer writer' =
-    StandsAtFrame (data_len_of reader.header) fault reader.rest reader'.left × (writer' ≡ writer)
-FailsToPass chain (Ops e) reader reader' writer writer' = (e ≡ NoFilterMemory)
-    × HasNext (data_len_of reader.header) reader.rest reader'.left × (writer' ≡ writer)
-FailsToPass chain (Write fault) reader reader' writer writer' =
+abbrev pub FailsToPass : ChainValue → ReaderState → ReaderState → WriterState → WriterState
+    → FilterFault → Type 0
+FailsToPass chain reader reader' writer writer' (Read fault) =
+    FailsAtFrame reader reader' fault × (writer' ≡ writer)
+FailsToPass chain reader reader' writer writer' (Ops e) =
+    (e ≡ NoFilterMemory) × ((frame : FrameText) × TakesFrame reader reader' frame) × (writer' ≡ writer)
+FailsToPass chain reader reader' writer writer' (Write fault) =
     CutsImage chain fault reader reader' writer writer'
-FailsToPass chain TooManyFrames reader reader' writer writer' = ⊥
+FailsToPass chain reader reader' writer writer' TooManyFrames = ⊥
+
+-- what passing the next frame on answers: whether there was one
+abbrev pub PassesNext : ChainValue → ReaderState → ReaderState → WriterState → WriterState
+    → Result Bool FilterFault → Type 0
+PassesNext chain reader reader' writer writer' (Ok true) =
+    (frame image : FrameText) × PassesFrame chain reader reader' writer writer' frame image
+PassesNext chain reader reader' writer writer' (Ok false) = MeetsEnd reader reader' × (writer' ≡ writer)
+PassesNext chain reader reader' writer writer' (Err fault) =
+    FailsToPass chain reader reader' writer writer' fault
 
 -- frames that were taken, and the images that the chain makes of them
 pub record Passage (chain : ChainValue) (reader : ReaderState) : Type 0 where
@@ -197,16 +215,28 @@ pub record PassesAll (n : ℕ) (chain : ChainValue) (reader reader' : ReaderStat
   pub bytes : writer'.bytes ≡ writer.bytes + length (frames_text passage.images)
   pub writing : writer'.failed ≡ false
 
--- an image went out and the frame behind it was not read, or the image didn't go out whole
-abbrev pub FailsBeside : FilterFault → ReaderState → ReaderState → WriterState → WriterState
-    → FrameText → Type 0
-FailsBeside (Read fault) reader reader' writer writer' image =
+-- an image went out and the frame behind it was not read, or the image didn't go out whole, and then one read
+-- may have failed too
+abbrev pub FailsBeside : ReaderState → ReaderState → WriterState → WriterState → FrameText
+    → FilterFault → Type 0
+FailsBeside reader reader' writer writer' image (Read fault) =
     FailsAtFrame reader reader' fault × PutsFrame writer writer' image
-FailsBeside (Ops e) reader reader' writer writer' image = ⊥
-FailsBeside (Write fault) reader reader' writer writer' image =
+FailsBeside reader reader' writer writer' image (Ops e) = ⊥
+FailsBeside reader reader' writer writer' image (Write fault) =
     IsFrameAhead (data_len_of reader.header) reader.rest reader'.left
-    × CutsShort writer.contents writer'.contents (text_of image) writer.bytes fault
-FailsBeside TooManyFrames reader reader' writer writer' image = ⊥
+    × ((reader'.failures ≡ reader.failures) ⊎ (reader'.failures ≡ one_more reader.failures))
+    × FailsToPut writer writer' image fault
+FailsBeside reader reader' writer writer' image TooManyFrames = ⊥
+
+-- what writing an image answers, while the frame behind it is read into this one: whether there was one
+abbrev pub PutsBeside : ReaderState → ReaderState → WriterState → WriterState → FrameText
+    → Result Bool FilterFault → FrameText → Type 0
+PutsBeside reader reader' writer writer' next (Ok true) image =
+    PutsFrame writer writer' image × TakesFrame reader reader' next
+PutsBeside reader reader' writer writer' next (Ok false) image =
+    PutsFrame writer writer' image × MeetsEnd reader reader'
+PutsBeside reader reader' writer writer' next (Err fault) image =
+    FailsBeside reader reader' writer writer' image fault
 
 -- why not all frames were passed on
 abbrev pub Stops : (ℕ → Option (List ℕ) → Option (List ℕ) → Type 0)
@@ -231,6 +261,10 @@ abbrev pub filter_writes_told : {T : Type 0} → Result T FilterFault → ℕ �
 filter_writes_told (Ok x) n = n
 filter_writes_told (Err fault) n = filter_writes_at fault n
 
+-- a read failed exactly where that was answered
+abbrev pub ReadsTold : Result ℕ FilterFault → ℕ → ℕ → Type 0
+ReadsTold answer old new = new ≡ filter_reads_told answer old
+
 -- the writer has failed exactly where this is its fault
 abbrev pub HasFailedAt : FilterFault → WriterState → Type 0
 HasFailedAt (Read fault) writer = writer.failed ≡ false
@@ -238,6 +272,23 @@ HasFailedAt (Ops e) writer = writer.failed ≡ false
 HasFailedAt (Write (NotWritten bytes)) writer = writer.failed ≡ true
 HasFailedAt (Write HasFailedBefore) writer = ⊥
 HasFailedAt TooManyFrames writer = writer.failed ≡ false
+
+-- all frames were passed on, so many, or not all
+abbrev pub PassesOrStops : (ℕ → Option (List ℕ) → Option (List ℕ) → Type 0) → ChainValue
+    → ReaderState → ReaderState → WriterState → WriterState → Result ℕ FilterFault → Type 0
+PassesOrStops Ahead chain reader reader' writer writer' (Ok n) =
+    PassesAll n chain reader reader' writer writer'
+PassesOrStops Ahead chain reader reader' writer writer' (Err fault) =
+    Stops Ahead chain fault reader reader' writer writer' × HasFailedAt fault writer'
+
+-- what passing frames on answers, where a write's fault finds the input read so far ahead, and that is known
+-- of the reads that failed
+pub record HasPassed (Ahead : ℕ → Option (List ℕ) → Option (List ℕ) → Type 0)
+    (Reads : Result ℕ FilterFault → ℕ → ℕ → Type 0) (chain : ChainValue) (reader reader' : ReaderState)
+    (writer writer' : WriterState) (answer : Result ℕ FilterFault) : Type 0 where
+  pub outcome : PassesOrStops Ahead chain reader reader' writer writer' answer
+  pub reads : Reads answer reader.failures reader'.failures
+  pub writes : writer'.failures ≡ filter_writes_told answer writer.failures
 
 -- a fault stays, and a number of frames stays where the flush succeeds
 abbrev pub Closes : Result ℕ FilterFault → WriterState → Result ℕ FilterFault → Type 0

@@ -1,13 +1,11 @@
 // A stream, filtered from end to end, each frame read while the image before it is made and written.
-ghost use Rattle.std.specs.Prelude.{◌≡◌, ◌<◌, ◌⊎◌, ℕ, List, Option, Ok, true, false, IfOk, IfErr, OnOk};
+ghost use Rattle.std.specs.Prelude.{◌≡◌, ◌<◌, ◌⊎◌, ℕ, List, Option, IfErr, OnOk, true, false};
 ghost use Rattle.filters.specs.Canvases.{HasLineOf};
 ghost use Rattle.y4m_stream.specs.Filtered.{CountsReads, CountsWrites, IsFilteredAhead};
 ghost use Rattle.y4m_stream.specs.Front.{IsFrameAhead};
-ghost use Rattle.y4m_stream.specs.Inside.{FailsBeside, HasFailedAt, HasImage, PassesAll};
-ghost use Rattle.y4m_stream.specs.Inside.{Stops, filter_writes_told};
-ghost use Rattle.y4m_stream.specs.Reader.{Answers, IsOfHeader, IsOpened, MeetsEnd, TakesFrame, answer_into};
-ghost use Rattle.y4m_stream.specs.Reader.{data_len_of, frame_text_of};
-ghost use Rattle.y4m_stream.specs.Writer.{FlushesOrFails, IsWriterFor, Puts, PutsFrame};
+ghost use Rattle.y4m_stream.specs.Inside.{CanPass, HasImage, HasPassed, PutsBeside};
+ghost use Rattle.y4m_stream.specs.Reader.{AnswersOpen, IsOpened, answer_into, data_len_of, frame_text_of};
+ghost use Rattle.y4m_stream.specs.Writer.{FlushesOrFails, IsWriterFor, PutsOpen};
 ghost use Rattle.y4m_stream.specs.declared.passing.TheConstants.{MOST_FRAMES};
 
 use crate::device::{Sink, Source};
@@ -33,10 +31,11 @@ fn paint_and_put<W: Sink>(
     requires line { HasLineOf frame.old images.old }
     requires size { IsWriterFor images.old.chain writer.old }
     requires few { writer.old.frames < MOST_FRAMES }
+    requires writing { writer.old.failed ≡ false }
     ensures chain { images.new.chain ≡ images.old.chain }
     ensures geometry { frame.new.geometry ≡ frame.old.geometry }
     ensures put { HasImage images.old.chain (frame_text_of frame.old)
-        (λ image. Puts writer.old writer.new image result) }
+        (λ image. PutsOpen writer.old writer.new image result) }
 {
     images.paint(frame);
     writer.put(images.image(frame))
@@ -52,19 +51,20 @@ fn read_and_put<T: Threads, R: Source + Drop + Send, W: Sink>(
     frame: &mut Frame,
     images: &mut Images,
 ) -> (Result<bool, ReadFault>, Result<(), WriteFault>)
-    requires header { IsOfHeader reader.old.header next.old.geometry }
+    requires ready { CanPass images.old.chain reader.old writer.old }
+    requires few { writer.old.frames < MOST_FRAMES }
+    requires next { next.old.geometry ≡ images.old.chain.geometry }
     requires geometry { frame.old.geometry ≡ images.old.chain.geometry }
     requires line { HasLineOf frame.old images.old }
-    requires size { IsWriterFor images.old.chain writer.old }
-    requires few { writer.old.frames < MOST_FRAMES }
-    ensures read { Answers reader.old reader.new (answer_into next.new result.0) }
-    ensures ahead { reader.old.phase ≡ Phase.Open → IfErr result.0 (λ _.
-        IsFrameAhead (data_len_of reader.old.header) reader.old.rest reader.new.left) }
     ensures next { next.new.geometry ≡ next.old.geometry }
+    ensures header { reader.new.header ≡ reader.old.header }
     ensures chain { images.new.chain ≡ images.old.chain }
     ensures geometry { frame.new.geometry ≡ frame.old.geometry }
+    ensures read { AnswersOpen reader.old reader.new (answer_into next.new result.0) }
+    ensures ahead { IfErr result.0 (λ _.
+        IsFrameAhead (data_len_of reader.old.header) reader.old.rest reader.new.left) }
     ensures put { HasImage images.old.chain (frame_text_of frame.old)
-        (λ image. Puts writer.old writer.new image result.1) }
+        (λ image. PutsOpen writer.old writer.new image result.1) }
 {
     join_mut(
         rt,
@@ -83,26 +83,17 @@ fn pass_image<T: Threads, R: Source + Drop + Send, W: Sink>(
     frame: &mut Frame,
     images: &mut Images,
 ) -> Result<bool, FilterFault>
-    requires header { IsOfHeader reader.old.header next.old.geometry }
+    requires ready { CanPass images.old.chain reader.old writer.old }
+    requires few { writer.old.frames < MOST_FRAMES }
+    requires next { next.old.geometry ≡ images.old.chain.geometry }
     requires geometry { frame.old.geometry ≡ images.old.chain.geometry }
     requires line { HasLineOf frame.old images.old }
-    requires size { IsWriterFor images.old.chain writer.old }
-    requires few { writer.old.frames < MOST_FRAMES }
-    requires writing { writer.old.failed ≡ false }
-    requires open { reader.old.phase ≡ Phase.Open }
     ensures next { next.new.geometry ≡ next.old.geometry }
     ensures header { reader.new.header ≡ reader.old.header }
     ensures chain { images.new.chain ≡ images.old.chain }
     ensures geometry { frame.new.geometry ≡ frame.old.geometry }
-    ensures put { OnOk result (HasImage images.old.chain (frame_text_of frame.old)
-        (PutsFrame writer.old writer.new)) }
-    ensures taken { result ≡ Ok true → TakesFrame reader.old reader.new (frame_text_of next.new) }
-    ensures end { result ≡ Ok false → MeetsEnd reader.old reader.new }
-    ensures fault { IfErr result (λ fault. HasImage images.old.chain (frame_text_of frame.old)
-        (FailsBeside fault reader.old reader.new writer.old writer.new)) }
-    ensures failed { IfErr result (λ fault. HasFailedAt fault writer.new) }
-    ensures reads { CountsReads result reader.old.failures reader.new.failures }
-    ensures writes { writer.new.failures ≡ filter_writes_told result writer.old.failures }
+    ensures answer { HasImage images.old.chain (frame_text_of frame.old)
+        (PutsBeside reader.old reader.new writer.old writer.new (frame_text_of next.new) result) }
 {
     let (read, put) = read_and_put(rt, alloc, reader, writer, next, frame, images);
     put?;
@@ -120,20 +111,12 @@ fn pass_images<T: Threads, R: Source + Drop + Send, W: Sink>(
     frame: &mut Frame,
     images: &mut Images,
 ) -> Result<u64, FilterFault>
-    requires header { IsOfHeader reader.old.header next.old.geometry }
-    requires next { next.old.geometry ≡ images.old.chain.geometry }
-    requires chain { frame.old.geometry ≡ images.old.chain.geometry }
-    requires size { IsWriterFor images.old.chain writer.old }
+    requires ready { CanPass images.old.chain reader.old writer.old }
     requires none { writer.old.frames ≡ 0 }
-    requires writing { writer.old.failed ≡ false }
-    requires open { reader.old.phase ≡ Phase.Open }
-    ensures passed { IfOk result (λ n.
-        PassesAll n images.old.chain reader.old reader.new writer.old writer.new) }
-    ensures fault { IfErr result (λ fault.
-        Stops IsFrameAhead images.old.chain fault reader.old reader.new writer.old writer.new) }
-    ensures failed { IfErr result (λ fault. HasFailedAt fault writer.new) }
-    ensures reads { CountsReads result reader.old.failures reader.new.failures }
-    ensures writes { writer.new.failures ≡ filter_writes_told result writer.old.failures }
+    requires next { next.old.geometry ≡ images.old.chain.geometry }
+    requires frame { frame.old.geometry ≡ images.old.chain.geometry }
+    ensures { HasPassed IsFrameAhead CountsReads images.old.chain reader.old reader.new
+        writer.old writer.new result }
 {
     let mut more = reader.read_frame(alloc, next)?;
     for count in 0..MOST_FRAMES {
@@ -160,19 +143,11 @@ fn pass_beside<T: Threads, R: Source + Drop + Send, W: Sink>(
     frame: &mut Frame,
     images: &mut Images,
 ) -> Result<u64, FilterFault>
-    requires header { IsOfHeader reader.old.header frame.old.geometry }
-    requires chain { frame.old.geometry ≡ images.old.chain.geometry }
-    requires size { IsWriterFor images.old.chain writer.old }
+    requires ready { CanPass images.old.chain reader.old writer.old }
     requires none { writer.old.frames ≡ 0 }
-    requires writing { writer.old.failed ≡ false }
-    requires open { reader.old.phase ≡ Phase.Open }
-    ensures passed { IfOk result (λ n.
-        PassesAll n images.old.chain reader.old reader.new writer.old writer.new) }
-    ensures fault { IfErr result (λ fault.
-        Stops IsFrameAhead images.old.chain fault reader.old reader.new writer.old writer.new) }
-    ensures failed { IfErr result (λ fault. HasFailedAt fault writer.new) }
-    ensures reads { CountsReads result reader.old.failures reader.new.failures }
-    ensures writes { writer.new.failures ≡ filter_writes_told result writer.old.failures }
+    requires frame { frame.old.geometry ≡ images.old.chain.geometry }
+    ensures { HasPassed IsFrameAhead CountsReads images.old.chain reader.old reader.new
+        writer.old writer.new result }
 {
     match Frame::blank(alloc, frame.geometry(), b"FRAME") {
         Ok(mut next) => pass_images(rt, alloc, reader, writer, &mut next, frame, images),

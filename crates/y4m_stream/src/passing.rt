@@ -1,16 +1,12 @@
 // The frames of a stream, each read, filtered and written before the next.
-ghost use Rattle.std.specs.Prelude.{◌≡◌, ◌+◌, ◌<◌, Ok, true, false, IfOk, IfErr};
-ghost use Rattle.y4m_header.specs.StreamText.{FrameText};
-ghost use Rattle.y4m_stream.specs.Filtered.{IsLineAhead, filter_reads_told};
-ghost use Rattle.y4m_stream.specs.Inside.{FailsToPass, HasFailedAt, PassesAll, PassesFrame};
-ghost use Rattle.y4m_stream.specs.Inside.{Stops, filter_writes_told};
-ghost use Rattle.y4m_stream.specs.Reader.{IsOfHeader, MeetsEnd};
-ghost use Rattle.y4m_stream.specs.Writer.{IsWriterFor};
+ghost use Rattle.std.specs.Prelude.{◌≡◌, ◌<◌};
+ghost use Rattle.y4m_stream.specs.Filtered.{IsLineAhead};
+ghost use Rattle.y4m_stream.specs.Inside.{CanPass, HasPassed, PassesNext, ReadsTold};
 ghost use Rattle.y4m_stream.specs.declared.passing.TheConstants.{MOST_FRAMES};
 
 use crate::device::{Sink, Source};
 use crate::fault::FilterFault;
-use crate::reader::{Phase, StreamReader};
+use crate::reader::StreamReader;
 use crate::writer::StreamWriter;
 use filters::Images;
 use frame_view::Frame;
@@ -27,23 +23,13 @@ fn pass_frame<R: Source + Drop, W: Sink>(
     frame: &mut Frame,
     images: &mut Images,
 ) -> Result<bool, FilterFault>
-    requires header { IsOfHeader reader.old.header frame.old.geometry }
-    requires chain { frame.old.geometry ≡ images.old.chain.geometry }
-    requires size { IsWriterFor images.old.chain writer.old }
+    requires ready { CanPass images.old.chain reader.old writer.old }
     requires few { writer.old.frames < MOST_FRAMES }
-    requires writing { writer.old.failed ≡ false }
-    requires open { reader.old.phase ≡ Phase.Open }
+    requires frame { frame.old.geometry ≡ images.old.chain.geometry }
     ensures frame { frame.new.geometry ≡ frame.old.geometry }
     ensures header { reader.new.header ≡ reader.old.header }
     ensures chain { images.new.chain ≡ images.old.chain }
-    ensures passed { result ≡ Ok true → (taken image : FrameText)
-        × PassesFrame images.old.chain reader.old reader.new writer.old writer.new taken image }
-    ensures end { result ≡ Ok false → MeetsEnd reader.old reader.new × (writer.new ≡ writer.old) }
-    ensures fault { IfErr result (λ fault.
-        FailsToPass images.old.chain fault reader.old reader.new writer.old writer.new) }
-    ensures failed { IfErr result (λ fault. HasFailedAt fault writer.new) }
-    ensures reads { reader.new.failures ≡ filter_reads_told result reader.old.failures }
-    ensures writes { writer.new.failures ≡ filter_writes_told result writer.old.failures }
+    ensures answer { PassesNext images.old.chain reader.old reader.new writer.old writer.new result }
 {
     if !reader.read_frame(alloc, frame)? {
         return Ok(false);
@@ -62,19 +48,11 @@ pub fn pass_frames<R: Source + Drop, W: Sink>(
     frame: &mut Frame,
     images: &mut Images,
 ) -> Result<u64, FilterFault>
-    requires header { IsOfHeader reader.old.header frame.old.geometry }
-    requires chain { frame.old.geometry ≡ images.old.chain.geometry }
-    requires size { IsWriterFor images.old.chain writer.old }
+    requires ready { CanPass images.old.chain reader.old writer.old }
     requires none { writer.old.frames ≡ 0 }
-    requires writing { writer.old.failed ≡ false }
-    requires open { reader.old.phase ≡ Phase.Open }
-    ensures passed { IfOk result (λ n.
-        PassesAll n images.old.chain reader.old reader.new writer.old writer.new) }
-    ensures fault { IfErr result (λ fault.
-        Stops IsLineAhead images.old.chain fault reader.old reader.new writer.old writer.new) }
-    ensures failed { IfErr result (λ fault. HasFailedAt fault writer.new) }
-    ensures reads { reader.new.failures ≡ filter_reads_told result reader.old.failures }
-    ensures writes { writer.new.failures ≡ filter_writes_told result writer.old.failures }
+    requires frame { frame.old.geometry ≡ images.old.chain.geometry }
+    ensures { HasPassed IsLineAhead ReadsTold images.old.chain reader.old reader.new
+        writer.old writer.new result }
 {
     for count in 0..MOST_FRAMES {
         if !pass_frame(alloc, reader, writer, frame, images)? {

@@ -1,5 +1,7 @@
-use Rattle.std.proofs.Common.{arith}
+use Rattle.std.proofs.Common.{Err, arith, inr}
 use Rattle.y4m_stream.specs.Front.{IsFrameAhead}
+use Rattle.y4m_stream.proofs.Ahead.{reads_ahead}
+use Rattle.y4m_stream.proofs.Closing.{CanPass-begun, closed_flushes, closed_counts, closed_writes, reads_at_header, writes_at_header}
 use Rattle.y4m_stream.proofs.Serving.{filtered_once_begun, stopped_at_header}
 use Rattle.y4m_stream.proofs.overlapped.filter_images.Goals as goal
 
@@ -8,9 +10,31 @@ returns-in-Err-clause-answer g c = λ input opened.
     let fails = rw c.header.ensures at c.in-Err.ensures.fault in
     stopped_at_header IsFrameAhead (λ len rest left ahead. (ahead.0, ahead.1, omega (arith, ahead.2))) _ _ input c.args.reader.now opened c.in-Err.fault _ _ fails
 
+pub returns-in-Err-clause-reads : goal.returns-in-Err-clause-reads
+returns-in-Err-clause-reads g c = reads_ahead (Err c.in-Err.fault) _ _ (reads_at_header _ _ _ _ _ c.in-Err.fault _ c.in-Err.ensures.fault)
+
+pub returns-in-Err-clause-writes : goal.returns-in-Err-clause-writes
+returns-in-Err-clause-writes g c = writes_at_header _ _ _ _ _ c.in-Err.fault _ _ c.in-Err.ensures.fault c.in-Err.ensures.writes
+
+pub pass_beside-passed-requires-clause-ready : goal.pass_beside-passed-requires-clause-ready
+pass_beside-passed-requires-clause-ready g c = λ _ _.
+    let filter = rw c.header.ensures at c.in-Ok.ensures.filter in
+    CanPass-begun _ _ c.args.reader.now _ _ _ _ c.requires filter (rw c.header.ensures at c.in-Ok.ensures.opened)
+
 pub returns-clause-answer : goal.returns-clause-answer
 returns-clause-answer g c = λ input opened.
     let filter = rw c.header.ensures at c.in-Ok.ensures.filter in
     let writer = rw c.header.ensures at c.in-Ok.ensures.opened in
     filtered_once_begun IsFrameAhead (λ len rest left ahead. (ahead.0, ahead.1, omega (arith, ahead.2))) _ _ input c.args.reader.now opened c.in-Ok.begun.0 c.pass_beside-passed.new.reader _ _ _ c.in-Ok.begun.1 _
-    filter writer c.close.ensures.kept _ _ c.close.ensures.answer c.pass_beside-passed.ensures.passed c.pass_beside-passed.ensures.fault
+    filter writer c.close.ensures.kept _ _ c.close.ensures.answer c.pass_beside-passed.ensures.outcome
+
+pub returns-clause-reads : goal.returns-clause-reads
+returns-clause-reads g c = closed_counts _ _ _ _ _ _ _ _ c.close.ensures.answer c.pass_beside-passed.ensures
+
+pub returns-clause-writes : goal.returns-clause-writes
+returns-clause-writes g c =
+    closed_writes _ _ _ _ _ _ _ _ _ c.in-Ok.ensures.opened.no_failure _ _ c.close.ensures.answer c.close.ensures.counted c.pass_beside-passed.ensures
+
+pub returns-clause-closed : goal.returns-clause-closed
+returns-clause-closed g c =
+    inr (closed_flushes _ _ _ _ _ _ _ _ _ c.in-Ok.ensures.opened.no_failure _ _ _ c.close.ensures.counted c.close.ensures.closed c.pass_beside-passed.ensures)

@@ -1,5 +1,5 @@
-use Rattle.y4m_stream.proofs.Ahead.{stops_ahead}
+use Rattle.y4m_stream.proofs.Ahead.{HasPassed-ahead}
 use Rattle.y4m_stream.proofs.overlapped.pass_beside.Goals as goal
 
-pub returns-in-Err-clause-fault : goal.returns-in-Err-clause-fault
-returns-in-Err-clause-fault g c = stops_ahead c.args.images.now.chain c.args.reader.now c.pass_frames.new.reader c.args.writer.now c.pass_frames.new.writer c.pass_frames.result c.pass_frames.ensures.fault
+pub returns-in-Err : goal.returns-in-Err
+returns-in-Err g c = HasPassed-ahead _ _ _ _ _ _ c.pass_frames.ensures
