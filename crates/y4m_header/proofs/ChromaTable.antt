@@ -1,7 +1,7 @@
 -- A value of C names one form.
 use Rattle.std.proofs.Common.{nat_eq, sym, ◌∙◌, ◌≡◌, ◌↔◌, ℕ, ◌<◌, inl, inr, List, [], ◌∷◌, length}
 use Rattle.std.proofs.Common.{Option, Some, None, Contains, get_or, refl, ap, subst, arith, suc, zero, Bool}
-use Rattle.std.proofs.Common.{true, cond}
+use Rattle.std.proofs.Common.{true, false, cond, drop, slice_index_or, Bor, ◌+◌, ◌≤◌}
 use Rattle.std.proofs.Props.{props}
 use mathlib.Core.Sum.{⊎_set}
 use Rattle.std.specs.Option.{option_eq}
@@ -87,3 +87,40 @@ names_from_gives v c e = found chroma_table v c e
 pub names_form : (v : Option (List ℕ)) (r : Option Chroma) → r ≡ form_in chroma_table v
     → (c : Chroma) → (r ≡ Some c) ↔ NamesChroma v c
 names_form v r e c = (λ s. names_from_gives v c (sym e ∙ s), λ names. e ∙ gives_from_names v c names)
+
+-- the form of the first of these texts that is the name
+abbrev pub form_of_texts : List (Bor (List ℕ) × Chroma) → List ℕ → Option Chroma
+form_of_texts [] name = None
+form_of_texts (form ∷ forms) name = cond (pointwise nat_eq name form.0.now) (Some form.1) (form_of_texts forms name)
+
+first_left : (forms : List (Bor (List ℕ) × Chroma)) (name : List ℕ) (k m : ℕ) (d : Bor (List ℕ) × Chroma) → m ≡ suc k → k < length forms
+    → form_of_texts (drop k forms) name
+    ≡ cond (pointwise nat_eq name (slice_index_or forms k d).0.now) (Some (slice_index_or forms k d).1) (form_of_texts (drop m forms) name)
+first_left [] name k m d e h = absurd (omega arith)
+first_left (form ∷ forms) name zero m d e h = rw e refl
+first_left (form ∷ forms) name (suc k) m d e h = rw e (first_left forms name k (suc k) d refl (omega arith))
+
+none_left : (forms : List (Bor (List ℕ) × Chroma)) (name : List ℕ) (k : ℕ) → length forms ≤ k → form_of_texts (drop k forms) name ≡ None
+none_left [] name zero h = refl
+none_left [] name (suc k) h = refl
+none_left (form ∷ forms) name zero h = absurd (omega arith)
+none_left (form ∷ forms) name (suc k) h = none_left forms name k (omega arith)
+
+-- a search through the texts, at its k-th
+pub other_text : (forms : List (Bor (List ℕ) × Chroma)) (name text : List ℕ) (k : ℕ) (d : Bor (List ℕ) × Chroma) (same : Bool) (form : Option Chroma)
+    → form ≡ form_of_texts (drop k forms) name → k < length forms → text ≡ (slice_index_or forms k d).0.now → same ≡ pointwise nat_eq name text
+    → same ≡ false → form ≡ form_of_texts (drop (k + 1) forms) name
+other_text forms name text k d same form is h e s differs =
+    let other : pointwise nat_eq name (slice_index_or forms k d).0.now ≡ false = ap (pointwise nat_eq name) (sym e) ∙ sym s ∙ differs in
+    is ∙ first_left forms name k (k + 1) d (omega arith) h ∙ rw other refl
+
+pub same_text_found : (forms : List (Bor (List ℕ) × Chroma)) (name text : List ℕ) (k : ℕ) (d : Bor (List ℕ) × Chroma) (same : Bool) (form : Option Chroma)
+    → form ≡ form_of_texts (drop k forms) name → k < length forms → text ≡ (slice_index_or forms k d).0.now → same ≡ pointwise nat_eq name text
+    → same ≡ true → Some (slice_index_or forms k d).1 ≡ form
+same_text_found forms name text k d same form is h e s agrees =
+    let it : pointwise nat_eq name (slice_index_or forms k d).0.now ≡ true = ap (pointwise nat_eq name) (sym e) ∙ sym s ∙ agrees in
+    sym (is ∙ first_left forms name k (k + 1) d (omega arith) h ∙ rw it refl)
+
+pub no_text_found : (forms : List (Bor (List ℕ) × Chroma)) (name : List ℕ) (k : ℕ) (form : Option Chroma)
+    → form ≡ form_of_texts (drop k forms) name → length forms ≤ k → None ≡ form
+no_text_found forms name k form is h = sym (is ∙ none_left forms name k h)

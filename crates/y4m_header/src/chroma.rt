@@ -67,28 +67,28 @@ impl Chroma {
     }
 }
 
-/// The form that a value of C names. The forms of 4:2:0 differ in where the chroma samples lie, and in
-/// nothing else.
+/// The values of C that are read, each with its form. The forms of 4:2:0 differ in where the chroma samples
+/// lie, and in nothing else.
+const FORMS: [(&str, Chroma); 9] = [
+    ("420", Chroma::S420),
+    ("420jpeg", Chroma::S420),
+    ("420mpeg2", Chroma::S420),
+    ("420paldv", Chroma::S420),
+    ("422", Chroma::S422),
+    ("411", Chroma::S411),
+    ("444", Chroma::S444),
+    ("444alpha", Chroma::S444Alpha),
+    ("mono", Chroma::Mono),
+];
+
+/// The form that a value of C names.
 fn form_of(name: &[u8]) -> Option<Chroma>
     ensures { (chroma : Chroma) → (result ≡ Some chroma) ↔ NamesChroma (Some name.now) chroma }
 {
-    if name == b"420".as_slice()
-        || name == b"420jpeg".as_slice()
-        || name == b"420mpeg2".as_slice()
-        || name == b"420paldv".as_slice()
-    {
-        Some(Chroma::S420)
-    } else if name == b"422".as_slice() {
-        Some(Chroma::S422)
-    } else if name == b"411".as_slice() {
-        Some(Chroma::S411)
-    } else if name == b"444".as_slice() {
-        Some(Chroma::S444)
-    } else if name == b"444alpha".as_slice() {
-        Some(Chroma::S444Alpha)
-    } else if name == b"mono".as_slice() {
-        Some(Chroma::Mono)
-    } else {
-        None
+    for (value, form) in FORMS {
+        if name == value.as_bytes() {
+            return Some(form);
+        }
     }
+    None
 }
