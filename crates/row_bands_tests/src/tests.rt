@@ -1,17 +1,25 @@
-// What the tests share: small frames, and a painter that copies one.
-ghost use Rattle.std.specs.Prelude.{◌≡◌, IfOk};
+// What the tests share: a painter that copies a frame, and comparisons.
 ghost use Rattle.frame_view.specs.Frame.{samples_of};
 ghost use Rattle.frame_view.specs.Rows.{sample};
 
-use frame_view::{Frame, Geometry};
+use frame_view::Frame;
 use row_bands::Painter;
-use std::alloc::Global;
-use std::test::Fail;
-use y4m_header::check_frame_line;
+use std::fmt::Debug;
+use std::process::Abort;
 
 mod copies;
 mod halves;
 mod plans;
+
+/// Compares what a call gave with what is wanted.
+fn same<T: PartialEq + Debug + Drop>(rt: &impl Abort, got: T, want: T) {
+    assert_eq!(rt; got, want);
+}
+
+/// Compares a list with the one that is wanted.
+fn same_list<T: PartialEq + Debug>(rt: &impl Abort, got: &[T], want: &[T]) {
+    assert_eq!(rt; got, want);
+}
 
 /// Paints the rows of a frame as they are.
 #[derive(Drop)]
@@ -28,12 +36,4 @@ impl Painter for Copied<'_> {
     fn paint(&self, p: usize, from: usize, to: usize, rows: &mut [u8]) {
         rows.copy_from_slice(self.source.rows(p, from, to));
     }
-}
-
-fn frame(alloc: Global, geometry: Geometry, samples: &[u8]) -> Result<Frame, Fail>
-    ensures { IfOk result (λ frame. frame.geometry ≡ geometry) }
-{
-    let line = b"FRAME".as_slice();
-    check_frame_line(line)?;
-    Ok(Frame::new(geometry, line.to_vec(alloc)?, samples.to_vec(alloc)?)?)
 }

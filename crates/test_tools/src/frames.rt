@@ -4,7 +4,7 @@ ghost use Rattle.frame_view.specs.Frame.{IsFrameWith};
 
 use frame_view::{Frame, Geometry};
 use std::alloc::Global;
-use y4m_header::{Chroma, HeaderError, check_frame_line};
+use y4m_header::{Chroma, Header, HeaderError, check_frame_line};
 
 /// Six rows of luma, and three of each chroma plane.
 pub const TALL: Geometry = Geometry {
@@ -19,6 +19,12 @@ pub const PIXEL: Geometry = Geometry {
     height: 1,
     chroma: Chroma::S444Alpha,
 };
+
+/// The size that a header line says. A table's rows can say it so, as a constant can't lend a `Geometry`.
+pub fn geometry_of(alloc: Global, line: &[u8]) -> Result<Geometry, HeaderError> {
+    let header = Header::parse(alloc, line)?;
+    Ok(Geometry::of(&header))
+}
 
 /// A frame of this line and these samples. Where they make none, `NotFrame` is answered.
 pub fn frame_of(

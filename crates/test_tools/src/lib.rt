@@ -5,5 +5,5 @@
 mod frames;
 mod parts;
 
-pub use frames::{PIXEL, TALL, frame_of};
+pub use frames::{PIXEL, TALL, frame_of, geometry_of};
 pub use parts::Parts;

@@ -1,13 +1,39 @@
 // Bands that are painted in two parts.
-ghost use Rattle.std.specs.Prelude.{◌<◌, ◌≤◌};
+ghost use Rattle.std.specs.Prelude.{◌≡◌, ◌≤◌};
 ghost use Rattle.y4m_header.specs.declared.limits.TheConstants.{LONGEST_SIDE};
 
-use super::{Copied, frame};
-use frame_view::Geometry;
+use super::{Copied, same, same_list};
+use frame_view::{Frame, Geometry};
 use row_bands::{BandHeight, Canvas, Painter, paint_halves};
+use std::alloc::Global;
+use std::process::Abort;
 use std::sync::atomic::{AtomicU32, Ordering};
 use std::test::Fail;
-use y4m_header::{Chroma, check_frame_line};
+use std::thread::Threads;
+use test_tools::{Parts, frame_of};
+use y4m_header::Chroma;
+
+/// A frame that is one band, painted in two parts: above luma row 2, and from it on.
+fn painted<T: Threads + Abort, P: Painter + Sync, N: Fn(u32) + Sync>(
+    rt: &T,
+    alloc: Global,
+    geometry: Geometry,
+    painter: &P,
+    note: &N,
+) -> Result<Frame, Fail>
+    requires callable { N.pre note.now 0 × N.pre note.now 1 }
+    requires geometry { P.geometry painter.now ≡ geometry }
+{
+    let height = BandHeight::new(geometry.height).ok_or("no height")?;
+    let mut canvas = Canvas::new(alloc, geometry, height, b"FRAME")?;
+    assert_eq!(rt; canvas.plan().count(), 1);
+    let mut band = canvas.band_mut(0);
+    let (from, to) = band.luma_rows();
+    same(rt, (from, to), (0, geometry.height as usize));
+    assert!(rt; from <= 2 && 2 <= to);
+    paint_halves(rt, painter, &mut band, 2, note);
+    Ok(canvas.into_frame())
+}
 
 #[test]
 fn each_part_of_a_band_is_noted_once(rt: HostRuntime) -> Result<(), Fail> {
@@ -16,34 +42,19 @@ fn each_part_of_a_band_is_noted_once(rt: HostRuntime) -> Result<(), Fail> {
         height: 4,
         chroma: Chroma::S420,
     };
-    let source = frame(
+    let samples = [1, 2, 3, 4, 5, 6, 7, 8, 9, 10, 11, 12];
+    let source = frame_of(rt.alloc(), geometry, b"FRAME", &samples)?;
+    let painter = Copied { source: &source };
+    let parts = Parts::new();
+    let image = painted(
+        &rt,
         rt.alloc(),
         geometry,
-        &[1, 2, 3, 4, 5, 6, 7, 8, 9, 10, 11, 12],
-    )?;
-    let painter = Copied { source: &source };
-    let line = b"FRAME".as_slice();
-    check_frame_line(line)?;
-    let height = BandHeight::new(4).ok_or("no height")?;
-    let mut canvas = Canvas::new(rt.alloc(), geometry, height, line)?;
-    let notes = [AtomicU32::new(0), AtomicU32::new(0)];
-    assert_eq!(rt; canvas.plan().count(), 1);
-    let mut band = canvas.band_mut(0);
-    assert_eq!(rt; band.luma_rows(), (0, 4));
-    paint_halves(
-        &rt,
         &painter,
-        &mut band,
-        2,
-        &|half|
-            requires { half < 2 }
-        {
-            notes[half as usize].fetch_add(1, Ordering::SeqCst);
-        },
-    );
-    assert_eq!(rt; notes[0].load(Ordering::SeqCst), 1);
-    assert_eq!(rt; notes[1].load(Ordering::SeqCst), 1);
-    assert_eq!(rt; canvas.frame().data(), source.data());
+        &|half| parts.begin(half),
+    )?;
+    same(&rt, parts.begun(), (1, 1));
+    same_list(&rt, image.data(), &samples);
     Ok(())
 }
 
@@ -116,10 +127,6 @@ fn the_parts_meet_at_the_row(rt: HostRuntime) -> Result<(), Fail> {
         height: 8,
         chroma: Chroma::S420,
     };
-    let line = b"FRAME".as_slice();
-    check_frame_line(line)?;
-    let height = BandHeight::new(8).ok_or("no height")?;
-    let mut canvas = Canvas::new(rt.alloc(), geometry, height, line)?;
     let luma = Asked::none();
     let chroma = Asked::none();
     let painter = Counting {
@@ -127,13 +134,10 @@ fn the_parts_meet_at_the_row(rt: HostRuntime) -> Result<(), Fail> {
         luma: &luma,
         chroma: &chroma,
     };
-    assert_eq!(rt; canvas.plan().count(), 1);
-    let mut band = canvas.band_mut(0);
-    assert_eq!(rt; band.luma_rows(), (0, 8));
-    paint_halves(&rt, &painter, &mut band, 2, &|_| {});
-    assert_eq!(rt; luma.sums(), (2, 2, 4 + 36));
-    assert_eq!(rt; chroma.sums(), (4, 1 + 1, (1 + 9) + (1 + 9)));
-    assert_eq!(rt; canvas.frame().data(), [7; 96].as_slice());
+    let image = painted(&rt, rt.alloc(), geometry, &painter, &|_| {})?;
+    same(&rt, luma.sums(), (2, 2, 4 + 36));
+    same(&rt, chroma.sums(), (4, 1 + 1, (1 + 9) + (1 + 9)));
+    same_list(&rt, image.data(), &[7; 96]);
     Ok(())
 }
 
@@ -142,9 +146,18 @@ fn the_parts_meet_at_the_row(rt: HostRuntime) -> Result<(), Fail> {
 #[derive(Drop)]
 struct Watching<'a> {
     geometry: Geometry,
-    above: &'a AtomicU32,
-    below: &'a AtomicU32,
+    parts: &'a Parts,
     early: &'a AtomicU32,
+}
+
+impl Watching<'_> {
+    fn look(&self, from: usize) {
+        let (above, below) = self.parts.begun();
+        let noted = if from < 2 { above } else { below };
+        if noted == 0 {
+            self.early.fetch_add(1, Ordering::SeqCst);
+        }
+    }
 }
 
 impl Painter for Watching<'_> {
@@ -153,10 +166,7 @@ impl Painter for Watching<'_> {
     ghost geometry = { λ watching. watching.geometry };
 
     fn paint(&self, _p: usize, from: usize, _to: usize, rows: &mut [u8]) {
-        let noted = if from < 2 { self.above } else { self.below };
-        if noted.load(Ordering::SeqCst) == 0 {
-            self.early.fetch_add(1, Ordering::SeqCst);
-        }
+        self.look(from);
         rows.fill(7);
     }
 }
@@ -168,48 +178,23 @@ fn each_part_is_noted_before_it_is_painted(rt: HostRuntime) -> Result<(), Fail> 
         height: 4,
         chroma: Chroma::S444,
     };
-    let line = b"FRAME".as_slice();
-    check_frame_line(line)?;
-    let height = BandHeight::new(4).ok_or("no height")?;
-    let mut canvas = Canvas::new(rt.alloc(), geometry, height, line)?;
-    let above = AtomicU32::new(0);
-    let below = AtomicU32::new(0);
+    let parts = Parts::new();
     let early = AtomicU32::new(0);
     let painter = Watching {
         geometry,
-        above: &above,
-        below: &below,
+        parts: &parts,
         early: &early,
     };
-    assert_eq!(rt; canvas.plan().count(), 1);
-    let mut band = canvas.band_mut(0);
-    assert_eq!(rt; band.luma_rows(), (0, 4));
-    paint_halves(
+    let image = painted(
         &rt,
+        rt.alloc(),
+        geometry,
         &painter,
-        &mut band,
-        2,
-        &|half| {
-            let noted = if half == 0 { &above } else { &below };
-            noted.fetch_add(1, Ordering::SeqCst);
-        },
-    );
-    assert_eq!(rt; early.load(Ordering::SeqCst), 0);
-    assert_eq!(rt; canvas.frame().data(), [7; 12].as_slice());
+        &|half| parts.begin(half),
+    )?;
+    same(&rt, early.load(Ordering::SeqCst), 0);
+    same_list(&rt, image.data(), &[7; 12]);
     Ok(())
-}
-
-/// Waits until the other part is noted too, or gives up after many looks.
-fn meet(noted: &[AtomicU32; 2], met: &AtomicU32, half: u32)
-    requires { half < 2 }
-{
-    noted[half as usize].store(1, Ordering::SeqCst);
-    for _ in 0..400_000_000u32 {
-        if noted[1 - half as usize].load(Ordering::SeqCst) == 1 {
-            met.fetch_add(1, Ordering::SeqCst);
-            return;
-        }
-    }
 }
 
 /// Neither part is written before both are noted, so one thread alone would meet the other at one part only.
@@ -220,26 +205,17 @@ fn two_threads_write_the_parts_of_a_band(rt: HostRuntime) -> Result<(), Fail> {
         height: 4,
         chroma: Chroma::Mono,
     };
-    let source = frame(rt.alloc(), geometry, &[1, 2, 3, 4])?;
+    let source = frame_of(rt.alloc(), geometry, b"FRAME", &[1, 2, 3, 4])?;
     let painter = Copied { source: &source };
-    let line = b"FRAME".as_slice();
-    check_frame_line(line)?;
-    let height = BandHeight::new(4).ok_or("no height")?;
-    let mut canvas = Canvas::new(rt.alloc(), geometry, height, line)?;
-    let noted = [AtomicU32::new(0), AtomicU32::new(0)];
-    let met = AtomicU32::new(0);
-    assert_eq!(rt; canvas.plan().count(), 1);
-    let mut band = canvas.band_mut(0);
-    assert_eq!(rt; band.luma_rows(), (0, 4));
-    paint_halves(
+    let parts = Parts::new();
+    let image = painted(
         &rt,
+        rt.alloc(),
+        geometry,
         &painter,
-        &mut band,
-        2,
-        &|half| meet(&noted, &met, half),
-    );
-    let met = met.load(Ordering::SeqCst);
-    assert_eq!(rt; met, 2, "was a thread or its memory refused?");
-    assert_eq!(rt; canvas.frame().data(), source.data());
+        &|half| parts.meet(half),
+    )?;
+    assert_eq!(rt; parts.met(), 2, "was a thread or its memory refused?");
+    same_list(&rt, image.data(), &[1, 2, 3, 4]);
     Ok(())
 }
