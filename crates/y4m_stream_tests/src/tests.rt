@@ -7,7 +7,9 @@ use std::io::{self, ErrorKind, Read, Write};
 use std::process::Abort;
 use std::test::Fail;
 use y4m_header::Header;
-use y4m_stream::{FilterFault, OverRead, OverWrite, StreamWriter, WriteFault, filter_stream};
+use y4m_stream::{
+    FilterFault, OverRead, OverWrite, ReadFault, StreamWriter, WriteFault, filter_stream,
+};
 
 mod devices;
 mod hostile;
@@ -132,15 +134,39 @@ const INVERTED: &[u8] =
     b"YUV4MPEG2 W2 H2 F25:1 Cmono\nFRAME\n\xff\xfe\x01\x00FRAME Ip\n\xef\xdf\xcf\xbfFRAME\n\xb9\xad\xbe\xb2";
 
 /// Where the header line ends, and each frame.
-const ENDS: [usize; 4] = [28, 38, 51, 61];
+const ENDS: &[usize] = &[28, 38, 51, 61];
 
 /// How many frames are whole in the first bytes of the stream, and where the last of them ends.
 fn whole_part(len: usize) -> (u64, usize) {
     let mut part = (0, 0);
     for (frames, end) in (0u64..4).zip(ENDS) {
-        if end <= len {
-            part = (frames, end);
+        if *end <= len {
+            part = (frames, *end);
         }
     }
     part
+}
+
+/// What is answered of the first bytes of the stream.
+fn answer_of_part(len: usize) -> Result<u64, FilterFault> {
+    let (frames, end) = whole_part(len);
+    if len == end && len > 0 {
+        Ok(frames)
+    } else {
+        Err(FilterFault::Read(ReadFault::Truncated))
+    }
+}
+
+/// Of the first bytes of the stream the images that are whole in them went out, and this was answered.
+fn same_part(
+    rt: &impl Abort,
+    len: usize,
+    room: &[u8; 64],
+    got: (usize, Result<u64, FilterFault>),
+    want: Result<u64, FilterFault>,
+) {
+    let (_, end) = whole_part(len);
+    let (written, answer) = got;
+    let got = (len, answer, room.get(..written));
+    same(rt, got, (len, want, INVERTED.get(..end)));
 }

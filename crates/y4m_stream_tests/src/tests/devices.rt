@@ -1,7 +1,7 @@
 // Devices that fail once and would go on, that take nothing, and that come back.
-use super::reader::is_next;
+use super::reader::{Next, next_are, opened};
 use super::{
-    INVERTED, STREAM, filter_into, open_fault, same, same_list, same_unless_refused, whole_part,
+    INVERTED, STREAM, filter_into, open_fault, same, same_list, same_part, same_unless_refused,
 };
 use filters::parse_ops;
 use row_bands::BandHeight;
@@ -41,40 +41,38 @@ impl Read for FailsOnce<'_> {
     }
 }
 
+/// What so many reads give: the data of a frame are read by themselves.
+pub const GIVEN: &[usize] = &[0, 7, 14, 21, 28, 35, 38, 45, 52, 59, 61];
+
+/// What is answered where a read fails.
+pub const DEVICE: Result<u64, FilterFault> = Err(FilterFault::Read(ReadFault::Device));
+
+/// The stream, whose reader fails once behind so many others.
+pub fn failing(before: usize) -> FailsOnce<'static> {
+    FailsOnce {
+        left: STREAM,
+        before: Some(before),
+    }
+}
+
 #[test]
 fn no_read_is_tried_again(rt: HostRuntime) -> Result<(), Fail> {
-    // What so many reads give: the data of a frame are read by themselves.
-    let given = [0, 7, 14, 21, 28, 35, 38, 45, 52, 59, 61];
-    for (before, given) in (0..).zip(given) {
-        let input = FailsOnce {
-            left: STREAM,
-            before: Some(before),
-        };
+    for (before, given) in (0..).zip(GIVEN) {
         let mut room = [0; 64];
-        let (written, result) = filter_into(rt.alloc(), "invert", input, &mut room)?;
-        let device = Err(FilterFault::Read(ReadFault::Device));
-        let (_, end) = whole_part(given);
-        same(&rt, (before, result), (before, device));
-        same(
-            &rt,
-            (before, room.get(..written)),
-            (before, INVERTED.get(..end)),
-        );
+        let got = filter_into(rt.alloc(), "invert", failing(before), &mut room)?;
+        same_part(&rt, *given, &room, got, DEVICE);
     }
     Ok(())
 }
 
+const FAULT_AND_FAILED: &[Next] = &[Err(ReadFault::Device), Err(ReadFault::Failed)];
+
 #[test]
 fn a_reader_that_met_a_failed_read_has_failed(rt: HostRuntime) -> Result<(), Fail> {
-    let input = FailsOnce {
-        left: STREAM,
-        before: Some(5),
-    };
-    let alloc = rt.alloc();
-    let mut reader = StreamReader::open(alloc, OverRead::new(input))?;
-    same(&rt, is_next(alloc, &mut reader), Err(ReadFault::Device));
-    same(&rt, is_next(alloc, &mut reader), Err(ReadFault::Failed));
-    same(&rt, reader.into_source().into_inner().left.len(), 61 - 35);
+    let mut reader = opened(rt.alloc(), failing(5))?;
+    next_are(&rt, rt.alloc(), &mut reader, FAULT_AND_FAILED);
+    let left = reader.into_source().into_inner().left;
+    same(&rt, left.len(), 61 - 35);
     Ok(())
 }
 
@@ -116,8 +114,7 @@ fn filter_gives_both_back(rt: &impl Abort, alloc: Global) -> Result<(), Fail> {
     let output = OverWrite::new(Vec::new(alloc));
     let (input, output, result) = filter_between(alloc, OverRead::new(left), output, ops, height);
     let cut = Err(FilterFault::Read(ReadFault::Truncated));
-    same_unless_refused(rt, result, cut);
-    assert!(rt; input.into_inner().is_empty());
+    same_unless_refused(rt, (result, input.into_inner()), (cut, [].as_slice()));
     let written = output.into_inner();
     same(rt, Some(written.as_slice()), INVERTED.get(..38));
     Ok(())
@@ -128,8 +125,8 @@ fn reader_gives_its_source_back(rt: &impl Abort, alloc: Global) -> Result<(), Fa
         Ok(_) => return Err("opened".into()),
         Err(failed) => failed,
     };
-    same(rt, fault, ReadFault::Truncated);
-    assert!(rt; input.into_inner().is_empty());
+    let got = (fault, input.into_inner());
+    same(rt, got, (ReadFault::Truncated, [].as_slice()));
     Ok(())
 }
 

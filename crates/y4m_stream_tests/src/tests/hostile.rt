@@ -1,34 +1,36 @@
 // Streams whose bytes are at fault.
-use super::reader::is_next;
+use super::reader::{next_are, opened};
 use super::{filter, same, same_unless_refused};
 use std::alloc::{AllocError, Global};
 use std::process::Abort;
 use std::test::Fail;
 use y4m_header::HeaderError;
-use y4m_stream::{FilterFault, OverRead, ReadFault, StreamReader};
+use y4m_stream::{FilterFault, ReadFault};
+
+const FAULTS: &[(&[u8], ReadFault)] = &[
+    (
+        b"YUV4MPEG2 W16384 H4097 Cmono\nFRAME\n",
+        ReadFault::Header(HeaderError::TooLarge),
+    ),
+    (
+        b"YUV4MPEG2 W999999999 H999999999\n",
+        ReadFault::Header(HeaderError::NotDivisible),
+    ),
+    (
+        b"YUV4MPEG2 W999999999 H999999999 Cmono\n",
+        ReadFault::Header(HeaderError::TooLarge),
+    ),
+    (
+        b"YUV4MPEG2 W1000000000 H1 Cmono\n",
+        ReadFault::Header(HeaderError::BadNumber),
+    ),
+    (&[0; 2000], ReadFault::LineTooLong),
+];
 
 #[test]
 fn each_fault_of_a_size_is_named(rt: HostRuntime) -> Result<(), Fail> {
-    let cases: [(&[u8], ReadFault); 5] = [
-        (
-            b"YUV4MPEG2 W16384 H4097 Cmono\nFRAME\n",
-            ReadFault::Header(HeaderError::TooLarge),
-        ),
-        (
-            b"YUV4MPEG2 W999999999 H999999999\n",
-            ReadFault::Header(HeaderError::NotDivisible),
-        ),
-        (
-            b"YUV4MPEG2 W999999999 H999999999 Cmono\n",
-            ReadFault::Header(HeaderError::TooLarge),
-        ),
-        (
-            b"YUV4MPEG2 W1000000000 H1 Cmono\n",
-            ReadFault::Header(HeaderError::BadNumber),
-        ),
-        (&[0; 2000], ReadFault::LineTooLong),
-    ];
-    for (input, fault) in cases {
+    for case in FAULTS {
+        let (input, fault) = *case;
         let (_, result) = filter(rt.alloc(), "invert", input, Vec::new(rt.alloc()))?;
         same(&rt, (input, result), (input, Err(FilterFault::Read(fault))));
     }
@@ -38,9 +40,8 @@ fn each_fault_of_a_size_is_named(rt: HostRuntime) -> Result<(), Fail> {
 #[test]
 fn the_largest_frame_that_is_not_there_is_cut_off(rt: HostRuntime) -> Result<(), Fail> {
     let input = b"YUV4MPEG2 W16384 H4096 Cmono\nFRAME\n".as_slice();
-    let mut reader = StreamReader::open(rt.alloc(), OverRead::new(input))?;
-    let answer = is_next(rt.alloc(), &mut reader);
-    same(&rt, answer, Err(ReadFault::Truncated));
+    let mut reader = opened(rt.alloc(), input)?;
+    next_are(&rt, rt.alloc(), &mut reader, &[Err(ReadFault::Truncated)]);
     Ok(())
 }
 
@@ -67,12 +68,8 @@ fn serve_header_line(
     append_line(&mut line, b"YUV4MPEG2 W1 H1 Cmono X", len)?;
     let mut room = [0; 1024];
     let (rest, result) = filter(alloc, "invert", line.as_slice(), room.as_mut_slice())?;
-    let left = rest.len();
-    same(
-        rt,
-        (result, left.checked_add(written)),
-        (answer, Some(1024)),
-    );
+    let got = (result, rest.len().checked_add(written));
+    same(rt, got, (answer, Some(1024)));
     same(rt, room.get(..written), line.get(..written));
     Ok(())
 }

@@ -1,7 +1,8 @@
 // What is told where a growth is refused: each test passes with any one refused, and with none.
 use super::{ENDS, INVERTED, STREAM, same};
-use filters::{FilterError, parse_ops};
+use filters::{FilterError, Op, parse_ops};
 use row_bands::BandHeight;
+use std::alloc::Global;
 use std::process::Abort;
 use std::test::Fail;
 use y4m_stream::{FilterFault, OverRead, OverWrite, ReadFault, filter_overlapped, filter_stream};
@@ -27,15 +28,22 @@ fn is_told_behind_whole_images(
     Ok(())
 }
 
+/// The operations, unless their memory is refused.
+fn inverting(rt: &impl Abort, alloc: Global) -> Option<Vec<Op>> {
+    match parse_ops(alloc, b"vflip+invert+vflip") {
+        Ok(ops) => Some(ops),
+        Err(fault) => {
+            same(rt, fault, FilterError::NoMemory);
+            None
+        }
+    }
+}
+
 #[test]
 fn want_of_memory_is_told_behind_whole_images(rt: HostRuntime) -> Result<(), Fail> {
     let height = BandHeight::new(2).ok_or("height")?;
-    let ops = match parse_ops(rt.alloc(), b"vflip+invert+vflip") {
-        Ok(ops) => ops,
-        Err(fault) => {
-            same(&rt, fault, FilterError::NoMemory);
-            return Ok(());
-        }
+    let Some(ops) = inverting(&rt, rt.alloc()) else {
+        return Ok(());
     };
     let mut room = [0; 64];
     let (rest, result) = filter_stream(
@@ -53,12 +61,8 @@ fn want_of_memory_is_told_behind_whole_images(rt: HostRuntime) -> Result<(), Fai
 #[test]
 fn two_threads_tell_it_behind_whole_images(rt: HostRuntime) -> Result<(), Fail> {
     let height = BandHeight::new(2).ok_or("height")?;
-    let ops = match parse_ops(rt.alloc(), b"vflip+invert+vflip") {
-        Ok(ops) => ops,
-        Err(fault) => {
-            same(&rt, fault, FilterError::NoMemory);
-            return Ok(());
-        }
+    let Some(ops) = inverting(&rt, rt.alloc()) else {
+        return Ok(());
     };
     let mut room = [0; 64];
     let (rest, result) = filter_overlapped(

@@ -1,6 +1,6 @@
 // Streams served by the operations of a text.
 use super::{filter, filter_into, same, same_unless_refused};
-use filters::{FilterError, Op, parse_ops};
+use filters::{Crop, FilterError, Op};
 use frame_view::Geometry;
 use row_bands::BandHeight;
 use std::alloc::{AllocError, Global};
@@ -25,7 +25,7 @@ fn serves(
 }
 
 /// Operations, a stream, and the stream of its images.
-const SERVED: [(&str, &[u8], &[u8]); 14] = [
+const SERVED: &[(&str, &[u8], &[u8])] = &[
     (
         "invert",
         b"YUV4MPEG2 W2 H1 Cmono\n",
@@ -100,7 +100,8 @@ const SERVED: [(&str, &[u8], &[u8]); 14] = [
 
 #[test]
 fn each_stream_is_served_by_its_operations(rt: HostRuntime) -> Result<(), Fail> {
-    for (ops, input, output) in SERVED {
+    for case in SERVED {
+        let (ops, input, output) = *case;
         serves(&rt, rt.alloc(), ops, input, output)?;
     }
     Ok(())
@@ -145,21 +146,24 @@ fn is_cut(rt: &impl Abort, alloc: Global, cut: &[u8], header: usize) -> Result<(
     Ok(())
 }
 
+/// A header line, and the bytes of its frames.
+const FRAMES: &[(&[u8], usize)] = &[
+    (b"YUV4MPEG2 W66 H22", 66 * 22 + 2 * (33 * 11)),
+    (b"YUV4MPEG2 W2 H34 C420mpeg2", 2 * 34 + 2 * 17),
+    (b"YUV4MPEG2 W62 H5 C422", 62 * 5 + 2 * (31 * 5)),
+    (b"YUV4MPEG2 W132 H9 C411", 132 * 9 + 2 * (33 * 9)),
+    (b"YUV4MPEG2 W35 H13 C444", 3 * (35 * 13)),
+    (b"YUV4MPEG2 W35 H33 C444alpha", 4 * (35 * 33)),
+    (b"YUV4MPEG2 W31 H20 Cmono", 31 * 20),
+    (b"YUV4MPEG2 W4099 H2 Cmono", 4099 * 2),
+];
+
 /// Mirrored twice, a frame is as it was.
 #[test]
 fn frames_have_the_bytes_of_their_header_line(rt: HostRuntime) -> Result<(), Fail> {
-    let cases: [(&[u8], usize); 8] = [
-        (b"YUV4MPEG2 W66 H22", 66 * 22 + 2 * (33 * 11)),
-        (b"YUV4MPEG2 W2 H34 C420mpeg2", 2 * 34 + 2 * 17),
-        (b"YUV4MPEG2 W62 H5 C422", 62 * 5 + 2 * (31 * 5)),
-        (b"YUV4MPEG2 W132 H9 C411", 132 * 9 + 2 * (33 * 9)),
-        (b"YUV4MPEG2 W35 H13 C444", 3 * (35 * 13)),
-        (b"YUV4MPEG2 W35 H33 C444alpha", 4 * (35 * 33)),
-        (b"YUV4MPEG2 W31 H20 Cmono", 31 * 20),
-        (b"YUV4MPEG2 W4099 H2 Cmono", 4099 * 2),
-    ];
     let alloc = rt.alloc();
-    for (line, bytes) in cases {
+    for case in FRAMES {
+        let (line, bytes) = *case;
         has_frames_of(&rt, alloc, line, bytes)?;
         comes_back(&rt, alloc, &one_frame(alloc, line, bytes)?)?;
         let cut = one_frame(alloc, line, bytes.saturating_sub(1))?;
@@ -168,42 +172,51 @@ fn frames_have_the_bytes_of_their_header_line(rt: HostRuntime) -> Result<(), Fai
     Ok(())
 }
 
+/// Operations, the rows of a band, a stream with which they make no chain, and why.
+type NoChain = (&'static [Op], u32, &'static [u8], FilterError);
+
+const NO_CHAINS: &[NoChain] = &[
+    (
+        &[Op::Crop(Crop {
+            x: 1,
+            y: 0,
+            width: 2,
+            height: 2,
+        })],
+        16,
+        b"YUV4MPEG2 W4 H2 C422\nFRAME",
+        FilterError::BadCrop,
+    ),
+    (
+        &[Op::HFlip; 9],
+        2,
+        b"YUV4MPEG2 W4 H2 C422\nFRAME",
+        FilterError::TooManyOps,
+    ),
+    (
+        &[Op::HFlip; 5],
+        2,
+        b"YUV4MPEG2 W1 H16384 Cmono\n",
+        FilterError::TooManySteps,
+    ),
+];
+
 /// Nothing is written of a stream that makes no chain with these operations.
-fn writes_nothing(
-    rt: &impl Abort,
-    alloc: Global,
-    ops: Vec<Op>,
-    height: BandHeight,
-    input: &[u8],
-    fault: FilterError,
-) {
+fn writes_nothing(rt: &impl Abort, alloc: Global, case: NoChain) -> Result<(), Fail> {
+    let (ops, rows, input, fault) = case;
+    let height = BandHeight::new(rows).ok_or("height")?;
+    let ops = ops.to_vec(alloc)?;
     let output = OverWrite::new(Vec::new(alloc));
     let (output, result) = filter_stream(alloc, OverRead::new(input), output, ops, height);
-    same(rt, result, Err(FilterFault::Ops(fault)));
-    assert!(rt; output.into_inner().is_empty());
+    let written = output.into_inner().len();
+    same(rt, (result, written), (Err(FilterFault::Ops(fault)), 0));
+    Ok(())
 }
 
 #[test]
 fn where_there_is_no_chain_nothing_is_written(rt: HostRuntime) -> Result<(), Fail> {
-    let alloc = rt.alloc();
-    let high = BandHeight::new(16).ok_or("height")?;
-    let low = BandHeight::new(2).ok_or("height")?;
-    let input = b"YUV4MPEG2 W4 H2 C422\nFRAME".as_slice();
-    let crop = parse_ops(alloc, b"crop:1,0,2,2")?;
-    writes_nothing(&rt, alloc, crop, high, input, FilterError::BadCrop);
-    let nine = nine_mirrors(alloc)?;
-    writes_nothing(&rt, alloc, nine, low, input, FilterError::TooManyOps);
-    let column = b"YUV4MPEG2 W1 H16384 Cmono\n".as_slice();
-    let five = parse_ops(alloc, b"hflip+hflip+hflip+hflip+hflip")?;
-    writes_nothing(&rt, alloc, five, low, column, FilterError::TooManySteps);
-    Ok(())
-}
-
-/// One operation more than a chain has at most.
-fn nine_mirrors(alloc: Global) -> Result<Vec<Op>, AllocError> {
-    let mut nine = Vec::new(alloc);
-    for _ in 0..9 {
-        nine.push(Op::HFlip)?;
+    for case in NO_CHAINS {
+        writes_nothing(&rt, rt.alloc(), *case)?;
     }
-    Ok(nine)
+    Ok(())
 }

@@ -1,6 +1,8 @@
 // Frames that are read while the images before them are written.
-use super::devices::FailsOnce;
-use super::{INVERTED, Pieces, Room, STREAM, filter, same, same_unless_refused, whole_part};
+use super::devices::{DEVICE, GIVEN, failing};
+use super::{
+    INVERTED, Pieces, Room, STREAM, answer_of_part, filter, same, same_part, same_unless_refused,
+};
 use filters::parse_ops;
 use row_bands::BandHeight;
 use std::alloc::{AllocError, Global};
@@ -8,7 +10,7 @@ use std::io::{self, ErrorKind, Read, Write};
 use std::process::Abort;
 use std::test::Fail;
 use std::thread::Threads;
-use y4m_stream::{FilterFault, OverRead, OverWrite, ReadFault, WriteFault, filter_overlapped};
+use y4m_stream::{FilterFault, OverRead, OverWrite, WriteFault, filter_overlapped};
 
 /// Filters a stream by the operations of a text, in bands of 16 rows, by two threads.
 fn overlap<T: Threads, R: Read + Drop + Send, W: Write + Drop>(
@@ -107,36 +109,26 @@ fn one_writes(
     Ok(())
 }
 
+/// How many frames a stream has.
+const COUNTS: &[u8] = &[0, 1, 2, 5];
+
 #[test]
 fn two_threads_write_what_one_writes(rt: HostRuntime) -> Result<(), Fail> {
-    for count in [0, 1, 2, 5] {
-        let input = frames(rt.alloc(), count, false)?;
-        let image = frames(rt.alloc(), count, true)?;
-        two_write(&rt, rt.alloc(), count, &input, &image)?;
-        one_writes(&rt, rt.alloc(), count, &input, &image)?;
+    for count in COUNTS {
+        let input = frames(rt.alloc(), *count, false)?;
+        let image = frames(rt.alloc(), *count, true)?;
+        two_write(&rt, rt.alloc(), *count, &input, &image)?;
+        one_writes(&rt, rt.alloc(), *count, &input, &image)?;
     }
     Ok(())
 }
 
 #[test]
 fn images_before_a_failed_read_are_written(rt: HostRuntime) -> Result<(), Fail> {
-    // What so many reads give: the data of a frame are read by themselves.
-    let given = [0, 7, 14, 21, 28, 35, 38, 45, 52, 59, 61];
-    for (before, given) in (0..).zip(given) {
-        let input = FailsOnce {
-            left: STREAM,
-            before: Some(before),
-        };
+    for (before, given) in (0..).zip(GIVEN) {
         let mut room = [0; 64];
-        let (written, result) = overlap_into(&rt, rt.alloc(), input, &mut room)?;
-        let device = Err(FilterFault::Read(ReadFault::Device));
-        let (_, end) = whole_part(given);
-        same(&rt, (before, result), (before, device));
-        same(
-            &rt,
-            (before, room.get(..written)),
-            (before, INVERTED.get(..end)),
-        );
+        let got = overlap_into(&rt, rt.alloc(), failing(before), &mut room)?;
+        same_part(&rt, *given, &room, got, DEVICE);
     }
     Ok(())
 }
@@ -146,15 +138,8 @@ fn images_before_a_cut_are_written(rt: HostRuntime) -> Result<(), Fail> {
     for len in 0..STREAM.len() {
         let input = STREAM.get(..len).ok_or("prefix")?;
         let mut room = [0; 64];
-        let (written, result) = overlap_into(&rt, rt.alloc(), input, &mut room)?;
-        let (frames, end) = whole_part(len);
-        let expected = if len == end && len > 0 {
-            Ok(frames)
-        } else {
-            Err(FilterFault::Read(ReadFault::Truncated))
-        };
-        same(&rt, (len, result), (len, expected));
-        same(&rt, (len, room.get(..written)), (len, INVERTED.get(..end)));
+        let got = overlap_into(&rt, rt.alloc(), input, &mut room)?;
+        same_part(&rt, len, &room, got, answer_of_part(len));
     }
     Ok(())
 }

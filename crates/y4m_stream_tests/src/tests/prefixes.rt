@@ -1,5 +1,6 @@
 // The first bytes of a stream give the images of its frames that are whole in them.
-use super::{INVERTED, Pieces, STREAM, filter_into, same, whole_part};
+use super::devices::DEVICE;
+use super::{Pieces, STREAM, answer_of_part, filter_into, same, same_part};
 use std::alloc::Global;
 use std::process::Abort;
 use std::test::Fail;
@@ -16,18 +17,13 @@ fn invert_prefix(
     let left = STREAM.get(..len).ok_or("prefix")?;
     let input = Pieces { left, step, ends };
     let mut room = [0; 64];
-    let (written, result) = filter_into(alloc, "invert", input, &mut room)?;
-    let (frames, end) = whole_part(len);
-    let expected = if ends == 0 {
-        Err(FilterFault::Read(ReadFault::Device))
-    } else if len == end && len > 0 {
-        Ok(frames)
+    let got = filter_into(alloc, "invert", input, &mut room)?;
+    let want = if ends == 0 {
+        DEVICE
     } else {
-        Err(FilterFault::Read(ReadFault::Truncated))
+        answer_of_part(len)
     };
-    same(rt, (len, step, result), (len, step, expected));
-    let image = INVERTED.get(..end);
-    same(rt, (len, step, room.get(..written)), (len, step, image));
+    same_part(rt, len, &room, got, want);
     Ok(())
 }
 
@@ -40,12 +36,12 @@ fn invert_prefixes(rt: &impl Abort, alloc: Global, step: usize, ends: usize) -> 
 }
 
 /// How many bytes a read gives at most.
-const STEPS: [usize; 3] = [1, 7, 4096];
+const STEPS: &[usize] = &[1, 7, 4096];
 
 #[test]
 fn each_prefix_gives_its_whole_frames(rt: HostRuntime) -> Result<(), Fail> {
     for step in STEPS {
-        invert_prefixes(&rt, rt.alloc(), step, usize::MAX)?;
+        invert_prefixes(&rt, rt.alloc(), *step, usize::MAX)?;
     }
     Ok(())
 }
@@ -53,7 +49,7 @@ fn each_prefix_gives_its_whole_frames(rt: HostRuntime) -> Result<(), Fail> {
 #[test]
 fn a_failed_read_keeps_the_images_before_it(rt: HostRuntime) -> Result<(), Fail> {
     for step in STEPS {
-        invert_prefixes(&rt, rt.alloc(), step, 0)?;
+        invert_prefixes(&rt, rt.alloc(), *step, 0)?;
     }
     Ok(())
 }
@@ -74,8 +70,8 @@ fn each_prefix_of_a_stream_of_three_planes(rt: HostRuntime) -> Result<(), Fail> 
             17..=27 => (16, cut),
             _ => (28, Ok(1)),
         };
-        same(&rt, (len, result), (len, expected));
-        same(&rt, (len, room.get(..written)), (len, image.get(..end)));
+        let got = (len, result, room.get(..written));
+        same(&rt, got, (len, expected, image.get(..end)));
     }
     Ok(())
 }

@@ -22,13 +22,9 @@ fn invert_into(rt: &impl Abort, alloc: Global, room: usize, step: usize) -> Resu
     } else {
         Err(FilterFault::Write(WriteFault::Device(room as u64)))
     };
-    same(rt, (room, step, result), (room, step, expected));
     let end = room.min(61);
-    same(
-        rt,
-        (room, step, taken.get(..end)),
-        (room, step, INVERTED.get(..end)),
-    );
+    let got = (room, step, result, taken.get(..end));
+    same(rt, got, (room, step, expected, INVERTED.get(..end)));
     Ok(())
 }
 
