@@ -1,5 +1,5 @@
 // Jobs of small frames, step by step.
-ghost use Rattle.std.specs.Prelude.{◌≡◌, ◌<◌, IfOk, IsSome, None};
+ghost use Rattle.std.specs.Prelude.{◌≡◌, IfOk, IsSome, None};
 ghost use Rattle.std.specs.Arc.{arc_value};
 ghost use Rattle.filters.specs.Chain.{format_of, last_format};
 ghost use Rattle.filters.specs.Steps.{steps_of};
@@ -13,9 +13,10 @@ use std::alloc::Global;
 use std::fmt::Debug;
 use std::process::Abort;
 use std::sync::Arc;
-use std::sync::atomic::{AtomicU32, Ordering};
 use std::test::Fail;
-use y4m_header::{Chroma, check_frame_line};
+use std::thread::Threads;
+use test_tools::{Parts, frame_of};
+use y4m_header::Chroma;
 
 const COLUMN: Geometry = Geometry {
     width: 1,
@@ -47,6 +48,11 @@ const WIDE: Geometry = Geometry {
     chroma: Chroma::Mono,
 };
 
+/// Ten samples, and the same after `invert`.
+const UP: &[u8] = &[0, 1, 2, 3, 4, 5, 6, 7, 8, 9];
+
+const INVERTED: &[u8] = &[0xFF, 0xFE, 0xFD, 0xFC, 0xFB, 0xFA, 0xF9, 0xF8, 0xF7, 0xF6];
+
 /// Compares what a call gave with what is wanted.
 fn same<T: PartialEq + Debug + Drop>(rt: &impl Abort, got: T, want: T) {
     assert_eq!(rt; got, want);
@@ -71,6 +77,25 @@ fn same_steps(rt: &impl Abort, job: &Job, done: u32, steps: u32)
     assert_eq!(rt; (job.done(), job.steps()), (done, steps));
 }
 
+/// All steps of a job are done, which are so many. Compares its source's samples and its image, and gives
+/// the scratch back.
+fn finished(
+    rt: &impl Abort,
+    job: Job,
+    steps: u32,
+    samples: &[u8],
+    line: &[u8],
+    image: &[u8],
+) -> Scratch
+    ensures { IsScratch job.chain result }
+{
+    same_steps(rt, &job, steps, steps);
+    let (source, made, scratch) = job.into_image();
+    same_list(rt, source.data(), samples);
+    same_frame(rt, &made, line, image);
+    scratch
+}
+
 fn spec_in_bands(
     alloc: Global,
     ops: &str,
@@ -87,20 +112,13 @@ fn spec_of(alloc: Global, ops: &str, geometry: Geometry) -> Result<Arc<JobSpec>,
     spec_in_bands(alloc, ops, geometry, 2)
 }
 
-fn frame(alloc: Global, geometry: Geometry, line: &[u8], samples: &[u8]) -> Result<Frame, Fail>
-    ensures { IfOk result (λ frame. frame.geometry ≡ geometry) }
-{
-    check_frame_line(line)?;
-    Ok(Frame::new(geometry, line.to_vec(alloc)?, samples.to_vec(alloc)?)?)
-}
-
 fn source_of(
     alloc: Global,
     geometry: Geometry,
     line: &[u8],
     samples: &[u8],
 ) -> Result<Arc<Frame>, Fail> {
-    Ok(Arc::new(alloc, frame(alloc, geometry, line, samples)?)?)
+    Ok(Arc::new(alloc, frame_of(alloc, geometry, line, samples)?)?)
 }
 
 /// An image that was written back, of the size of the spec's images.
@@ -108,7 +126,7 @@ fn image_of(alloc: Global, spec: &JobSpec, line: &[u8], samples: &[u8]) -> Resul
     ensures { IfOk result (λ image.
         format_of image.geometry ≡ last_format spec.now.ops (format_of spec.now.geometry)) }
 {
-    frame(alloc, spec.chain().out_geometry(), line, samples)
+    Ok(frame_of(alloc, spec.chain().out_geometry(), line, samples)?)
 }
 
 /// A job of a frame of the spec's size, that no step is done of.
@@ -142,54 +160,16 @@ fn stepped(rt: &impl Abort, job: Job, grant: u32) -> Job
     ensures chain { result.chain ≡ job.chain }
     ensures started { IsSome result.scratch }
 {
-    assert!(rt; grant >= 1);
-    assert!(rt; job.done() <= job.steps() && grant <= job.steps() - job.done());
-    let done = job.done();
+    let (done, steps) = (job.done(), job.steps());
+    assert!(rt; grant >= 1 && done <= steps && grant <= steps - done);
     let mut lease = Lease::new(job, 3, 41, grant);
     for used in 0..grant {
-        same(rt, lease.used(), used);
-        same(rt, lease.step(), Ok(()));
+        same(rt, (lease.used(), lease.step()), (used, Ok(())));
     }
-    same(rt, lease.step(), Err(GrantSpent));
-    same(rt, (lease.granted(), lease.used()), (grant, grant));
+    let spent = (lease.step(), lease.granted(), told(&lease).0);
+    same(rt, spent, (Err(GrantSpent), grant, grant));
     same(rt, lease.done().checked_sub(done), Some(grant));
     lease.into_job()
-}
-
-/// Twice is a lease of a job ended with steps left.
-#[test]
-fn a_job_keeps_what_is_done(rt: HostRuntime) -> Result<(), Fail> {
-    let alloc = rt.alloc();
-    let spec = spec_of(alloc, "invert", COLUMN)?;
-    let samples = [0, 1, 2, 3, 4, 5, 6, 7, 8, 9];
-    let job = job_of(alloc, &spec, b"FRAME", &samples)?;
-    same_steps(&rt, &job, 0, 5);
-    let job = stepped(&rt, job, 2);
-    same(&rt, job.done(), 2);
-    let job = stepped(&rt, job, 3);
-    same_steps(&rt, &job, 5, 5);
-    let (source, image, _) = job.into_image();
-    let inverted = [0xFF, 0xFE, 0xFD, 0xFC, 0xFB, 0xFA, 0xF9, 0xF8, 0xF7, 0xF6];
-    same_list(&rt, source.data(), &samples);
-    same_frame(&rt, &image, b"FRAME", &inverted);
-    Ok(())
-}
-
-/// Two bands a lease: the second lease ends before its first step, and the third has the same steps to do.
-#[test]
-fn a_lease_without_a_step_changes_nothing(rt: HostRuntime) -> Result<(), Fail> {
-    let alloc = rt.alloc();
-    let spec = spec_of(alloc, "invert", COLUMN)?;
-    let job = job_of(alloc, &spec, b"FRAME", &[0, 1, 2, 3, 4, 5, 6, 7, 8, 9])?;
-    let job = stepped(&rt, job, 2);
-    same_steps(&rt, &job, 2, 5);
-    let lease = Lease::new(job, 0, 0, 2);
-    same(&rt, told(&lease), (0, 0, 2));
-    let job = lease.into_job();
-    same(&rt, job.done(), 2);
-    let job = stepped(&rt, job, 2);
-    same(&rt, job.done(), 4);
-    Ok(())
 }
 
 /// How many steps are done under a lease, what they cost, and how many of the job's are done.
@@ -197,28 +177,86 @@ fn told(lease: &Lease) -> (u32, u32, u32) {
     (lease.used(), lease.spent(), lease.done())
 }
 
+/// Twice is a lease of a job ended with steps left.
+#[test]
+fn a_job_keeps_what_is_done(rt: HostRuntime) -> Result<(), Fail> {
+    let spec = spec_of(rt.alloc(), "invert", COLUMN)?;
+    let job = job_of(rt.alloc(), &spec, b"FRAME", UP)?;
+    keeps_what_is_done(&rt, job);
+    Ok(())
+}
+
+fn keeps_what_is_done(rt: &impl Abort, job: Job)
+    requires { IsSome job.scratch }
+{
+    same_steps(rt, &job, 0, 5);
+    let job = stepped(rt, job, 2);
+    same(rt, job.done(), 2);
+    let job = stepped(rt, job, 3);
+    finished(rt, job, 5, UP, b"FRAME", INVERTED);
+}
+
+/// Two bands a lease: the second lease ends before its first step, and the third has the same steps to do.
+#[test]
+fn a_lease_without_a_step_changes_nothing(rt: HostRuntime) -> Result<(), Fail> {
+    let spec = spec_of(rt.alloc(), "invert", COLUMN)?;
+    let job = job_of(rt.alloc(), &spec, b"FRAME", UP)?;
+    keeps_its_steps(&rt, job);
+    Ok(())
+}
+
+fn keeps_its_steps(rt: &impl Abort, job: Job)
+    requires { IsSome job.scratch }
+{
+    let job = stepped(rt, job, 2);
+    same_steps(rt, &job, 2, 5);
+    let lease = Lease::new(job, 0, 0, 2);
+    same(rt, told(&lease), (0, 0, 2));
+    let job = lease.into_job();
+    same(rt, job.done(), 2);
+    let job = stepped(rt, job, 2);
+    same(rt, job.done(), 4);
+}
+
 #[test]
 fn a_lease_tells_what_it_is(rt: HostRuntime) -> Result<(), Fail> {
-    let alloc = rt.alloc();
-    let spec = spec_of(alloc, "blur:2+hflip", COLUMN)?;
-    let job = job_of(alloc, &spec, b"FRAME Ip", &[5; 10])?;
-    same_steps(&rt, &job, 0, 10);
+    let spec = spec_of(rt.alloc(), "blur:2+hflip", COLUMN)?;
+    let job = job_of(rt.alloc(), &spec, b"FRAME Ip", &[5; 10])?;
+    tells_what_it_is(&rt, job);
+    Ok(())
+}
+
+fn tells_what_it_is(rt: &impl Abort, job: Job)
+    requires { IsSome job.scratch }
+{
+    same_steps(rt, &job, 0, 10);
     let mut lease = Lease::new(job, 6, 70, 7);
-    same(
-        &rt,
-        (lease.stream(), lease.seq(), lease.granted()),
-        (6, 70, 7),
-    );
-    same_frame(&rt, lease.source(), b"FRAME Ip", &[5; 10]);
-    same(&rt, lease.spec().chain().cost(), 20);
-    same(&rt, lease.step(), Ok(()));
-    same(&rt, told(&lease), (1, 3, 1));
+    let names = (lease.stream(), lease.seq(), lease.granted());
+    same(rt, names, (6, 70, 7));
+    same_frame(rt, lease.source(), b"FRAME Ip", &[5; 10]);
+    same(rt, lease.spec().chain().cost(), 20);
+    same(rt, (lease.step(), told(&lease)), (Ok(()), (1, 3, 1)));
     for _ in 0..5 {
-        same(&rt, lease.step(), Ok(()));
+        same(rt, lease.step(), Ok(()));
     }
-    same(&rt, told(&lease), (6, 16, 6));
-    let job = lease.into_job();
-    same(&rt, job.done(), 6);
+    same(rt, told(&lease), (6, 16, 6));
+    same(rt, lease.into_job().done(), 6);
+}
+
+/// A frame's line and samples, and its image's.
+type Filtered = (&'static [u8], &'static [u8], &'static [u8]);
+
+/// Filters frames in turn by the same scratch, and compares their images.
+fn filter(
+    rt: &impl Abort,
+    alloc: Global,
+    spec: &Arc<JobSpec>,
+    frames: &[Filtered],
+) -> Result<(), Fail> {
+    let mut scratch = Scratch::new(alloc, spec)?;
+    for frame in frames {
+        scratch = filtered(rt, alloc, spec, scratch, *frame)?;
+    }
     Ok(())
 }
 
@@ -228,46 +266,44 @@ fn filtered(
     alloc: Global,
     spec: &Arc<JobSpec>,
     scratch: Scratch,
-    line: &[u8],
-    samples: &[u8],
-    image: &[u8],
+    frame: Filtered,
 ) -> Result<Scratch, Fail>
     requires { IsScratch (arc_value spec.now) scratch }
     ensures { IfOk result (IsScratch (arc_value spec.now)) }
 {
+    let (line, samples, image) = frame;
     let mut job = started(alloc, spec, scratch, line, samples)?;
     let steps = job.steps();
     for _ in 0..steps {
         job = stepped(rt, job, 1);
     }
-    same_steps(rt, &job, steps, steps);
-    let (_, made, scratch) = job.into_image();
-    same_frame(rt, &made, line, image);
-    Ok(scratch)
+    Ok(finished(rt, job, steps, samples, line, image))
 }
 
 /// The blur of 0 and 90 is 30 and 60, that of 9 and 0 is 6 and 3.
+const IN_TURN: &[Filtered] = &[
+    (b"FRAME", &[0, 90], &[60, 30]),
+    (b"FRAME Ip", &[9, 0], &[3, 6]),
+    (b"FRAME", &[0, 90], &[60, 30]),
+];
+
 #[test]
 fn frames_in_turn_have_the_images_that_each_has_alone(rt: HostRuntime) -> Result<(), Fail> {
-    let alloc = rt.alloc();
-    let spec = spec_of(alloc, "blur:1+vflip", PAIR)?;
-    let scratch = Scratch::new(alloc, &spec)?;
-    let scratch = filtered(&rt, alloc, &spec, scratch, b"FRAME", &[0, 90], &[60, 30])?;
-    let scratch = filtered(&rt, alloc, &spec, scratch, b"FRAME Ip", &[9, 0], &[3, 6])?;
-    filtered(&rt, alloc, &spec, scratch, b"FRAME", &[0, 90], &[60, 30])?;
-    Ok(())
+    let spec = spec_of(rt.alloc(), "blur:1+vflip", PAIR)?;
+    filter(&rt, rt.alloc(), &spec, IN_TURN)
 }
+
+const TURNED: &[Filtered] = &[(
+    b"FRAME",
+    UP,
+    &[0xF6, 0xF7, 0xF8, 0xF9, 0xFA, 0xFB, 0xFC, 0xFD, 0xFE, 0xFF],
+)];
 
 /// One step of the first operation and one of the second have their bands of 2 rows each.
 #[test]
 fn each_step_writes_its_own_band(rt: HostRuntime) -> Result<(), Fail> {
-    let alloc = rt.alloc();
-    let spec = spec_of(alloc, "invert+vflip", COLUMN)?;
-    let scratch = Scratch::new(alloc, &spec)?;
-    let samples = [0, 1, 2, 3, 4, 5, 6, 7, 8, 9];
-    let wanted = [0xF6, 0xF7, 0xF8, 0xF9, 0xFA, 0xFB, 0xFC, 0xFD, 0xFE, 0xFF];
-    filtered(&rt, alloc, &spec, scratch, b"FRAME", &samples, &wanted)?;
-    Ok(())
+    let spec = spec_of(rt.alloc(), "invert+vflip", COLUMN)?;
+    filter(&rt, rt.alloc(), &spec, TURNED)
 }
 
 /// With and without want of memory.
@@ -356,17 +392,13 @@ fn job_over(alloc: Global, spec: &Arc<JobSpec>, line: &[u8]) -> Result<Job, Fail
 /// The samples of the image that is written over don't matter, but its line is its frame's.
 #[test]
 fn a_job_over_an_image_makes_its_own(rt: HostRuntime) -> Result<(), Fail> {
-    let alloc = rt.alloc();
-    let spec = spec_of(alloc, "blur:1+vflip", PAIR)?;
-    let scratch = Scratch::new(alloc, &spec)?;
-    let mut job = job_over(alloc, &spec, b"FRAME")?;
+    let spec = spec_of(rt.alloc(), "blur:1+vflip", PAIR)?;
+    let scratch = Scratch::new(rt.alloc(), &spec)?;
+    let mut job = job_over(rt.alloc(), &spec, b"FRAME")?;
     job.start(scratch);
     let job = stepped(&rt, job, 1);
     let job = stepped(&rt, job, 1);
-    same_steps(&rt, &job, 2, 2);
-    let (source, image, _) = job.into_image();
-    same_list(&rt, source.data(), &[9, 0]);
-    same_frame(&rt, &image, b"FRAME Ip", &[3, 6]);
+    finished(&rt, job, 2, &[9, 0], b"FRAME Ip", &[3, 6]);
     Ok(())
 }
 
@@ -392,63 +424,58 @@ fn an_image_of_an_equal_line_takes_no_memory(rt: HostRuntime) -> Result<(), Fail
 /// `bench/threads` refuses it.
 #[test]
 fn a_halved_band_is_noted_twice(rt: HostRuntime) -> Result<(), Fail> {
-    let alloc = rt.alloc();
-    let spec = spec_of(alloc, "invert", TRIPLE)?;
-    let job = job_of(alloc, &spec, b"FRAME", &[0, 1, 2])?;
-    let notes = [AtomicU32::new(0), AtomicU32::new(0)];
-    let note = |half: u32|
-        requires { half < 2 }
-    {
-        notes[half as usize].fetch_add(1, Ordering::SeqCst);
-    };
-    same_steps(&rt, &job, 0, 2);
-    let mut lease = Lease::new(job, 0, 0, 2);
-    for used in 0..2 {
-        same(&rt, lease.used(), used);
-        same(&rt, lease.step_halves(&rt, &note), Ok(()));
-        same(&rt, notes[0].load(Ordering::SeqCst), 1);
-        same(&rt, notes[1].load(Ordering::SeqCst), 1);
-    }
-    same(&rt, lease.step_halves(&rt, &note), Err(GrantSpent));
-    same(&rt, (lease.used(), lease.spent()), (2, 2));
-    same_image(&rt, lease.into_job(), 2, &[0xFF, 0xFE, 0xFD]);
+    let spec = spec_of(rt.alloc(), "invert", TRIPLE)?;
+    let job = job_of(rt.alloc(), &spec, b"FRAME", &[0, 1, 2])?;
+    notes_twice(&rt, job);
     Ok(())
 }
 
-/// All steps of a job are done, which are so many, and its image has these samples.
-fn same_image(rt: &impl Abort, job: Job, steps: u32, samples: &[u8]) {
-    same_steps(rt, &job, steps, steps);
-    let (_, image, _) = job.into_image();
-    same_list(rt, image.data(), samples);
-}
-
-/// Waits until the other part is noted too, or gives up after many looks.
-fn meet(noted: &[AtomicU32; 2], met: &AtomicU32, half: u32)
-    requires { half < 2 }
+fn notes_twice<T: Threads + Abort>(rt: &T, job: Job)
+    requires { IsSome job.scratch }
 {
-    noted[half as usize].store(1, Ordering::SeqCst);
-    for _ in 0..400_000_000u32 {
-        if noted[1 - half as usize].load(Ordering::SeqCst) == 1 {
-            met.fetch_add(1, Ordering::SeqCst);
-            return;
-        }
+    let parts = Parts::new();
+    let note = |half: u32| parts.begin(half);
+    same_steps(rt, &job, 0, 2);
+    let mut lease = Lease::new(job, 0, 0, 2);
+    for used in 0..2 {
+        let step = (lease.used(), lease.step_halves(rt, &note), parts.begun());
+        same(rt, step, (used, Ok(()), (1, 1)));
     }
+    same(rt, lease.step_halves(rt, &note), Err(GrantSpent));
+    same(rt, (lease.used(), lease.spent()), (2, 2));
+    finished(
+        rt,
+        lease.into_job(),
+        2,
+        &[0, 1, 2],
+        b"FRAME",
+        &[0xFF, 0xFE, 0xFD],
+    );
 }
 
 /// Neither part is written before both are noted, so one thread alone would meet the other at one part only.
 #[test]
 fn two_threads_write_the_parts_of_a_step(rt: HostRuntime) -> Result<(), Fail> {
-    let alloc = rt.alloc();
-    let spec = spec_in_bands(alloc, "invert", QUADRUPLE, 4)?;
-    let job = job_of(alloc, &spec, b"FRAME", &[1, 2, 3, 4])?;
-    let noted = [AtomicU32::new(0), AtomicU32::new(0)];
-    let met = AtomicU32::new(0);
-    same_steps(&rt, &job, 0, 1);
-    let mut lease = Lease::new(job, 0, 0, 1);
-    let stepped = lease.step_halves(&rt, &|half| meet(&noted, &met, half));
-    same(&rt, stepped, Ok(()));
-    let met = met.load(Ordering::SeqCst);
-    assert_eq!(rt; met, 2, "was a thread or its memory refused?");
-    same_image(&rt, lease.into_job(), 1, &[254, 253, 252, 251]);
+    let spec = spec_in_bands(rt.alloc(), "invert", QUADRUPLE, 4)?;
+    let job = job_of(rt.alloc(), &spec, b"FRAME", &[1, 2, 3, 4])?;
+    parts_meet(&rt, job);
     Ok(())
+}
+
+fn parts_meet<T: Threads + Abort>(rt: &T, job: Job)
+    requires { IsSome job.scratch }
+{
+    let parts = Parts::new();
+    same_steps(rt, &job, 0, 1);
+    let mut lease = Lease::new(job, 0, 0, 1);
+    same(rt, lease.step_halves(rt, &|half| parts.meet(half)), Ok(()));
+    assert_eq!(rt; parts.met(), 2, "was a thread or its memory refused?");
+    finished(
+        rt,
+        lease.into_job(),
+        1,
+        &[1, 2, 3, 4],
+        b"FRAME",
+        &[254, 253, 252, 251],
+    );
 }
