@@ -9,7 +9,8 @@ use row_bands::{BandHeight, Canvas};
 use std::alloc::Global;
 use std::process::Abort;
 use std::test::Fail;
-use y4m_header::{Chroma, check_frame_line};
+use test_tools::geometry_of;
+use y4m_header::check_frame_line;
 
 /// Writes band `k` alone, from these rows of luma on, into a blank canvas, and answers what that then holds.
 fn band_by_itself(
@@ -95,11 +96,12 @@ fn inner(geometry: Geometry) -> Op {
 fn images_agree(
     rt: &impl Abort,
     alloc: Global,
-    forms: &[Geometry],
+    forms: &[&[u8]],
     radii: &[u32],
 ) -> Result<(), Fail> {
-    for geometry in forms {
-        let mut source = Frame::blank(alloc, *geometry, b"FRAME")?;
+    for line in forms {
+        let geometry = geometry_of(alloc, line)?;
+        let mut source = Frame::blank(alloc, geometry, b"FRAME")?;
         scatter(source.data_mut());
         for op in [
             Op::Table(Table::Invert),
@@ -107,7 +109,7 @@ fn images_agree(
             Op::Table(Table::Clamp { low: 16, high: 235 }),
             Op::HFlip,
             Op::VFlip,
-            inner(*geometry),
+            inner(geometry),
         ] {
             image_agrees(rt, alloc, op, &source)?;
         }
@@ -118,77 +120,32 @@ fn images_agree(
     Ok(())
 }
 
+/// Header lines of each form.
+const SMALL: &[&[u8]] = &[
+    b"YUV4MPEG2 W66 H22 C420",
+    b"YUV4MPEG2 W62 H5 C422",
+    b"YUV4MPEG2 W132 H9 C411",
+    b"YUV4MPEG2 W35 H13 C444",
+    b"YUV4MPEG2 W35 H13 C444alpha",
+    b"YUV4MPEG2 W31 H20 Cmono",
+];
+
 #[test]
 fn each_band_is_that_of_the_formula(rt: HostRuntime) -> Result<(), Fail> {
-    let forms = [
-        Geometry {
-            width: 66,
-            height: 22,
-            chroma: Chroma::S420,
-        },
-        Geometry {
-            width: 62,
-            height: 5,
-            chroma: Chroma::S422,
-        },
-        Geometry {
-            width: 132,
-            height: 9,
-            chroma: Chroma::S411,
-        },
-        Geometry {
-            width: 35,
-            height: 13,
-            chroma: Chroma::S444,
-        },
-        Geometry {
-            width: 35,
-            height: 13,
-            chroma: Chroma::S444Alpha,
-        },
-        Geometry {
-            width: 31,
-            height: 20,
-            chroma: Chroma::Mono,
-        },
-    ];
-    images_agree(&rt, rt.alloc(), &forms, &[1, 2, 3, 4, 5, 6, 7, 8])
+    images_agree(&rt, rt.alloc(), SMALL, &[1, 2, 3, 4, 5, 6, 7, 8])
 }
 
 /// Rows that are many times as long as a vector, and leave a rest.
+const LONG: &[&[u8]] = &[
+    b"YUV4MPEG2 W510 H6 C420",
+    b"YUV4MPEG2 W2046 H5 C422",
+    b"YUV4MPEG2 W4100 H5 C411",
+    b"YUV4MPEG2 W1000 H5 C444",
+    b"YUV4MPEG2 W255 H5 C444alpha",
+    b"YUV4MPEG2 W4099 H5 Cmono",
+];
+
 #[test]
 fn each_band_of_long_rows_is_that_of_the_formula(rt: HostRuntime) -> Result<(), Fail> {
-    let forms = [
-        Geometry {
-            width: 510,
-            height: 6,
-            chroma: Chroma::S420,
-        },
-        Geometry {
-            width: 2046,
-            height: 5,
-            chroma: Chroma::S422,
-        },
-        Geometry {
-            width: 4100,
-            height: 5,
-            chroma: Chroma::S411,
-        },
-        Geometry {
-            width: 1000,
-            height: 5,
-            chroma: Chroma::S444,
-        },
-        Geometry {
-            width: 255,
-            height: 5,
-            chroma: Chroma::S444Alpha,
-        },
-        Geometry {
-            width: 4099,
-            height: 5,
-            chroma: Chroma::Mono,
-        },
-    ];
-    images_agree(&rt, rt.alloc(), &forms, &[1, 5])
+    images_agree(&rt, rt.alloc(), LONG, &[1, 5])
 }

@@ -91,11 +91,11 @@ fn bands_agree(
 }
 
 /// Widths and heights below, at and above those of the least square and of the greatest.
-const SIZES: [u16; 6] = [1, 2, 3, 9, 17, 20];
+const SIZES: &[u16] = &[1, 2, 3, 9, 17, 20];
 
 /// Widths that fill vectors and leave a rest. The sums of a row of 2,033 samples take more room from one
 /// radius on.
-const WIDTHS: [u16; 6] = [31, 33, 64, 255, 2033, 4099];
+const WIDTHS: &[u16] = &[31, 33, 64, 255, 2033, 4099];
 
 #[test]
 fn each_radius_gives_the_double_sum_in_each_band(rt: HostRuntime) -> Result<(), Fail> {
@@ -103,12 +103,13 @@ fn each_radius_gives_the_double_sum_in_each_band(rt: HostRuntime) -> Result<(), 
     scatter(&mut samples);
     for width in SIZES {
         for height in SIZES {
+            let (width, height) = (*width, *height);
             let cut = width.min(height) / 2;
             bands_agree(&rt, rt.alloc(), &samples, width, height, &[cut])?;
         }
     }
     for width in WIDTHS {
-        bands_agree(&rt, rt.alloc(), &samples, width, 2, &[])?;
+        bands_agree(&rt, rt.alloc(), &samples, *width, 2, &[])?;
     }
     bands_agree(&rt, rt.alloc(), &[0xFF; ROOM], 100, 3, &[2])
 }

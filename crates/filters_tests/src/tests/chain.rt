@@ -1,41 +1,35 @@
 // Chains that are made, chains that are refused, and their images.
+use super::{same, same_list};
 use filters::{Blur, Chain, Crop, FilterError, Op, StepRun, Table};
 use frame_view::{Frame, Geometry};
 use row_bands::BandHeight;
 use std::alloc::Global;
 use std::process::Abort;
 use std::test::Fail;
+use test_tools::geometry_of;
 use y4m_header::{Chroma, check_frame_line};
 
-const COLUMN: Geometry = Geometry {
-    width: 1,
-    height: 16384,
-    chroma: Chroma::Mono,
-};
+const COLUMN: &[u8] = b"YUV4MPEG2 W1 H16384 Cmono";
 
-const SMALL: Geometry = Geometry {
-    width: 4,
-    height: 2,
-    chroma: Chroma::S422,
-};
+const SMALL: &[u8] = b"YUV4MPEG2 W4 H2 C422";
 
-const ODD: Geometry = Geometry {
-    width: 3,
-    height: 5,
-    chroma: Chroma::S444Alpha,
-};
+const ODD: &[u8] = b"YUV4MPEG2 W3 H5 C444alpha";
 
-fn crop(x: u32, y: u32, width: u32, height: u32) -> Op {
-    Op::Crop(Crop {
-        x,
-        y,
-        width,
-        height,
-    })
+macro_rules! crop {
+    ($x:expr, $y:expr, $width:expr, $height:expr) => {
+        Op::Crop(Crop {
+            x: $x,
+            y: $y,
+            width: $width,
+            height: $height,
+        })
+    };
 }
 
-fn blur(radius: u32) -> Op {
-    Op::Blur(Blur { radius })
+macro_rules! blur {
+    ($radius:expr) => {
+        Op::Blur(Blur { radius: $radius })
+    };
 }
 
 fn chain_of(alloc: Global, ops: &[Op], geometry: Geometry) -> Result<Chain, FilterError> {
@@ -45,161 +39,200 @@ fn chain_of(alloc: Global, ops: &[Op], geometry: Geometry) -> Result<Chain, Filt
     Chain::new(alloc, ops.to_vec(alloc)?, geometry, band_height)
 }
 
-#[test]
-fn a_frame_costs_32768_units_at_most(rt: HostRuntime) -> Result<(), Fail> {
-    let cases: [(&[Op], &[Op], u32); 2] = [
-        (&[Op::HFlip; 4], &[Op::HFlip; 5], 32_768),
-        (&[blur(3)], &[blur(4)], 8192),
-    ];
-    for (most, more, steps) in cases {
-        let chain = chain_of(rt.alloc(), most, COLUMN)?;
-        assert_eq!(rt; (chain.steps(), chain.cost()), (steps, 32_768));
-        let refused = chain_of(rt.alloc(), more, COLUMN);
-        assert_eq!(rt; refused.err(), Some(FilterError::TooManySteps));
+/// Operations, a header line, and why they make no chain, if they make none.
+type Made = (&'static [Op], &'static [u8], Option<FilterError>);
+
+/// Makes each chain, and compares the refusal.
+fn are_made(rt: &impl Abort, alloc: Global, chains: &[Made]) -> Result<(), Fail> {
+    for made in chains {
+        let (ops, line, fault) = *made;
+        let refused = chain_of(alloc, ops, geometry_of(alloc, line)?).err();
+        same(rt, (ops, line, refused), (ops, line, fault));
     }
     Ok(())
 }
+
+/// The steps and the cost of a chain.
+fn totals(alloc: Global, ops: &[Op], geometry: Geometry) -> Result<(u32, u32), FilterError> {
+    let chain = chain_of(alloc, ops, geometry)?;
+    Ok((chain.steps(), chain.cost()))
+}
+
+/// Operations that cost the most, others that cost more, and the steps of the first.
+const COSTS: &[(&[Op], &[Op], u32)] = &[
+    (&[Op::HFlip; 4], &[Op::HFlip; 5], 32_768),
+    (&[blur!(3)], &[blur!(4)], 8192),
+];
+
+#[test]
+fn a_frame_costs_32768_units_at_most(rt: HostRuntime) -> Result<(), Fail> {
+    let column = geometry_of(rt.alloc(), COLUMN)?;
+    for case in COSTS {
+        let (most, more, steps) = *case;
+        let most = totals(rt.alloc(), most, column);
+        let more = totals(rt.alloc(), more, column);
+        same(&rt, most, Ok((steps, 32_768)));
+        same(&rt, more, Err(FilterError::TooManySteps));
+    }
+    Ok(())
+}
+
+const TEN_ROWS: Geometry = Geometry {
+    width: 4,
+    height: 10,
+    chroma: Chroma::Mono,
+};
+
+/// The steps of an operation that are left, this one among them, and what it costs.
+const RUNS: &[(u32, u32)] = &[
+    (5, 3),
+    (4, 3),
+    (3, 3),
+    (2, 3),
+    (1, 3),
+    (2, 1),
+    (1, 1),
+    (2, 2),
+    (1, 2),
+    (2, 1),
+    (1, 1),
+];
 
 #[test]
 fn a_step_costs_what_its_operation_does(rt: HostRuntime) -> Result<(), Fail> {
-    let geometry = Geometry {
-        width: 4,
-        height: 10,
-        chroma: Chroma::Mono,
-    };
-    let ops = [blur(2), crop(0, 0, 2, 3), blur(1), Op::HFlip];
-    let chain = chain_of(rt.alloc(), &ops, geometry)?;
-    assert_eq!(rt; (chain.steps(), chain.cost()), (11, 23));
-    let wanted = [
-        (5, 3),
-        (4, 3),
-        (3, 3),
-        (2, 3),
-        (1, 3),
-        (2, 1),
-        (1, 1),
-        (2, 2),
-        (1, 2),
-        (2, 1),
-        (1, 1),
-    ];
-    for (k, (count, cost)) in wanted.into_iter().enumerate() {
-        assert_eq!(rt; chain.run_of_step(k as u32), StepRun { count, cost });
-        assert_eq!(rt; chain.cost_of_step(k as u32), cost);
+    let ops = [blur!(2), crop!(0, 0, 2, 3), blur!(1), Op::HFlip];
+    let chain = chain_of(rt.alloc(), &ops, TEN_ROWS)?;
+    let got = (chain.steps(), chain.cost(), RUNS.len());
+    same(&rt, got, (11, 23, 11));
+    for (k, run) in (0..).zip(RUNS) {
+        let (count, cost) = *run;
+        assert!(rt; k < chain.steps());
+        let got = (k, chain.run_of_step(k), chain.cost_of_step(k));
+        same(&rt, got, (k, StepRun { count, cost }, cost));
     }
     Ok(())
 }
 
+const FITTING: &[Made] = &[
+    (&[Op::VFlip; 8], SMALL, None),
+    (&[blur!(1), blur!(8)], SMALL, None),
+    (&[crop!(2, 0, 2, 2)], SMALL, None),
+    (&[crop!(2, 0, 2, 2), crop!(0, 1, 2, 1)], SMALL, None),
+    (&[crop!(2, 4, 1, 1)], ODD, None),
+    (&[crop!(0, 0, 3, 5)], ODD, None),
+    (&[crop!(1, 3, 2, 2)], ODD, None),
+];
+
 #[test]
 fn chains_are_of_one_to_eight_operations_that_fit(rt: HostRuntime) -> Result<(), Fail> {
-    let on_small: [&[Op]; 4] = [
-        &[Op::VFlip; 8],
-        &[blur(1), blur(8)],
-        &[crop(2, 0, 2, 2)],
-        &[crop(2, 0, 2, 2), crop(0, 1, 2, 1)],
-    ];
-    for ops in on_small {
-        chain_of(rt.alloc(), ops, SMALL)?;
-    }
-    for op in [crop(2, 4, 1, 1), crop(0, 0, 3, 5), crop(1, 3, 2, 2)] {
-        chain_of(rt.alloc(), &[op], ODD)?;
-    }
-    Ok(())
+    are_made(&rt, rt.alloc(), FITTING)
 }
+
+/// Outside of a small picture.
+const OUTSIDE: Op = crop!(4, 0, 2, 2);
+
+/// A radius beyond the greatest, among operations that don't fit.
+const NINE: &[Op] = &[
+    OUTSIDE,
+    blur!(9),
+    OUTSIDE,
+    OUTSIDE,
+    OUTSIDE,
+    OUTSIDE,
+    OUTSIDE,
+    OUTSIDE,
+    OUTSIDE,
+];
+
+/// A crop that doesn't fit, behind operations of too many steps.
+const TOO_LONG: &[Op] = &[
+    Op::HFlip,
+    Op::HFlip,
+    Op::HFlip,
+    Op::HFlip,
+    Op::HFlip,
+    crop!(1, 0, 1, 1),
+];
+
+const MOST: u32 = u32::MAX;
+
+const REFUSED: &[Made] = &[
+    (&[], SMALL, Some(FilterError::TooManyOps)),
+    (&[Op::VFlip; 9], SMALL, Some(FilterError::TooManyOps)),
+    (&[OUTSIDE; 9], SMALL, Some(FilterError::TooManyOps)),
+    (&[blur!(0)], SMALL, Some(FilterError::BadOp)),
+    (&[blur!(9)], SMALL, Some(FilterError::BadOp)),
+    (NINE, SMALL, Some(FilterError::BadOp)),
+    // A crop cuts no chroma sample, and is of the picture that reaches it.
+    (&[crop!(1, 0, 2, 2)], SMALL, Some(FilterError::BadCrop)),
+    (&[crop!(0, 0, 3, 2)], SMALL, Some(FilterError::BadCrop)),
+    (
+        &[crop!(2, 0, 2, 2), crop!(2, 0, 2, 2)],
+        SMALL,
+        Some(FilterError::BadCrop),
+    ),
+    (TOO_LONG, COLUMN, Some(FilterError::BadCrop)),
+    (&[crop!(3, 0, 1, 1)], ODD, Some(FilterError::BadCrop)),
+    (&[crop!(0, 5, 1, 1)], ODD, Some(FilterError::BadCrop)),
+    (&[crop!(1, 0, 3, 1)], ODD, Some(FilterError::BadCrop)),
+    (&[crop!(0, 2, 1, 4)], ODD, Some(FilterError::BadCrop)),
+    (&[crop!(MOST, 0, 1, 1)], ODD, Some(FilterError::BadCrop)),
+    (&[crop!(1, 0, MOST, 1)], ODD, Some(FilterError::BadCrop)),
+    (&[crop!(0, MOST, 1, MOST)], ODD, Some(FilterError::BadCrop)),
+    (&[crop!(0, 0, 0, 1)], ODD, Some(FilterError::BadCrop)),
+    (&[crop!(0, 0, 1, 0)], ODD, Some(FilterError::BadCrop)),
+];
 
 /// Where several faults hold, that of a radius is told before that of the length, and this before the others.
 #[test]
 fn the_first_fault_of_a_chain_is_told(rt: HostRuntime) -> Result<(), Fail> {
-    let outside = crop(4, 0, 2, 2);
-    let mut nine = [outside; 9];
-    nine[1] = blur(9);
-    let mut long = [Op::HFlip; 6];
-    long[5] = crop(1, 0, 1, 1);
-    let cases: [(&[Op], Geometry, FilterError); 10] = [
-        (&[], SMALL, FilterError::TooManyOps),
-        (&[Op::VFlip; 9], SMALL, FilterError::TooManyOps),
-        (&[outside; 9], SMALL, FilterError::TooManyOps),
-        (&[blur(0)], SMALL, FilterError::BadOp),
-        (&[blur(9)], SMALL, FilterError::BadOp),
-        (&nine, SMALL, FilterError::BadOp),
-        // A crop cuts no chroma sample, and is of the picture that reaches it.
-        (&[crop(1, 0, 2, 2)], SMALL, FilterError::BadCrop),
-        (&[crop(0, 0, 3, 2)], SMALL, FilterError::BadCrop),
-        (
-            &[crop(2, 0, 2, 2), crop(2, 0, 2, 2)],
-            SMALL,
-            FilterError::BadCrop,
-        ),
-        (&long, COLUMN, FilterError::BadCrop),
-    ];
-    for (ops, geometry, fault) in cases {
-        let refused = chain_of(rt.alloc(), ops, geometry);
-        assert_eq!(rt; refused.err(), Some(fault), "{ops:?}");
-    }
-    let most = u32::MAX;
-    for op in [
-        crop(3, 0, 1, 1),
-        crop(0, 5, 1, 1),
-        crop(1, 0, 3, 1),
-        crop(0, 2, 1, 4),
-        crop(most, 0, 1, 1),
-        crop(1, 0, most, 1),
-        crop(0, most, 1, most),
-        crop(0, 0, 0, 1),
-        crop(0, 0, 1, 0),
-    ] {
-        let refused = chain_of(rt.alloc(), &[op], ODD);
-        assert_eq!(rt; refused.err(), Some(FilterError::BadCrop), "{op:?}");
-    }
-    Ok(())
+    are_made(&rt, rt.alloc(), REFUSED)
 }
+
+/// The operation of a step, and the band that it writes.
+const PLACES: &[(usize, usize)] = &[
+    (0, 0),
+    (0, 1),
+    (0, 2),
+    (0, 3),
+    (0, 4),
+    (1, 0),
+    (1, 1),
+    (2, 0),
+    (2, 1),
+];
 
 #[test]
 fn steps_go_by_the_height_of_each_output(rt: HostRuntime) -> Result<(), Fail> {
-    let geometry = Geometry {
-        width: 4,
-        height: 10,
-        chroma: Chroma::Mono,
-    };
-    let ops = [Op::Table(Table::Invert), crop(0, 0, 2, 3), Op::VFlip];
-    let chain = chain_of(rt.alloc(), &ops, geometry)?;
-    assert_eq!(rt; chain.steps(), 9);
-    assert_eq!(rt; chain.ops(), ops.as_slice());
-    assert_eq!(rt; chain.geometry(), geometry);
-    assert_eq!(rt; chain.band_height().rows(), 2);
-    assert!(rt; chain.has_crop());
+    let ops = [Op::Table(Table::Invert), crop!(0, 0, 2, 3), Op::VFlip];
+    let chain = chain_of(rt.alloc(), &ops, TEN_ROWS)?;
+    same_list(&rt, chain.ops(), &ops);
+    let got = (chain.steps(), chain.geometry(), chain.has_crop());
+    same(&rt, got, (9, TEN_ROWS, true));
     let out = chain.out_geometry();
-    assert_eq!(rt; (out.width, out.height), (2, 3));
-    let wanted = [
-        (0, 0),
-        (0, 1),
-        (0, 2),
-        (0, 3),
-        (0, 4),
-        (1, 0),
-        (1, 1),
-        (2, 0),
-        (2, 1),
-    ];
-    for k in 0..9 {
-        assert_eq!(rt; Some(chain.op_of_step(k as u32)), wanted.get(k).copied());
+    let got = (chain.band_height().rows(), out.width, out.height);
+    same(&rt, got, (2, 2, 3));
+    for (k, place) in (0..9).zip(PLACES) {
+        assert!(rt; k < chain.steps());
+        same(&rt, (k, chain.op_of_step(k)), (k, *place));
     }
     Ok(())
 }
 
 #[test]
 fn the_geometries_between_the_operations(rt: HostRuntime) -> Result<(), Fail> {
-    let ops = [crop(0, 0, 4, 1), crop(2, 0, 2, 1)];
-    let chain = chain_of(rt.alloc(), &ops, SMALL)?;
+    let small = geometry_of(rt.alloc(), SMALL)?;
+    let ops = [crop!(0, 0, 4, 1), crop!(2, 0, 2, 1)];
+    let chain = chain_of(rt.alloc(), &ops, small)?;
     assert_eq!(rt; chain.ops().len(), 2);
-    assert_eq!(rt; chain.op(1), crop(2, 0, 2, 1));
-    assert_eq!(rt; chain.geometry_after(0), SMALL);
+    let got = (chain.op(1), chain.geometry_after(0));
+    same(&rt, got, (crop!(2, 0, 2, 1), small));
     let between = chain.geometry_after(1);
-    assert_eq!(rt; (between.width, between.height), (4, 1));
     let out = chain.geometry_after(2);
-    assert_eq!(rt; (out.width, out.height), (2, 1));
-    let flips = chain_of(rt.alloc(), &[Op::HFlip, Op::VFlip], SMALL)?;
-    assert!(rt; !flips.has_crop());
+    let got = (between.width, between.height, out.width, out.height);
+    same(&rt, got, (4, 1, 2, 1));
+    let flips = chain_of(rt.alloc(), &[Op::HFlip, Op::VFlip], small)?;
+    same(&rt, flips.has_crop(), false);
     Ok(())
 }
 
@@ -231,164 +264,147 @@ fn shows(
     Ok(())
 }
 
-const PAIR: Geometry = Geometry {
-    width: 2,
-    height: 1,
-    chroma: Chroma::Mono,
-};
+const PAIR: &[u8] = b"YUV4MPEG2 W2 H1 Cmono";
 
-const THREE: Geometry = Geometry {
-    width: 3,
-    height: 1,
-    chroma: Chroma::Mono,
-};
+const THREE: &[u8] = b"YUV4MPEG2 W3 H1 Cmono";
 
-const SQUARE: Geometry = Geometry {
-    width: 2,
-    height: 2,
-    chroma: Chroma::S420,
-};
+const TALL: &[u8] = b"YUV4MPEG2 W2 H6 C420";
 
-const TALL: Geometry = Geometry {
-    width: 2,
-    height: 6,
-    chroma: Chroma::S420,
-};
+const PIXEL: &[u8] = b"YUV4MPEG2 W1 H1 C444alpha";
 
-const PIXEL: Geometry = Geometry {
-    width: 1,
-    height: 1,
-    chroma: Chroma::S444Alpha,
-};
+const SQUARE: &[u8] = b"YUV4MPEG2 W2 H2 C420";
 
-/// An image by one operation of a small picture.
-type Image<'a> = (Op, Geometry, &'a [u8], &'a [u8]);
+/// Operations, the header line of a small picture, its samples, and those of its image.
+type Image = (&'static [Op], &'static [u8], &'static [u8], &'static [u8]);
 
-#[test]
-fn each_operation_on_small_pictures(rt: HostRuntime) -> Result<(), Fail> {
-    let threshold = Op::Table(Table::Threshold(128));
-    let clamp = Op::Table(Table::Clamp { low: 16, high: 235 });
-    let invert = Op::Table(Table::Invert);
-    let samples = [
-        0, 1, 2, 3, 4, 5, 6, 7, 8, 9, 10, 11, 0x20, 0x21, 0x22, 0x30, 0x31, 0x32,
-    ];
-    let mirrored = [
-        10, 11, 8, 9, 6, 7, 4, 5, 2, 3, 0, 1, 0x22, 0x21, 0x20, 0x32, 0x31, 0x30,
-    ];
-    let cases: [Image<'_>; 9] = [
-        (threshold, PAIR, &[0x00, 0x80], &[0x00, 0xFF]),
-        (clamp, PAIR, &[0x05, 0xFA], &[0x10, 0xEB]),
-        (
-            invert,
-            PIXEL,
-            &[0x00, 0x10, 0x20, 0x30],
-            &[0xFF, 0xEF, 0xDF, 0x30],
-        ),
-        (
-            threshold,
-            PIXEL,
-            &[0x00, 0x10, 0x20, 0x30],
-            &[0x00, 0x80, 0x80, 0x30],
-        ),
-        (
-            clamp,
-            PIXEL,
-            &[0x00, 0x05, 0xFA, 0x05],
-            &[0x10, 0x05, 0xFA, 0x05],
-        ),
-        (Op::HFlip, PAIR, &[1, 2], &[2, 1]),
-        (Op::VFlip, TALL, &samples, &mirrored),
-        (
-            crop(2, 0, 2, 2),
-            SMALL,
-            &LUMA_AND_CHROMA,
-            &[2, 3, 6, 7, 0x11, 0x13, 0x21, 0x23],
-        ),
-        (blur(1), THREE, &[0x00, 0x5A, 0x00], &[0x1E, 0x1E, 0x1E]),
-    ];
-    for (op, geometry, samples, image) in cases {
-        shows(&rt, rt.alloc(), &[op], geometry, samples, image)?;
+/// Compares the image of each picture.
+fn show(rt: &impl Abort, alloc: Global, images: &[Image]) -> Result<(), Fail> {
+    for image in images {
+        let (ops, line, samples, image) = *image;
+        let geometry = geometry_of(alloc, line)?;
+        shows(rt, alloc, ops, geometry, samples, image)?;
     }
     Ok(())
 }
 
+const INVERT: Op = Op::Table(Table::Invert);
+
+const HALF: Op = Op::Table(Table::Threshold(128));
+
+const CLAMP: Op = Op::Table(Table::Clamp { low: 16, high: 235 });
+
 /// Two rows of luma, and two of each chroma plane.
-const LUMA_AND_CHROMA: [u8; 16] = [
+const LUMA_AND_CHROMA: &[u8] = &[
     0, 1, 2, 3, 4, 5, 6, 7, 0x10, 0x11, 0x12, 0x13, 0x20, 0x21, 0x22, 0x23,
+];
+
+const ONE_OPERATION: &[Image] = &[
+    (&[HALF], PAIR, &[0x00, 0x80], &[0x00, 0xFF]),
+    (&[CLAMP], PAIR, &[0x05, 0xFA], &[0x10, 0xEB]),
+    (
+        &[INVERT],
+        PIXEL,
+        &[0x00, 0x10, 0x20, 0x30],
+        &[0xFF, 0xEF, 0xDF, 0x30],
+    ),
+    (
+        &[HALF],
+        PIXEL,
+        &[0x00, 0x10, 0x20, 0x30],
+        &[0x00, 0x80, 0x80, 0x30],
+    ),
+    (
+        &[CLAMP],
+        PIXEL,
+        &[0x00, 0x05, 0xFA, 0x05],
+        &[0x10, 0x05, 0xFA, 0x05],
+    ),
+    (&[Op::HFlip], PAIR, &[1, 2], &[2, 1]),
+    (
+        &[Op::VFlip],
+        TALL,
+        &[
+            0, 1, 2, 3, 4, 5, 6, 7, 8, 9, 10, 11, 0x20, 0x21, 0x22, 0x30, 0x31, 0x32,
+        ],
+        &[
+            10, 11, 8, 9, 6, 7, 4, 5, 2, 3, 0, 1, 0x22, 0x21, 0x20, 0x32, 0x31, 0x30,
+        ],
+    ),
+    (
+        &[crop!(2, 0, 2, 2)],
+        SMALL,
+        LUMA_AND_CHROMA,
+        &[2, 3, 6, 7, 0x11, 0x13, 0x21, 0x23],
+    ),
+    (&[blur!(1)], THREE, &[0x00, 0x5A, 0x00], &[0x1E, 0x1E, 0x1E]),
+];
+
+#[test]
+fn each_operation_on_small_pictures(rt: HostRuntime) -> Result<(), Fail> {
+    show(&rt, rt.alloc(), ONE_OPERATION)
+}
+
+const LOW: &[u8] = &[1, 2, 3, 4, 0x50, 0x60];
+
+const IN_ORDER: &[Image] = &[
+    (
+        &[Op::Table(Table::Threshold(3))],
+        SQUARE,
+        LOW,
+        &[0x00, 0x00, 0xFF, 0xFF, 0x80, 0x80],
+    ),
+    (
+        &[Op::Table(Table::Threshold(3)), Op::VFlip],
+        SQUARE,
+        LOW,
+        &[0xFF, 0xFF, 0x00, 0x00, 0x80, 0x80],
+    ),
+    (
+        &[crop!(2, 0, 2, 2), Op::HFlip],
+        SMALL,
+        LUMA_AND_CHROMA,
+        &[3, 2, 7, 6, 0x11, 0x13, 0x21, 0x23],
+    ),
+    (
+        &[Op::HFlip, crop!(2, 0, 2, 2)],
+        SMALL,
+        LUMA_AND_CHROMA,
+        &[1, 0, 5, 4, 0x10, 0x12, 0x20, 0x22],
+    ),
 ];
 
 #[test]
 fn operations_are_done_in_order(rt: HostRuntime) -> Result<(), Fail> {
-    let threshold = Op::Table(Table::Threshold(3));
-    let left = crop(2, 0, 2, 2);
-    let low = [1, 2, 3, 4, 0x50, 0x60];
-    let cases: [(&[Op], Geometry, &[u8], &[u8]); 4] = [
-        (
-            &[threshold],
-            SQUARE,
-            &low,
-            &[0x00, 0x00, 0xFF, 0xFF, 0x80, 0x80],
-        ),
-        (
-            &[threshold, Op::VFlip],
-            SQUARE,
-            &low,
-            &[0xFF, 0xFF, 0x00, 0x00, 0x80, 0x80],
-        ),
-        (
-            &[left, Op::HFlip],
-            SMALL,
-            &LUMA_AND_CHROMA,
-            &[3, 2, 7, 6, 0x11, 0x13, 0x21, 0x23],
-        ),
-        (
-            &[Op::HFlip, left],
-            SMALL,
-            &LUMA_AND_CHROMA,
-            &[1, 0, 5, 4, 0x10, 0x12, 0x20, 0x22],
-        ),
-    ];
-    for (ops, geometry, samples, image) in cases {
-        shows(&rt, rt.alloc(), ops, geometry, samples, image)?;
-    }
-    Ok(())
+    show(&rt, rt.alloc(), IN_ORDER)
 }
+
+/// Three pixels of four planes.
+const FOUR_PLANES: &[u8] = b"YUV4MPEG2 W3 H1 C444alpha";
+
+const PLANES: &[u8] = &[0, 90, 255, 1, 2, 3, 254, 128, 0, 7, 8, 9];
+
+const TABLES_IN_FRONT: &[Image] = &[
+    (
+        &[INVERT, CLAMP],
+        FOUR_PLANES,
+        PLANES,
+        &[235, 165, 16, 254, 253, 252, 1, 127, 255, 7, 8, 9],
+    ),
+    (
+        &[INVERT, blur!(1)],
+        FOUR_PLANES,
+        PLANES,
+        &[225, 140, 55, 254, 253, 252, 43, 128, 212, 7, 8, 9],
+    ),
+    (
+        &[INVERT, Op::HFlip, CLAMP],
+        FOUR_PLANES,
+        PLANES,
+        &[16, 165, 235, 252, 253, 254, 255, 127, 1, 9, 8, 7],
+    ),
+];
 
 #[test]
 fn tables_in_front_are_done_in_the_frame(rt: HostRuntime) -> Result<(), Fail> {
-    let geometry = Geometry {
-        width: 3,
-        height: 1,
-        chroma: Chroma::S444Alpha,
-    };
-    let samples = [0, 90, 255, 1, 2, 3, 254, 128, 0, 7, 8, 9];
-    let invert = Op::Table(Table::Invert);
-    let clamp = Op::Table(Table::Clamp { low: 16, high: 235 });
-    let image = [235, 165, 16, 254, 253, 252, 1, 127, 255, 7, 8, 9];
-    shows(
-        &rt,
-        rt.alloc(),
-        &[invert, clamp],
-        geometry,
-        &samples,
-        &image,
-    )?;
-    let image = [225, 140, 55, 254, 253, 252, 43, 128, 212, 7, 8, 9];
-    shows(
-        &rt,
-        rt.alloc(),
-        &[invert, blur(1)],
-        geometry,
-        &samples,
-        &image,
-    )?;
-    let image = [16, 165, 235, 252, 253, 254, 255, 127, 1, 9, 8, 7];
-    shows(
-        &rt,
-        rt.alloc(),
-        &[invert, Op::HFlip, clamp],
-        geometry,
-        &samples,
-        &image,
-    )
+    show(&rt, rt.alloc(), TABLES_IN_FRONT)
 }
