@@ -3,10 +3,7 @@ ghost use Rattle.std.specs.Prelude.{◌≡◌, IfSome};
 ghost use Rattle.serve_script.specs.ScriptCommand.{IsOnClock, command_of, command_of_one, command_of_two};
 ghost use Rattle.serve_script.specs.ScriptCommand.{idle_at, word_number};
 
-use y4m_header::text::{cut, decimal_number};
-
-/// The most digits of a number: each fits 64 bits.
-const MOST_DIGITS: usize = 19;
+use y4m_header::text::{MOST_DIGITS, cut, decimal_number};
 
 /// The latest moment that a clock shows.
 const CLOCK_END: u64 = 1 << 60;
