@@ -14,7 +14,7 @@ use thiserror::Error;
 use y4m_header::HeaderError;
 
 /// Why a script's run is not told whole. A fault of the script itself is no such fault.
-#[derive(Clone, Copy, Debug, PartialEq, Eq, Error)]
+#[derive(Clone, Copy, Debug, PartialEq, Error)]
 pub enum ReplayFault {
     /// A read of the input failed. Nothing was run or written.
     #[error("read")]
@@ -39,7 +39,7 @@ impl From<AllocError> for ReplayFault {
 }
 
 /// What is wrong with a line of a script, or with the script as a whole. Names are the script's own bytes.
-#[derive(Clone, Copy, PartialEq, Eq)]
+#[derive(Clone, Copy)]
 pub enum ScriptFault<'a> {
     /// The line has no form that a script knows there.
     BadLine,

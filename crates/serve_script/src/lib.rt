@@ -46,8 +46,9 @@ ghost use Rattle.std.specs.Io.KnownBytes.{Keeps};
 ghost use Rattle.std.specs.Option.{option_map};
 ghost use Rattle.std.specs.Result.{result_err};
 ghost use Rattle.serve_script.specs.ScriptDevices.{OnTold, TakesScript, reads_told, writes_told};
+ghost use Rattle.serve_script.specs.ScriptFault.{fault_told};
 ghost use Rattle.serve_script.specs.ScriptInside.{IsWritten, Reports, stop_told};
-ghost use Rattle.serve_script.specs.ScriptReplay.{IsReplay, answer_of};
+ghost use Rattle.serve_script.specs.ScriptReplay.{IsReplay, answer_at, answer_of};
 ghost use Rattle.serve_script.specs.ScriptReport.{IsKeptReport};
 
 use self::fault::{ScriptFault, ScriptStop};
@@ -151,8 +152,17 @@ fn answer_of(stop: Option<ScriptStop<'_>>) -> Result<bool, ReplayFault>
 {
     match stop {
         None => Ok(true),
-        Some(stop) if stop.fault == ScriptFault::NoMemory => Err(ReplayFault::NoMemory),
-        Some(_) => Ok(false),
+        Some(stop) => answer_at(stop.fault),
+    }
+}
+
+/// The same behind a stop for this fault.
+fn answer_at(fault: ScriptFault<'_>) -> Result<bool, ReplayFault>
+    ensures { result ≡ answer_at (fault_told fault.entry) }
+{
+    match fault {
+        ScriptFault::NoMemory => Err(ReplayFault::NoMemory),
+        _ => Ok(false),
     }
 }
 
