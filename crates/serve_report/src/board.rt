@@ -15,7 +15,7 @@ use std::sync::atomic::{AtomicU64, Ordering};
 const BETWEEN: u64 = 200;
 
 /// How far a stream has come.
-#[derive(Clone, Copy, Debug, PartialEq, Eq)]
+#[derive(Clone, Copy)]
 struct StreamProgress<'a> {
     name: &'a str,
     /// The frames that were read whole.

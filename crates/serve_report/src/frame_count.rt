@@ -7,7 +7,7 @@ use y4m_header::text::cut;
 use y4m_header::{Header, LONGEST_LINE};
 
 /// Where in the text the next byte stands.
-#[derive(Clone, Copy, Debug, PartialEq, Eq)]
+#[derive(Clone, Copy)]
 enum Place {
     HeaderLine,
     FrameLine,
@@ -18,7 +18,7 @@ enum Place {
 }
 
 /// Counts the frames of a stream whose text goes by in pieces.
-#[derive(Debug, Drop)]
+#[derive(Drop)]
 pub struct FrameCount {
     alloc: Global,
     place: Place,

@@ -12,10 +12,10 @@ use filters::{FilterError, Op, parse_ops};
 use row_bands::BandHeight;
 use serve_script::replay;
 use std::alloc::Global;
+use std::fmt;
 use std::io::{Read, Write};
 use std::sync::Wait;
 use std::thread::Threads;
-use thiserror::Error;
 use y4m_stream::{
     FilterFault, OverRead, OverWrite, Sink, Source, filter_overlapped, filter_stream,
 };
@@ -28,27 +28,33 @@ const AWAITED: &str =
 const ALONE: usize = 0;
 
 /// Why a stream is not read at all.
-#[derive(Clone, Copy, Debug, PartialEq, Eq, Error)]
+#[derive(Clone, Copy)]
 enum WordFault {
     /// The rows of a band are odd.
-    #[error("bad band")]
     BadBand,
     /// The operations, or there was no memory for them.
-    #[error("{0}")]
     Ops(FilterError),
     /// The images would be shown as text.
-    #[error("output is a terminal")]
     Terminal,
+}
+
+impl fmt::Display for WordFault {
+    fn fmt<W: fmt::Write>(&self, f: &mut fmt::Formatter<W>) -> fmt::Result {
+        match *self {
+            WordFault::BadBand => write!(f, "bad band"),
+            WordFault::Ops(error) => write!(f, "{error}"),
+            WordFault::Terminal => write!(f, "output is a terminal"),
+        }
+    }
 }
 
 impl WordFault {
     fn status(self) -> u8
         ensures { result ≤ 2 }
     {
-        if self == WordFault::Ops(FilterError::NoMemory) {
-            1
-        } else {
-            2
+        match self {
+            WordFault::Ops(FilterError::NoMemory) => 1,
+            _ => 2,
         }
     }
 }

@@ -11,7 +11,7 @@ const BETWEEN: u64 = 100;
 const WIDTH: usize = 64;
 
 /// How far a run has come, and when that was last shown. Times are milliseconds from its start.
-#[derive(Clone, Copy, Debug, PartialEq, Eq)]
+#[derive(Clone, Copy)]
 pub struct Progress {
     pub frames: u64,
     pub bytes: u64,
@@ -64,7 +64,7 @@ impl Progress {
 }
 
 /// What a line says.
-#[derive(Clone, Copy, Debug, PartialEq, Eq)]
+#[derive(Clone, Copy)]
 pub struct ProgressLine {
     pub progress: Progress,
     /// The time for which the rates are taken.

@@ -19,10 +19,10 @@ use crate::words::ServeWords;
 use serve_core::{Setup, StreamSpec};
 use serve_work::{Served, SessionFault, serve_session};
 use std::alloc::{AllocError, Global};
+use std::fmt;
 use std::io::{self, Read, Write};
 use std::sync::Wait;
 use std::thread::Threads;
-use thiserror::Error;
 use y4m_stream::{OverRead, OverWrite};
 
 mod checks;
@@ -43,12 +43,19 @@ type Left<'w, R, W, V> = Served<
 >;
 
 /// Why a run isn't reported.
-#[derive(Clone, Copy, Debug, PartialEq, Eq, Error)]
+#[derive(Clone, Copy)]
 enum RunFault {
-    #[error("session {0}")]
     Session(SessionFault),
-    #[error("write")]
     Write,
+}
+
+impl fmt::Display for RunFault {
+    fn fmt<W: fmt::Write>(&self, f: &mut fmt::Formatter<W>) -> fmt::Result {
+        match *self {
+            RunFault::Session(fault) => write!(f, "session {fault}"),
+            RunFault::Write => write!(f, "write"),
+        }
+    }
 }
 
 impl From<AllocError> for RunFault {

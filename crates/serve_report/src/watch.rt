@@ -37,7 +37,7 @@ pub(crate) fn following<V: Watch>(watch: &V, is_quiet: bool) -> Option<&V> {
 }
 
 /// A watch that does nothing, for a run between any reader and writers.
-#[derive(Clone, Copy, Debug)]
+#[derive(Clone, Copy)]
 pub struct Unwatched;
 
 impl Watch for Unwatched {

@@ -12,13 +12,13 @@ use cbs_account::{Admission, AdmissionError};
 use filters::{FilterError, Op, parse_ops};
 use row_bands::BandHeight;
 use std::alloc::{AllocFailed, Global};
-use thiserror::Error;
+use std::fmt;
 
 /// The most streams that are served at once.
 const MOST_STREAMS: usize = 64;
 
 /// A stream that the words ask for.
-#[derive(Debug, Drop)]
+#[derive(Drop)]
 pub struct Asked<'a> {
     pub word: StreamWord<'a>,
     pub ops: Vec<Op>,
@@ -34,28 +34,21 @@ pub struct Checked<'a> {
 }
 
 /// What is wrong with the words.
-#[derive(Clone, Copy, Debug, PartialEq, Eq, Error)]
+#[derive(Clone, Copy)]
 pub enum WordFault<'a> {
     /// The rows of a band are odd.
-    #[error("bad band")]
     BadBand,
     /// There are more streams than are served at once.
-    #[error("too many streams")]
     TooManyStreams,
     /// This word names no stream.
-    #[error("bad stream {0}")]
     BadStream(&'a str),
     /// Two streams have this name.
-    #[error("repeated name {0}")]
     RepeatedName(&'a str),
     /// The operations of the stream of this name.
-    #[error("{0} {1}")]
     Ops(FilterError, &'a str),
     /// The stream of this name has no bandwidth, or the streams before it leave it none.
-    #[error("{0} {1}")]
     Admission(AdmissionError, &'a str),
     /// There was no memory for them.
-    #[error("NoMemory")]
     NoMemory,
 }
 
@@ -68,6 +61,20 @@ impl WordFault<'_> {
         match self {
             WordFault::Admission(..) | WordFault::NoMemory => 1,
             _ => 2,
+        }
+    }
+}
+
+impl fmt::Display for WordFault<'_> {
+    fn fmt<W: fmt::Write>(&self, f: &mut fmt::Formatter<W>) -> fmt::Result {
+        match *self {
+            WordFault::BadBand => write!(f, "bad band"),
+            WordFault::TooManyStreams => write!(f, "too many streams"),
+            WordFault::BadStream(word) => write!(f, "bad stream {word}"),
+            WordFault::RepeatedName(name) => write!(f, "repeated name {name}"),
+            WordFault::Ops(error, name) => write!(f, "{error} {name}"),
+            WordFault::Admission(error, name) => write!(f, "{error} {name}"),
+            WordFault::NoMemory => write!(f, "NoMemory"),
         }
     }
 }

@@ -3,7 +3,7 @@
 use serve_work::Gate;
 
 /// A gate that is told of everything and notes nothing. Each band is done by one thread.
-#[derive(Clone, Copy, Debug)]
+#[derive(Clone, Copy)]
 pub struct PlainGate;
 
 impl Gate for PlainGate {

@@ -31,7 +31,7 @@ const OUTBOX: u64 = 4;
 const FRAMES: u64 = 1 << 24;
 
 /// A stream of a run: its name, and why it takes no part in the session, if it doesn't.
-#[derive(Clone, Copy, Debug)]
+#[derive(Clone, Copy)]
 pub struct Entrant<'a> {
     pub name: &'a str,
     pub stop: Option<StreamStop>,

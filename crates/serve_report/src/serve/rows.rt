@@ -3,9 +3,8 @@ ghost use Rattle.std.specs.Prelude.{◌≡◌, ◌≤◌, [], OnOk, length, vec_
 ghost use Rattle.std.specs.Io.KnownBytes.{Appends};
 ghost use Rattle.std.specs.List.{list_all};
 ghost use Rattle.std.specs.Option.{option_map};
-ghost use Rattle.serve_report.specs.Entrants.{charged_in, is_whole, next_given, report_text, row_told};
-ghost use Rattle.serve_report.specs.Entrants.{rows_given};
-ghost use Rattle.serve_report.specs.Entrants.{rows_text, served_row};
+ghost use Rattle.serve_report.specs.Entrants.{charged_in, is_whole, is_whole_stop, next_given};
+ghost use Rattle.serve_report.specs.Entrants.{report_text, row_told, rows_given, rows_text, served_row};
 ghost use Rattle.serve_script.specs.ScriptReport.{line_text};
 ghost use Rattle.serve_report.specs.ServeReport.{row_text};
 
@@ -75,7 +74,16 @@ fn served_row<'a, R: Source, W: Sink>(name: &'a str, served: &Served<R, W>) -> S
 pub fn are_whole(rows: &[StreamRow<'_>]) -> bool
     ensures { result ≡ list_all is_whole rows.now }
 {
-    rows.iter().all(|row| row.stop == StreamStop::Whole)
+    rows.iter().all(|row| is_whole(row.stop))
+}
+
+fn is_whole(stop: StreamStop) -> bool
+    ensures { result ≡ is_whole_stop stop }
+{
+    match stop {
+        StreamStop::Whole => true,
+        _ => false,
+    }
 }
 
 /// The units that were done for all streams. A number of 64 bits stays at its last value.
