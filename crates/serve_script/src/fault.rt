@@ -98,7 +98,7 @@ impl<'a> ScriptFault<'a> {
 }
 
 /// The word of a refused header.
-fn header_word(error: HeaderError) -> &'static str
+pub fn header_word(error: HeaderError) -> &'static str
     ensures { result.now ≡ header_word error }
 {
     match error {
@@ -115,7 +115,7 @@ fn header_word(error: HeaderError) -> &'static str
 }
 
 /// The word of operations that are none, or make no chain.
-fn filter_word(error: FilterError) -> &'static str
+pub fn filter_word(error: FilterError) -> &'static str
     ensures { result.now ≡ filter_word error }
 {
     match error {

@@ -9,4 +9,4 @@ pub mod run_command;
 pub mod running;
 pub mod setup_command;
 pub mod streams;
-mod word;
+pub mod word;

@@ -1,16 +1,15 @@
 //! What is reported of the streams of a run.
 ghost use Rattle.std.specs.Prelude.{◌≡◌};
-ghost use Rattle.serve_script.specs.ScriptFault.{filter_word, header_word};
 ghost use Rattle.serve_report.specs.ServeReport.{cause_word, read_word};
 
 use filters::FilterError;
+use serve_script::{filter_word, header_word};
 use serve_work::{Cause, Stop};
 use std::fmt;
-use y4m_header::HeaderError;
 use y4m_stream::{ReadFault, WriteFault};
 
 /// Why a stream ended.
-#[derive(Clone, Copy, Debug, PartialEq, Eq)]
+#[derive(Clone, Copy)]
 pub enum StreamStop {
     /// The input was read to its end, and the images of all its frames were written.
     Whole,
@@ -95,36 +94,6 @@ fn read_word(fault: ReadFault) -> &'static str
     }
 }
 
-/// The word of a refused header.
-fn header_word(error: HeaderError) -> &'static str
-    ensures { result.now ≡ header_word error }
-{
-    match error {
-        HeaderError::NotY4m => "NotY4m",
-        HeaderError::BadNumber => "BadNumber",
-        HeaderError::RepeatedTag => "RepeatedTag",
-        HeaderError::MissingSize => "MissingSize",
-        HeaderError::UnknownChroma => "UnknownChroma",
-        HeaderError::NotDivisible => "NotDivisible",
-        HeaderError::TooLarge => "TooLarge",
-        HeaderError::NoMemory => "NoMemory",
-        HeaderError::NotFrame => "NotFrame",
-    }
-}
-
-/// The word of operations that make no chain.
-fn filter_word(error: FilterError) -> &'static str
-    ensures { result.now ≡ filter_word error }
-{
-    match error {
-        FilterError::BadOp => "BadOp",
-        FilterError::TooManyOps => "TooManyOps",
-        FilterError::BadCrop => "BadCrop",
-        FilterError::TooManySteps => "TooManySteps",
-        FilterError::NoMemory => "NoMemory",
-    }
-}
-
 /// The word of a refusal.
 fn cause_word(cause: Cause) -> &'static str
     ensures { result.now ≡ cause_word cause }
@@ -138,7 +107,7 @@ fn cause_word(cause: Cause) -> &'static str
 }
 
 /// What is reported of one stream.
-#[derive(Clone, Copy, Debug, PartialEq, Eq)]
+#[derive(Clone, Copy)]
 pub struct StreamRow<'a> {
     pub name: &'a str,
     /// How many of its frames were accepted.

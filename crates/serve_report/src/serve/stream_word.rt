@@ -1,19 +1,16 @@
 //! The words that name a stream.
 ghost use Rattle.std.specs.Prelude.{◌≡◌, None, Some, MatchOption};
-ghost use Rattle.std.specs.List.{before_first, list_all};
+ghost use Rattle.std.specs.List.{before_first};
 ghost use Rattle.std.specs.Option.{option_map};
 ghost use Rattle.std.specs.Prelude.{◌==◌};
 ghost use Rattle.y4m_header.specs.Text.{text_after};
-ghost use Rattle.serve_script.specs.SessionWords.{is_name, is_name_byte};
 ghost use Rattle.serve_report.specs.StreamWords.{cut_at_colons, parts_of, stream_of, stream_told};
 
+use serve_script::is_name;
 use y4m_header::text::{MOST_DIGITS, decimal_number};
 
-/// The longest name, in bytes.
-const NAME_LIMIT: usize = 32;
-
 /// A stream as its word has it, `NAME:IN:OUT:Q:T:OPS`: `q` units of work in every `t` moments.
-#[derive(Clone, Copy, Debug, PartialEq, Eq)]
+#[derive(Clone, Copy)]
 pub struct StreamWord<'a> {
     pub name: &'a str,
     pub input: &'a str,
@@ -81,23 +78,4 @@ fn cut_at_colon(text: &str) -> Option<(&str, &str)>
         × (text_after 58 text.now ≡ Some cut.1.now)) }
 {
     text.split_once(':')
-}
-
-/// Whether a text is 1 to 32 letters, digits, `_` or `-`.
-fn is_name(text: &[u8]) -> bool
-    ensures { result ≡ is_name text.now }
-{
-    !text.is_empty() && text.len() <= NAME_LIMIT && are_name_bytes(text)
-}
-
-fn are_name_bytes(text: &[u8]) -> bool
-    ensures { result ≡ list_all is_name_byte text.now }
-{
-    text.iter().all(|byte| is_name_byte(*byte))
-}
-
-fn is_name_byte(byte: u8) -> bool
-    ensures { result ≡ is_name_byte byte }
-{
-    byte.is_ascii_alphanumeric() || byte == b'_' || byte == b'-'
 }
