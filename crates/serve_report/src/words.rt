@@ -2,12 +2,13 @@
 ghost use Rattle.std.specs.Prelude.{◌≤◌};
 
 use crate::help;
+use clap::builder::ValueParser;
 use clap::error::ErrorKind;
 use clap::{Arg, ArgAction, ArgMatches, Command, value_parser};
 use std::alloc::{AllocError, Global};
 
 /// What the words ask for.
-#[derive(Debug, Drop)]
+#[derive(Drop)]
 pub enum Request<'a> {
     /// To filter a stream.
     Filter(FilterWords<'a>),
@@ -18,7 +19,7 @@ pub enum Request<'a> {
 }
 
 /// What a stream is filtered by, as the words say it.
-#[derive(Clone, Copy, Debug, PartialEq, Eq)]
+#[derive(Clone, Copy)]
 pub struct FilterWords<'a> {
     pub operations: &'a str,
     /// The luma rows of a band.
@@ -30,7 +31,7 @@ pub struct FilterWords<'a> {
 }
 
 /// The streams that are served, and by what, as the words say it.
-#[derive(Debug, Drop)]
+#[derive(Drop)]
 pub struct ServeWords<'a> {
     pub workers: u32,
     /// The luma rows of a band.
@@ -45,7 +46,7 @@ pub struct ServeWords<'a> {
 }
 
 /// Why the words ask for nothing that is run.
-#[derive(Debug, Drop)]
+#[derive(Drop)]
 pub enum NoRequest {
     /// They ask for this help.
     Help(String),
@@ -61,15 +62,46 @@ impl From<AllocError> for NoRequest {
     }
 }
 
-fn band_option<'a>(alloc: Global) -> Arg<'a> {
-    Arg::new(alloc, "band")
-        .long("band")
+/// An option that takes a number.
+fn number_option<'a>(
+    alloc: Global,
+    name: &'a str,
+    value: &'a str,
+    parser: ValueParser<'a>,
+) -> Arg<'a> {
+    Arg::new(alloc, name)
+        .long(name)
         .action(ArgAction::Set)
-        .value_name("B")
-        .value_parser(value_parser!(u32).range(2..=128))
+        .value_name(value)
+        .value_parser(parser)
+}
+
+fn band_option<'a>(alloc: Global) -> Arg<'a> {
+    number_option(alloc, "band", "B", value_parser!(u32).range(2..=128))
         .default_value("16")
         .help(help::BAND)
         .long_help(help::BAND_LONG)
+}
+
+fn threads_option<'a>(alloc: Global) -> Arg<'a> {
+    number_option(alloc, "threads", "N", value_parser!(u32).range(1..=2))
+        .default_value("2")
+        .help(help::THREADS)
+        .long_help(help::THREADS_LONG)
+}
+
+fn workers_option<'a>(alloc: Global) -> Arg<'a> {
+    number_option(alloc, "workers", "N", value_parser!(u32).range(1..=16))
+        .default_value("2")
+        .help(help::WORKERS)
+        .long_help(help::WORKERS_LONG)
+}
+
+fn quantum_option<'a>(alloc: Global) -> Arg<'a> {
+    number_option(alloc, "quantum", "K", value_parser!(u32).range(1..=64))
+        .default_value("8")
+        .help(help::QUANTUM)
+        .long_help(help::QUANTUM_LONG)
 }
 
 fn quiet_flag<'a>(alloc: Global, help: &'a str) -> Arg<'a> {
@@ -80,26 +112,31 @@ fn quiet_flag<'a>(alloc: Global, help: &'a str) -> Arg<'a> {
         .help(help)
 }
 
-fn filter_command<'a>(alloc: Global) -> Result<Command<'a>, AllocError> {
-    let operations = Arg::new(alloc, "OPS")
+fn operations_argument<'a>(alloc: Global) -> Arg<'a> {
+    Arg::new(alloc, "OPS")
         .required(true)
         .action(ArgAction::Set)
-        .help(help::OPERATIONS);
-    let threads = Arg::new(alloc, "threads")
-        .long("threads")
-        .action(ArgAction::Set)
-        .value_name("N")
-        .value_parser(value_parser!(u32).range(1..=2))
-        .default_value("2")
-        .help(help::THREADS)
-        .long_help(help::THREADS_LONG);
+        .help(help::OPERATIONS)
+}
+
+fn streams_argument<'a>(alloc: Global) -> Arg<'a> {
+    Arg::new(alloc, "STREAM")
+        .required(true)
+        .action(ArgAction::Append)
+        .num_args(1..)
+        .value_name("NAME:IN:OUT:Q:T:OPS")
+        .help(help::STREAM)
+        .long_help(help::STREAM_LONG)
+}
+
+fn filter_command<'a>(alloc: Global) -> Result<Command<'a>, AllocError> {
     Command::new(alloc, "filter")
         .about(help::FILTER)
         .long_about(help::FILTER_LONG)
         .after_long_help(help::FILTER_PAGE)
-        .arg(operations)?
+        .arg(operations_argument(alloc))?
         .arg(band_option(alloc))?
-        .arg(threads)?
+        .arg(threads_option(alloc))?
         .arg(quiet_flag(alloc, help::QUIET))
 }
 
@@ -111,38 +148,15 @@ fn replay_command<'a>(alloc: Global) -> Command<'a> {
 }
 
 fn serve_command<'a>(alloc: Global) -> Result<Command<'a>, AllocError> {
-    let workers = Arg::new(alloc, "workers")
-        .long("workers")
-        .action(ArgAction::Set)
-        .value_name("N")
-        .value_parser(value_parser!(u32).range(1..=16))
-        .default_value("2")
-        .help(help::WORKERS)
-        .long_help(help::WORKERS_LONG);
-    let quantum = Arg::new(alloc, "quantum")
-        .long("quantum")
-        .action(ArgAction::Set)
-        .value_name("K")
-        .value_parser(value_parser!(u32).range(1..=64))
-        .default_value("8")
-        .help(help::QUANTUM)
-        .long_help(help::QUANTUM_LONG);
-    let streams = Arg::new(alloc, "STREAM")
-        .required(true)
-        .action(ArgAction::Append)
-        .num_args(1..)
-        .value_name("NAME:IN:OUT:Q:T:OPS")
-        .help(help::STREAM)
-        .long_help(help::STREAM_LONG);
     Command::new(alloc, "serve")
         .about(help::SERVE)
         .long_about(help::SERVE_LONG)
         .after_long_help(help::SERVE_PAGE)
-        .arg(workers)?
+        .arg(workers_option(alloc))?
         .arg(band_option(alloc))?
-        .arg(quantum)?
+        .arg(quantum_option(alloc))?
         .arg(quiet_flag(alloc, help::SERVE_QUIET))?
-        .arg(streams)
+        .arg(streams_argument(alloc))
 }
 
 fn command<'a>(alloc: Global) -> Result<Command<'a>, AllocError> {
