@@ -128,3 +128,23 @@ account_may_fault past line faults.NoMemory may = λ given is.
     let next = outcome_there (outcome_of (server_after past) line) may in
     subst TakesMemory (sym (is ∙ (account_prints past line next.0 next.1).prints)) tt
 account_may_fault past line fault may = sym (account_faults past line fault may)
+
+-- no command lacks memory
+own_fault : {A : Type 0} (test : Bool) (found : A) (own fault : Fault) → (if test then Ok found else Err own) ≡ Err fault → own ≡ fault
+own_fault true found own fault e = absurd cc
+own_fault false found own fault e = cc
+
+no_lack : (server : Option Balance) (command : AccountCommand) → outcome_by server command ≡ Err faults.NoMemory → IsOk (outcome_by server command)
+no_lack server (Open q t) e =
+    let same = own_fault (is_bandwidth q t) (opened q t) faults.BadBandwidth faults.NoMemory e in absurd cc
+no_lack None (ArriveIdle moment) e = absurd cc
+no_lack None (Charge units) e = absurd cc
+no_lack (Some server) (ArriveIdle moment) e = absurd cc
+no_lack (Some server) (Charge units) e =
+    let same = own_fault (is_in_range units server) (after_units units server) faults.Range faults.NoMemory e in absurd cc
+
+-- a command's fault is what its line may end with
+pub command_end : (server : Option Balance) (command : AccountCommand) (fault : Fault) → outcome_by server command ≡ Err fault
+    → MayEnd (outcome_by server command) fault
+command_end server command faults.NoMemory e = no_lack server command e
+command_end server command fault e = e

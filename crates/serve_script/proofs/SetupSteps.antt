@@ -1,16 +1,15 @@
--- What the line of a command before `start` does to what the program keeps.
-use Rattle.std.proofs.Common.{◌≡◌, ℕ, inl, inr, Bool, true, false, List, ◌++◌, Option, Some, Result, Ok, Err, IfOk, OnOk, codes, refl, sym, subst, MatchBool, MatchOption}
+-- How a command before `start` ends, by what the program keeps.
+use Rattle.std.proofs.Common.{◌≡◌, ℕ, inl, inr, Bool, true, false, List, Option, None, Some, Result, Ok, Err, refl, sym, subst, MatchBool, MatchOption}
 use Rattle.serve_core.specs.Setup.{IsSetup, StreamSpec}
 use Rattle.serve_script.specs.ScriptFault as faults
-use Rattle.serve_script.specs.ScriptFault.{Fault}
-use Rattle.serve_script.specs.ScriptInside.{Answers, Stands}
-use Rattle.serve_script.specs.ScriptReport.{SetupLineGives, line_text}
-use Rattle.serve_script.specs.ScriptState.{Given, Prints, Faults, InSetup, MayFault, Preparation, ScriptState}
+use Rattle.serve_script.specs.ScriptFault.{Fault, fault_told}
+use Rattle.serve_script.specs.LineEnds.{Ends}
+use Rattle.serve_script.specs.ScriptReport.{SetupLineGives}
+use Rattle.serve_script.specs.ScriptState.{Given, Prints, Faults, MayFault, Preparation, ScriptState, TakesMemory}
 use Rattle.serve_script.specs.SessionCommand.{SetupForm, StreamForm, setup_of}
-use Rattle.serve_script.specs.SessionSetup.{AsksFor, SetupGives, StartGives, StreamGives, is_taken, prepared_setup, settled, started, stream_given}
+use Rattle.serve_script.specs.SessionSetup.{AsksFor, BandGives, SetupGives, StartGives, StreamGives, is_taken, prepared_setup, settled, started, stream_given}
 use Rattle.serve_script.specs.declared.fault.ScriptFault.{ScriptFault}
 use Rattle.serve_script.specs.declared.run.Script.{Script}
-use Rattle.serve_script.specs.declared.run.Script.TheVariants as scripts
 use Rattle.serve_script.proofs.SetupFaults.{start_lost}
 use Rattle.serve_script.proofs.StreamGiven.{stream_lost}
 
@@ -18,29 +17,32 @@ use Rattle.serve_script.proofs.StreamGiven.{stream_lost}
 abbrev FormGives : Preparation → Option SetupForm → Given → Type 0
 FormGives p form given = MatchOption form (given ≡ Faults faults.BadLine) (λ is. SetupGives p is given)
 
-pub setup_may_fault : (p : Preparation) (line : List ℕ) (form : SetupForm) (fault : Fault) → setup_of line ≡ Some form
-    → MayFault (SetupGives p form) fault → MayFault (SetupLineGives p line) fault
-setup_may_fault p line form fault is may = subst (λ (found : Option SetupForm). MayFault (FormGives p found) fault) (sym is) may
+-- a line that writes no command
+pub setup_bad : (p : Preparation) (line : List ℕ) → setup_of line ≡ None → MayFault (SetupLineGives p line) faults.BadLine
+setup_bad p line none = subst (λ (found : Option SetupForm). FormGives p found (Faults faults.BadLine)) (sym none) refl
 
-pub setup_answers : (p : Preparation) (line : List ℕ) (form : SetupForm) (answer : List ℕ) (end : ScriptState) (kept : Script) (before after : List ℕ)
-    → setup_of line ≡ Some form → SetupGives p form (Prints answer end) → Stands kept end → after ≡ before ++ line_text answer
-    → Answers (SetupLineGives p line) kept before after
-setup_answers p line form answer end kept before after is gives stands printed = record {
-  answer = answer;
-  next = end;
-  gives = subst (λ (found : Option SetupForm). FormGives p found (Prints answer end)) (sym is) gives;
-  stands = stands;
-  printed = printed;
-}
+-- a line ends as its command does
+pub setup_ends : (p : Preparation) (line : List ℕ) (form : SetupForm) (r : Result Script ScriptFault) (before after : List ℕ) → setup_of line ≡ Some form
+    → Ends (SetupGives p form) r before after → Ends (SetupLineGives p line) r before after
+setup_ends p line form r before after is ends = subst (λ (found : Option SetupForm). Ends (FormGives p found) r before after) (sym is) ends
 
--- a setting that was answered
-pub setting_answers : (p next : Preparation) (line : List ℕ) (form : SetupForm) (result : Result Script ScriptFault) (before after : List ℕ)
-    → setup_of line ≡ Some form → SetupGives p form (settled next) → IfOk result (λ kept. kept ≡ scripts.Preparation next)
-    → OnOk result (after ≡ before ++ line_text (codes "ok")) → IfOk result (λ kept. Answers (SetupLineGives p line) kept before after)
-setting_answers p next line form (Ok kept) before after is gives same printed =
-    setup_answers p line form (codes "ok") (InSetup next) kept before after is gives
-    (subst (λ (script : Script). Stands script (InSetup next)) (sym same) refl) printed
-setting_answers p next line form (Err fault) before after is gives same printed = tt
+-- a setting has no fault
+only_memory : (next : Preparation) (fault : Fault) → MayFault (λ given. given ≡ settled next) fault → fault ≡ faults.NoMemory
+only_memory next faults.NoMemory may = refl
+only_memory next fault may = absurd (cc may)
+
+band_memory : (p next : Preparation) (rows : ℕ) → BandGives p rows (settled next) → (given : Given) → BandGives p rows given → TakesMemory given
+band_memory p next rows made given (inl gives) = subst TakesMemory (sym gives.1) tt
+band_memory p next rows (inl made) given (inr none) = absurd (none.0 made.0)
+band_memory p next rows (inr made) given (inr none) = let is = made.1 in absurd cc
+
+-- bands of so many rows are a setting
+pub band_ends : (p next : Preparation) (rows : ℕ) (r : Result Script ScriptFault) (before after : List ℕ) → BandGives p rows (settled next)
+    → Ends (λ given. given ≡ settled next) r before after → Ends (BandGives p rows) r before after
+band_ends p next rows (Ok kept) before after gives a =
+    record { answer = a.answer; next = a.next; gives = subst (BandGives p rows) (sym a.gives) gives; stands = a.stands; printed = a.printed }
+band_ends p next rows (Err fault) before after gives (may, same) =
+    (subst (MayFault (BandGives p rows)) (sym (only_memory next (fault_told fault) may)) (band_memory p next rows gives), same)
 
 -- what a line's stream gives, where its name is taken or not
 abbrev GivesByName : Preparation → StreamForm → Bool → Given → Type 0

@@ -14,3 +14,4 @@ pub mod ScriptReplay
 pub mod ScriptDevices
 pub mod SessionInside
 pub mod ScriptInside
+pub mod LineEnds

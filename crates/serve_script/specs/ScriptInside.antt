@@ -11,7 +11,7 @@ use Rattle.serve_script.specs.ScriptFault as faults
 use Rattle.serve_script.specs.ScriptFault.{Fault, fault_told}
 use Rattle.serve_script.specs.ScriptReplay.{answer_of}
 use Rattle.serve_script.specs.ScriptReport.{Report, Stop, line_text, report_of, stop_text, text_of_lines}
-use Rattle.serve_script.specs.ScriptState.{Given, Prints, Preparation, ScriptState, Session}
+use Rattle.serve_script.specs.ScriptState.{Given, Prints, ScriptState, Session}
 use Rattle.serve_script.specs.ScriptState.{Fresh, OnAccount, InSetup, InSession}
 use Rattle.serve_script.specs.declared.command.AccountCommand.{AccountCommand}
 use Rattle.serve_script.specs.declared.command.AccountCommand.TheVariants.{Open, ArriveIdle, Charge}

@@ -1,33 +1,29 @@
 //! An account script: its commands are run in order on one account.
-ghost use Rattle.std.specs.Prelude.{◌≡◌, ◌++◌, Ok, Err, IfErr, IfOk, OnErr};
-ghost use Rattle.serve_script.specs.AccountScript.{balance_line};
+ghost use Rattle.std.specs.Prelude.{◌≡◌, Ok, Err, IfErr, IfOk};
 ghost use Rattle.serve_script.specs.ScriptCommand.{IsOnClock};
 ghost use Rattle.serve_script.specs.ScriptFault.{fault_told};
-ghost use Rattle.serve_script.specs.ScriptInside.{MayEnd, outcome_by, outcome_of};
-ghost use Rattle.serve_script.specs.ScriptReport.{line_text};
+ghost use Rattle.serve_script.specs.LineEnds.{AccountGives, EndsFrom, IsPastOf};
+ghost use Rattle.serve_script.specs.ScriptInside.{outcome_by};
 
 use super::command::{AccountCommand, parse_command};
 use super::fault::ScriptFault;
 use super::print::push_balance;
+use super::run::Script;
 use cbs_account::Account;
 
-/// Runs the command of a line and appends its answer. It answers the account that the command leaves.
+/// Runs the command of a line and appends its answer.
 pub fn run_account_line<'a>(
     account: Option<Account>,
     line: &'a [u8],
     printed: &mut Vec<u8>,
-) -> Result<Account, ScriptFault<'a>>
-    ensures ran { IfOk result (λ next. outcome_of account line.now ≡ Ok next) }
-    ensures printed { IfOk result
-        (λ next. printed.new.items ≡ printed.old.items ++ line_text (balance_line next)) }
-
-    ensures fault { IfErr result (λ fault. MayEnd (outcome_of account line.now) (fault_told fault)) }
-    ensures kept { OnErr result (printed.new.items ≡ printed.old.items) }
+) -> Result<Script<'a>, ScriptFault<'a>>
+    ensures { EndsFrom (IsPastOf account) (AccountGives line.now) result
+        printed.old.items printed.new.items }
 {
     let command = parse_command(line).ok_or(ScriptFault::BadLine)?;
     let next = run_command(account, command)?;
     push_balance(printed, &next)?;
-    Ok(next)
+    Ok(Script::Account(next))
 }
 
 /// The account after one command.

@@ -1,12 +1,13 @@
 //! The run of a script: its lines in order, up to the first fault.
-ghost use Rattle.std.specs.Prelude.{◌≡◌, ◌≤◌, ◌++◌, IfErr, IfOk, OnErr, OnOk, codes, length};
+ghost use Rattle.std.specs.Prelude.{◌≡◌, ◌≤◌, length};
 ghost use Rattle.std.specs.Result.{result_err};
-ghost use Rattle.serve_script.specs.ScriptFault.{fault_told};
-ghost use Rattle.serve_script.specs.ScriptInside.{Answers, Reports, Stands};
+ghost use Rattle.serve_script.specs.LineEnds.{Ends, EndsFrom, RunLineGives};
+ghost use Rattle.serve_script.specs.ScriptInside.{Reports, Stands};
 ghost use Rattle.serve_script.specs.ScriptReport.{CommandGives, IsOfLines, SetupLineGives, begins_account};
-ghost use Rattle.serve_script.specs.ScriptReport.{line_text};
-ghost use Rattle.serve_script.specs.ScriptState.{MayFault, ScriptState};
 ghost use Rattle.serve_script.specs.ScriptText.{script_lines};
+ghost use Rattle.serve_script.specs.SessionCommand.{setup_told, stream_told};
+ghost use Rattle.serve_script.specs.SessionInside.{IsAt};
+ghost use Rattle.serve_script.specs.SessionSetup.{BandGives, SetupGives, StartGives, StreamGives, settled};
 
 use super::account::run_account_line;
 use super::fault::{ScriptFault, ScriptStop};
@@ -16,7 +17,7 @@ use super::session::pieces::push_line;
 use super::session::preparation::Preparation;
 use super::session::run_command::parse_run;
 use super::session::running::Session;
-use super::session::setup_command::{SetupCommand, parse_setup};
+use super::session::setup_command::{SetupCommand, StreamCommand, parse_setup};
 use cbs_account::Account;
 use std::alloc::Global;
 use y4m_header::text::cut;
@@ -72,29 +73,20 @@ fn run_line<'a>(
     line: &'a [u8],
     printed: &mut Vec<u8>,
 ) -> Result<Script<'a>, ScriptFault<'a>>
-    ensures ran { IfOk result (λ next. (state : ScriptState) → Stands script.entry state
-        → Answers (CommandGives state line.now) next printed.old.items printed.new.items) }
-    ensures fault { IfErr result (λ fault. (state : ScriptState) → Stands script.entry state
-        → MayFault (CommandGives state line.now) (fault_told fault)) }
-    ensures kept { OnErr result (printed.new.items ≡ printed.old.items) }
+    ensures { EndsFrom (Stands script.entry) (λ state. CommandGives state line.now) result
+        printed.old.items printed.new.items }
 {
     match script {
         Script::Fresh => {
             if begins_account(line) {
-                Ok(Script::Account(run_account_line(None, line, printed)?))
+                run_account_line(None, line, printed)
             } else {
                 run_setup_line(alloc, Preparation::new(alloc), line, printed)
             }
         }
-        Script::Account(account) => {
-            Ok(Script::Account(run_account_line(Some(account), line, printed)?))
-        }
+        Script::Account(account) => run_account_line(Some(account), line, printed),
         Script::Preparation(preparation) => run_setup_line(alloc, preparation, line, printed),
-        Script::Session(mut session) => {
-            let command = parse_run(line).ok_or(ScriptFault::BadLine)?;
-            session.run(alloc, command, printed)?;
-            Ok(Script::Session(session))
-        }
+        Script::Session(session) => run_session_line(alloc, session, line, printed),
     }
 }
 
@@ -106,6 +98,22 @@ fn begins_account(line: &[u8]) -> bool
     word == b"account".as_slice()
 }
 
+/// Runs the command of a line behind `start`.
+fn run_session_line<'a>(
+    alloc: Global,
+    session: Session<'a>,
+    line: &'a [u8],
+    printed: &mut Vec<u8>,
+) -> Result<Script<'a>, ScriptFault<'a>>
+    ensures { EndsFrom (IsAt session.entry) (RunLineGives line.now) result
+        printed.old.items printed.new.items }
+{
+    let command = parse_run(line).ok_or(ScriptFault::BadLine)?;
+    let mut session = session;
+    session.run(alloc, command, printed)?;
+    Ok(Script::Session(session))
+}
+
 /// Runs the command of a line before `start`.
 fn run_setup_line<'a>(
     alloc: Global,
@@ -113,28 +121,29 @@ fn run_setup_line<'a>(
     line: &'a [u8],
     printed: &mut Vec<u8>,
 ) -> Result<Script<'a>, ScriptFault<'a>>
-    ensures ran { IfOk result (λ next.
-        Answers (SetupLineGives preparation.entry line.now) next printed.old.items printed.new.items) }
-    ensures fault { IfErr result (λ fault.
-        MayFault (SetupLineGives preparation.entry line.now) (fault_told fault)) }
-    ensures kept { OnErr result (printed.new.items ≡ printed.old.items) }
+    ensures { Ends (SetupLineGives preparation.entry line.now) result printed.old.items printed.new.items }
 {
-    match parse_setup(line).ok_or(ScriptFault::BadLine)? {
+    let command = parse_setup(line).ok_or(ScriptFault::BadLine)?;
+    run_setup(alloc, preparation, command, printed)
+}
+
+/// Runs a command before `start`.
+fn run_setup<'a>(
+    alloc: Global,
+    preparation: Preparation<'a>,
+    command: SetupCommand<'a>,
+    printed: &mut Vec<u8>,
+) -> Result<Script<'a>, ScriptFault<'a>>
+    ensures { Ends (SetupGives preparation.entry (setup_told command.entry)) result
+        printed.old.items printed.new.items }
+{
+    match command {
         SetupCommand::Workers { count } => settled(preparation.with_workers(count), printed),
         SetupCommand::Quantum { bands } => settled(preparation.with_quantum(bands), printed),
-        SetupCommand::Band { rows } => settled(preparation.with_band(rows)?, printed),
+        SetupCommand::Band { rows } => run_band(preparation, rows, printed),
         SetupCommand::Frames { most } => settled(preparation.with_frames(most), printed),
-        SetupCommand::Stream(stream) => {
-            let number = preparation.count();
-            let next = preparation.with_stream(alloc, stream)?;
-            push_stream(printed, number)?;
-            Ok(Script::Preparation(next))
-        }
-        SetupCommand::Start => {
-            let session = preparation.start(alloc)?;
-            push_line(printed, b"started".as_slice())?;
-            Ok(Script::Session(session))
-        }
+        SetupCommand::Stream(stream) => run_stream(alloc, preparation, stream, printed),
+        SetupCommand::Start => run_start(alloc, preparation, printed),
     }
 }
 
@@ -143,11 +152,49 @@ fn settled<'a>(
     preparation: Preparation<'a>,
     printed: &mut Vec<u8>,
 ) -> Result<Script<'a>, ScriptFault<'a>>
-    ensures script { IfOk result (λ next. next ≡ Script.Preparation preparation.entry) }
-    ensures printed { OnOk result (printed.new.items ≡ printed.old.items ++ line_text (codes "ok")) }
-    ensures fault { IfErr result (λ fault. fault ≡ ScriptFault.NoMemory) }
-    ensures kept { OnErr result (printed.new.items ≡ printed.old.items) }
+    ensures { Ends (λ given. given ≡ settled preparation.entry) result printed.old.items printed.new.items }
 {
     push_line(printed, b"ok".as_slice())?;
     Ok(Script::Preparation(preparation))
+}
+
+/// Runs `band`.
+fn run_band<'a>(
+    preparation: Preparation<'a>,
+    rows: u64,
+    printed: &mut Vec<u8>,
+) -> Result<Script<'a>, ScriptFault<'a>>
+    ensures { Ends (BandGives preparation.entry rows) result printed.old.items printed.new.items }
+{
+    let next = preparation.with_band(rows)?;
+    settled(next, printed)
+}
+
+/// Runs `stream`.
+fn run_stream<'a>(
+    alloc: Global,
+    preparation: Preparation<'a>,
+    stream: StreamCommand<'a>,
+    printed: &mut Vec<u8>,
+) -> Result<Script<'a>, ScriptFault<'a>>
+    ensures { Ends (StreamGives preparation.entry (stream_told stream.entry)) result
+        printed.old.items printed.new.items }
+{
+    let number = preparation.count();
+    let next = preparation.with_stream(alloc, stream)?;
+    push_stream(printed, number)?;
+    Ok(Script::Preparation(next))
+}
+
+/// Runs `start`.
+fn run_start<'a>(
+    alloc: Global,
+    preparation: Preparation<'a>,
+    printed: &mut Vec<u8>,
+) -> Result<Script<'a>, ScriptFault<'a>>
+    ensures { Ends (StartGives preparation.entry) result printed.old.items printed.new.items }
+{
+    let session = preparation.start(alloc)?;
+    push_line(printed, b"started".as_slice())?;
+    Ok(Script::Session(session))
 }

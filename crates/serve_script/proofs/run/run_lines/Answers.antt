@@ -29,10 +29,10 @@ returns-in-Err c =
     run.split ∙ ap (λ rest. run.lines ++ rest) c.first_line.ensures.lines in
     let at : c.loop-rest.number + 1 ≡ length run.lines + 1 = ap (λ n. n + 1) run.at in
     let command : is_silent line ≡ false = search rules in
-    let may = c.in-Err.ensures.fault run.led run.stands in
+    let may = c.in-Err.ensures.0 run.led run.stands in
     record {
       answers = run.answers;
-      printed = c.in-Err.ensures.kept ∙ run.printed;
+      printed = c.in-Err.ensures.1 ∙ run.printed;
       report = lines_before _ run.lines run.answers line more run.led (c.loop-rest.number + 1) (fault_told c.in-Err.fault) split at run.ran command may;
     }
 
@@ -41,7 +41,7 @@ loop-rest-preserved-in-Ok c =
     let run = c.loop-rest.invariant in
     let line = c.first_line.result.0.now in
     let command : is_silent line ≡ false = search rules in
-    let answered = c.in-Ok.ensures.ran run.led run.stands in
+    let answered = c.in-Ok.ensures run.led run.stands in
     record {
       lines = run.lines ++ line ∷ [];
       answers = run.answers ++ answered.answer ∷ [];
