@@ -6,3 +6,4 @@ pub mod Served
 pub mod Filtered
 pub mod Inside
 pub mod Laws
+pub mod Words
