@@ -5,7 +5,7 @@ use Rattle.std.specs.Option.{option_map, option_and_then, option_copied}
 use Rattle.std.specs.List.{slice_split}
 use Rattle.std.proofs.lemmas.List.Splits.{length-slice_split}
 use Rattle.y4m_header.specs.Text.{number_of}
-use Rattle.filters.specs.declared.limits.TheConstants.{MOST_DIGITS}
+use Rattle.filters.specs.declared.limits.TheConstants.{MOST_NUMBER_DIGITS}
 use Rattle.filters.specs.OpsText.{numbers, all_numbers}
 use Rattle.filters.specs.Scan.{only_number, numbers_left}
 
@@ -19,7 +19,7 @@ one_and_next n (Some v) (Some ns) = refl
 one_and_all : (n : ℕ) (texts : List (List ℕ)) → 0 < length texts
     → option_and_then only_number (option_map (λ ns. n ∷ ns) (all_numbers texts)) ≡ None
 one_and_all n [] h = absurd (omega arith)
-one_and_all n (text ∷ texts) h = one_and_next n (number_of MOST_DIGITS text) (all_numbers texts)
+one_and_all n (text ∷ texts) h = one_and_next n (number_of MOST_NUMBER_DIGITS text) (all_numbers texts)
 
 -- a text that stands behind a number has a number more, or none that is read
 one_and_more : (n : ℕ) (text : List ℕ)

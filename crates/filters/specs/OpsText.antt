@@ -5,7 +5,7 @@ use Rattle.std.specs.Option.{option_map}
 use Rattle.std.specs.List.{before_first, find}
 use Rattle.std.specs.Str.{bytes_eq}
 use Rattle.y4m_header.specs.Text.{number_of, parts, text_after}
-use Rattle.filters.specs.declared.limits.TheConstants.{MOST_DIGITS, MOST_RADIUS}
+use Rattle.filters.specs.declared.limits.TheConstants.{MOST_NUMBER_DIGITS, MOST_RADIUS}
 use Rattle.filters.specs.declared.op.Op.{Op}
 use Rattle.filters.specs.declared.op.Op.TheVariants.{Table, HFlip, VFlip, Crop, Blur}
 use Rattle.filters.specs.declared.op.Table.TheVariants.{Invert, Threshold, Clamp}
@@ -14,7 +14,8 @@ use Rattle.filters.specs.declared.op.Table.TheVariants.{Invert, Threshold, Clamp
 abbrev pub all_numbers : List (List ℕ) → Option (List ℕ)
 all_numbers [] = Some []
 all_numbers (text ∷ more) =
-    option_and_then (λ n. option_map (λ numbers. n ∷ numbers) (all_numbers more)) (number_of MOST_DIGITS text)
+    option_and_then (λ n. option_map (λ numbers. n ∷ numbers) (all_numbers more))
+    (number_of MOST_NUMBER_DIGITS text)
 
 -- the numbers between the commas
 abbrev pub numbers : List ℕ → Option (List ℕ)

@@ -23,6 +23,6 @@ pub use chain::canvases::Images;
 pub use chain::steps::StepRun;
 pub use error::FilterError;
 pub use in_place::apply_in_place;
-pub use limits::{MOST_BAND_COST, MOST_COST, MOST_DIGITS, MOST_OPS, MOST_RADIUS};
+pub use limits::{MOST_BAND_COST, MOST_COST, MOST_OPS, MOST_RADIUS};
 pub use op::{Blur, Crop, Op, Table};
 pub use ops_text::parse_ops;

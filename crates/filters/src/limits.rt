@@ -13,4 +13,4 @@ pub const MOST_BAND_COST: u32 = 1 + MOST_RADIUS;
 pub const MOST_COST: u32 = 32_768;
 
 /// The most digits of a number in a text of operations.
-pub const MOST_DIGITS: usize = 9;
+pub const MOST_NUMBER_DIGITS: usize = 9;

@@ -5,14 +5,14 @@ ghost use Rattle.y4m_header.specs.Text.{number_of};
 ghost use Rattle.filters.specs.OpsText.{numbers};
 ghost use Rattle.filters.specs.Scan.{numbers_left, only_number, only_two, only_four};
 
-use crate::limits::MOST_DIGITS;
+use crate::limits::MOST_NUMBER_DIGITS;
 use y4m_header::text::{cut, decimal_number};
 
 /// The number that 1 to 9 digits write.
 fn number_of(digits: &[u8]) -> Option<u32>
-    ensures { result ≡ number_of MOST_DIGITS digits.now }
+    ensures { result ≡ number_of MOST_NUMBER_DIGITS digits.now }
 {
-    let number = decimal_number(MOST_DIGITS, digits)?;
+    let number = decimal_number(MOST_NUMBER_DIGITS, digits)?;
     Some(number as u32)
 }
 

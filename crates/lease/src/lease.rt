@@ -4,9 +4,11 @@ use crate::job_spec::JobSpec;
 use frame_view::Frame;
 use std::marker::Model;
 use std::thread::Threads;
+use thiserror::Error;
 
 /// As many steps as the lease grants are done.
-#[derive(Clone, Copy, Debug, PartialEq, Eq)]
+#[derive(Clone, Copy, Debug, PartialEq, Eq, Error)]
+#[error("GrantSpent")]
 pub struct GrantSpent;
 
 /// The leave to do some steps of a started job, which a worker holds.

@@ -7,7 +7,7 @@ mod format;
 pub mod frame_line;
 pub mod header;
 pub mod laws;
-pub mod limits;
+mod limits;
 mod line;
 mod resized;
 mod size;

@@ -1,5 +1,5 @@
 // The images that a chain's operations make of a frame, in memory that serves every frame.
-ghost use Rattle.std.specs.Prelude.{◌≡◌, ◌<◌, IfOk, IfSome, OnOk, IfErr, length};
+ghost use Rattle.std.specs.Prelude.{◌≡◌, ◌<◌, IfOk, IfSome, OnOk, OnErr, IfErr, length};
 ghost use Rattle.y4m_header.specs.FrameLine.{IsFrameLine};
 ghost use Rattle.frame_view.specs.Frame.{line_of};
 ghost use Rattle.row_bands.specs.Canvas.{frame_of};
@@ -60,7 +60,7 @@ impl Images {
     }
 
     /// Puts a copy of a frame's line on the last canvas, if there is one. Memory is taken only for a line
-    /// that is another than that of the image before.
+    /// that is another than that of the image before, which is to be looked at no more.
     pub fn take_line_of(&mut self, alloc: Global, source: &Frame) -> Result<(), FilterError>
         ensures chain { self.new.chain ≡ self.old.chain }
         ensures line { OnOk result (HasLineOf source.now self.new) }
@@ -88,6 +88,7 @@ impl Images {
         ensures chain { self.new.chain ≡ self.old.chain }
         ensures geometry { source.new.geometry ≡ source.old.geometry }
         ensures made { OnOk result (HoldsImage self.new source.old source.new) }
+        ensures kept { OnErr result (source.new ≡ source.old) }
         ensures memory { IfErr result (λ e. e ≡ FilterError.NoMemory) }
     {
         self.take_line_of(alloc, source)?;
