@@ -2,6 +2,10 @@
 ghost use Rattle.std.specs.Prelude.{◌<◌};
 
 use std::sync::atomic::{AtomicU32, Ordering};
+use std::thread;
+
+/// The most turns for which a part is held.
+const TURNS: u32 = 1_000_000;
 
 /// How often each of two parts was begun, and how many of them met the other.
 #[derive(Drop)]
@@ -32,16 +36,18 @@ impl Parts {
         (first.load(Ordering::SeqCst), second.load(Ordering::SeqCst))
     }
 
-    /// This part begins, and waits until the other is begun too, or gives up after many looks.
+    /// This part begins, and is held until the other is begun too, for so many turns at most. Each turn lets
+    /// other threads go on.
     pub fn meet(&self, part: u32)
         requires { part < 2 }
     {
         self.begin(part);
-        for _ in 0..400_000_000u32 {
+        for _ in 0..TURNS {
             if self.begun[1 - part as usize].load(Ordering::SeqCst) >= 1 {
                 self.met.fetch_add(1, Ordering::SeqCst);
                 return;
             }
+            thread::yield_now();
         }
     }
 
