@@ -5,4 +5,4 @@ mod many;
 mod sessions;
 mod stops;
 
-use sessions::{HEADER, Open, PLAIN, Plan, Room, Still, served, stream_of};
+use sessions::{Open, PLAIN, Plan, Still, served, stream_of};

@@ -1,5 +1,5 @@
 //! Streams that one client serves: to their ends, and up to a fault.
-use super::{HEADER, PLAIN, Plan, served};
+use super::{PLAIN, Plan, served};
 use serve_work::{Cause, Stop};
 use std::alloc::Global;
 use std::marker::Brand;
@@ -8,6 +8,7 @@ use std::sync::Wait;
 use std::sync::ledger::Blank;
 use std::test::Fail;
 use std::thread::Threads;
+use test_tools::streams::{CUT, HEADER, ONE_INVERTED, THREE, THREE_INVERTED, TWO};
 use y4m_stream::{ReadFault, WriteFault};
 
 /// A stream, and what it comes to: why the client stops, how many frames were accepted and how many images
@@ -38,14 +39,6 @@ fn comes_to(
     Ok(())
 }
 
-/// Three frames. The last one's samples look like text.
-const TEXT: &[u8] =
-    b"YUV4MPEG2 W2 H2 Cmono\nFRAME\n\x00\x01\xfe\xffFRAME\n\x10\x20\x30\x40FRAME\nFRAM";
-
-/// The same, each sample v being 255 - v.
-const INVERTED: &[u8] =
-    b"YUV4MPEG2 W2 H2 Cmono\nFRAME\n\xff\xfe\x01\x00FRAME\n\xef\xdf\xcf\xbfFRAME\n\xb9\xad\xbe\xb2";
-
 const WHOLE: &[Case<'_>] = &[
     Case {
         name: "a header alone is written",
@@ -56,14 +49,14 @@ const WHOLE: &[Case<'_>] = &[
     },
     Case {
         name: "three frames are inverted",
-        input: TEXT,
+        input: THREE,
         plan: PLAIN,
         end: (Stop::Whole, 3, 3),
-        written: INVERTED,
+        written: THREE_INVERTED,
     },
     Case {
         name: "frames are cut to a sample",
-        input: TEXT,
+        input: THREE,
         plan: Plan {
             ops: "crop:0,0,1,1",
             ..PLAIN
@@ -104,17 +97,9 @@ fn twenty_frames_pass_a_queue_of_four(rt: HostRuntime) -> Result<(), Fail> {
     comes_to(&rt, rt.alloc(), &case)
 }
 
-/// Two frames, and the same without the last byte.
-const TWO: &[u8] = b"YUV4MPEG2 W2 H2 Cmono\nFRAME\n\x00\x01\xfe\xffFRAME\n\x10\x20\x30\x40";
-
-const CUT: &[u8] = b"YUV4MPEG2 W2 H2 Cmono\nFRAME\n\x00\x01\xfe\xffFRAME\n\x10\x20\x30";
-
-/// Three frames.
-const THREE: &[u8] =
+/// The two frames, and one more.
+const NUMBERS: &[u8] =
     b"YUV4MPEG2 W2 H2 Cmono\nFRAME\n\x00\x01\xfe\xffFRAME\n\x10\x20\x30\x40FRAME\n\x11\x22\x33\x44";
-
-/// The header line and the first image.
-const ONE_IMAGE: &[u8] = b"YUV4MPEG2 W2 H2 Cmono\nFRAME\n\xff\xfe\x01\x00";
 
 const FAULTS: &[Case<'_>] = &[
     Case {
@@ -122,25 +107,25 @@ const FAULTS: &[Case<'_>] = &[
         input: CUT,
         plan: PLAIN,
         end: (Stop::Read(ReadFault::Truncated), 1, 1),
-        written: ONE_IMAGE,
+        written: ONE_INVERTED,
     },
     Case {
         name: "a writer fails after the header",
-        input: THREE,
+        input: NUMBERS,
         plan: Plan { room: 22, ..PLAIN },
         end: (Stop::Write(WriteFault::Device(22)), 3, 0),
         written: HEADER,
     },
     Case {
         name: "a writer fails in the second image",
-        input: THREE,
+        input: NUMBERS,
         plan: Plan { room: 39, ..PLAIN },
         end: (Stop::Write(WriteFault::Device(39)), 3, 1),
         written: b"YUV4MPEG2 W2 H2 Cmono\nFRAME\n\xff\xfe\x01\x00FRAME\n\xef",
     },
     Case {
         name: "a writer fails in the header",
-        input: THREE,
+        input: NUMBERS,
         plan: Plan { room: 9, ..PLAIN },
         end: (Stop::Write(WriteFault::Device(9)), 0, 0),
         written: b"YUV4MPEG2",
@@ -150,7 +135,7 @@ const FAULTS: &[Case<'_>] = &[
         input: TWO,
         plan: Plan { frames: 1, ..PLAIN },
         end: (Stop::Refused(Cause::TooManyFrames), 1, 1),
-        written: ONE_IMAGE,
+        written: ONE_INVERTED,
     },
     Case {
         name: "the clock is past its end",

@@ -1,33 +1,13 @@
 //! Sessions of several streams.
-use super::{Open, Plan, Room, Still, stream_of};
+use super::{Open, Plan, Still, stream_of};
 use serve_core::Setup;
 use serve_work::{Gate, Served, SessionFault, serve_session};
 use std::alloc::Global;
-use std::io::{self, ErrorKind, Read};
 use std::sync::Wait;
 use std::test::Fail;
 use std::thread::Threads;
+use test_tools::{Room, Tape};
 use y4m_stream::{OverRead, OverWrite, StreamReader};
-
-/// Gives its bytes, and then the end, or a failure.
-#[derive(Drop)]
-pub(super) struct Tape<'a> {
-    left: &'a [u8],
-    breaks: bool,
-}
-
-impl Read for Tape<'_> {
-    fn read(&mut self, buf: &mut [u8]) -> io::Result<usize> {
-        if self.left.is_empty() && self.breaks {
-            return Err(io::Error::from(ErrorKind::Other));
-        }
-        let n = buf.len().min(self.left.len());
-        let (now, left) = self.left.split_at(n);
-        buf[..n].copy_from_slice(now);
-        self.left = left;
-        Ok(n)
-    }
-}
 
 /// A stream of a session: its bytes, whether its reader fails behind them, and what it is served with.
 #[derive(Clone, Copy)]
@@ -79,11 +59,8 @@ pub(super) fn serve_behind<'a, G: Gate + Sync, T: Threads + Wait + Sync>(
     let mut specs = Vec::new(alloc);
     let mut inputs = Vec::new(alloc);
     for stream in streams {
-        let source = OverRead::new(Tape {
-            left: stream.input,
-            breaks: stream.breaks,
-        });
-        let reader = StreamReader::open(alloc, source)?;
+        let tape = Tape::new(stream.input, stream.breaks);
+        let reader = StreamReader::open(alloc, OverRead::new(tape))?;
         let writer = OverWrite::new(Room::new(alloc, stream.plan.room)?);
         specs.push(stream_of(alloc, reader.header(), stream.plan)?)?;
         inputs.push((reader, writer))?;

@@ -11,19 +11,16 @@ use row_bands::BandHeight;
 use serve_core::{Refusal as Core, Setup, StreamSpec};
 use serve_hub::{Hub, Refusal, StreamSeat, WorkSeat};
 use serve_work::{ClientEnd, Clock, Gate, Stop, client, work};
-use std::alloc::{AllocError, Global};
-use std::io::{self, ErrorKind, Write};
+use std::alloc::Global;
 use std::sync::ledger::{Blank, Ledger};
 use std::sync::{Arc, Wait};
 use std::test::Fail;
 use std::thread;
 use std::thread::Threads;
+use test_tools::Room;
 use y4m_header::Header;
 use y4m_stream::reader::Phase;
 use y4m_stream::{OverRead, OverWrite, Source, StreamReader};
-
-/// The header line of all inputs here: 22 bytes with its line feed.
-pub(super) const HEADER: &[u8] = b"YUV4MPEG2 W2 H2 Cmono\n";
 
 /// What a stream is served with: its operations, how many rows a band has, how many bytes its writer takes,
 /// how many frames it may accept, and the moment of all its offers.
@@ -53,37 +50,6 @@ pub(super) struct Told {
     pub(super) accepted: u64,
     pub(super) delivered: u64,
     pub(super) stop: Stop,
-}
-
-/// Keeps so many bytes more, and then fails.
-#[derive(Drop)]
-pub(super) struct Room {
-    pub(super) taken: Vec<u8>,
-    pub(super) left: usize,
-}
-
-impl Room {
-    /// All memory for the bytes is taken here, so no write fails for want of it.
-    pub(super) fn new(alloc: Global, left: usize) -> Result<Room, AllocError> {
-        let taken = Vec::with_capacity(alloc, left)?;
-        Ok(Room { taken, left })
-    }
-}
-
-impl Write for Room {
-    fn write(&mut self, buf: &[u8]) -> io::Result<usize> {
-        let n = buf.len().min(self.left);
-        if n == 0 && !buf.is_empty() {
-            return Err(io::Error::from(ErrorKind::Other));
-        }
-        let n = self.taken.write(&buf[..n])?;
-        self.left = self.left.saturating_sub(n);
-        Ok(n)
-    }
-
-    fn flush(&mut self) -> io::Result<()> {
-        Ok(())
-    }
 }
 
 /// Bands are done at once, and whole.

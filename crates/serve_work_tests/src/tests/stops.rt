@@ -1,46 +1,27 @@
 //! What the streams of a session come to, each by itself.
 use super::many::{AllServed, Hall, OneServed, Stream, WIDE, serve_all};
-use super::{HEADER, PLAIN, Plan};
+use super::{PLAIN, Plan};
 use serve_work::{Cause, SessionFault, Stop};
 use std::alloc::Global;
 use std::process::Abort;
 use std::sync::Wait;
 use std::test::Fail;
 use std::thread::Threads;
+use test_tools::streams::{CUT, HEADER, ONE, ONE_INVERTED, THREE, THREE_INVERTED, TWO, WIDER};
 use y4m_stream::{ReadFault, WriteFault};
 
-/// Three frames. The last one's samples look like text.
-const THREE: &[u8] =
-    b"YUV4MPEG2 W2 H2 Cmono\nFRAME\n\x00\x01\xfe\xffFRAME\n\x10\x20\x30\x40FRAME\nFRAM";
-
-/// The first two of them, the same without the last byte, and the first alone.
-const TWO: &[u8] = b"YUV4MPEG2 W2 H2 Cmono\nFRAME\n\x00\x01\xfe\xffFRAME\n\x10\x20\x30\x40";
-
-const CUT: &[u8] = b"YUV4MPEG2 W2 H2 Cmono\nFRAME\n\x00\x01\xfe\xffFRAME\n\x10\x20\x30";
-
-const ONE: &[u8] = b"YUV4MPEG2 W2 H2 Cmono\nFRAME\n\x00\x01\xfe\xff";
-
-/// The three, each sample v being 255 - v.
-const INVERTED: &[u8] =
-    b"YUV4MPEG2 W2 H2 Cmono\nFRAME\n\xff\xfe\x01\x00FRAME\n\xef\xdf\xcf\xbfFRAME\n\xb9\xad\xbe\xb2";
-
-/// The three, each frame turned by half a turn, and the first two of those.
+/// The three frames, each turned by half a turn, and the first two of those.
 const TURNED: &[u8] =
     b"YUV4MPEG2 W2 H2 Cmono\nFRAME\n\xff\xfe\x01\x00FRAME\n\x40\x30\x20\x10FRAME\nMARF";
 
 const TURNED_TWO: &[u8] = b"YUV4MPEG2 W2 H2 Cmono\nFRAME\n\xff\xfe\x01\x00FRAME\n\x40\x30\x20\x10";
 
-/// The first image of the three, and the first two.
-const FIRST: &[u8] = b"YUV4MPEG2 W2 H2 Cmono\nFRAME\n\xff\xfe\x01\x00";
-
-const FIRST_TWO: &[u8] = b"YUV4MPEG2 W2 H2 Cmono\nFRAME\n\xff\xfe\x01\x00FRAME\n\xef\xdf\xcf\xbf";
+/// The first two images by `invert`.
+const TWO_INVERTED: &[u8] =
+    b"YUV4MPEG2 W2 H2 Cmono\nFRAME\n\xff\xfe\x01\x00FRAME\n\xef\xdf\xcf\xbf";
 
 /// The first image, and the beginning of the second.
 const BROKEN: &[u8] = b"YUV4MPEG2 W2 H2 Cmono\nFRAME\n\xff\xfe\x01\x00FRAME\n\xef";
-
-/// Frames of six samples, where the header says four.
-const WIDER: &[u8] =
-    b"YUV4MPEG2 W2 H2 Cmono\nFRAME\n\x00\x01\xfe\xff\x02\x03FRAME\n\x10\x20\x30\x40\x50\x60";
 
 /// Three frames that are inverted, and three that are turned.
 const PLAIN_THREE: Stream<'_> = Stream {
@@ -67,7 +48,7 @@ struct Told<'a> {
 
 const WHOLE: Told<'_> = Told {
     end: (Stop::Whole, 3, 3, 3),
-    written: INVERTED,
+    written: THREE_INVERTED,
 };
 
 const WHOLE_TURNED: Told<'_> = Told {
@@ -149,7 +130,7 @@ const SESSIONS: &[Session<'_>] = &[
         told: &[
             Told {
                 end: (Stop::Read(ReadFault::Device), 2, 2, 2),
-                written: FIRST_TWO,
+                written: TWO_INVERTED,
             },
             Told {
                 end: (Stop::Write(WriteFault::Device(39)), 3, 1, 3),
@@ -157,11 +138,11 @@ const SESSIONS: &[Session<'_>] = &[
             },
             Told {
                 end: (Stop::Refused(Cause::TooManyFrames), 1, 1, 1),
-                written: FIRST,
+                written: ONE_INVERTED,
             },
             Told {
                 end: (Stop::Read(ReadFault::Truncated), 1, 1, 1),
-                written: FIRST,
+                written: ONE_INVERTED,
             },
             WHOLE,
         ],
@@ -239,11 +220,11 @@ fn a_line_that_is_no_frame_line_stops_its_own_stream(rt: HostRuntime) -> Result<
 const NO_FRAME_LINES: &[Told<'_>] = &[
     Told {
         end: (Stop::Read(ReadFault::NotFrame), 1, 1, 1),
-        written: FIRST,
+        written: ONE_INVERTED,
     },
     Told {
         end: (Stop::Read(ReadFault::LineTooLong), 2, 2, 2),
-        written: FIRST_TWO,
+        written: TWO_INVERTED,
     },
     Told {
         end: (Stop::Read(ReadFault::NotFrame), 0, 0, 0),
@@ -363,7 +344,7 @@ const LACKS_ONE: &[[Told<'_>; 2]; 2] = &[
     [
         Told {
             end: (Stop::Refused(Cause::HistoryFull), 3, 2, 3),
-            written: FIRST_TWO,
+            written: TWO_INVERTED,
         },
         WHOLE_TURNED,
     ],
@@ -435,7 +416,7 @@ fn a_short_journal_ends_streams_behind_whole_images(rt: HostRuntime) -> Result<(
         let (Some(turned), Some(inverted), None) = (all.pop(), all.pop(), all.pop()) else {
             return Err("there are two streams".into());
         };
-        let is_inverted = is_whole(&rt, inverted, INVERTED, [0, 1, 2, 3]);
+        let is_inverted = is_whole(&rt, inverted, THREE_INVERTED, [0, 1, 2, 3]);
         let is_turned = is_whole(&rt, turned, TURNED, [0, 2, 4, 6]);
         assert!(rt; !is_inverted || !is_turned, "{limit} entries");
     }
