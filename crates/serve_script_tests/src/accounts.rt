@@ -1,9 +1,10 @@
 use serve_script::{ReplayFault, replay};
 use std::alloc::{AllocError, Global};
-use std::io::{Read, Write};
+use std::io::{ErrorKind, Read, Write};
 use std::process::Abort;
 use std::test::Fail;
 use std::{io, str};
+use test_tools::{Narrow, Tape};
 use y4m_stream::{OverRead, OverWrite};
 
 /// Replays what a reader gives into a writer.
@@ -191,65 +192,6 @@ fn account_scripts_print_their_lines(rt: HostRuntime) {
     expect_lines(&rt, rt.alloc(), b"\xff\x00 1", BAD_LINE, false);
 }
 
-/// Gives one byte a read, and counts the bytes.
-#[derive(Drop)]
-struct ByteByByte<'a> {
-    rest: &'a [u8],
-    given: usize,
-}
-
-impl Read for ByteByByte<'_> {
-    fn read(&mut self, buf: &mut [u8]) -> io::Result<usize> {
-        let Some((first, rest)) = self.rest.split_first() else {
-            return Ok(0);
-        };
-        if buf.is_empty() {
-            return Ok(0);
-        }
-        buf[0] = *first;
-        self.rest = rest;
-        self.given = self.given.saturating_add(1);
-        Ok(1)
-    }
-}
-
-/// Gives its bytes, and then fails.
-#[derive(Drop)]
-struct Torn<'a> {
-    rest: &'a [u8],
-}
-
-impl Read for Torn<'_> {
-    fn read(&mut self, buf: &mut [u8]) -> io::Result<usize> {
-        if self.rest.is_empty() {
-            return Err(io::Error::from(io::ErrorKind::Interrupted));
-        }
-        self.rest.read(buf)
-    }
-}
-
-/// Takes so many bytes in all, and then none.
-#[derive(Drop)]
-struct Narrow {
-    room: usize,
-    fails: bool,
-}
-
-impl Write for Narrow {
-    fn write(&mut self, buf: &[u8]) -> io::Result<usize> {
-        let taken = buf.len().min(self.room);
-        if taken == 0 && self.fails {
-            return Err(io::Error::from(io::ErrorKind::StorageFull));
-        }
-        self.room -= taken;
-        Ok(taken)
-    }
-
-    fn flush(&mut self) -> io::Result<()> {
-        Ok(())
-    }
-}
-
 /// Takes all, but its flush fails.
 #[derive(Drop)]
 struct Unflushed;
@@ -260,25 +202,20 @@ impl Write for Unflushed {
     }
 
     fn flush(&mut self) -> io::Result<()> {
-        Err(io::Error::from(io::ErrorKind::StorageFull))
+        Err(io::Error::from(ErrorKind::StorageFull))
     }
 }
 
 #[test]
 fn short_reads_make_no_difference(rt: HostRuntime) {
-    let input = ByteByByte {
-        rest: b"account 2 10\nidle 0\ncharge 1",
-        given: 0,
-    };
+    let input = Tape::by_steps(b"account 2 10\nidle 0\ncharge 1", 1);
     let lines = "budget 2 deadline 0\nbudget 2 deadline 10\nbudget 1 deadline 10\n";
     expect_replay(&rt, rt.alloc(), input, lines, true);
 }
 
 #[test]
 fn a_failed_read_prints_nothing(rt: HostRuntime) {
-    let input = Torn {
-        rest: b"account 2 10\ncharge 1\n",
-    };
+    let input = Tape::torn(b"account 2 10\ncharge 1\n", ErrorKind::Interrupted);
     let (printed, outcome) = replay_into_memory(rt.alloc(), input);
     assert_eq!(rt; outcome, Err(ReplayFault::Read));
     assert!(rt; printed.is_empty());
@@ -288,29 +225,26 @@ fn a_failed_read_prints_nothing(rt: HostRuntime) {
 const THREE_LINES: &[u8] = b"account 2 10\ncharge 1\nstart\n";
 
 /// Replays the script into outputs that take so many bytes, and then fail or take none.
-fn cut_outputs_are_told(rt: &impl Abort, alloc: Global, fails: bool) {
+fn cut_outputs_are_told(rt: &impl Abort, alloc: Global, failure: Option<ErrorKind>) {
     for room in 0..56 {
-        let (_, outcome) = replay_into(alloc, THREE_LINES, Narrow { room, fails });
+        let (_, outcome) = replay_into(alloc, THREE_LINES, Narrow::new(room, failure));
         assert_eq!(rt; outcome, Err(ReplayFault::Write));
     }
 }
 
 #[test]
 fn a_failed_write_of_each_byte_is_told(rt: HostRuntime) {
-    cut_outputs_are_told(&rt, rt.alloc(), true);
+    cut_outputs_are_told(&rt, rt.alloc(), Some(ErrorKind::StorageFull));
 }
 
 #[test]
 fn each_byte_that_is_not_taken_is_told(rt: HostRuntime) {
-    cut_outputs_are_told(&rt, rt.alloc(), false);
+    cut_outputs_are_told(&rt, rt.alloc(), None);
 }
 
 #[test]
 fn a_failed_flush_is_told(rt: HostRuntime) {
-    let room = Narrow {
-        room: 56,
-        fails: true,
-    };
+    let room = Narrow::new(56, Some(ErrorKind::StorageFull));
     let (_, outcome) = replay_into(rt.alloc(), THREE_LINES, room);
     assert_eq!(rt; outcome, Ok(false));
     let (_, outcome) = replay_into(rt.alloc(), THREE_LINES, Unflushed);
@@ -337,12 +271,10 @@ fn a_longer_script_is_too_long_and_is_not_read_on(rt: HostRuntime) -> Result<(),
     let script = after_empty_lines(rt.alloc(), 1_048_577 - 12)?;
     expect_lines(&rt, rt.alloc(), &script, "line 0: TooLong\n", false);
     let longer = after_empty_lines(rt.alloc(), 1_100_000)?;
-    let mut input = ByteByByte {
-        rest: &longer,
-        given: 0,
-    };
+    let mut input = Tape::by_steps(&longer, 1);
     expect_replay(&rt, rt.alloc(), &mut input, "line 0: TooLong\n", false);
-    assert_eq!(rt; input.given, 1_048_577);
+    let read = longer.len().checked_sub(input.left.len());
+    assert_eq!(rt; read, Some(1_048_577));
     Ok(())
 }
 
