@@ -1,55 +1,26 @@
 use serve_report::board::Board;
-use std::alloc::Global;
-use std::io::{self, Write};
 use std::process::Abort;
 use std::test::Fail;
+use test_tools::Room;
 
-/// Keeps what is written, and how often.
-#[derive(Drop)]
-struct Screen {
-    text: Vec<u8>,
-    writes: u64,
-}
-
-impl Screen {
-    fn new(alloc: Global) -> Screen {
-        Screen {
-            text: Vec::new(alloc),
-            writes: 0,
-        }
-    }
-
-    /// Compares what was written since the last time, and in how many writes.
-    fn shows(&mut self, rt: &impl Abort, text: &str, writes: u64) {
-        let shown = (str::from_utf8(&self.text).ok(), self.writes);
-        assert_eq!(rt; shown, (Some(text), writes));
-        self.text.clear();
-        self.writes = 0;
-    }
-}
-
-impl Write for Screen {
-    fn write(&mut self, buf: &[u8]) -> io::Result<usize> {
-        self.writes = self.writes.saturating_add(1);
-        self.text.extend_from_slice(buf)?;
-        Ok(buf.len())
-    }
-
-    fn flush(&mut self) -> io::Result<()> {
-        Ok(())
-    }
+/// Compares what was written since the last time, and in how many writes.
+fn shows(rt: &impl Abort, screen: &mut Room, text: &str, writes: u64) {
+    let shown = (str::from_utf8(&screen.taken).ok(), screen.writes);
+    assert_eq!(rt; shown, (Some(text), writes));
+    screen.taken.clear();
+    screen.writes = 0;
 }
 
 #[test]
 fn a_line_has_a_stream_s_name_and_both_counts(rt: HostRuntime) -> Result<(), Fail> {
     let board = Board::new(rt.alloc(), &["0123456789abcdefghijklmnopqrstuv"])?;
-    let mut screen = Screen::new(rt.alloc());
+    let mut screen = Room::endless(rt.alloc());
     board.add_read(0, 16_777_216);
     board.add_written(0, 16_777_216);
     board.draw(&mut screen, 200);
     let longest = "0123456789abcdefghijklmnopqrstuv frames in 16777216 out 16777216\x1B[K\n";
     assert_eq!(rt; longest.len(), 64 + 4);
-    screen.shows(&rt, longest, 1);
+    shows(&rt, &mut screen, longest, 1);
     Ok(())
 }
 
@@ -67,7 +38,7 @@ const DUE: &[(u64, u64)] = &[
 #[test]
 fn lines_are_due_five_times_a_second(rt: HostRuntime) -> Result<(), Fail> {
     let board = Board::new(rt.alloc(), &["soft"])?;
-    let mut screen = Screen::new(rt.alloc());
+    let mut screen = Room::endless(rt.alloc());
     for (time, writes) in DUE {
         board.draw(&mut screen, *time);
         assert_eq!(rt; screen.writes, *writes);
@@ -79,36 +50,36 @@ fn lines_are_due_five_times_a_second(rt: HostRuntime) -> Result<(), Fail> {
 #[test]
 fn lines_are_drawn_over_those_before(rt: HostRuntime) -> Result<(), Fail> {
     let board = Board::new(rt.alloc(), &["a", "back"])?;
-    let mut screen = Screen::new(rt.alloc());
+    let mut screen = Room::endless(rt.alloc());
     board.add_read(0, 3);
     board.draw(&mut screen, 199);
-    screen.shows(&rt, "", 0);
+    shows(&rt, &mut screen, "", 0);
     board.draw(&mut screen, 200);
     let first = "a frames in 3 out 0\x1B[K\nback frames in 0 out 0\x1B[K\n";
-    screen.shows(&rt, first, 1);
+    shows(&rt, &mut screen, first, 1);
     board.add_written(0, 2);
     board.add_read(1, 1);
     board.draw(&mut screen, 399);
-    screen.shows(&rt, "", 0);
+    shows(&rt, &mut screen, "", 0);
     board.draw(&mut screen, 400);
     let second = "\x1B[2Aa frames in 3 out 2\x1B[K\nback frames in 1 out 0\x1B[K\n";
-    screen.shows(&rt, second, 1);
+    shows(&rt, &mut screen, second, 1);
     board.add_written(0, 1);
     board.add_written(1, 1);
     board.draw_last(&mut screen);
     let last = "\x1B[2Aa frames in 3 out 3\x1B[K\nback frames in 1 out 1\x1B[K\n";
-    screen.shows(&rt, last, 1);
+    shows(&rt, &mut screen, last, 1);
     Ok(())
 }
 
 #[test]
 fn a_short_run_draws_nothing(rt: HostRuntime) -> Result<(), Fail> {
     let board = Board::new(rt.alloc(), &["a"])?;
-    let mut screen = Screen::new(rt.alloc());
+    let mut screen = Room::endless(rt.alloc());
     board.add_read(0, 1);
     board.add_read(1, 1);
     board.draw(&mut screen, 20);
     board.draw_last(&mut screen);
-    screen.shows(&rt, "", 0);
+    shows(&rt, &mut screen, "", 0);
     Ok(())
 }

@@ -1,11 +1,12 @@
 use self::memory::NoFiles;
 use serve_report::main_on;
 use std::alloc::{AllocError, Global};
-use std::io::{self, ErrorKind, Read};
+use std::io::Read;
 use std::process::Abort;
 use std::sync::Wait;
 use std::test::Fail;
 use std::thread::Threads;
+use test_tools::Tape;
 
 mod command_line;
 mod memory;
@@ -186,16 +187,6 @@ fn streams_are_filtered(rt: HostRuntime) -> Result<(), Fail> {
     all_run(&rt, rt.alloc(), STREAMS)
 }
 
-/// Fails at each read.
-#[derive(Drop)]
-struct Broken;
-
-impl Read for Broken {
-    fn read(&mut self, _buf: &mut [u8]) -> io::Result<usize> {
-        Err(io::Error::from(ErrorKind::Other))
-    }
-}
-
 const READS: &[(&str, &str)] = &[
     ("filter invert", "y4mserve: read Device\n"),
     ("replay", "y4mserve: read\n"),
@@ -204,7 +195,8 @@ const READS: &[(&str, &str)] = &[
 #[test]
 fn a_failed_read_is_said(rt: HostRuntime) -> Result<(), Fail> {
     for (line, said) in READS {
-        says(&rt, rt.alloc(), line, Broken, &mut [0; 5], said, 1)?;
+        let broken = Tape::new(b"", true);
+        says(&rt, rt.alloc(), line, broken, &mut [0; 5], said, 1)?;
     }
     Ok(())
 }

@@ -2,11 +2,11 @@ use super::memory::NoFiles;
 use super::{Run, all_run, says, words_of, written};
 use serve_report::main_on;
 use std::alloc::Global;
-use std::io::{self, Write};
 use std::process::Abort;
 use std::sync::Wait;
 use std::test::Fail;
 use std::thread::Threads;
+use test_tools::Narrow;
 
 /// Words, and what is said of them.
 const WRONG_WORDS: &[(&str, &str)] = &[
@@ -280,23 +280,6 @@ fn help_that_is_not_taken_is_told(rt: HostRuntime) -> Result<(), Fail> {
     Ok(())
 }
 
-/// Counts its writes.
-#[derive(Drop)]
-struct Counted {
-    writes: u64,
-}
-
-impl Write for Counted {
-    fn write(&mut self, buf: &[u8]) -> io::Result<usize> {
-        self.writes = self.writes.saturating_add(1);
-        Ok(buf.len())
-    }
-
-    fn flush(&mut self) -> io::Result<()> {
-        Ok(())
-    }
-}
-
 /// Words, and in how many writes the program says what is wrong, and writes what it gives.
 const LINES: &[(&str, (u64, u64))] = &[
     ("filter blur:9", (1, 0)),
@@ -310,8 +293,8 @@ const LINES: &[(&str, (u64, u64))] = &[
 fn what_is_said_goes_out_in_one_write(rt: HostRuntime) -> Result<(), Fail> {
     for (line, lines) in LINES {
         let words = words_of(rt.alloc(), line)?;
-        let mut errors = Counted { writes: 0 };
-        let mut output = Counted { writes: 0 };
+        let mut errors = Narrow::new(usize::MAX, None);
+        let mut output = Narrow::new(usize::MAX, None);
         main_on(
             &rt,
             rt.alloc(),

@@ -1,8 +1,9 @@
 //! Files in memory, which a run opens and makes by name.
 use serve_report::Files;
 use std::alloc::Global;
-use std::io::{self, ErrorKind, Read, Write};
+use std::io::{self, ErrorKind, Write};
 use std::sync::{Mutex, Wait};
+use test_tools::Tape;
 
 /// A file that can be read.
 #[derive(Clone, Copy)]
@@ -60,22 +61,6 @@ fn count<T: Wait>(rt: &T, asked: &Mutex<u64>) {
     *asked = asked.saturating_add(1);
 }
 
-/// Reads what a file gives.
-#[derive(Drop)]
-pub struct Input<'a> {
-    rest: &'a [u8],
-    fails: bool,
-}
-
-impl Read for Input<'_> {
-    fn read(&mut self, buf: &mut [u8]) -> io::Result<usize> {
-        if self.fails && self.rest.is_empty() {
-            return Err(io::Error::from(ErrorKind::Other));
-        }
-        self.rest.read(buf)
-    }
-}
-
 /// Writes to a file that was made.
 #[derive(Drop)]
 pub struct Output<'a, T: Wait + Sync> {
@@ -103,18 +88,15 @@ impl<T: Wait + Sync> Write for Output<'_, T> {
 }
 
 impl<'a, T: Wait + Sync> Files for Memory<'a, T> {
-    type Reader = Input<'a>;
+    type Reader = Tape<'a>;
 
     type Writer = Output<'a, T>;
 
-    fn open(&self, name: &str) -> io::Result<Input<'a>> {
+    fn open(&self, name: &str) -> io::Result<Tape<'a>> {
         count(self.rt, &self.asked);
         for file in self.given {
             if file.name == name {
-                return Ok(Input {
-                    rest: file.text,
-                    fails: file.fails,
-                });
+                return Ok(Tape::new(file.text, file.fails));
             }
         }
         Err(io::Error::from(ErrorKind::NotFound))

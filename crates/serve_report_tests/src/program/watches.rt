@@ -2,13 +2,14 @@ use super::memory::NoFiles;
 use super::{words_of, written};
 use serve_report::{Watch, run_on};
 use std::alloc::Global;
-use std::io::{self, Read};
+use std::io::Read;
 use std::process::Abort;
 use std::sync::Wait;
 use std::sync::atomic::AtomicU64;
 use std::sync::atomic::Ordering::SeqCst;
 use std::test::Fail;
 use std::thread::Threads;
+use test_tools::Tape;
 
 /// What a watch was told of a stream.
 #[derive(Drop)]
@@ -137,22 +138,6 @@ impl Watch for Told<'_> {
     }
 }
 
-/// Gives its bytes a few at a time, and counts its reads.
-#[derive(Drop)]
-struct Few<'a> {
-    rest: &'a [u8],
-    most: usize,
-    reads: u64,
-}
-
-impl Read for Few<'_> {
-    fn read(&mut self, buf: &mut [u8]) -> io::Result<usize> {
-        self.reads = self.reads.saturating_add(1);
-        let room = buf.len().min(self.most);
-        self.rest.read(&mut buf[..room])
-    }
-}
-
 /// Runs the program under a watch, compares what it says, and answers how much it wrote.
 fn watched<R: Read + Drop + Send>(
     rt: &(impl Abort + Threads + Wait + Sync),
@@ -183,11 +168,7 @@ const THREE: &[u8] = b"YUV4MPEG2 W2 H2\nFRAME\n123456FRAME Ip\n\nFRAMEFRAME\nabc
 #[test]
 fn a_terminal_is_no_output_of_filter(rt: HostRuntime) -> Result<(), Fail> {
     let watch = Told::new(true, true);
-    let mut input = Few {
-        rest: THREE,
-        most: 99,
-        reads: 0,
-    };
+    let mut input = Tape::by_steps(THREE, 99);
     let line = "filter invert";
     let said = "y4mserve: output is a terminal\n";
     let count = watched(&rt, rt.alloc(), line, &mut input, &watch, said, 2)?;
@@ -238,11 +219,7 @@ fn a_terminal_that_is_awaited_is_told_once(rt: HostRuntime) -> Result<(), Fail> 
 fn each_frame_is_told_however_it_comes(rt: HostRuntime) -> Result<(), Fail> {
     for most in [1, 5, 16, 22, 99] {
         let watch = Told::new(false, false);
-        let input = Few {
-            rest: THREE,
-            most,
-            reads: 0,
-        };
+        let input = Tape::by_steps(THREE, most);
         let count = watched(&rt, rt.alloc(), "filter vflip", input, &watch, "", 0)?;
         let told = (count, watch.asked(), watch.frames(0), watch.ended());
         let whole = THREE.len();

@@ -6,6 +6,7 @@ use std::process::Abort;
 use std::sync::Wait;
 use std::test::Fail;
 use std::thread::Threads;
+use test_tools::streams::{CUT, ONE, WIDER};
 
 /// What is reported of the second stream.
 const OTHER: &str = "\nb accepted 3 delivered 3 charged 6 stop whole\n";
@@ -16,15 +17,6 @@ type Stopped<'a> = (&'a [u8], bool, usize, usize, &'a str, u64);
 
 /// Where the first image of the first stream ends.
 const ONE_IMAGE: usize = 32;
-
-/// The second frame lacks its last byte.
-const CUT: &[u8] = b"YUV4MPEG2 W2 H2 Cmono\nFRAME\n\x00\x01\xFE\xFFFRAME\n\x10\x20\x30";
-
-const ONE: &[u8] = b"YUV4MPEG2 W2 H2 Cmono\nFRAME\n\x00\x01\xFE\xFF";
-
-/// Frames of six samples, where the header says four.
-const WIDER: &[u8] =
-    b"YUV4MPEG2 W2 H2 Cmono\nFRAME\n\x00\x01\xFE\xFF\x02\x03FRAME\n\x10\x20\x30\x40\x50\x60";
 
 const STOPPED: &[Stopped<'_>] = &[
     (
