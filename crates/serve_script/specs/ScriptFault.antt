@@ -3,8 +3,10 @@ use Rattle.std.specs.Prelude.{ℕ, List, [], ◌++◌, codes, Option, Some, None
 use Rattle.std.specs.Option.{option_map_or}
 use Rattle.filters.specs.declared.error.FilterError.{FilterError}
 use Rattle.filters.specs.declared.error.FilterError.TheVariants as filter
+use Rattle.filters.specs.Words.{filter_word}
 use Rattle.y4m_header.specs.declared.error.HeaderError.{HeaderError}
 use Rattle.y4m_header.specs.declared.error.HeaderError.TheVariants as header
+use Rattle.y4m_header.specs.Words.{header_word}
 use Rattle.serve_script.specs.declared.fault.ScriptFault.{ScriptFault}
 use Rattle.serve_script.specs.declared.fault.ScriptFault.TheVariants as faults
 
@@ -36,24 +38,6 @@ fault_told (faults.BadBandwidthOf name) = BadBandwidthOf name.now
 fault_told (faults.OverloadOf name) = OverloadOf name.now
 fault_told faults.TooLong = TooLong
 fault_told faults.NoMemory = NoMemory
-
-abbrev pub header_word : HeaderError → List ℕ
-header_word header.NotY4m = codes "NotY4m"
-header_word header.BadNumber = codes "BadNumber"
-header_word header.RepeatedTag = codes "RepeatedTag"
-header_word header.MissingSize = codes "MissingSize"
-header_word header.UnknownChroma = codes "UnknownChroma"
-header_word header.NotDivisible = codes "NotDivisible"
-header_word header.TooLarge = codes "TooLarge"
-header_word header.NoMemory = codes "NoMemory"
-header_word header.NotFrame = codes "NotFrame"
-
-abbrev pub filter_word : FilterError → List ℕ
-filter_word filter.BadOp = codes "BadOp"
-filter_word filter.TooManyOps = codes "TooManyOps"
-filter_word filter.BadCrop = codes "BadCrop"
-filter_word filter.TooManySteps = codes "TooManySteps"
-filter_word filter.NoMemory = codes "NoMemory"
 
 abbrev pub fault_word : Fault → List ℕ
 fault_word BadLine = codes "BadLine"

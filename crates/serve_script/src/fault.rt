@@ -3,8 +3,7 @@ ghost use Rattle.std.specs.Prelude.{◌≡◌};
 ghost use Rattle.std.specs.Option.{option_copied};
 ghost use Rattle.serve_script.specs.ScriptFault as told;
 ghost use Rattle.serve_script.specs.ScriptFault.{fault_name, fault_told, fault_word, filter_fault};
-ghost use Rattle.serve_script.specs.ScriptFault.{filter_word};
-ghost use Rattle.serve_script.specs.ScriptFault.{header_fault, header_word};
+ghost use Rattle.serve_script.specs.ScriptFault.{header_fault};
 ghost use Rattle.serve_script.specs.declared.fault.ReplayFault.TheVariants as replay_faults;
 
 use cbs_account::BadBandwidth;
@@ -75,8 +74,8 @@ impl<'a> ScriptFault<'a> {
             ScriptFault::BadName => "BadName",
             ScriptFault::BadBandwidth => "BadBandwidth",
             ScriptFault::Range => "Range",
-            ScriptFault::BadHeader(error) => header_word(error),
-            ScriptFault::BadChain(error) => filter_word(error),
+            ScriptFault::BadHeader(error) => error.word(),
+            ScriptFault::BadChain(error) => error.word(),
             ScriptFault::BadLimits => "BadLimits",
             ScriptFault::BadBandwidthOf(_) => "BadBandwidth",
             ScriptFault::OverloadOf(_) => "Overload",
@@ -94,36 +93,6 @@ impl<'a> ScriptFault<'a> {
             ScriptFault::OverloadOf(name) => Some(name),
             _ => None,
         }
-    }
-}
-
-/// The word of a refused header.
-pub fn header_word(error: HeaderError) -> &'static str
-    ensures { result.now ≡ header_word error }
-{
-    match error {
-        HeaderError::NotY4m => "NotY4m",
-        HeaderError::BadNumber => "BadNumber",
-        HeaderError::RepeatedTag => "RepeatedTag",
-        HeaderError::MissingSize => "MissingSize",
-        HeaderError::UnknownChroma => "UnknownChroma",
-        HeaderError::NotDivisible => "NotDivisible",
-        HeaderError::TooLarge => "TooLarge",
-        HeaderError::NoMemory => "NoMemory",
-        HeaderError::NotFrame => "NotFrame",
-    }
-}
-
-/// The word of operations that are none, or make no chain.
-pub fn filter_word(error: FilterError) -> &'static str
-    ensures { result.now ≡ filter_word error }
-{
-    match error {
-        FilterError::BadOp => "BadOp",
-        FilterError::TooManyOps => "TooManyOps",
-        FilterError::BadCrop => "BadCrop",
-        FilterError::TooManySteps => "TooManySteps",
-        FilterError::NoMemory => "NoMemory",
     }
 }
 

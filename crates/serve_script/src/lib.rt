@@ -68,7 +68,7 @@ mod print;
 mod run;
 mod session;
 
-pub use self::fault::{ReplayFault, filter_word, header_word};
+pub use self::fault::ReplayFault;
 pub use self::session::line::{push_reply, push_state};
 pub use self::session::word::is_name;
 

@@ -1,9 +1,8 @@
 //! What is reported of the streams of a run.
 ghost use Rattle.std.specs.Prelude.{◌≡◌};
-ghost use Rattle.serve_report.specs.ServeReport.{cause_word, read_word};
+ghost use Rattle.serve_report.specs.ServeReport.{cause_word};
 
 use filters::FilterError;
-use serve_script::{filter_word, header_word};
 use serve_work::{Cause, Stop};
 use std::fmt;
 use y4m_stream::{ReadFault, WriteFault};
@@ -55,42 +54,16 @@ impl fmt::Display for StreamStop {
         match *self {
             StreamStop::Whole => write!(f, "whole"),
             StreamStop::Open => write!(f, "open"),
-            StreamStop::Read(ReadFault::Header(error)) => {
-                let word = header_word(error);
-                write!(f, "read Header {word}")
-            }
-            StreamStop::Read(fault) => {
-                let word = read_word(fault);
-                write!(f, "read {word}")
-            }
-            StreamStop::Ops(error) => {
-                let word = filter_word(error);
-                write!(f, "ops {word}")
-            }
+            StreamStop::Read(fault) => write!(f, "read {fault}"),
+            StreamStop::Ops(error) => write!(f, "ops {error}"),
             StreamStop::Create => write!(f, "create"),
-            StreamStop::Write(WriteFault::Device(bytes)) => write!(f, "write {bytes}"),
-            StreamStop::Write(WriteFault::Failed) => write!(f, "write Failed"),
+            StreamStop::Write(fault) => write!(f, "write {fault}"),
             StreamStop::Refused(cause) => {
                 let word = cause_word(cause);
                 write!(f, "refused {word}")
             }
             StreamStop::Torn => write!(f, "torn"),
         }
-    }
-}
-
-/// The word of a fault of the reader.
-fn read_word(fault: ReadFault) -> &'static str
-    ensures { result.now ≡ read_word fault }
-{
-    match fault {
-        ReadFault::Device => "Device",
-        ReadFault::LineTooLong => "LineTooLong",
-        ReadFault::Header(_) => "Header",
-        ReadFault::NotFrame => "NotFrame",
-        ReadFault::Truncated => "Truncated",
-        ReadFault::NoMemory => "NoMemory",
-        ReadFault::Failed => "Failed",
     }
 }
 
