@@ -54,7 +54,9 @@ pub type Case<'a> = (&'a str, &'a str, bool);
 /// Each of these scripts prints its lines, and is run to its end or has a fault.
 pub fn expect_each(rt: &impl Abort, alloc: Global, cases: &[Case<'_>]) {
     for (script, lines, whole) in cases {
-        expect_lines(rt, alloc, script.as_bytes(), lines, *whole);
+        let (printed, outcome) = replay_into_memory(alloc, script.as_bytes());
+        assert_eq!(rt; (*script, outcome), (*script, Ok(*whole)));
+        assert_eq!(rt; (*script, str::from_utf8(&printed)), (*script, Ok(*lines)));
     }
 }
 

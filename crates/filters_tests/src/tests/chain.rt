@@ -212,6 +212,7 @@ fn steps_go_by_the_height_of_each_output(rt: HostRuntime) -> Result<(), Fail> {
     let out = chain.out_geometry();
     let got = (chain.band_height().rows(), out.width, out.height);
     same(&rt, got, (2, 2, 3));
+    assert_eq!(rt; PLACES.len(), 9);
     for (k, place) in (0..9).zip(PLACES) {
         assert!(rt; k < chain.steps());
         same(&rt, (k, chain.op_of_step(k)), (k, *place));
