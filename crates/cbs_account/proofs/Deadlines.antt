@@ -1,6 +1,7 @@
 -- How far a server's deadline can be put off.
 use Rattle.std.proofs.Common.{ℕ, zero, suc, ◌+◌, ◌*◌, ◌^◌, ◌≡◌, ◌≤◌, ◌<◌, ◌∙◌, List, [], ◌∷◌, replicate, refl, subst, arith, zero-add, add_assoc, mul-le-mul_right}
 use Rattle.std.proofs.lemmas.Bool.Decides.{nat_tests}
+use Rattle.cbs_account.specs.declared.limits.TheConstants.{DEADLINE_END, LAST_MOMENT, LONGEST_PERIOD, MOST_UNITS_IN_ALL}
 use Rattle.cbs_account.specs.Balance.{Balance, opened}
 use Rattle.cbs_account.specs.Rules.{OwnEvent, UnitOfWork, Idle, after_unit, after_idle, after_all}
 use Rattle.cbs_account.specs.Laws.{unit_count, DeadlineLimit, NoneAfter, ChargeLimit}
@@ -44,9 +45,9 @@ NoneAfter-replicate zero m = tt
 NoneAfter-replicate (suc k) m = NoneAfter-replicate k m
 
 -- the last deadline that there can be
-last_deadline : {d m p n : ℕ} → d ≤ m + p * (1 + n) → m ≤ 2 ^ 60 → p ≤ 1048576 → n ≤ 2 ^ 39 → d < 2 ^ 62
+last_deadline : {d m p n : ℕ} → d ≤ m + p * (1 + n) → m ≤ LAST_MOMENT → p ≤ LONGEST_PERIOD → n ≤ MOST_UNITS_IN_ALL → d < DEADLINE_END
 last_deadline {p = p} {n = n} limit clock period few =
-    let most : p * (1 + n) ≤ 1048576 * (1 + n) = mul-le-mul_right (1 + n) period in
+    let most : p * (1 + n) ≤ LONGEST_PERIOD * (1 + n) = mul-le-mul_right (1 + n) period in
     omega (arith, limit, most)
 
 pub charge_limit_proof : ChargeLimit

@@ -1,5 +1,6 @@
 use Rattle.std.specs.Prelude.{ℕ, ◌+◌, ◌*◌, ◌≤◌, List, sum_by}
 use Rattle.std.specs.Int.{div_ceil}
+use Rattle.cbs_account.specs.declared.limits.TheConstants.{WHOLE}
 
 -- what a server has reserved: a maximum budget Q in every period T
 pub record Reservation : Type 0 where
@@ -8,12 +9,12 @@ pub record Reservation : Type 0 where
 
 -- the part of one worker that q units in every t are, in millionths, rounded up
 abbrev pub share : ℕ → ℕ → ℕ
-share q t = div_ceil (q * 1000000) t
+share q t = div_ceil (q * WHOLE) t
 
 abbrev pub share_of : Reservation → ℕ
 share_of server = share server.maximum server.period
 
--- some workers, and the sum of the shares that were admitted to them
+-- some workers, and the sum of the shares that are held of them
 pub record Load : Type 0 where
   pub workers : ℕ
   pub shares : ℕ
@@ -28,4 +29,4 @@ load_of workers servers = record { workers = workers; shares = sum_by share_of s
 
 -- the shares are at most the whole of the workers
 abbrev pub Fits : Load → Type 0
-Fits load = load.shares ≤ 1000000 * load.workers
+Fits load = load.shares ≤ WHOLE * load.workers

@@ -1,5 +1,6 @@
 use Rattle.std.specs.Prelude.{ℕ, ◌+◌, ◌-◌, ◌*◌, ◌/◌, ◌%◌, ◌^◌, ◌≡◌, ◌≤◌, IsTrue, IsFalse}
 use Rattle.std.specs.Prelude.{List, [], ◌∷◌, ◌++◌, All, sum_by}
+use Rattle.cbs_account.specs.declared.limits.TheConstants.{LAST_MOMENT, LONGEST_PERIOD, MOST_UNITS_IN_ALL}
 use Rattle.cbs_account.specs.Balance.{Balance}
 use Rattle.cbs_account.specs.Rules.{OwnEvent, UnitOfWork, Idle, CanCharge, is_recharging, after_all, cbs}
 use Rattle.cbs_account.specs.Admission.{Reservation, Fits, load_of}
@@ -59,10 +60,10 @@ DeadlineLimit =
 -- both followed: if m is at most 2^60, no arrival came after it, and all units together are at most 2^39
 abbrev pub ChargeLimit : Type 0
 ChargeLimit =
-    (m n k : ℕ) (later : List OwnEvent) (b : Balance) → m ≤ 2 ^ 60 → b.period ≤ 1048576
+    (m n k : ℕ) (later : List OwnEvent) (b : Balance) → m ≤ LAST_MOMENT → b.period ≤ LONGEST_PERIOD
     → b.deadline ≤ m + b.period * (1 + n)
     → NoneAfter m later
-    → n + unit_count later + k ≤ 2 ^ 39
+    → n + unit_count later + k ≤ MOST_UNITS_IN_ALL
     → CanCharge k (after_all b later)
 
 -- servers that fit on their workers ask for no more time than these have: in a time m that each period

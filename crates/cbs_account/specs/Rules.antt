@@ -1,5 +1,6 @@
 use Rattle.std.specs.Prelude.{ℕ, ◌+◌, ◌-◌, ◌*◌, ◌^◌, ◌≤◌, ◌<◌, List, [], ◌∷◌, replicate}
 use Rattle.std.specs.Prelude.{Bool, nat_eq, nat_le, if◌then◌else◌}
+use Rattle.cbs_account.specs.declared.limits.TheConstants.{DEADLINE_END, MOST_UNITS}
 use Rattle.cbs_account.specs.Balance.{Balance, balance, opened}
 
 -- what happens to one server: one unit of its work is done, or a job arrives at a moment and finds it idle
@@ -45,4 +46,4 @@ after_units k b = after_all b (replicate k UnitOfWork)
 
 -- k units stay within the numbers of the program
 abbrev pub CanCharge : ℕ → Balance → Type 0
-CanCharge k b = (k ≤ 2 ^ 40) × ((after_units k b).deadline < 2 ^ 62)
+CanCharge k b = (k ≤ MOST_UNITS) × ((after_units k b).deadline < DEADLINE_END)

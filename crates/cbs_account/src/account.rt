@@ -3,17 +3,9 @@ ghost use Rattle.std.specs.Prelude.{◌≡◌, ◌≤◌, ◌<◌, ◌^◌, ◌�
 ghost use Rattle.cbs_account.specs.Balance.{IsBandwidth, opened};
 ghost use Rattle.cbs_account.specs.Rules.{CanCharge, after_idle, after_unit, after_units};
 
+use crate::limits::{DEADLINE_END, LAST_MOMENT, LONGEST_PERIOD, MOST_UNITS};
 use std::marker::Model;
 use thiserror::Error;
-
-/// The longest period, in the caller's units of time.
-const LONGEST_PERIOD: u64 = 1_048_576;
-
-/// The most units of one charge.
-const MOST_UNITS: u64 = 1 << 40;
-
-/// Every deadline is below this.
-const DEADLINE_END: u64 = 1 << 62;
 
 /// A maximum budget and a period that no server may have: not `1 <= Q <= T <= 1048576`.
 #[derive(Clone, Copy, Debug, PartialEq, Eq, Error)]
@@ -78,7 +70,7 @@ impl Account {
     /// The deadline, by which the earliest of several servers is chosen.
     pub fn deadline(&self) -> u64
         ensures value { result ≡ self.now.deadline }
-        ensures fits { result < 2 ^ 62 }
+        ensures fits { result < DEADLINE_END }
     {
         self.deadline
     }
@@ -87,7 +79,7 @@ impl Account {
     /// for the time up to the deadline, equality included, the server is recharged and its deadline is one
     /// period from `now`; otherwise budget and deadline are kept.
     pub fn arrive_idle(&mut self, now: u64)
-        requires { now ≤ 2 ^ 60 }
+        requires { now ≤ LAST_MOMENT }
         ensures { self.new ≡ after_idle now self.old }
     {
         let owed = self.deadline as u128 * self.maximum as u128;
@@ -140,7 +132,7 @@ impl Account {
 
     /// Charges one unit. A budget that ends is recharged at once.
     fn charge_unit(&mut self)
-        requires { (after_unit self.old).deadline < 2 ^ 62 }
+        requires { (after_unit self.old).deadline < DEADLINE_END }
         ensures { self.new ≡ after_unit self.old }
     {
         self.budget -= 1;

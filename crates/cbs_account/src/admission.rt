@@ -1,14 +1,12 @@
 //! The admission of servers to workers that have time for them.
 ghost use Rattle.std.specs.Prelude.{◌≡◌, ◌≤◌, ◌↔◌, Err, IsOk, OnErr, OnOk};
-ghost use Rattle.cbs_account.specs.Admission.{Fits, with_share};
+ghost use Rattle.cbs_account.specs.Admission.{Fits, share, with_share};
 ghost use Rattle.cbs_account.specs.Balance.{IsBandwidth};
 
 use crate::account::is_bandwidth;
+use crate::limits::{MOST_WORKERS, WHOLE};
 use std::marker::Model;
 use thiserror::Error;
-
-/// The millionths of one worker.
-const WHOLE: u64 = 1_000_000;
 
 /// Why a server is not admitted.
 #[derive(Clone, Copy, Debug, PartialEq, Eq, Error)]
@@ -22,7 +20,7 @@ pub enum AdmissionError {
 }
 
 /// The servers that some workers take on. Contracts see it as a `Load`: the number of workers, and the sum of
-/// the shares that were admitted.
+/// the shares that are held: those of the servers that were admitted and not released.
 ///
 /// A server's share is its bandwidth, `Q / T` of one worker, in millionths and rounded up. No call takes
 /// memory.
@@ -34,20 +32,21 @@ pub struct Admission {
 
 impl Model for Admission {
     ghost use Rattle.std.specs.Prelude.{◌*◌, ◌≤◌};
+    ghost use Rattle.cbs_account.specs.declared.limits.TheConstants.{MOST_WORKERS, WHOLE};
     ghost use Rattle.cbs_account.specs.Admission.{Load};
 
     ghost Value = { Load };
 
     ghost view = { λ a. record { workers = a.workers; shares = a.shares } };
 
-    ghost invariant = { λ a. (a.workers ≤ 16) × (a.shares ≤ 1000000 * a.workers) };
+    ghost invariant = { λ a. (a.workers ≤ MOST_WORKERS) × (a.shares ≤ WHOLE * a.workers) };
 }
 
 impl Admission {
     /// No server yet, on so many workers.
     pub fn new(workers: u64) -> Admission
         requires some { 1 ≤ workers }
-        requires most { workers ≤ 16 }
+        requires most { workers ≤ MOST_WORKERS }
         ensures { result ≡ record { workers = workers; shares = 0 } }
     {
         Admission { workers, shares: 0 }
@@ -67,11 +66,29 @@ impl Admission {
         if !is_bandwidth(q, t) {
             return Err(AdmissionError::BadBandwidth);
         }
-        let share = (q * WHOLE).div_ceil(t);
+        let share = share_of(q, t);
         if self.shares + share > WHOLE * self.workers {
             return Err(AdmissionError::Overload);
         }
         self.shares += share;
         Ok(())
     }
+
+    /// Releases a server of maximum budget `q` and period `t` that was admitted: its share is left again.
+    pub fn release(&mut self, q: u64, t: u64)
+        requires bandwidth { IsBandwidth q t }
+        requires held { share q t ≤ self.old.shares }
+        ensures { self.old ≡ with_share q t self.new }
+    {
+        self.shares -= share_of(q, t);
+    }
+}
+
+/// The part of one worker that a server of maximum budget `q` and period `t` takes, in millionths.
+fn share_of(q: u64, t: u64) -> u64
+    requires { IsBandwidth q t }
+    ensures share { result ≡ share q t }
+    ensures part { result ≤ WHOLE }
+{
+    (q * WHOLE).div_ceil(t)
 }

@@ -10,6 +10,7 @@
 pub mod account;
 pub mod admission;
 pub mod laws;
+pub mod limits;
 
 pub use account::{Account, BadBandwidth};
 pub use admission::{Admission, AdmissionError};

@@ -1,6 +1,6 @@
 -- The deadlines by stream, as the leaves of a tree show them.
-use Rattle.std.proofs.Common.{◌≡◌, ℕ, zero, suc, ◌+◌, ◌-◌, ◌<◌, ◌≤◌, inl, inr, List, ◌∷◌, length, take, drop, map, get_or, set, replicate, slice_get, Option, Some, None, refl, sym, ap, ◌∙◌, subst, arith, length-drop, length-set}
-use Rattle.std.proofs.lemmas.List.{map-set, drop-set-add, take-replicate, get_or-set_same, get_or-set_other, length-map, length-take-le, get_or-take, get_or-drop}
+use Rattle.std.proofs.Common.{◌≡◌, ℕ, zero, suc, ◌+◌, ◌-◌, ◌<◌, ◌≤◌, inl, inr, List, [], ◌∷◌, ◌++◌, length, take, drop, map, get_or, set, replicate, slice_get, Option, Some, None, refl, sym, ap, ◌∙◌, subst, arith, length-drop, length-set}
+use Rattle.std.proofs.lemmas.List.{map-set, map_push, drop-set-add, take-replicate, take_more, get_or-set_same, get_or-set_other, length-map, length-take-le, get_or-take, get_or-drop}
 use Rattle.std.proofs.Math.Seq.{take-set-lt}
 use Rattle.std.proofs.lemmas.Option.{slice_get-map, slice_get-get_or, slice_get_within}
 use Rattle.edf_pool.specs.declared.node.Ready.{Ready}
@@ -94,3 +94,19 @@ leaves_told streams nodes told s deadline size most within is leaves t ready e =
           (stream_of_node s deadline ready own ∙ sym here, omega arith)
       | inr other ↦ leaves t ready (sym (get_or-drop 64 nodes t None) ∙ sym (get_or-set_other (drop 64 nodes) s t v None other) ∙ read)
     ]
+
+-- the leaf behind all streams holds none
+none_behind : (streams : ℕ) (nodes : List (Option Ready)) (o : Option Ready) → AreLeaves streams nodes
+    → node_at nodes (64 + streams) ≡ o → o ≡ None
+none_behind streams nodes None leaves e = refl
+none_behind streams nodes (Some ready) leaves e = absurd (let own = leaves streams ready e in omega (arith, own.1))
+
+-- one stream more is one that isn't ready
+pub deadlines-grown : (streams : ℕ) (nodes : List (Option Ready)) → length nodes ≡ 128 → streams < 64
+    → AreLeaves streams nodes → deadlines (streams + 1) nodes ≡ deadlines streams nodes ++ None ∷ []
+deadlines-grown streams nodes size room leaves =
+    let row = drop 64 nodes in
+    let long : streams < length row = omega (arith, length-drop 64 nodes) in
+    let last = get_or-drop 64 nodes streams None ∙ none_behind streams nodes (node_at nodes (64 + streams)) leaves refl in
+    let more = take_more row streams None long ∙ ap (λ (o : Option Ready). take streams row ++ o ∷ []) last in
+    ap (map deadline_of) more ∙ map_push deadline_of (take streams row) None

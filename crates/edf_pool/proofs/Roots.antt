@@ -126,3 +126,10 @@ pub tree_told : (streams : ℕ) (nodes told : List (Option Ready)) (s : ℕ) (de
 tree_told streams nodes told s deadline within is old winners =
     tree_is streams told (length-told nodes told s deadline old.size is) old.some old.most
     (leaves_told streams nodes told s deadline old.size old.most within is old.leaves) winners
+
+-- a tree with one stream more
+pub tree_grown : (streams : ℕ) (nodes : List (Option Ready)) → streams < 64 → IsTree streams nodes
+    → IsTree (streams + 1) nodes
+tree_grown streams nodes room old =
+    tree_is (streams + 1) nodes old.size (omega arith) (omega arith)
+    (λ s ready e. let own = old.leaves s ready e in (own.0, omega (arith, own.1))) old.winners

@@ -1,5 +1,6 @@
 use Rattle.std.specs.Prelude.{◌≡◌, ℕ, ◌+◌, ◌*◌, ◌<◌, ◌≤◌, List, length, map, take, drop, get_or, Option, Some}
 use Rattle.std.specs.Prelude.{None, MatchOption}
+use Rattle.edf_pool.specs.declared.limits.TheConstants.{MOST_STREAMS}
 use Rattle.edf_pool.specs.declared.node.Ready.{Ready}
 use Rattle.edf_pool.specs.Earliest.{IsEarliest, NoneReady}
 use Rattle.edf_pool.specs.Node.{deadline_of, lesser}
@@ -13,16 +14,16 @@ IsWinner nodes i = node_at nodes i ≡ lesser (node_at nodes (2 * i)) (node_at n
 
 -- each inner node
 abbrev pub AreWinners : List (Option Ready) → Type 0
-AreWinners nodes = (i : ℕ) → 1 ≤ i → i < 64 → IsWinner nodes i
+AreWinners nodes = (i : ℕ) → 1 ≤ i → i < MOST_STREAMS → IsWinner nodes i
 
 -- node 64 + s holds stream s, or none
 abbrev pub AreLeaves : ℕ → List (Option Ready) → Type 0
 AreLeaves streams nodes =
-    (s : ℕ) (ready : Ready) → node_at nodes (64 + s) ≡ Some ready → (ready.stream ≡ s) × (s < streams)
+    (s : ℕ) (ready : Ready) → node_at nodes (MOST_STREAMS + s) ≡ Some ready → (ready.stream ≡ s) × (s < streams)
 
 -- the deadlines by stream, as the leaves show them
 abbrev pub deadlines : ℕ → List (Option Ready) → List (Option ℕ)
-deadlines streams nodes = map deadline_of (take streams (drop 64 nodes))
+deadlines streams nodes = map deadline_of (take streams (drop MOST_STREAMS nodes))
 
 -- node 1 holds the earliest of all
 abbrev pub IsRoot : ℕ → List (Option Ready) → Type 0
@@ -32,9 +33,9 @@ IsRoot streams nodes =
 
 -- a winner tree of so many streams
 pub record IsTree (streams : ℕ) (nodes : List (Option Ready)) : Type 0 where
-  pub size : length nodes ≡ 128
+  pub size : length nodes ≡ 2 * MOST_STREAMS
   pub some : 1 ≤ streams
-  pub most : streams ≤ 64
+  pub most : streams ≤ MOST_STREAMS
   pub leaves : AreLeaves streams nodes
   pub winners : AreWinners nodes
   pub root : IsRoot streams nodes

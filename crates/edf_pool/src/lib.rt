@@ -5,6 +5,7 @@
 //! it answers, and `specs/Tree.antt` what its tree keeps.
 #![tactic(auto)]
 
+pub mod limits;
 pub mod node;
 pub mod pool;
 

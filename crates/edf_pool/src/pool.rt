@@ -1,17 +1,15 @@
 //! The ready streams as a winner tree.
 ghost use Rattle.std.specs.Prelude.{◌≡◌, ◌+◌, ◌-◌, ◌<◌, ◌≤◌, IfOk, IfSome, IfNone, None, length, replicate};
-ghost use Rattle.std.specs.Prelude.{drop, slice_set};
+ghost use Rattle.std.specs.Prelude.{[], ◌∷◌, ◌++◌, drop, slice_set};
 ghost use Rattle.edf_pool.specs.Earliest.{IsEarliest, NoneReady};
 ghost use Rattle.edf_pool.specs.Tree.{AreWinners};
 
+use crate::limits::MOST_STREAMS;
 use crate::node::{Compares, Node, Ready};
 use std::alloc::{AllocError, Global};
 use std::marker::Model;
 
-/// The most streams of a pool.
-const LEAVES: usize = 64;
-
-const NODES: usize = 2 * LEAVES;
+const NODES: usize = 2 * MOST_STREAMS;
 
 /// The ready streams with their deadlines. Contracts see the list of the deadlines by stream, in which a
 /// stream that isn't ready has none.
@@ -39,11 +37,19 @@ impl Model for Pool {
 impl Pool {
     /// A pool of streams none of which is ready.
     pub fn new(alloc: Global, streams: u32) -> Result<Pool, AllocError>
-        requires { (1 ≤ streams) × (streams ≤ 64) }
+        requires { (1 ≤ streams) × (streams ≤ MOST_STREAMS) }
         ensures { IfOk result (λ pool. pool ≡ replicate streams None) }
     {
         let nodes = Box::new(alloc, [None; NODES])?;
         Ok(Pool { nodes, streams })
+    }
+
+    /// One stream more, behind all others. It isn't ready.
+    pub fn grow(&mut self)
+        requires { length self.old < MOST_STREAMS }
+        ensures { self.new ≡ self.old ++ None ∷ [] }
+    {
+        self.streams += 1;
     }
 
     /// Tells the pool that stream `s` is ready with this deadline, or isn't ready.
@@ -53,7 +59,7 @@ impl Pool {
         ensures counted { compares.old.made ≤ compares.new.made }
         ensures at_most_six { compares.new.made ≤ compares.old.made + 6 }
     {
-        let leaf = LEAVES + s as usize;
+        let leaf = MOST_STREAMS + s as usize;
         set_leaf(&mut self.nodes, leaf, Ready::node(s, deadline), compares);
     }
 
@@ -68,10 +74,11 @@ impl Pool {
 
 /// Puts a node in the place of a leaf, and lets each node above it be the lesser of its two again.
 fn set_leaf(nodes: &mut [Node; NODES], leaf: usize, node: Node, compares: &mut Compares)
-    requires leaf { (64 ≤ leaf) × (leaf < 128) }
+    requires leaf { (MOST_STREAMS ≤ leaf) × (leaf < NODES) }
     requires winners { AreWinners nodes.old }
     ensures winners { AreWinners nodes.new }
-    ensures leaves { drop 64 nodes.new ≡ slice_set (drop 64 nodes.old) (leaf - 64) node }
+    ensures leaves { drop MOST_STREAMS nodes.new
+        ≡ slice_set (drop MOST_STREAMS nodes.old) (leaf - MOST_STREAMS) node }
     ensures counted { compares.old.made ≤ compares.new.made }
     ensures at_most_six { compares.new.made ≤ compares.old.made + 6 }
 {

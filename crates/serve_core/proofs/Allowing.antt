@@ -1,21 +1,26 @@
 -- Which replies are right, by what is found of lanes and workers.
 use Rattle.std.proofs.Common.{ℕ, ◌^◌, ◌≡◌, ◌≤◌, ◌<◌, ◌⊎◌, Bool, true, false, nat_eq, nat_lt}
 use Rattle.std.proofs.Common.{List, [], ◌∷◌, map, Option, Some, None, IsTrue, IsFalse, MatchOption}
-use Rattle.std.proofs.Common.{slice_get, if◌then◌else◌, refl, sym, ◌∙◌, ap, subst, arith}
+use Rattle.std.proofs.Common.{slice_get, if◌then◌else◌, refl, sym, ◌∙◌, ap, subst, arith, ◌+◌, length, sum_by}
 use Rattle.std.proofs.lemmas.Bool.Decides.{nat_tests}
+use Rattle.std.proofs.lemmas.List.{length-map}
+use Rattle.std.proofs.lemmas.List.Sums.{sum_by-cons}
 use Rattle.std.proofs.lemmas.Option.{slice_get-map}
 use Rattle.std.specs.Option.{option_map}
+use Rattle.cbs_account.specs.Admission.{Load}
 use Rattle.edf_pool.specs.Earliest.{IsEarliest, NoneReady}
 use Rattle.serve_core.specs.declared.held.Held.{Held}
 use Rattle.serve_core.specs.declared.refusal.Refusal.{Refusal}
 use Rattle.serve_core.specs.declared.refusal.Refusal.TheVariants as refusals
-use Rattle.serve_core.specs.Events.{Accepted, Arrive, Band, Close, Closing, Collect, GivenBack, Image, Lease}
-use Rattle.serve_core.specs.Events.{Leased, Refused, Reply, Settle, Ticked}
+use Rattle.serve_core.specs.Events.{Accepted, Admit, Admitted, Arrive, Band, Close, Closing, Collect, GivenBack}
+use Rattle.serve_core.specs.Events.{Image, Lease, Leased, Refused, Reply, Settle, SpecBack, Ticked}
 use Rattle.serve_core.specs.Lanes.{Lane}
-use Rattle.serve_core.specs.Rules.{Allows, AllowsArrive, AllowsCollect, AllowsLease, arrival_refusal, close_reply}
-use Rattle.serve_core.specs.Rules.{grant, lack, settle_reply, tick_reply}
-use Rattle.serve_core.specs.Schedule.{RefusesCollect, RefusesLease, ScheduleValue, deadlines, state_by}
-use Rattle.serve_core.specs.Schedule.{stream_by, tick_refusal}
+use Rattle.serve_core.specs.Released.{held_load, held_share}
+use Rattle.serve_core.specs.Rules.{Allows, AllowsAdmit, AllowsArrive, AllowsCollect, AllowsLease}
+use Rattle.serve_core.specs.Rules.{RefusesAdmit, arrival_refusal, close_reply, grant, lack, settle_reply}
+use Rattle.serve_core.specs.Rules.{tick_reply}
+use Rattle.serve_core.specs.Schedule.{IsAdmitAnswer, RefusesCollect, RefusesLease, ScheduleValue, deadlines}
+use Rattle.serve_core.specs.Schedule.{held_by, state_by, stream_by, tick_refusal}
 use Rattle.serve_core.specs.Setup.{StreamSpec}
 use Rattle.serve_core.specs.States as states
 use Rattle.serve_core.proofs.Lifts.{stream_here}
@@ -37,6 +42,27 @@ pub deadlines_same : {F : Type 0} (frames : Lane → List F) (lanes : List Lane)
 deadlines_same frames [] = refl
 deadlines_same frames (lane ∷ lanes) =
     ap (λ ds. states.ready_deadline lane.state ∷ ds) (deadlines_same frames lanes)
+
+-- and hold the same shares
+shares_same : {F : Type 0} (frames : Lane → List F) (t : ℕ) (lanes : List Lane)
+    → sum_by (held_share t) (map (stream_by frames) lanes) ≡ sum_by (λ lane. held_share t lane.state) lanes
+shares_same frames t [] = refl
+shares_same frames t (lane ∷ lanes) =
+    sum_by-cons (held_share t) (stream_by frames lane) (map (stream_by frames) lanes)
+    ∙ ap (λ (n : ℕ). held_share t lane.state + n) (shares_same frames t lanes)
+    ∙ sym (sum_by-cons (λ (lane : Lane). held_share t lane.state) lane lanes)
+
+pub held_same : {F : Type 0} (frames : Lane → List F) (x : ScheduleValue)
+    → held_load (state_by frames x) ≡ held_by x
+held_same frames x =
+    ap (λ (n : ℕ). let load : Load = record { workers = length x.workers; shares = n } in load)
+    (shares_same frames x.clock x.lanes)
+
+-- what a schedule answers
+answer_refuses : (x : ScheduleValue) (spec : StreamSpec) (e : Refusal) → IsAdmitAnswer x spec (Some e)
+    → RefusesAdmit (length x.lanes) (held_by x) spec e
+answer_refuses x spec refusals.NoMemory h = absurd h
+answer_refuses x spec e h = h
 
 module _ (F G : Type 0) where
   ticked_by : (a b : Bool) → let past : Option Refusal = if a then Some refusals.Past
@@ -235,3 +261,22 @@ module _ {F G : Type 0} (measures : StreamSpec → F → Bool → Type 0)
   arrive_chosen x s f r found IsSized m e h c =
       rw (slice_get-map (stream_by frames) x.lanes s)
       (chosen_by (slice_get x.lanes s) f r found IsSized m e h c)
+
+  -- admitting
+  admits_as : (x : ScheduleValue) (spec : StreamSpec) (r : Reply F G)
+      → AllowsAdmit (length x.lanes) (held_by x) spec r
+      → Allows measures is_image (state_by frames x) (Admit spec) r
+  admits_as x spec r h =
+      rw (length-map x.lanes (stream_by frames), held_same frames x) h
+
+  pub admit_allowed : (x : ScheduleValue) (spec : StreamSpec) (s : ℕ) → IsAdmitAnswer x spec None
+      → s ≡ length x.lanes → Allows measures is_image (state_by frames x) (Admit spec) (Admitted s)
+  admit_allowed x spec s can e = admits_as x spec (Admitted s) (can, e)
+
+  pub admit_refused : (x : ScheduleValue) (spec : StreamSpec) (k : Refusal) → IsAdmitAnswer x spec (Some k)
+      → Allows measures is_image (state_by frames x) (Admit spec) (SpecBack k spec)
+  admit_refused x spec k h = admits_as x spec (SpecBack k spec) (answer_refuses x spec k h, refl)
+
+  pub admit_unfed : (x : ScheduleValue) (spec : StreamSpec) → IsAdmitAnswer x spec None
+      → Allows measures is_image (state_by frames x) (Admit spec) (SpecBack refusals.NoMemory spec)
+  admit_unfed x spec can = admits_as x spec (SpecBack refusals.NoMemory spec) (can, refl)

@@ -1,9 +1,12 @@
 -- Forgetting the frames of a legal transcript.
 use Rattle.std.proofs.Common.{ℕ, zero, suc, ◌^◌, ◌≡◌, ◌⊎◌, inl, inr, Bool, true, false, nat_eq, nat_lt}
 use Rattle.std.proofs.Common.{if◌then◌else◌, refl, sym, ◌∙◌, ap, subst, List, [], ◌∷◌, map, Option, Some}
-use Rattle.std.proofs.Common.{None, option_map, slice_get, MatchOption, MatchBool, IsSomeAnd}
+use Rattle.std.proofs.Common.{None, option_map, slice_get, MatchOption, MatchBool, IsSomeAnd, length, sum_by}
+use Rattle.std.proofs.Common.{◌+◌}
 use Rattle.std.specs.Prelude.{⊤}
-use Rattle.std.proofs.lemmas.List.{map_push, drop-map}
+use Rattle.std.proofs.lemmas.List.{map_push, drop-map, length-map}
+use Rattle.std.proofs.lemmas.List.Sums.{sum_by-cons}
+use Rattle.cbs_account.specs.Admission.{Load}
 use Rattle.std.proofs.lemmas.Option.{slice_get-map}
 use Rattle.edf_pool.specs.Earliest.{IsEarliest, NoneReady}
 use Rattle.serve_core.specs.declared.refusal.Refusal.{Refusal}
@@ -14,15 +17,16 @@ use Rattle.serve_core.specs.Bare.{bare_state, bare_stream, is_any_image, measure
 use Rattle.serve_core.specs.Counts.{Back, Came, Deed, Ended, Lent, Shut, Taken, Worked, came, clock_after}
 use Rattle.serve_core.specs.Counts.{deed, has_stream, held_after, held_after_band, held_after_lease}
 use Rattle.serve_core.specs.Counts.{held_after_settle, lent, settled, shut, taken, worked}
-use Rattle.serve_core.specs.Events.{Accepted, Arrive, Band, Close, Closing, Collect, Event, Finished}
-use Rattle.serve_core.specs.Events.{GivenBack, Image, Lease, Leased, Refused, Reply, Returned, Settle, Start}
-use Rattle.serve_core.specs.Events.{Stepped, Then, Tick, Ticked, Transcript}
+use Rattle.serve_core.specs.Events.{Accepted, Admit, Admitted, Arrive, Band, Close, Closing, Collect, Event}
+use Rattle.serve_core.specs.Events.{Finished, GivenBack, Image, Lease, Leased, Refused, Reply, Returned, Settle}
+use Rattle.serve_core.specs.Events.{SpecBack, Start, Stepped, Then, Tick, Ticked, Transcript, with_admitted}
 use Rattle.serve_core.specs.Leads.{IsLegalFrom, state_from}
-use Rattle.serve_core.specs.Rules.{Allows, AllowsCollect, AllowsLease, arrival_refusal, lack_reply}
+use Rattle.serve_core.specs.Released.{held_load, held_share}
+use Rattle.serve_core.specs.Rules.{Allows, AllowsAdmit, AllowsCollect, AllowsLease, arrival_refusal, lack_reply}
 use Rattle.serve_core.specs.Rules.{settle_reply}
 use Rattle.serve_core.specs.Setup.{Setup, StreamSpec, steps}
-use Rattle.serve_core.specs.States.{State, StreamState, after, did, did_any, held_at, map_at, ready_deadline}
-use Rattle.serve_core.specs.States.{state_of, stream_of}
+use Rattle.serve_core.specs.States.{State, StreamState, after, did, did_any, held_at, map_at, new_stream}
+use Rattle.serve_core.specs.States.{ready_deadline, state_of, stream_of}
 use Rattle.serve_core.proofs.Options.{some_and, and_some}
 use Rattle.serve_core.proofs.Summary.{summary_more}
 
@@ -94,6 +98,21 @@ module _ {F : Type 0} where
   deadlines_bare [] = refl
   deadlines_bare (x ∷ xs) = ap (λ (ds : List (Option ℕ)). ready_deadline x ∷ ds) (deadlines_bare xs)
 
+module _ {F : Type 0} where
+  -- the same shares are held
+  shares_bare : (t : ℕ) (xs : List (StreamState F))
+      → sum_by (held_share t) (map bare_stream xs) ≡ sum_by (held_share t) xs
+  shares_bare t [] = refl
+  shares_bare t (x ∷ xs) =
+      sum_by-cons (held_share t) (bare_stream x) (map bare_stream xs)
+      ∙ ap (λ (n : ℕ). held_share t x + n) (shares_bare t xs)
+      ∙ sym (sum_by-cons (held_share t) x xs)
+
+  load_bare : (m : State F) → held_load m ≡ held_load (bare_state m)
+  load_bare m =
+      ap (λ (n : ℕ). let load : Load = record { workers = length m.workers; shares = n } in load)
+      (sym (shares_bare m.clock m.streams))
+
 if_lent : (F : Type 0) (b : Bool) (w : ℕ) → let o : Option (Deed F) = if b then Some (Lent w) else None in
     let u : Option (Deed Blank) = if b then Some (Lent w) else None in u ≡ option_map bare_deed o
 if_lent F true w = refl
@@ -141,6 +160,7 @@ module _ {F G : Type 0} where
   deed_bare s t ws (Tick to) r = refl
   deed_bare s t ws (Close u) r = if_deed (nat_eq u s) (shut r) (shut (bare_reply r)) (shut_bare r)
   deed_bare s t ws (Collect u) r = if_deed (nat_eq u s) (taken r) (taken (bare_reply r)) (taken_bare r)
+  deed_bare s t ws (Admit spec) r = refl
 
   given_bare : (h : Option Held) (r : Reply F G) → held_after_lease h (bare_reply r) ≡ held_after_lease h r
   given_bare h (Leased s n g) = refl
@@ -164,6 +184,7 @@ module _ {F G : Type 0} where
   held_bare v h (Tick to) r = refl
   held_bare v h (Close u) r = refl
   held_bare v h (Collect u) r = refl
+  held_bare v h (Admit spec) r = refl
 
   clock_bare : (t : ℕ) (e : Event F) (r : Reply F G)
       → clock_after t (bare_event e) (bare_reply r) ≡ clock_after t e r
@@ -175,15 +196,26 @@ module _ {F G : Type 0} where
   clock_bare t (Tick to) r = refl
   clock_bare t (Close u) r = refl
   clock_bare t (Collect u) r = refl
+  clock_bare t (Admit spec) r = refl
+
+  -- the stream that is admitted, if one is
+  joined_bare : (e : Event F) (r : Reply F G) (xs : List (StreamState F))
+      → with_admitted new_stream (bare_event e) (bare_reply r) (map bare_stream xs)
+      ≡ map bare_stream (with_admitted new_stream e r xs)
+  joined_bare (Admit spec) (Admitted s) xs = sym (map_push bare_stream xs (new_stream spec))
+  joined_bare (Admit spec) r xs = refl
+  joined_bare e r xs = refl
 
   after_bare : (m : State F) (e : Event F) (r : Reply F G)
       → after (bare_state m) (bare_event e) (bare_reply r) ≡ bare_state (after m e r)
   after_bare m e r =
       state_same _ _ m.quantum _ _ _ _ (clock_bare m.clock e r)
+      (ap (λ (ys : List (StreamState Blank)). with_admitted new_stream (bare_event e) (bare_reply r) ys)
       (map_at_of bare_stream (λ s x. did_any x (deed s m.clock (held_at m.workers) (bare_event e)
       (bare_reply r))) (λ s x. did_any x (deed s m.clock (held_at m.workers) e r)) 0 m.streams
       (λ s x. ap (did_any (bare_stream x)) (deed_bare s m.clock (held_at m.workers) e r)
       ∙ did_bare x (deed s m.clock (held_at m.workers) e r)))
+      ∙ joined_bare e r (map_at 0 (λ s x. did_any x (deed s m.clock (held_at m.workers) e r)) m.streams))
       (map_at_like (λ w h. held_after w h (bare_event e) (bare_reply r))
       (λ w h. held_after w h e r) 0 m.workers (λ w h. held_bare w h e r))
 
@@ -205,6 +237,16 @@ module _ {F G : Type 0} where
   from_bare m (Then p e r) =
       ap (λ (n : State Blank). after n (bare_event e) (bare_reply r)) (from_bare m p)
       ∙ after_bare (state_from m p) e r
+
+  admits_bare : (n k : ℕ) (held load : Load) (spec : StreamSpec) (r : Reply F G) → n ≡ k → held ≡ load
+      → AllowsAdmit n held spec r → AllowsAdmit k load spec (bare_reply r)
+  admits_bare n k held load spec (Admitted s) e f h =
+      subst (λ (j : ℕ). AllowsAdmit {F = Blank} {G = Blank} j load spec (Admitted s)) e
+      (subst (λ (l : Load). AllowsAdmit {F = Blank} {G = Blank} n l spec (Admitted s)) f h)
+  admits_bare n k held load spec (SpecBack c back) e f h =
+      subst (λ (j : ℕ). AllowsAdmit {F = Blank} {G = Blank} j load spec (SpecBack c back)) e
+      (subst (λ (l : Load). AllowsAdmit {F = Blank} {G = Blank} n l spec (SpecBack c back)) f h)
+  admits_bare n k held load spec r e f h = absurd h
 
   if_bare : (b : Bool) (r x y : Reply F G) → r ≡ (if b then x else y)
       → bare_reply r ≡ (if b then bare_reply x else bare_reply y)
@@ -302,6 +344,9 @@ module _ {F G : Type 0} (measures : StreamSpec → F → Bool → Type 0)
       stream_bare m s _ _ _ _ (ap bare_reply)
       (λ x a. if_bare x.is_closed r (Refused refusals.AlreadyClosed) Closing a) h
   allowed_bare m (Collect s) r h = stream_bare m s _ _ _ _ (ap bare_reply) (λ x a. collects_bare x r a) h
+  allowed_bare m (Admit spec) r h =
+      admits_bare (length m.streams) (length (map bare_stream m.streams)) (held_load m) (held_load (bare_state m))
+      spec r (sym (length-map m.streams bare_stream)) (load_bare m) h
 
   pub bare_is : BareLaw measures is_image
   bare_is setup Start l = (tt, summary_bare setup (let p : Transcript F G = Start in p))

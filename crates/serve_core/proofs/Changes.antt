@@ -1,16 +1,18 @@
 -- What `after` makes of a state, event by event.
 use Rattle.std.proofs.Common.{ℕ, ◌≡◌, Option, Some, None, Bool, true, false, nat_eq, slice_get, slice_set}
+use Rattle.std.proofs.Common.{List, [], ◌∷◌, ◌++◌}
 use Rattle.std.proofs.Common.{refl, sym, ◌∙◌, ap, if◌then◌else◌}
 use Rattle.serve_core.specs.declared.held.Held.{Held}
 use Rattle.serve_core.specs.declared.refusal.Refusal.{Refusal}
 use Rattle.serve_core.specs.Counts.{Deed, Lent, Worked, came, has_stream, held_after_band, held_after_lease}
 use Rattle.serve_core.specs.Counts.{held_after_settle, one_more_used, settled, shut, taken}
-use Rattle.serve_core.specs.Events.{Arrive, Band, Close, Collect, Event, Finished, GivenBack, Lease, Leased}
-use Rattle.serve_core.specs.Events.{Refused, Reply, Returned, Settle, Stepped, Tick, Ticked}
+use Rattle.serve_core.specs.Events.{Admit, Admitted, Arrive, Band, Close, Collect, Event, Finished, GivenBack}
+use Rattle.serve_core.specs.Events.{Lease, Leased, Refused, Reply, Returned, Settle, SpecBack, Stepped, Tick}
+use Rattle.serve_core.specs.Events.{Ticked}
 use Rattle.serve_core.specs.Laws.{RefusedLaw}
 use Rattle.serve_core.specs.Rules.{settle_reply}
-use Rattle.serve_core.specs.Setup.{steps}
-use Rattle.serve_core.specs.States.{State, StreamState, after, did, did_any, held_at, map_at}
+use Rattle.serve_core.specs.Setup.{StreamSpec, steps}
+use Rattle.serve_core.specs.States.{State, StreamState, after, did, did_any, held_at, map_at, new_stream}
 use Rattle.serve_core.proofs.Lists.{map_at_same}
 use Rattle.serve_core.proofs.Steps.{held_at_is, new_lease, one_lease, one_stream, quiet_streams}
 use Rattle.serve_core.proofs.Steps.{quiet_workers, state, state_is}
@@ -52,11 +54,27 @@ module _ {F : Type 0} (G : Type 0) where
   after_refused m (Collect s) k =
       state_is m.clock m.quantum _ _ _ _ (quiet_streams (λ t. nat_eq s t) m.streams)
       (sym (map_at_same 0 m.workers))
+  after_refused m (Admit spec) k =
+      state_is m.clock m.quantum _ _ _ _ (sym (map_at_same 0 m.streams)) (sym (map_at_same 0 m.workers))
 
   pub after_given_back : (m : State F) (s : ℕ) (k : Refusal) (f : F)
       → let r : Reply F G = GivenBack k f in m ≡ after m (Arrive s f) r
   after_given_back m s k f =
       state_is m.clock m.quantum _ _ _ _ (quiet_streams (λ t. nat_eq s t) m.streams)
+      (sym (map_at_same 0 m.workers))
+
+  pub after_spec_back : (m : State F) (spec : StreamSpec) (k : Refusal)
+      → let r : Reply F G = SpecBack k spec in m ≡ after m (Admit spec) r
+  after_spec_back m spec k =
+      state_is m.clock m.quantum _ _ _ _ (sym (map_at_same 0 m.streams)) (sym (map_at_same 0 m.workers))
+
+  -- one stream more
+  pub after_admit : (m : State F) (spec : StreamSpec) (s : ℕ)
+      → let r : Reply F G = Admitted s in
+      state m.clock m.quantum (m.streams ++ new_stream spec ∷ []) m.workers ≡ after m (Admit spec) r
+  after_admit m spec s =
+      state_is m.clock m.quantum _ _ _ _
+      (ap (λ (xs : List (StreamState F)). xs ++ new_stream spec ∷ []) (sym (map_at_same 0 m.streams)))
       (sym (map_at_same 0 m.workers))
 
   pub after_tick : (m : State F) (to : ℕ)
@@ -124,4 +142,5 @@ module _ {F : Type 0} (G : Type 0) where
       state_is m.clock m.quantum _ _ _ _ (leased_stream (settled r) w l m x e f) (sym lease)
 
   pub refusals_leave : RefusedLaw F G
-  refusals_leave m e s f k = (sym (after_refused m e k), sym (after_given_back m s k f))
+  refusals_leave m e s f spec k =
+      (sym (after_refused m e k), sym (after_given_back m s k f), sym (after_spec_back m spec k))

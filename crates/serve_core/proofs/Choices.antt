@@ -1,16 +1,18 @@
 -- The rules leave one choice.
 use Rattle.std.proofs.Common.{ℕ, ◌≡◌, ◌≤◌, ◌⊎◌, inl, inr, Bool, nat_lt, refl, sym, ◌∙◌, ap, subst, arith}
 use Rattle.std.proofs.Common.{List, Option, Some, None, slice_get, MatchOption, MatchBool, IsSomeAnd, true}
-use Rattle.std.proofs.Common.{false}
+use Rattle.std.proofs.Common.{false, length}
+use Rattle.cbs_account.specs.Admission.{Load}
 use Rattle.edf_pool.specs.Earliest.{IsEarliest, IsReady, NoneReady}
 use Rattle.serve_core.specs.declared.held.Held.{Held}
 use Rattle.serve_core.specs.declared.refusal.Refusal.{Refusal}
 use Rattle.serve_core.specs.declared.refusal.Refusal.TheVariants as refusals
-use Rattle.serve_core.specs.Events.{Accepted, Arrive, Band, Close, Collect, GivenBack, Image, Lease, Leased}
-use Rattle.serve_core.specs.Events.{Refused, Reply, Settle, Tick}
+use Rattle.serve_core.specs.Events.{Accepted, Admit, Admitted, Arrive, Band, Close, Collect, GivenBack, Image}
+use Rattle.serve_core.specs.Events.{Event, Lease, Leased, Refused, Reply, Settle, SpecBack, Tick}
 use Rattle.serve_core.specs.Laws.{AreDetermined, IsMemoryChoice, OneChoiceLaw}
-use Rattle.serve_core.specs.Rules.{AllowsArrive, AllowsCollect, AllowsLease, arrival_refusal, band_reply}
-use Rattle.serve_core.specs.Rules.{close_reply, grant, lack_reply, settle_reply}
+use Rattle.serve_core.specs.Released.{held_load}
+use Rattle.serve_core.specs.Rules.{AllowsAdmit, AllowsArrive, AllowsCollect, AllowsLease, CanAdmit, RefusesAdmit}
+use Rattle.serve_core.specs.Rules.{arrival_refusal, band_reply, close_reply, grant, lack_reply, settle_reply}
 use Rattle.serve_core.specs.Setup.{StreamSpec}
 use Rattle.serve_core.specs.States.{State, StreamState, deadlines}
 use Rattle.serve_core.proofs.Options.{some_and}
@@ -27,6 +29,76 @@ one_earliest ds s t h k =
 
 not_both : (ds : List (Option ℕ)) (s : ℕ) → IsEarliest ds s → NoneReady ds → ⊥
 not_both ds s first none = none s first.deadline first.ready
+
+-- one reason is the first
+one_reason : (n : ℕ) (held : Load) (spec : StreamSpec) (a b : Refusal) → RefusesAdmit n held spec a
+    → RefusesAdmit n held spec b → a ≡ b
+one_reason n held spec refusals.TooManyStreams refusals.TooManyStreams x y = refl
+one_reason n held spec refusals.TooManyStreams refusals.BadLimits x y = absurd (omega (arith, x, y.0))
+one_reason n held spec refusals.TooManyStreams refusals.BadBandwidth x y = absurd (omega (arith, x, y.0))
+one_reason n held spec refusals.TooManyStreams refusals.Overload x y = absurd (omega (arith, x, y.0))
+one_reason n held spec refusals.TooManyStreams refusals.NoMemory x y = absurd (omega (arith, x, y.few))
+one_reason n held spec refusals.TooManyStreams b x y = absurd y
+one_reason n held spec refusals.BadLimits refusals.TooManyStreams x y = absurd (omega (arith, y, x.0))
+one_reason n held spec refusals.BadLimits refusals.BadLimits x y = refl
+one_reason n held spec refusals.BadLimits refusals.BadBandwidth x y = absurd (x.1 y.1)
+one_reason n held spec refusals.BadLimits refusals.Overload x y = absurd (x.1 y.1)
+one_reason n held spec refusals.BadLimits refusals.NoMemory x y = absurd (x.1 y.limits)
+one_reason n held spec refusals.BadLimits b x y = absurd y
+one_reason n held spec refusals.BadBandwidth refusals.TooManyStreams x y = absurd (omega (arith, y, x.0))
+one_reason n held spec refusals.BadBandwidth refusals.BadLimits x y = absurd (y.1 x.1)
+one_reason n held spec refusals.BadBandwidth refusals.BadBandwidth x y = refl
+one_reason n held spec refusals.BadBandwidth refusals.Overload x y = absurd (x.2 y.2)
+one_reason n held spec refusals.BadBandwidth refusals.NoMemory x y = absurd (x.2 y.bandwidth)
+one_reason n held spec refusals.BadBandwidth b x y = absurd y
+one_reason n held spec refusals.Overload refusals.TooManyStreams x y = absurd (omega (arith, y, x.0))
+one_reason n held spec refusals.Overload refusals.BadLimits x y = absurd (y.1 x.1)
+one_reason n held spec refusals.Overload refusals.BadBandwidth x y = absurd (y.2 x.2)
+one_reason n held spec refusals.Overload refusals.Overload x y = refl
+one_reason n held spec refusals.Overload refusals.NoMemory x y = absurd (x.3 y.fits)
+one_reason n held spec refusals.Overload b x y = absurd y
+one_reason n held spec refusals.NoMemory refusals.TooManyStreams x y = absurd (omega (arith, y, x.few))
+one_reason n held spec refusals.NoMemory refusals.BadLimits x y = absurd (y.1 x.limits)
+one_reason n held spec refusals.NoMemory refusals.BadBandwidth x y = absurd (y.2 x.bandwidth)
+one_reason n held spec refusals.NoMemory refusals.Overload x y = absurd (y.3 x.fits)
+one_reason n held spec refusals.NoMemory refusals.NoMemory x y = refl
+one_reason n held spec refusals.NoMemory b x y = absurd y
+one_reason n held spec a b x y = absurd x
+
+-- a stream that can be admitted is refused for want of memory alone
+memory_alone : (n : ℕ) (held : Load) (spec : StreamSpec) (a : Refusal) → CanAdmit n held spec
+    → RefusesAdmit n held spec a → a ≡ refusals.NoMemory
+memory_alone n held spec a can h = one_reason n held spec a refusals.NoMemory h can
+
+module _ {F G : Type 0} where
+  -- what is chosen where a stream could be admitted
+  abbrev Joined : StreamSpec → Reply F G → Reply F G → Type 0
+  Joined spec r q = (s : ℕ) × (given : StreamSpec) × (let e : Event F = Admit spec in e ≡ Admit given)
+      × (r ≡ Admitted s) × (q ≡ SpecBack refusals.NoMemory given)
+
+  joins : (n s : ℕ) (held : Load) (spec back : StreamSpec) (a : Refusal) → CanAdmit n held spec
+      → RefusesAdmit n held spec a → back ≡ spec → Joined spec (Admitted s) (SpecBack a back)
+  joins n s held spec back a can h e =
+      let only = memory_alone n held spec a can h in
+      (s, spec, refl, refl, cc)
+
+  same_admission : (n : ℕ) (held : Load) (spec : StreamSpec) (r q : Reply F G)
+      → AllowsAdmit n held spec r → AllowsAdmit n held spec q
+      → (r ≡ q) ⊎ (Joined spec r q ⊎ Joined spec q r)
+  same_admission n held spec (Admitted s) (Admitted t) h k = inl (ap Admitted (h.1 ∙ sym k.1))
+  same_admission n held spec (Admitted s) (SpecBack a back) h k =
+      inr (inl (joins n s held spec back a h.0 k.0 k.1))
+  same_admission n held spec (Admitted s) q h k = absurd k
+  same_admission n held spec (SpecBack a back) (Admitted s) h k =
+      inr (inr (joins n s held spec back a k.0 h.0 h.1))
+  same_admission n held spec (SpecBack a back) (SpecBack b given) h k =
+      let one = one_reason n held spec a b h.0 k.0 in
+      let two = h.1 ∙ sym k.1 in
+      let x : Reply F G = SpecBack a back in
+      let same : x ≡ SpecBack b given = cc in
+      inl same
+  same_admission n held spec (SpecBack a back) q h k = absurd k
+  same_admission n held spec r q h k = absurd h
 
 module _ {F G : Type 0} where
   -- what is chosen where a frame could be accepted
@@ -115,8 +187,8 @@ module _ {F G : Type 0} (measures : StreamSpec → F → Bool → Type 0)
       elim (same_arrival (arrival_refusal h.0 x) x.accepted f r q h.2 j) [
         | inl p ↦ inl p
         | inr p ↦ inr (elim p [
-          | inl c ↦ inl (s, x.accepted, f, refl, c.0, c.1)
-          | inr c ↦ inr (s, x.accepted, f, refl, c.0, c.1)
+          | inl c ↦ inl (inl (s, x.accepted, f, refl, c.0, c.1))
+          | inr c ↦ inr (inl (s, x.accepted, f, refl, c.0, c.1))
         ])
       ]
 
@@ -141,3 +213,8 @@ module _ {F G : Type 0} (measures : StreamSpec → F → Bool → Type 0)
       (λ x a b. same_collect (nat_lt x.collected x.finished) (slice_get x.frames 0) (is_image x.spec)
       (lack_reply x)
       r q (one.1 x.spec) a b) h k)
+  one_choice one m (Admit spec) r q h k =
+      elim (same_admission (length m.streams) (held_load m) spec r q h k) [
+        | inl same ↦ inl same
+        | inr chosen ↦ inr (elim chosen [ inl c ↦ inl (inr c) | inr c ↦ inr (inr c) ])
+      ]

@@ -1,43 +1,42 @@
 -- Delay, demand, and what can be charged.
 use Rattle.std.proofs.Common.{ℕ, zero, suc, ◌+◌, ◌*◌, ◌^◌, ◌≡◌, ◌≤◌, ◌<◌, ◌⊎◌, inl, inr, Bool, true, false}
-use Rattle.std.proofs.Common.{nat_le, if◌then◌else◌, refl, sym, ◌∙◌, ap, arith, List, [], ◌∷◌, ◌++◌, filter}
-use Rattle.std.proofs.Common.{map, sum_by, Some, slice_get, le_trans, mul-le-mul_left, mul-le-mul_right}
-use Rattle.std.proofs.Common.{le_of_mul-le-mul_right}
+use Rattle.std.proofs.Common.{nat_le, not, if◌then◌else◌, refl, sym, ◌∙◌, ap, arith, List, [], ◌∷◌, ◌++◌, filter}
+use Rattle.std.proofs.Common.{length, replicate, sum_by, Some, slice_get, le_trans, mul-le-mul_left}
+use Rattle.std.proofs.Common.{mul-le-mul_right, le_of_mul-le-mul_right}
+use Rattle.std.proofs.lemmas.List.{length-replicate}
 use Rattle.std.proofs.lemmas.Bool.Decides.{nat_tests}
 use Rattle.std.proofs.lemmas.Grind.{div_ceil_times}
 use Rattle.std.proofs.lemmas.List.Sums.{sum_by-cons}
-use Rattle.cbs_account.specs.Admission.{share, share_of}
+use Rattle.cbs_account.specs.Admission.{share}
 use Rattle.cbs_account.specs.Laws.{Bandwidth, unit_count}
 use Rattle.cbs_account.specs.Rules.{CanCharge, Idle, OwnEvent, after_units, cbs}
-use Rattle.serve_core.specs.Counts.{own_events}
+use Rattle.serve_core.specs.Counts.{held, own_events, specs}
 use Rattle.serve_core.specs.Events.{Leased, Transcript}
 use Rattle.serve_core.specs.Grants.{cost_of_first}
 use Rattle.serve_core.specs.Laws.{DelayLaw, DemandLaw, demand}
+use Rattle.serve_core.specs.Released.{held_share, is_released}
 use Rattle.serve_core.specs.Rules.{AllowsLease}
-use Rattle.serve_core.specs.Setup.{Setup, StreamSpec, cost, costs, reservation_of}
+use Rattle.serve_core.specs.Setup.{Setup, StreamSpec, cost, costs}
 use Rattle.serve_core.specs.Sound.{IsSound}
-use Rattle.serve_core.specs.States.{StreamState, map_at, past, state_of, stream_of}
+use Rattle.serve_core.specs.States.{StreamState, past, state_of, stream_of}
 use Rattle.serve_core.proofs.Accounts.{units_paid}
 use Rattle.serve_core.proofs.Kept.{sound}
-use Rattle.serve_core.proofs.Lists.{get_map_at}
+use Rattle.serve_core.proofs.Lists.{get_map_at, length_map_at}
 use Rattle.serve_core.proofs.Readiness.{earliest_due}
+use Rattle.serve_core.proofs.Releases.{fits_is}
 use Rattle.serve_core.proofs.Turns.{lease_inv}
 
--- a stream's share
-abbrev its_share : StreamSpec → ℕ
-its_share spec = share_of (reservation_of spec)
-
 -- rounding up covers
-share_covers : (q t : ℕ) → 1 ≤ t → q * 1000000 ≤ share q t * t
+pub share_covers : (q t : ℕ) → 1 ≤ t → q * 1000000 ≤ share q t * t
 share_covers q t l = (div_ceil_times (q * 1000000) t l).0
 
-charge_covered : (c t q a d m : ℕ) → 1 ≤ t → c * t ≤ a * q → a ≤ d → q * 1000000 ≤ m * t → c * 1000000 ≤ d * m
+pub charge_covered : (c t q a d m : ℕ) → 1 ≤ t → c * t ≤ a * q → a ≤ d → q * 1000000 ≤ m * t → c * 1000000 ≤ d * m
 charge_covered c t q a d m l h k j =
     let one : a * q ≤ d * q = mul-le-mul_right q k in
     let two : d * (q * 1000000) ≤ d * (m * t) = mul-le-mul_left d j in
     le_of_mul-le-mul_right (let e : (c * 1000000) * t ≤ (d * m) * t = omega (arith, h, one, two) in e) l
 
-tested_le : (a d : ℕ) → nat_le a d ≡ true → a ≤ d
+pub tested_le : (a d : ℕ) → nat_le a d ≡ true → a ≤ d
 tested_le a d h = grind (arith, nat_tests)
 
 -- what f finished frames of s units each cost and the units k behind d more, where there are at most m frames
@@ -72,54 +71,48 @@ module _ {F : Type 0} where
         | inr l ↦ let p = h.account.paid l in omega (arith, p)
       ]
 
-  demand_one : (d : ℕ) (b : Bool) (x : StreamState F) (xs : List (StreamState F))
+  pub demand_one : (d : ℕ) (b : Bool) (x : StreamState F) (xs : List (StreamState F))
       → nat_le x.account.deadline d ≡ b
       → demand d (x ∷ xs) ≡ (if b then x.charged else 0) + demand d xs
   demand_one d true x xs e =
       rw e (sum_by-cons (λ (y : StreamState F). y.charged) x (filter (λ y. nat_le y.account.deadline d) xs))
   demand_one d false x xs e = rw e (omega arith)
 
-  abbrev shares : List (StreamState F) → ℕ
-  shares xs = sum_by (λ x. its_share x.spec) xs
-
-  demand_more : (d : ℕ) (x : StreamState F) (xs : List (StreamState F)) (b : Bool)
+  -- what is due by d of one stream is covered by its share
+  demand_more : (d m n : ℕ) (x : StreamState F) (xs : List (StreamState F)) (b : Bool)
       → nat_le x.account.deadline d ≡ b
-      → (b ≡ true → x.charged * 1000000 ≤ d * its_share x.spec) → demand d xs * 1000000 ≤ d * shares xs
-      → demand d (x ∷ xs) * 1000000 ≤ d * shares (x ∷ xs)
-  demand_more d x xs true e c r =
-      let here = c refl in
-      rw (demand_one d true x xs e, sum_by-cons (λ (y : StreamState F). its_share y.spec) x xs)
-      (omega (arith, here, r))
-  demand_more d x xs false e c r =
-      rw (demand_one d false x xs e, sum_by-cons (λ (y : StreamState F). its_share y.spec) x xs)
-      (omega (arith, r))
+      → (b ≡ true → x.charged * 1000000 ≤ d * m) → demand d xs * 1000000 ≤ d * n
+      → demand d (x ∷ xs) * 1000000 ≤ d * (m + n)
+  demand_more d m n x xs true e c r = let here = c refl in rw (demand_one d true x xs e) (omega (arith, here, r))
+  demand_more d m n x xs false e c r = rw (demand_one d false x xs e) (omega (arith, r))
+
+  abbrev kept_of : ℕ → List (StreamState F) → List (StreamState F)
+  kept_of t xs = filter (λ x. not (is_released t x)) xs
+
+  -- a stream that is released asks for nothing and holds nothing
+  kept_more : (t d : ℕ) (x : StreamState F) (xs : List (StreamState F)) (b : Bool) → is_released t x ≡ b
+      → demand d (x ∷ kept_of t xs) * 1000000 ≤ d * (share x.spec.maximum x.spec.period + sum_by (held_share t) xs)
+      → demand d (kept_of t xs) * 1000000 ≤ d * sum_by (held_share t) xs
+      → demand d (kept_of t (x ∷ xs)) * 1000000 ≤ d * (held_share t x + sum_by (held_share t) xs)
+  kept_more t d x xs true e one rest = rw e (omega (arith, rest))
+  kept_more t d x xs false e one rest = rw e one
 
   demand_within : (t d : ℕ) (xs : List (StreamState F))
       → ((s : ℕ) (x : StreamState F) → slice_get xs s ≡ Some x → IsSound t x)
-      → demand d xs * 1000000 ≤ d * shares xs
+      → demand d (kept_of t xs) * 1000000 ≤ d * sum_by (held_share t) xs
   demand_within t d [] h = omega arith
   demand_within t d (x ∷ xs) h =
       let rest = demand_within t d xs (λ s y k. h (suc s) y k) in
       let here = h zero x refl in
       let some : 1 ≤ x.spec.period = omega (arith, here.bandwidth.0, here.bandwidth.1) in
       let covers = share_covers x.spec.maximum x.spec.period some in
-      demand_more d x xs (nat_le x.account.deadline d) refl
-      (λ a. charge_covered x.charged x.spec.period x.spec.maximum x.account.deadline d (its_share x.spec) some
+      let one = demand_more d (share x.spec.maximum x.spec.period) (sum_by (held_share t) xs) x (kept_of t xs)
+      (nat_le x.account.deadline d) refl
+      (λ a. charge_covered x.charged x.spec.period x.spec.maximum x.account.deadline d
+      (share x.spec.maximum x.spec.period) some
       (paid_always t x here) (tested_le x.account.deadline d a) covers)
-      rest
-
-  -- the specs of a state's streams are the setup's
-  specs_same : (f : ℕ → StreamSpec → StreamState F) (i : ℕ) (xs : List StreamSpec)
-      → ((s : ℕ) (x : StreamSpec) → (f s x).spec ≡ x)
-      → shares (map_at i f xs) ≡ sum_by share_of (map reservation_of xs)
-  specs_same f i [] h = refl
-  specs_same f i (x ∷ xs) h =
-      let one = ap its_share (h i x) in
-      let rest = specs_same f (suc i) xs h in
-      sum_by-cons (λ (y : StreamState F). its_share y.spec) (f i x) (map_at (suc i) f xs)
-      ∙ (let e : its_share (f i x).spec + shares (map_at (suc i) f xs)
-      ≡ its_share x + sum_by share_of (map reservation_of xs) = cc in e)
-      ∙ sym (sum_by-cons share_of (reservation_of x) (map reservation_of xs))
+      rest in
+      rw (sum_by-cons (held_share t) x xs) (kept_more t d x xs (is_released t x) refl one rest)
 
   -- the units that a frame still needs can be charged
   pub chargeable : (t : ℕ) (x : StreamState F) (k : ℕ) → t ≤ 2 ^ 60 → IsSound t x → x.finished < x.accepted
@@ -141,8 +134,8 @@ module _ {F G : Type 0} (measures : StreamSpec → F → Bool → Type 0)
   -- a stream of the summary is what its past makes of its spec
   pub past_of : (setup : Setup) (p : Transcript F G) (s : ℕ) (x : StreamState F)
       → slice_get (state_of setup p).streams s ≡ Some x
-      → (spec : StreamSpec) × (slice_get setup.streams s ≡ Some spec) × (x ≡ stream_of spec (past setup s p))
-  past_of setup p s x k = get_map_at (λ s spec. stream_of spec (past setup s p)) s setup.streams x k
+      → (spec : StreamSpec) × (slice_get (specs setup p) s ≡ Some spec) × (x ≡ stream_of spec (past setup s p))
+  past_of setup p s x k = get_map_at (λ s spec. stream_of spec (past setup s p)) s (specs setup p) x k
 
   own_account : (setup : Setup) (p : Transcript F G) (s : ℕ) (x : StreamState F) (es : List OwnEvent)
       → slice_get (state_of setup p).streams s ≡ Some x → own_events (costs x.spec) (past setup s p) ≡ es
@@ -172,8 +165,13 @@ module _ {F G : Type 0} (measures : StreamSpec → F → Bool → Type 0)
         λ s x k. paid_always m.clock x (h.streams s x k),
         λ d.
             let one = demand_within m.clock d m.streams h.streams in
-            let same = specs_same (λ s spec. stream_of spec (past setup s p)) 0 setup.streams
-            (λ s spec. refl) in
-            let two : d * shares m.streams ≤ d * (1000000 * setup.workers) = rw same (mul-le-mul_left d f) in
-            omega (arith, one, two),
+            let fits = fits_is measures is_image setup p v f l in
+            let two : d * sum_by (held_share m.clock) m.streams ≤ d * (1000000 * length m.workers) =
+            mul-le-mul_left d fits in
+            let count : length m.workers ≡ setup.workers =
+            length_map_at {X = ℕ} (λ w none. held w p) 0 (replicate setup.workers 0)
+            ∙ length-replicate setup.workers 0 in
+            let three : d * (1000000 * length m.workers) ≡ d * (1000000 * setup.workers) =
+            ap (λ (n : ℕ). d * (1000000 * n)) count in
+            omega (arith, one, two, three),
       )

@@ -1,29 +1,34 @@
 -- What one change of a lane makes of a desk.
 use Rattle.std.proofs.Common.{ℕ, zero, suc, ◌+◌, ◌-◌, ◌≡◌, ◌≤◌, ◌<◌, ◌⊎◌, inl, inr, List, [], ◌∷◌}
-use Rattle.std.proofs.Common.{◌++◌, drop, map, replicate, slice_get, slice_set, Some, None, Result, Ok, Err}
+use Rattle.std.proofs.Common.{◌++◌, length, drop, map, replicate, slice_get, slice_set, Some, None, Result, Ok, Err}
 use Rattle.std.specs.Prelude.{⊤}
 use Rattle.std.proofs.Common.{IsFalse, IfOk, IfErr, OnOk, refl, sym, ◌∙◌, ap, subst, arith}
+use Rattle.cbs_account.specs.Admission as admission
 use Rattle.serve_core.specs.declared.collected.Collected.{Collected}
 use Rattle.serve_core.specs.declared.refusal.Refusal.{Refusal}
 use Rattle.serve_core.specs.Bare.{Blank, measures_any, is_any_image}
 use Rattle.serve_core.specs.Counts.{Taken}
 use Rattle.serve_core.specs.Desk.{Answers, RefusesClose, bare_frames, blanks, desk_state, one}
 use Rattle.serve_core.specs.DeskInside.{AreAway, AreUnused, IsDesk}
-use Rattle.serve_core.specs.Events.{Close, Closing, Collect, Event, Image, Reply, Then, Transcript}
+use Rattle.serve_core.specs.Events.{Admit, Admitted, Close, Closing, Collect, Event, Image, Reply, Then}
+use Rattle.serve_core.specs.Events.{Transcript}
 use Rattle.serve_core.specs.Lanes.{Lane, opened}
+use Rattle.serve_core.specs.Released.{StillFits}
 use Rattle.serve_core.specs.Rules.{Allows}
-use Rattle.serve_core.specs.Schedule.{HasLane, IsFirst, RefusesCollect, ScheduleValue, opened_schedule, shut}
-use Rattle.serve_core.specs.Schedule.{stream_by, taken, with_lane}
+use Rattle.serve_core.specs.Schedule.{HasLane, IsAdmitAnswer, IsFirst, RefusesCollect, ScheduleValue, held_by}
+use Rattle.serve_core.specs.Schedule.{opened_schedule, shut, stream_by, taken, with_lane, with_stream}
 use Rattle.serve_core.specs.Leads.{opening_state}
-use Rattle.serve_core.specs.Setup.{IsWithin, Setup, StreamSpec}
+use Rattle.serve_core.specs.Setup.{IsSetup, Setup, StreamSpec}
 use Rattle.serve_core.specs.Sound.{IsSound, Sound}
 use Rattle.serve_core.specs.States.{State, StreamState, after, did}
-use Rattle.serve_core.proofs.Allowing.{close_allowed, collect_allowed}
+use Rattle.serve_core.proofs.Allowing.{admit_allowed, close_allowed, collect_allowed, held_same}
 use Rattle.serve_core.proofs.Kept.{opening_sound}
-use Rattle.serve_core.proofs.Lifts.{led_close, led_collect, stream_here}
+use Rattle.serve_core.proofs.Lifts.{led_admit, led_close, led_collect, stream_here}
+use Rattle.serve_core.proofs.Lists.{push_or}
 use Rattle.serve_core.proofs.Opened.{opening_is}
 use Rattle.serve_core.proofs.Openings.{sound_from}
 use Rattle.serve_core.proofs.Options.{some_and}
+use Rattle.serve_core.proofs.Releases.{fits_from, fits_opening}
 
 -- a changed place holds what was put there
 pub set_or : {X : Type 0} (xs : List X) (s t : ℕ) (y z : X) → slice_get (slice_set xs s y) t ≡ Some z
@@ -80,6 +85,7 @@ pub desk_on : (x y : ScheduleValue) (p : Transcript Blank Blank) → IsDesk x �
 desk_on x y p h led a u =
     record {
       sound = sound_from measures_any is_any_image (desk_state x) (desk_state y) p h.sound led;
+      fits = fits_from measures_any is_any_image (desk_state x) (desk_state y) p h.sound h.fits led;
       away = a;
       unused = u;
     }
@@ -164,9 +170,44 @@ unused_opened (suc n) (suc w) held e = unused_opened n w held e
 pub desk_opened : (setup : Setup) → desk_state (opened_schedule setup) ≡ opening_state Blank Blank setup
 desk_opened setup = opening_is Blank bare_frames setup (λ spec. refl)
 
-pub is_desk_opened : (setup : Setup) → IsWithin setup → IsDesk (opened_schedule setup)
+pub is_desk_opened : (setup : Setup) → IsSetup setup → IsDesk (opened_schedule setup)
 is_desk_opened setup v = record {
-  sound = subst Sound (sym (desk_opened setup)) (opening_sound measures_any is_any_image setup v);
+  sound = subst Sound (sym (desk_opened setup)) (opening_sound measures_any is_any_image setup v.0);
+  fits = subst StillFits (sym (desk_opened setup)) (fits_opening measures_any is_any_image setup v.1);
   away = away_opened setup.streams;
   unused = unused_opened setup.workers;
 }
+
+-- what a desk's schedule asks before it answers a stream that is to be admitted
+pub desk_fits : (x : ScheduleValue) → IsDesk x → admission.Fits (held_by x)
+desk_fits x h = subst admission.Fits (held_same bare_frames x) h.fits
+
+away_pushed : (lanes : List Lane) (spec : StreamSpec) → AreAway lanes → AreAway (lanes ++ opened spec ∷ [])
+away_pushed lanes spec h s lane e =
+    elim (push_or lanes (opened spec) s lane e) [
+      | inl old ↦ h s lane old
+      | inr new ↦ subst (λ (lane : Lane). lane.leased ≡ None) (sym new.1) refl
+    ]
+
+-- one stream more
+pub admitted : (x y : ScheduleValue) (spec : StreamSpec) (s : ℕ) → IsDesk x → IsAdmitAnswer x spec None
+    → (s ≡ length x.lanes) × (y ≡ with_stream spec x)
+    → Answers x (one (Admit spec) (Admitted s)) y × IsDesk y
+admitted x y spec s h can p =
+    let led = led_one x (with_stream spec x) (Admit spec) (Admitted s)
+    (admit_allowed measures_any is_any_image bare_frames x spec s can p.0)
+    (led_admit Blank bare_frames x spec s refl) in
+    let new = p.1 in
+    rw new (
+      led,
+      desk_on x (with_stream spec x) (one (Admit spec) (Admitted s)) h led
+          (away_pushed x.lanes spec h.away) h.unused,
+    )
+
+-- one stream more, or none for want of memory
+pub added : (x y : ScheduleValue) (spec : StreamSpec) (r : Result ℕ StreamSpec) → IsDesk x
+    → IsAdmitAnswer x spec None
+    → IfOk r (λ s. (s ≡ length x.lanes) × (y ≡ with_stream spec x)) → IfErr r (λ back. (back ≡ spec) × (y ≡ x))
+    → IfOk r (λ s. Answers x (one (Admit spec) (Admitted s)) y) × IsDesk y
+added x y spec (Ok s) h can ok err = admitted x y spec s h can ok
+added x y spec (Err back) h can ok err = (tt, rw err.1 h)

@@ -2,6 +2,7 @@
 use Rattle.std.proofs.Common.{ℕ, suc, ◌≡◌, Bool, List, [], ◌∷◌, map, Option, Some, refl, ap, subst}
 use Rattle.std.proofs.Common.{slice_get}
 use Rattle.edf_pool.specs.Earliest.{IsEarliest}
+use Rattle.serve_core.specs.Counts.{specs}
 use Rattle.serve_core.specs.Events.{Lease, Leased, Then, Transcript}
 use Rattle.serve_core.specs.Headline.{HeadlineLaw, IsDue, IsServed, own_deadlines}
 use Rattle.serve_core.specs.Rules.{AllowsLease, IsLegal, grant}
@@ -22,12 +23,12 @@ module _ {F G : Type 0} where
   deadlines_own : (setup : Setup) (p : Transcript F G)
       → deadlines (state_of setup p) ≡ own_deadlines setup p
   deadlines_own setup p =
-      map_map_at ready_deadline (λ s spec. stream_of spec (past setup s p)) 0 setup.streams
+      map_map_at ready_deadline (λ s spec. stream_of spec (past setup s p)) 0 (specs setup p)
 
 module _ {F G : Type 0} (measures : StreamSpec → F → Bool → Type 0)
     (is_image : StreamSpec → F → G → Type 0) where
   served_is : (setup : Setup) (p : Transcript F G) (s : ℕ) (spec : StreamSpec) → IsWithin setup
-      → IsLegal measures is_image setup p → slice_get setup.streams s ≡ Some spec
+      → IsLegal measures is_image setup p → slice_get (specs setup p) s ≡ Some spec
       → IsServed measures is_image setup p s spec
   served_is setup p s spec v l k = record {
     images = delivered_is measures is_image setup p s spec v l k;
@@ -47,7 +48,7 @@ module _ {F G : Type 0} (measures : StreamSpec → F → Bool → Type 0)
       in
       record {
         earliest = subst (λ (ds : List (Option ℕ)). IsEarliest ds s) (deadlines_own setup q) given.0;
-        granted = and_some (slice_get setup.streams s) _ from.0 from.1 its_own;
+        granted = and_some (slice_get (specs setup q) s) _ from.0 from.1 its_own;
       }
 
   pub headline_is : HeadlineLaw measures is_image

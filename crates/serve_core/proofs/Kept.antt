@@ -1,21 +1,23 @@
 -- A turn keeps leases and holders together, and each step keeps a state sound.
 use Rattle.std.proofs.Common.{ℕ, ◌+◌, ◌^◌, ◌≡◌, ◌≢◌, ◌≤◌, ◌⊎◌, inl, inr, Bool, true, false, nat_eq, nat_lt}
 use Rattle.std.proofs.Common.{if◌then◌else◌, refl, sym, ◌∙◌, ap, subst, arith, [], Option, Some, None}
-use Rattle.std.proofs.Common.{slice_get, replicate, le_refl}
+use Rattle.std.proofs.Common.{slice_get, List, replicate, length, le_refl}
+use Rattle.std.proofs.lemmas.List.{length-replicate}
 use Rattle.serve_core.specs.declared.refusal.Refusal.TheVariants as refusals
 use Rattle.serve_core.specs.declared.held.Held.{Held}
 use Rattle.serve_core.specs.Counts.{Back, Deed, Ended, Lent, Worked, clock_after, deed, held_after}
 use Rattle.serve_core.specs.Counts.{one_more_used}
-use Rattle.serve_core.specs.Events.{Arrive, Band, Close, Collect, Event, Lease, Refused, Reply, Settle, Start}
-use Rattle.serve_core.specs.Events.{Then, Tick, Ticked, Transcript}
+use Rattle.serve_core.specs.Events.{Admit, Admitted, Arrive, Band, Close, Collect, Event, Lease, Refused, Reply}
+use Rattle.serve_core.specs.Events.{Settle, Start, Then, Tick, Ticked, Transcript, with_admitted}
 use Rattle.serve_core.specs.Laws.{SoundLaw, SoundStepLaw}
 use Rattle.serve_core.specs.Rules.{Allows}
 use Rattle.serve_core.specs.Setup.{HasBandwidth, IsWithinLimits, IsWithin, Setup, StreamSpec}
 use Rattle.serve_core.specs.Sound.{IsLeaseOf, IsSound, Sound}
 use Rattle.serve_core.specs.States.{State, StreamState, after, did, did_any, held_at, map_at, state_of}
-use Rattle.serve_core.specs.States.{stream_of}
+use Rattle.serve_core.specs.States.{new_stream, stream_of}
+use Rattle.serve_core.proofs.Newcomers.{get_admitted}
 use Rattle.serve_core.proofs.Steps.{new_lease}
-use Rattle.serve_core.proofs.Lists.{get_map_at, map_at_get, all_at}
+use Rattle.serve_core.proofs.Lists.{get_map_at, length_map_at, map_at_get, all_at, push_or}
 use Rattle.serve_core.proofs.Streams.{same_or, opened_sound, later_sound, did_any_sound}
 use Rattle.serve_core.proofs.Summary.{summary_more}
 use Rattle.serve_core.proofs.Turns.{Turn, Quiet, Lends, Works, Settles, turns, tested_ge}
@@ -46,6 +48,15 @@ module _ {F : Type 0} where
   ended_holder x d P Q h = elim h [ inl p ↦ rw p.0 refl | inr p ↦ rw p.0 refl ]
 
 module _ {F G : Type 0} where
+  -- a stream after the event
+  pub get_after : (m : State F) (e : Event F) (r : Reply F G) (s : ℕ) (x : StreamState F)
+      → slice_get m.streams s ≡ Some x
+      → slice_get (after m e r).streams s ≡ Some (did_any x (deed s m.clock (held_at m.workers) e r))
+  get_after m e r s x here =
+      get_admitted new_stream e r (map_at 0 (λ s y. did_any y (deed s m.clock (held_at m.workers) e r)) m.streams)
+      s (did_any x (deed s m.clock (held_at m.workers) e r))
+      (map_at_get (λ s y. did_any y (deed s m.clock (held_at m.workers) e r)) s m.streams x here)
+
   -- the lease l of worker v, after the event
   abbrev pub Kept : State F → Event F → Reply F G → ℕ → Held → Type 0
   Kept m e r v l = (y : StreamState F) × (slice_get (after m e r).streams l.stream ≡ Some y) × IsLeaseOf v l y
@@ -57,8 +68,7 @@ module _ {F G : Type 0} where
   kept_by m e r v l x o here d i = (
     did_any x o,
     subst (λ (p : Option (Deed F)). slice_get (after m e r).streams l.stream ≡ Some
-        (did_any x p)) d (map_at_get (λ s y. did_any y (deed s m.clock (held_at m.workers) e r))
-        l.stream m.streams x here),
+        (did_any x p)) d (get_after m e r l.stream x here),
     i,
   )
 
@@ -215,6 +225,43 @@ module _ {F G : Type 0} (measures : StreamSpec → F → Bool → Type 0)
   rises m (Tick to) r l a = (le_refl m.clock, l)
   rises m (Close u) r l a = (le_refl m.clock, l)
   rises m (Collect u) r l a = (le_refl m.clock, l)
+  rises m (Admit spec) r l a = (le_refl m.clock, l)
+
+  -- a stream that is there after an event, or was admitted by it
+  abbrev pub IsNew : StreamState F → Type 0
+  IsNew y = (spec : StreamSpec) × IsWithinLimits spec × HasBandwidth spec × (y ≡ new_stream spec)
+
+  new_or : (m : State F) (e : Event F) (r : Reply F G) (xs : List (StreamState F)) (s : ℕ) (y : StreamState F)
+      → Allows measures is_image m e r → slice_get (with_admitted new_stream e r xs) s ≡ Some y
+      → (slice_get xs s ≡ Some y) ⊎ IsNew y
+  new_or m (Admit spec) (Admitted u) xs s y a k =
+      elim (push_or xs (new_stream spec) s y k) [
+        | inl old ↦ inl old
+        | inr last ↦ inr (spec, a.0.limits, a.0.bandwidth, last.1)
+      ]
+  new_or m e r xs s y a k = inl k
+
+  -- a stream after the event is one that was there, with its deed, or a new one
+  abbrev pub WasThere : State F → Event F → Reply F G → ℕ → StreamState F → Type 0
+  WasThere m e r s y = (x : StreamState F) × (slice_get m.streams s ≡ Some x)
+      × (y ≡ did_any x (deed s m.clock (held_at m.workers) e r))
+
+  pub after_or : (m : State F) (e : Event F) (r : Reply F G) (s : ℕ) (y : StreamState F)
+      → Allows measures is_image m e r → slice_get (after m e r).streams s ≡ Some y
+      → WasThere m e r s y ⊎ IsNew y
+  after_or m e r s y a k =
+      let f = λ (s : ℕ) (x : StreamState F). did_any x (deed s m.clock (held_at m.workers) e r) in
+      elim (new_or m e r (map_at 0 f m.streams) s y a k) [
+        | inl old ↦ inl (get_map_at f s m.streams y old)
+        | inr new ↦ inr new
+      ]
+
+  new_sound : (t : ℕ) (y : StreamState F) → IsNew y → IsSound t y
+  new_sound t y n =
+      subst (IsSound t) (sym n.3) (later_sound 0 t (new_stream n.0) (omega arith) (opened_sound n.0 n.1 n.2))
+
+  new_idle : (y : StreamState F) (w : ℕ) → IsNew y → y.holder ≡ Some w → ⊥
+  new_idle y w n q = let none : y.holder ≡ None = ap (λ (z : StreamState F). z.holder) n.3 in cc
 
   pub step_sound : SoundStepLaw measures is_image
   step_sound m e r h a =
@@ -223,18 +270,24 @@ module _ {F G : Type 0} (measures : StreamSpec → F → Bool → Type 0)
       record {
         clock = c.1;
         quantum = h.quantum;
+        some_workers = rw (length_map_at (λ w h. held_after w h e r) 0 m.workers) h.some_workers;
+        workers = rw (length_map_at (λ w h. held_after w h e r) 0 m.workers) h.workers;
         streams = λ s y k.
-            let g = get_map_at (λ s x. did_any x (deed s m.clock (held_at m.workers) e r)) s m.streams y k in
-            subst (IsSound (clock_after m.clock e r)) (sym g.2)
-            (later_sound m.clock (clock_after m.clock e r) _ c.0
-            (did_any_sound m.clock g.0 (deed s m.clock (held_at m.workers) e r) (h.streams s g.0 g.1)
-            (can measures is_image m e r s g.0 h a g.1)));
+            elim (after_or m e r s y a k) [
+              | inl g ↦ subst (IsSound (clock_after m.clock e r)) (sym g.2)
+                  (later_sound m.clock (clock_after m.clock e r) _ c.0
+                  (did_any_sound m.clock g.0 (deed s m.clock (held_at m.workers) e r) (h.streams s g.0 g.1)
+                  (can measures is_image m e r s g.0 h a g.1)))
+              | inr n ↦ new_sound (clock_after m.clock e r) y n
+            ];
         leases = λ w l k.
             let g = get_map_at (λ v h. held_after v h e r) w m.workers (Some l) k in
             lease_kept m e r h w l g.0 g.1 (sym g.2) t;
         holders = λ s y w k q.
-            let g = get_map_at (λ s x. did_any x (deed s m.clock (held_at m.workers) e r)) s m.streams y k in
-            holder_kept m e r h s g.0 w g.1 (ap (λ (z : StreamState F). z.holder) (sym g.2) ∙ q) t;
+            elim (after_or m e r s y a k) [
+              | inl g ↦ holder_kept m e r h s g.0 w g.1 (ap (λ (z : StreamState F). z.holder) (sym g.2) ∙ q) t
+              | inr n ↦ absurd (new_idle y w n q)
+            ];
       }
 
   none_held : (n w : ℕ) (l : Held) → slice_get (map_at {X = ℕ} 0 (λ w none. let h : Option Held = None in h)
@@ -243,11 +296,19 @@ module _ {F G : Type 0} (measures : StreamSpec → F → Bool → Type 0)
       get_map_at {X = ℕ} (λ w none. let h : Option Held = None in h) w (replicate n 0) (Some l) k in
       let no = g.2 in cc
 
+  workers_opened : (n : ℕ)
+      → length (map_at {X = ℕ} 0 (λ w none. let h : Option Held = None in h) (replicate n 0)) ≡ n
+  workers_opened n =
+      length_map_at {X = ℕ} (λ w none. let h : Option Held = None in h) 0 (replicate n 0)
+      ∙ length-replicate n 0
+
   pub opening_sound : (setup : Setup) → IsWithin setup
       → Sound (state_of setup (let p : Transcript F G = Start in p))
   opening_sound setup v = record {
     clock = omega arith;
     quantum = v.limits.some_quantum;
+    some_workers = rw (workers_opened setup.workers) v.limits.some_workers;
+    workers = rw (workers_opened setup.workers) v.limits.workers;
     streams = λ s y k. let g = get_map_at (λ s spec. stream_of {F = F} spec []) s setup.streams y k in
         subst (IsSound 0) (sym g.2)
         (opened_sound g.0 (all_at IsWithinLimits setup.streams s g.0 v.limits.each g.1)

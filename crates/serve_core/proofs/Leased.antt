@@ -9,7 +9,7 @@ use Rattle.serve_core.specs.Rules.{AllowsLease}
 use Rattle.serve_core.specs.Setup.{StreamSpec}
 use Rattle.serve_core.specs.Sound.{Sound}
 use Rattle.serve_core.specs.States.{State, StreamState, after, did_any, held_at}
-use Rattle.serve_core.proofs.Kept.{one_holder}
+use Rattle.serve_core.proofs.Kept.{get_after, one_holder}
 use Rattle.serve_core.proofs.Options.{some_and, and_some}
 use Rattle.serve_core.proofs.Steps.{new_lease}
 use Rattle.serve_core.proofs.Lists.{map_at_get}
@@ -53,8 +53,7 @@ module _ {F G : Type 0} where
   can_by m e r w k units h l x o mine here u q d c =
       let stream : slice_get (after m e r).streams l.stream ≡ Some (did_any x o) =
       subst (λ (p : Option (Deed F)). slice_get (after m e r).streams l.stream ≡ Some (did_any x p)) d
-      (map_at_get (λ s y. did_any y (deed s m.clock (held_at m.workers) e r)) l.stream m.streams x here)
-      in
+      (get_after m e r l.stream x here) in
       and_some (slice_get (after m e r).workers w) _ (Some l)
       (map_at_get (λ v h. held_after v h e r) w m.workers h mine ∙ ap Some q)
       (u, and_some (slice_get (after m e r).streams l.stream) _ (did_any x o) stream c)

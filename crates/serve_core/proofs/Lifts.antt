@@ -1,19 +1,20 @@
 -- What a change of one lane makes of the state that is seen of a schedule.
-use Rattle.std.proofs.Common.{ℕ, ◌≡◌, List}
+use Rattle.std.proofs.Common.{ℕ, ◌≡◌, List, [], ◌∷◌, ◌++◌, map}
 use Rattle.std.proofs.Common.{Option, Some, None, slice_get, slice_set, refl, ◌∙◌, ap}
-use Rattle.std.proofs.lemmas.List.{map-set}
+use Rattle.std.proofs.lemmas.List.{map-set, map_push}
 use Rattle.std.proofs.lemmas.Option.{slice_get-map}
 use Rattle.serve_core.specs.declared.held.Held.{Held}
 use Rattle.serve_core.specs.Counts.{Came, Lent, Shut, Taken, Worked}
-use Rattle.serve_core.specs.Events.{Accepted, Arrive, Band, Close, Closing, Collect, Image}
+use Rattle.serve_core.specs.Events.{Accepted, Admit, Admitted, Arrive, Band, Close, Closing, Collect, Image}
 use Rattle.serve_core.specs.Events.{Lease, Leased, Reply, Settle, Stepped}
-use Rattle.serve_core.specs.Lanes.{Lane}
-use Rattle.serve_core.specs.Schedule.{ScheduleValue, state_by, stream_by, with_held, with_lane}
+use Rattle.serve_core.specs.Lanes.{Lane, opened}
+use Rattle.serve_core.specs.Schedule.{ScheduleValue, state_by, stream_by, with_held, with_lane, with_stream}
+use Rattle.serve_core.specs.Setup.{StreamSpec}
 use Rattle.serve_core.specs.AtOnce.{with_used}
 use Rattle.serve_core.specs.Counts.{settled}
 use Rattle.serve_core.specs.Rules.{settle_reply}
-use Rattle.serve_core.specs.States.{StreamState, after, did, did_any}
-use Rattle.serve_core.proofs.Changes.{after_arrive, after_band, after_close, after_collect, after_lease}
+use Rattle.serve_core.specs.States.{StreamState, after, did, did_any, new_stream}
+use Rattle.serve_core.proofs.Changes.{after_admit, after_arrive, after_band, after_close, after_collect, after_lease}
 use Rattle.serve_core.proofs.Changes.{after_settle}
 use Rattle.serve_core.proofs.Steps.{new_lease, state, state_is}
 
@@ -97,3 +98,13 @@ module _ {F : Type 0} (G : Type 0) (frames : Lane → List F) where
       one_lease frames x w held.stream None new _ d
       ∙ after_settle G (state_by frames x) w held (stream_by frames old) r s mine
       (stream_here frames x held.stream old e)
+
+  pub led_admit : (x : ScheduleValue) (spec : StreamSpec) (s : ℕ)
+      → stream_by frames (opened spec) ≡ new_stream spec
+      → let r : Reply F G = Admitted s in
+      state_by frames (with_stream spec x) ≡ after (state_by frames x) (Admit spec) r
+  led_admit x spec s e =
+      state_is x.clock x.quantum _ _ x.workers x.workers
+      (map_push (stream_by frames) x.lanes (opened spec)
+      ∙ ap (λ (y : StreamState F). map (stream_by frames) x.lanes ++ y ∷ []) e) refl
+      ∙ after_admit G (state_by frames x) spec s

@@ -1,5 +1,6 @@
-use Rattle.std.proofs.Common.{ℕ, zero, suc, ◌+◌, ◌≡◌, ◌≢◌, ◌<◌, All, List, [], ◌∷◌, Some, slice_get}
-use Rattle.std.proofs.Common.{slice_set, get_or, length, refl, sym, ◌∙◌, ap, arith, add-zero, zero-add, subst}
+use Rattle.std.proofs.Common.{ℕ, zero, suc, ◌+◌, ◌≡◌, ◌≢◌, ◌≤◌, ◌<◌, ◌⊎◌, inl, inr, All, List, [], ◌∷◌, ◌++◌}
+use Rattle.std.proofs.Common.{Some, None, slice_get, slice_set, get_or, length, refl, sym, ◌∙◌, ap, arith}
+use Rattle.std.proofs.Common.{add-zero, zero-add, subst}
 use Rattle.std.proofs.lemmas.List.Elements.{All-get_or}
 use Rattle.std.proofs.lemmas.Option.{get_or_from_slice_get, slice_get_within}
 use Rattle.serve_core.specs.States.{map_at}
@@ -88,3 +89,38 @@ pub map_at_get : {X Y : Type 0} (f : ℕ → X → Y) (s : ℕ) (xs : List X) (x
     → slice_get (map_at 0 f xs) s ≡ Some (f s x)
 map_at_get f s xs x e =
     subst (λ (n : ℕ). slice_get (map_at 0 f xs) s ≡ Some (f n x)) (add-zero s) (map_at_get_from f 0 s xs x e)
+
+pub length_map_at : {X Y : Type 0} (f : ℕ → X → Y) (i : ℕ) (xs : List X) → length (map_at i f xs) ≡ length xs
+length_map_at f i [] = refl
+length_map_at f i (x ∷ xs) = let tail = length_map_at f (suc i) xs in omega (arith, tail)
+
+-- one item more, behind all others
+pub map_at_push : {X Y : Type 0} (f : ℕ → X → Y) (i n : ℕ) (xs : List X) (x : X) → n ≡ length xs + i
+    → map_at i f (xs ++ x ∷ []) ≡ map_at i f xs ++ f n x ∷ []
+map_at_push f i n [] x e = let same : n ≡ i = omega (arith, e) in rw same refl
+map_at_push f i n (y ∷ xs) x e = ap (λ ys. f i y ∷ ys) (map_at_push f (suc i) n xs x (omega (arith, e)))
+
+pub push_old : {X : Type 0} (xs : List X) (y : X) (s : ℕ) (x : X) → slice_get xs s ≡ Some x
+    → slice_get (xs ++ y ∷ []) s ≡ Some x
+push_old [] y s x e = absurd (cc)
+push_old (z ∷ xs) y zero x e = e
+push_old (z ∷ xs) y (suc s) x e = push_old xs y s x e
+
+pub push_last : {X : Type 0} (xs : List X) (y : X) (s : ℕ) → s ≡ length xs → slice_get (xs ++ y ∷ []) s ≡ Some y
+push_last [] y zero e = refl
+push_last [] y (suc s) e = absurd (omega (arith, e))
+push_last (z ∷ xs) y zero e = absurd (omega (arith, e))
+push_last (z ∷ xs) y (suc s) e = push_last xs y s (omega (arith, e))
+
+pub push_or : {X : Type 0} (xs : List X) (y : X) (s : ℕ) (x : X) → slice_get (xs ++ y ∷ []) s ≡ Some x
+    → (slice_get xs s ≡ Some x) ⊎ ((s ≡ length xs) × (x ≡ y))
+push_or [] y zero x e = inr (omega arith, cc)
+push_or [] y (suc s) x e = absurd (cc)
+push_or (z ∷ xs) y zero x e = inl e
+push_or (z ∷ xs) y (suc s) x e =
+    elim (push_or xs y s x e) [ inl old ↦ inl old | inr last ↦ inr (omega (arith, last.0), last.1) ]
+
+pub none_past : {X : Type 0} (xs : List X) (s : ℕ) → length xs ≤ s → slice_get xs s ≡ None
+none_past [] s l = refl
+none_past (x ∷ xs) zero l = absurd (omega (arith, l))
+none_past (x ∷ xs) (suc s) l = none_past xs s (omega (arith, l))

@@ -1,9 +1,10 @@
 -- What each event makes of a machine.
 use Rattle.std.proofs.Common.{ℕ, zero, suc, ◌≡◌, ◌≢◌, ◌<◌, inl, inr, Bool, true, List, [], ◌∷◌, Option, Some}
 use Rattle.std.proofs.Common.{None, IsFalse, IsSome, IsSomeAnd, MatchOption, IsTrue, ◌↔◌, slice_get}
-use Rattle.std.proofs.Common.{slice_set, is_some, refl, sym, ◌∙◌, ap, subst, arith}
+use Rattle.std.proofs.Common.{slice_set, is_some, refl, sym, ◌∙◌, ap, subst, arith, ◌++◌, length}
 use Rattle.std.proofs.lemmas.Option.{slice_get-map}
 use Rattle.std.specs.Option.{option_map}
+use Rattle.cbs_account.specs.Admission as admission
 use Rattle.frame_view.specs.declared.geometry.Geometry.{Geometry}
 use Rattle.filters.specs.ChainImage.{FrameValue, value_of}
 use Rattle.lease.specs.Job.{JobValue}
@@ -13,30 +14,34 @@ use Rattle.serve_core.specs.declared.refusal.Refusal.{Refusal}
 use Rattle.serve_core.specs.declared.refusal.Refusal.TheVariants as refusals
 use Rattle.serve_core.specs.AtOnce.{with_used}
 use Rattle.serve_core.specs.Counts.{Came}
-use Rattle.serve_core.specs.Events.{Accepted, Arrive, Band, Close, Closing, Collect, Event, Finished}
-use Rattle.serve_core.specs.Events.{GivenBack, Image, Lease, Leased, Refused, Reply, Returned, Settle, Stepped}
-use Rattle.serve_core.specs.Events.{Tick, Ticked}
+use Rattle.serve_core.specs.Events.{Accepted, Admit, Admitted, Arrive, Band, Close, Closing, Collect, Event}
+use Rattle.serve_core.specs.Events.{Finished, GivenBack, Image, Lease, Leased, Refused, Reply, Returned, Settle}
+use Rattle.serve_core.specs.Events.{SpecBack, Stepped, Tick, Ticked}
 use Rattle.serve_core.specs.Frames.{measures, is_image}
-use Rattle.serve_core.specs.Lanes.{GainsImage, Lane, source_in, source_of}
+use Rattle.serve_core.specs.Lanes.{GainsImage, Lane, opened, source_in, source_of}
 use Rattle.serve_core.specs.MachineInside.{AreWhole, IsMachine, machine}
 use Rattle.serve_core.specs.Rules.{Allows, arrival_refusal, settle_reply}
 use Rattle.serve_core.specs.Schedule as rules
-use Rattle.serve_core.specs.Schedule.{CanStep, HasLane, HasLease, IsFirst, IsLending, RefusesCollect}
-use Rattle.serve_core.specs.Schedule.{RefusesLease}
-use Rattle.serve_core.specs.Schedule.{ScheduleValue, tick_refusal, with_held, with_lane}
-use Rattle.serve_core.specs.Setup.{steps}
+use Rattle.serve_core.specs.Released.{StillFits}
+use Rattle.serve_core.specs.Schedule.{CanStep, HasLane, HasLease, IsAdmitAnswer, IsFirst, IsLending}
+use Rattle.serve_core.specs.Schedule.{RefusesCollect, RefusesLease, ScheduleValue, held_by, tick_refusal}
+use Rattle.serve_core.specs.Schedule.{with_held, with_lane, with_stream}
+use Rattle.serve_core.specs.Setup.{StreamSpec, steps}
 use Rattle.serve_core.specs.Sound.{Sound}
 use Rattle.serve_core.specs.States.{State, StreamState, after, did}
-use Rattle.serve_core.proofs.Allowing.{arrive_chosen, arrive_refused, close_allowed, close_refused}
+use Rattle.serve_core.proofs.Allowing.{admit_allowed, admit_refused, admit_unfed, arrive_chosen, arrive_refused}
+use Rattle.serve_core.proofs.Allowing.{close_allowed, close_refused, held_same}
 use Rattle.serve_core.proofs.Allowing.{collect_allowed, collect_refused, lease_allowed, lease_refused}
 use Rattle.serve_core.proofs.Allowing.{settle_allowed, ticked}
 use Rattle.serve_core.proofs.AtOnce.{band_allowed, test_no, test_yes, used_more}
-use Rattle.serve_core.proofs.Changes.{after_refused, after_tick}
+use Rattle.serve_core.proofs.Changes.{after_refused, after_spec_back, after_tick}
 use Rattle.serve_core.proofs.Facts.{band_left, lease_of}
 use Rattle.serve_core.proofs.Kept.{step_sound}
-use Rattle.serve_core.proofs.Lifts.{led_arrive, led_band, led_close, led_collect, led_lease, led_settle}
-use Rattle.serve_core.proofs.Lifts.{stream_here}
+use Rattle.serve_core.proofs.Lifts.{led_admit, led_arrive, led_band, led_close, led_collect, led_lease}
+use Rattle.serve_core.proofs.Lifts.{led_settle, stream_here}
+use Rattle.serve_core.proofs.Lists.{push_or}
 use Rattle.serve_core.proofs.Options.{and_some, some_and}
+use Rattle.serve_core.proofs.Releases.{fits_step}
 use Rattle.serve_core.proofs.Soundness.{one_item}
 use Rattle.serve_core.proofs.Steps.{new_lease}
 
@@ -77,6 +82,7 @@ goes old new e r h a s w = record {
   state = s;
   kept = record {
     sound = subst Sound (sym s) (step_sound measures is_image (machine old) e r h.sound a);
+    fits = subst StillFits (sym s) (fits_step measures is_image (machine old) e r h.sound a h.fits);
     whole = w;
   };
 }
@@ -311,3 +317,40 @@ pub lease_not : (old new : ScheduleValue) (w : ℕ) (k : Refusal) → IsMachine 
     → RefusesLease old w k × (new ≡ old) → Goes old new (Lease w) (Refused k)
 lease_not old new w k h p =
     refused_goes old new (Lease w) k h (lease_refused measures is_image frames old w k p.0) p.1
+
+-- what a schedule asks before it answers a stream that is to be admitted
+pub held_fits : (old : ScheduleValue) → IsMachine old → admission.Fits (held_by old)
+held_fits old h = subst admission.Fits (held_same frames old) h.fits
+
+-- a new stream has no job out
+whole_pushed : (lanes : List Lane) (spec : StreamSpec) → AreWhole lanes → AreWhole (lanes ++ opened spec ∷ [])
+whole_pushed lanes spec w s lane e =
+    elim (push_or lanes (opened spec) s lane e) [
+      | inl old ↦ w s lane old
+      | inr new ↦ subst IsWhole (sym new.1) refl
+    ]
+
+pub admit_goes : (old new : ScheduleValue) (spec : StreamSpec) (s : ℕ) → IsMachine old
+    → IsAdmitAnswer old spec None → (s ≡ length old.lanes) × (new ≡ with_stream spec old)
+    → Goes old new (Admit spec) (Admitted s)
+admit_goes old new spec s h can p =
+    goes old new (Admit spec) (Admitted s) h (admit_allowed measures is_image frames old spec s can p.0)
+    (ap machine p.1 ∙ led_admit FrameValue frames old spec s refl)
+    (subst (λ (x : ScheduleValue). AreWhole x.lanes) (sym p.1) (whole_pushed old.lanes spec h.whole))
+
+pub admit_not : (old new : ScheduleValue) (spec : StreamSpec) (k : Refusal) → IsMachine old
+    → Allows measures is_image (machine old) (Admit spec) (SpecBack k spec) → new ≡ old
+    → Goes old new (Admit spec) (SpecBack k spec)
+admit_not old new spec k h a same =
+    goes old new (Admit spec) (SpecBack k spec) h a (ap machine same ∙ after_spec_back FrameValue (machine old) spec k)
+    (subst (λ (x : ScheduleValue). AreWhole x.lanes) (sym same) h.whole)
+
+pub admit_refused_goes : (old new : ScheduleValue) (spec : StreamSpec) (k : Refusal) → IsMachine old
+    → IsAdmitAnswer old spec (Some k) → new ≡ old → Goes old new (Admit spec) (SpecBack k spec)
+admit_refused_goes old new spec k h answer same =
+    admit_not old new spec k h (admit_refused measures is_image frames old spec k answer) same
+
+pub admit_unfed_goes : (old new : ScheduleValue) (spec : StreamSpec) → IsMachine old
+    → IsAdmitAnswer old spec None → new ≡ old → Goes old new (Admit spec) (SpecBack refusals.NoMemory spec)
+admit_unfed_goes old new spec h can same =
+    admit_not old new spec refusals.NoMemory h (admit_unfed measures is_image frames old spec can) same

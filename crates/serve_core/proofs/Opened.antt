@@ -10,10 +10,12 @@ use Rattle.serve_core.specs.Lanes.{Lane, opened}
 use Rattle.serve_core.specs.Leads.{opening_state}
 use Rattle.serve_core.specs.MachineInside.{AreWhole, IsMachine, machine}
 use Rattle.serve_core.specs.Schedule.{opened_schedule, state_by, stream_by}
-use Rattle.serve_core.specs.Setup.{IsWithin, Setup, StreamSpec}
+use Rattle.serve_core.specs.Released.{StillFits}
+use Rattle.serve_core.specs.Setup.{IsSetup, Setup, StreamSpec}
 use Rattle.serve_core.specs.Sound.{Sound}
 use Rattle.serve_core.specs.States.{map_at, stream_of}
 use Rattle.serve_core.proofs.Kept.{opening_sound}
+use Rattle.serve_core.proofs.Releases.{fits_opening}
 use Rattle.serve_core.proofs.Steps.{state_is}
 
 module _ {F : Type 0} (G : Type 0) (frames : Lane → List F) where
@@ -21,7 +23,7 @@ module _ {F : Type 0} (G : Type 0) (frames : Lane → List F) where
       → ((spec : StreamSpec) → stream_by frames (opened spec) ≡ stream_of spec [])
       → let none : Transcript F G = Start in
       map (stream_by frames) (map opened specs)
-      ≡ map_at i (λ s spec. stream_of spec (history setup.workers s none)) specs
+      ≡ map_at i (λ s spec. stream_of spec (history setup s none)) specs
   streams_opened setup i [] h = refl
   streams_opened setup i (spec ∷ specs) h =
       let one = h spec in
@@ -50,8 +52,9 @@ whole_opened (spec ∷ specs) (suc s) lane e = whole_opened specs s lane e
 pub machine_opened : (setup : Setup) → machine (opened_schedule setup) ≡ opening_state FrameValue FrameValue setup
 machine_opened setup = opening_is FrameValue (λ lane. lane.state.frames) setup (λ spec. refl)
 
-pub is_machine_opened : (setup : Setup) → IsWithin setup → IsMachine (opened_schedule setup)
+pub is_machine_opened : (setup : Setup) → IsSetup setup → IsMachine (opened_schedule setup)
 is_machine_opened setup v = record {
-  sound = subst Sound (sym (machine_opened setup)) (opening_sound measures is_image setup v);
+  sound = subst Sound (sym (machine_opened setup)) (opening_sound measures is_image setup v.0);
+  fits = subst StillFits (sym (machine_opened setup)) (fits_opening measures is_image setup v.1);
   whole = whole_opened setup.streams;
 }

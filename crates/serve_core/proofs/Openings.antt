@@ -75,7 +75,7 @@ module _ {F G : Type 0} (measures : StreamSpec → F → Bool → Type 0)
       let all = join_is m (state_of setup p) n p q led h in
       (opening_legal setup (joined p q) all.0, from_opening setup (joined p q) ∙ all.1)
 
-  legal_sound : (m : State F) (p : Transcript F G) → Sound m → IsLegalFrom measures is_image m p
+  pub legal_sound : (m : State F) (p : Transcript F G) → Sound m → IsLegalFrom measures is_image m p
       → Sound (state_from m p)
   legal_sound m Start h l = h
   legal_sound m (Then p e r) h l =

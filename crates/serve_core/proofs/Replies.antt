@@ -1,17 +1,25 @@
 -- Each event has a right reply.
 use Rattle.std.proofs.Common.{ℕ, zero, suc, ◌≡◌, ◌≤◌, ◌<◌, ◌⊎◌, inl, inr, Bool, nat_lt, refl, subst, arith}
 use Rattle.std.proofs.Common.{le_trans, List, [], ◌∷◌, length, Option, Some, None, slice_get, MatchOption}
-use Rattle.std.proofs.Common.{MatchBool, IsSomeAnd, true, false}
+use Rattle.std.proofs.Common.{MatchBool, IsSomeAnd, true, false, ◌+◌, ◌*◌, ◌^◌, ◌≢◌, ap}
+use Rattle.cbs_account.specs.Admission.{Load, share, with_share}
+use Rattle.cbs_account.specs.Admission as admission
+use Rattle.y4m_header.specs.declared.chroma.Chroma.{Chroma}
+use Rattle.y4m_header.specs.declared.chroma.Chroma.TheVariants as chromas
+use Rattle.frame_view.specs.declared.geometry.Geometry.{Geometry}
+use Rattle.filters.specs.Chain.{format_of}
+use Rattle.filters.proofs.ChainGeometry.{same_geometry}
 use Rattle.edf_pool.specs.Earliest.{IsEarliest, IsReady, NoneReady}
 use Rattle.serve_core.specs.declared.held.Held.{Held}
 use Rattle.serve_core.specs.declared.refusal.Refusal.{Refusal}
 use Rattle.serve_core.specs.declared.refusal.Refusal.TheVariants as refusals
-use Rattle.serve_core.specs.Events.{Accepted, Arrive, Band, Close, Collect, GivenBack, Image, Lease, Leased}
-use Rattle.serve_core.specs.Events.{Refused, Reply, Settle, Tick}
+use Rattle.serve_core.specs.Events.{Accepted, Admit, Admitted, Arrive, Band, Close, Collect, GivenBack, Image}
+use Rattle.serve_core.specs.Events.{Lease, Leased, Refused, Reply, Settle, SpecBack, Tick}
 use Rattle.serve_core.specs.Laws.{AnswerLaw}
-use Rattle.serve_core.specs.Rules.{AllowsArrive, AllowsCollect, AllowsLease, arrival_refusal, band_reply}
-use Rattle.serve_core.specs.Rules.{close_reply, grant, lack_reply, settle_reply, tick_reply}
-use Rattle.serve_core.specs.Setup.{StreamSpec}
+use Rattle.serve_core.specs.Released.{held_load}
+use Rattle.serve_core.specs.Rules.{AllowsAdmit, AllowsArrive, AllowsCollect, AllowsLease, arrival_refusal}
+use Rattle.serve_core.specs.Rules.{band_reply, close_reply, grant, lack_reply, settle_reply, tick_reply}
+use Rattle.serve_core.specs.Setup.{HasBandwidth, IsWithinLimits, StreamSpec, cost, steps}
 use Rattle.serve_core.specs.Sound.{IsSound}
 use Rattle.serve_core.specs.States.{State, StreamState, deadlines, ready_deadline}
 use Rattle.serve_core.proofs.Options.{and_some}
@@ -133,6 +141,99 @@ module _ {F G : Type 0} where
       (Image g.0, and_some o _ f.0 f.1 (g.0, g.1, refl))
   answer_collect false o P k some images = (k, refl)
 
+-- whether a number or another, or its bounds
+same_chroma : (a b : Chroma) → (a ≡ b) ⊎ (a ≢ b)
+same_chroma chromas.S420 chromas.S420 = inl refl
+same_chroma chromas.S422 chromas.S422 = inl refl
+same_chroma chromas.S411 chromas.S411 = inl refl
+same_chroma chromas.S444 chromas.S444 = inl refl
+same_chroma chromas.S444Alpha chromas.S444Alpha = inl refl
+same_chroma chromas.Mono chromas.Mono = inl refl
+same_chroma a b = inr (λ e. absurd (cc))
+
+number_or : (a b : ℕ) → (a ≡ b) ⊎ (a ≢ b)
+number_or a b = grind arith
+
+same_size : (a b : Geometry) → a.width ≡ b.width → a.height ≡ b.height → a.chroma ≡ b.chroma → a ≡ b
+same_size a b w h c = same_geometry a b (let same : format_of a ≡ format_of b = cc in same)
+
+geometry_or : (a b : Geometry) → (a ≡ b) ⊎ (a ≢ b)
+geometry_or a b =
+    elim (number_or a.width b.width) [
+      | inr n ↦ inr (λ e. n (ap (λ (g : Geometry). g.width) e))
+      | inl w ↦ elim (number_or a.height b.height) [
+        | inr n ↦ inr (λ e. n (ap (λ (g : Geometry). g.height) e))
+        | inl h ↦ elim (same_chroma a.chroma b.chroma) [
+          | inr n ↦ inr (λ e. n (ap (λ (g : Geometry). g.chroma) e))
+          | inl c ↦ inl (same_size a b w h c)
+        ]
+      ]
+    ]
+
+within_or : (a b : ℕ) → (a ≤ b) ⊎ ¬ (a ≤ b)
+within_or a b = grind arith
+
+both_or : {A B : Type 0} → A ⊎ ¬ A → B ⊎ ¬ B → (A × B) ⊎ ¬ (A × B)
+both_or {A} {B} (inl a) (inl b) = inl (a, b)
+both_or {A} {B} (inl a) (inr n) = inr (λ h. n h.1)
+both_or {A} {B} (inr n) b = inr (λ h. n h.0)
+
+bandwidth_or : (spec : StreamSpec) → HasBandwidth spec ⊎ ¬ HasBandwidth spec
+bandwidth_or spec =
+    let one = both_or (within_or spec.maximum spec.period) (within_or spec.period 1048576) in
+    elim (both_or (within_or 1 spec.maximum) one) [
+      | inl h ↦ inl (h.0, h.1.0, h.1.1)
+      | inr n ↦ inr (λ h. n (h.0, (h.1, h.2)))
+    ]
+
+limits_or : (spec : StreamSpec) → IsWithinLimits spec ⊎ ¬ IsWithinLimits spec
+limits_or spec =
+    let places = both_or (within_or 1 spec.queue) (within_or spec.queue 256) in
+    let room = both_or (within_or 1 spec.outbox) (within_or spec.outbox 256) in
+    let frames = both_or (within_or 1 spec.frames) (within_or spec.frames (2 ^ 24)) in
+    let chain = both_or (within_or 1 (steps spec)) (within_or (cost spec) (2 ^ 15)) in
+    let all = both_or (geometry_or spec.chain.geometry spec.geometry)
+    (both_or chain (both_or places (both_or room frames))) in
+    elim all [
+      | inl h ↦ inl (record {
+        geometry = h.0;
+        some_steps = h.1.0.0;
+        cost = h.1.0.1;
+        some_places = h.1.1.0.0;
+        places = h.1.1.0.1;
+        some_room = h.1.1.1.0.0;
+        room = h.1.1.1.0.1;
+        some_frames = h.1.1.1.1.0;
+        frames = h.1.1.1.1.1;
+      })
+      | inr n ↦ inr (λ h. n (h.geometry, ((h.some_steps, h.cost), ((h.some_places, h.places), ((h.some_room, h.room), (h.some_frames, h.frames))))))
+    ]
+
+module _ {F G : Type 0} where
+  -- a stream that is asked for is admitted, or refused for the first reason
+  answer_by : (n : ℕ) (held : Load) (spec : StreamSpec) → n < 64 → IsWithinLimits spec → HasBandwidth spec
+      → admission.Fits (with_share spec.maximum spec.period held)
+      ⊎ ¬ admission.Fits (with_share spec.maximum spec.period held)
+      → (r : Reply F G) × AllowsAdmit n held spec r
+  answer_by n held spec few limits bandwidth (inl fits) =
+      (Admitted n, (record { few = few; limits = limits; bandwidth = bandwidth; fits = fits }, refl))
+  answer_by n held spec few limits bandwidth (inr lacks) =
+      (SpecBack refusals.Overload spec, ((few, limits, bandwidth, lacks), refl))
+
+  answer_admission : (n : ℕ) (held : Load) (spec : StreamSpec) → (r : Reply F G) × AllowsAdmit n held spec r
+  answer_admission n held spec =
+      elim (le_or 64 n) [
+        | inl many ↦ (SpecBack refusals.TooManyStreams spec, (many, refl))
+        | inr few ↦ elim (limits_or spec) [
+          | inr lacks ↦ (SpecBack refusals.BadLimits spec, ((few, lacks), refl))
+          | inl limits ↦ elim (bandwidth_or spec) [
+            | inr lacks ↦ (SpecBack refusals.BadBandwidth spec, ((few, limits, lacks), refl))
+            | inl bandwidth ↦ answer_by n held spec few limits bandwidth
+                (within_or (held.shares + share spec.maximum spec.period) (1000000 * held.workers))
+          ]
+        ]
+      ]
+
 first_item : {X : Type 0} (xs : List X) → 0 < length xs → (x : X) × (slice_get xs 0 ≡ Some x)
 first_item [] l = absurd (omega arith)
 first_item (x ∷ xs) l = (x, refl)
@@ -171,3 +272,4 @@ module _ {F G : Type 0} (measures : StreamSpec → F → Bool → Type 0)
       (λ x e.
       answer_collect (nat_lt x.collected x.finished) (slice_get x.frames 0) (is_image x.spec) (lack_reply x)
       (finished_frame m.clock x (h.streams s x e)) (λ f g. images s x f e g))
+  answers sizes m (Admit spec) h images = answer_admission (length m.streams) (held_load m) spec

@@ -2,13 +2,13 @@
 use Rattle.std.proofs.Common.{ℕ, ◌-◌, ◌≡◌, Bool, true, false, nat_eq, nat_le, List, All, Option}
 use Rattle.std.proofs.Common.{Some, None, slice_get, if◌then◌else◌, refl, sym, subst, inl, inr}
 use Rattle.std.proofs.lemmas.List.Elements.{All-drop, All-nil, All-push}
-use Rattle.std.proofs.lemmas.Option.{MatchOption-at_some}
+use Rattle.std.proofs.lemmas.Option.{MatchOption-at_some, slice_get_within}
 use Rattle.serve_core.specs.declared.refusal.Refusal.TheVariants as refusals
 use Rattle.serve_core.specs.declared.held.Held.{Held}
 use Rattle.serve_core.specs.Counts.{Back, Came, Deed, Ended, Lent, Shut, Taken, Worked, came, deed}
-use Rattle.serve_core.specs.Counts.{has_stream, held_below, now, settled, shut, taken, waiting, with_deed}
+use Rattle.serve_core.specs.Counts.{has_stream, held_below, now, settled, shut, specs, taken, waiting, with_deed}
 use Rattle.serve_core.specs.Counts.{worked}
-use Rattle.serve_core.specs.Events.{Accepted, Arrive, Band, Close, Closing, Collect, Event, Finished}
+use Rattle.serve_core.specs.Events.{Accepted, Admit, Arrive, Band, Close, Closing, Collect, Event, Finished}
 use Rattle.serve_core.specs.Events.{GivenBack, Image, Lease, Leased, Reply, Returned, Settle, Start, Stepped}
 use Rattle.serve_core.specs.Events.{Then, Tick, Transcript}
 use Rattle.serve_core.specs.Laws.{AnswerAfterLaw, SizedLaw}
@@ -18,9 +18,10 @@ use Rattle.serve_core.specs.States.{StreamState, past, state_of, stream_of}
 use Rattle.serve_core.proofs.Demands.{past_of}
 use Rattle.serve_core.proofs.Kept.{sound}
 use Rattle.serve_core.proofs.Lists.{all_at}
-use Rattle.serve_core.proofs.Pasts.{stream_at}
+use Rattle.serve_core.proofs.Pasts.{spec_or, stream_at}
 use Rattle.serve_core.proofs.Replies.{answers}
 use Rattle.serve_core.proofs.Streams.{same_or}
+use Rattle.serve_core.proofs.Summary.{next_is, next_new}
 use Rattle.serve_core.proofs.Turns.{accepted_none, first_sized}
 
 -- what holds of each frame that comes holds of those that wait
@@ -84,6 +85,7 @@ module _ {F G : Type 0} (P : F → Type 0) where
   new_of s t ws (Tick to) r h = tt
   new_of s t ws (Close u) r h = new_shut (nat_eq u s) r
   new_of s t ws (Collect u) r h = new_taken (nat_eq u s) r
+  new_of s t ws (Admit spec) r h = tt
 
 module _ {F G : Type 0} (measures : StreamSpec → F → Bool → Type 0)
     (is_image : StreamSpec → F → G → Type 0) where
@@ -98,7 +100,7 @@ module _ {F G : Type 0} (measures : StreamSpec → F → Bool → Type 0)
 
   arrival_sized : (setup : Setup) (p : Transcript F G) (s n : ℕ) (f : F) (spec : StreamSpec)
       → IsLegal measures is_image setup (Then p (Arrive s f) (Accepted n))
-      → slice_get setup.streams s ≡ Some spec → measures spec f true
+      → slice_get (specs setup p) s ≡ Some spec → measures spec f true
   arrival_sized setup p s n f spec l k =
       let r : Reply F G = Accepted n in
       let a = MatchOption-at_some (r ≡ GivenBack refusals.NoStream f)
@@ -107,17 +109,23 @@ module _ {F G : Type 0} (measures : StreamSpec → F → Bool → Type 0)
       accepted_sized (stream_of spec (past setup s p)) a.0 f n a.1 a.2
 
   waiting_sized : (setup : Setup) (p : Transcript F G) (s : ℕ) (spec : StreamSpec)
-      → IsLegal measures is_image setup p → slice_get setup.streams s ≡ Some spec
+      → IsLegal measures is_image setup p → slice_get (specs setup p) s ≡ Some spec
       → All (λ f. measures spec f true) (waiting (past setup s p))
   waiting_sized setup Start s spec l k = All-nil (λ f. measures spec f true)
   waiting_sized setup (Then p e r) s spec l k =
-      all_waiting (λ f. measures spec f true) (past setup s p)
-      (deed s (now p) (held_below setup.workers p) e r)
-      (new_of (λ f. measures spec f true) s (now p) (held_below setup.workers p) e r
-      (λ f i n j. arrival_sized setup p s n f spec
-      (subst (λ (q : Reply F G). IsLegal measures is_image setup (Then p (Arrive s f) q)) j
-      (subst (λ (d : Event F). IsLegal measures is_image setup (Then p d r)) i l)) k))
-      (waiting_sized setup p s spec l.0 k)
+      let P = λ (f : F). measures spec f true in
+      elim (spec_or setup p e r s spec k) [
+        | inl old ↦ subst (λ (o : Option (Deed F)). All P (waiting (with_deed o (past setup s p))))
+            (sym (next_is setup s p e r (slice_get_within (specs setup p) s spec old)))
+            (all_waiting P (past setup s p)
+            (deed s (now p) (held_below setup.workers p) e r)
+            (new_of P s (now p) (held_below setup.workers p) e r
+            (λ f i n j. arrival_sized setup p s n f spec
+            (subst (λ (q : Reply F G). IsLegal measures is_image setup (Then p (Arrive s f) q)) j
+            (subst (λ (d : Event F). IsLegal measures is_image setup (Then p d r)) i l)) old))
+            (waiting_sized setup p s spec l.0 old))
+        | inr new ↦ subst (λ (h : List (Deed F)). All P (waiting h)) (sym (next_new setup s p e r new)) (All-nil P)
+      ]
 
   pub sized_is : SizedLaw measures is_image
   sized_is setup p s k x f l here at =

@@ -9,7 +9,8 @@ use Rattle.serve_core.specs.declared.refusal.Refusal.TheVariants as refusals
 use Rattle.serve_core.specs.declared.held.Held.{Held}
 use Rattle.serve_core.specs.Counts.{Back, Came, Deed, Ended, Lent, Shut, Taken, Worked, deed, has_stream}
 use Rattle.serve_core.specs.Counts.{shut, taken}
-use Rattle.serve_core.specs.Events.{Arrive, Band, Close, Closing, Collect, Event, Finished, GivenBack, Image}
+use Rattle.serve_core.specs.Events.{Admit, Arrive, Band, Close, Closing, Collect, Event, Finished, GivenBack}
+use Rattle.serve_core.specs.Events.{Image}
 use Rattle.serve_core.specs.Events.{Lease, Leased, Refused, Reply, Returned, Settle, Stepped, Tick}
 use Rattle.serve_core.specs.Grants.{grant_of}
 use Rattle.serve_core.specs.Rules.{Allows, AllowsArrive, AllowsCollect, AllowsLease}
@@ -251,3 +252,4 @@ module _ {F G : Type 0} (measures : StreamSpec → F → Bool → Type 0)
             (λ x. AllowsCollect measures is_image x r) x k' a))
         | inr p ↦ rw p.1 tt
       ]
+  can m (Admit spec) r s x h a k = tt

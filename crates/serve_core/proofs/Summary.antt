@@ -1,7 +1,7 @@
 -- The state of a transcript with one more event is what `after` makes of the state before.
 use Rattle.std.proofs.Common.{ℕ, zero, suc, ◌+◌, ◌≡◌, ◌≤◌, ◌<◌, List, [], ◌∷◌, ◌++◌, length, Option, Some}
 use Rattle.std.proofs.Common.{None, Bool, true, false, nat_eq, nat_lt, replicate, refl, sym, ◌∙◌, ap, arith}
-use Rattle.std.proofs.Common.{add-zero, zero-add, ◌⊎◌, inl, inr, subst, if◌then◌else◌}
+use Rattle.std.proofs.Common.{add-zero, zero-add, ◌⊎◌, inl, inr, le_refl, le_trans, subst, if◌then◌else◌}
 use Rattle.serve_core.specs.declared.held.Held.{Held}
 use Rattle.cbs_account.specs.Balance.{Balance, opened}
 use Rattle.cbs_account.specs.Laws.{unit_count}
@@ -11,12 +11,16 @@ use Rattle.std.proofs.lemmas.List.{length-replicate}
 use Rattle.std.proofs.lemmas.Bool.Decides.{nat_tests}
 use Rattle.serve_core.specs.Counts.{Back, Came, Deed, Ended, Lent, Shut, Taken, Worked, accepted}
 use Rattle.serve_core.specs.Counts.{clock_after, deed, done, finished, has_stream, held, held_after}
-use Rattle.serve_core.specs.Counts.{held_below, history, now, own_events, settled, with_deed, worked}
-use Rattle.serve_core.specs.Events.{Arrive, Band, Close, Collect, Event, Lease, Reply, Settle, Then, Tick}
-use Rattle.serve_core.specs.Events.{Transcript}
+use Rattle.serve_core.specs.Counts.{held_below, history, next_deed, now, own_events, settled, specs, with_deed}
+use Rattle.serve_core.specs.Counts.{worked}
+use Rattle.serve_core.specs.Events.{Admit, Admitted, Arrive, Band, Close, Collect, Event, Lease, Reply, Settle}
+use Rattle.serve_core.specs.Events.{Start, Then, Tick, Transcript, with_admitted}
 use Rattle.serve_core.specs.Grants.{cost_of_band}
 use Rattle.serve_core.specs.Setup.{Setup, StreamSpec, costs}
-use Rattle.serve_core.specs.States.{StreamState, after, did_any, held_at, map_at, state_of, stream_of}
+use Rattle.serve_core.specs.States.{StreamState, after, did_any, held_at, map_at, new_stream, state_of}
+use Rattle.serve_core.specs.States.{stream_of}
+use Rattle.serve_core.proofs.Lists.{map_at_push}
+use Rattle.serve_core.proofs.Newcomers.{length_admitted}
 use Rattle.serve_core.proofs.Steps.{state_is}
 
 with_arrival : {F : Type 0} (x : StreamState F) (n c d : ℕ) (a b : Balance) (xs : List F) → c ≡ d → a ≡ b
@@ -76,6 +80,15 @@ pub map_at_map : {X Y : Type 0} (f g : ℕ → X → Y) (k : ℕ → Y → Y) (i
 map_at_map f g k i [] h = refl
 map_at_map f g k i (x ∷ xs) h = let head = h i x in let tail = map_at_map f g k (suc i) xs h in cc
 
+-- and so it does where they hold of the items that are there
+map_at_map_below : {X Y : Type 0} (f g : ℕ → X → Y) (k : ℕ → Y → Y) (i : ℕ) (xs : List X)
+    → ((t : ℕ) (x : X) → t < length xs + i → g t x ≡ k t (f t x)) → map_at i g xs ≡ map_at i k (map_at i f xs)
+map_at_map_below f g k i [] h = refl
+map_at_map_below f g k i (x ∷ xs) h =
+    let head = h i x (omega arith) in
+    let tail = map_at_map_below f g k (suc i) xs (λ t y l. h t y (omega (arith, l))) in
+    cc
+
 held_at_map : {X : Type 0} (f : ℕ → Option Held) (w i : ℕ) (xs : List X) → w < length xs
     → held_at (map_at i (λ v x. f v) xs) w ≡ f (w + i)
 held_at_map f w i [] l = absurd (omega arith)
@@ -100,6 +113,7 @@ deed_same s t f g (Settle w) r h = ap (λ (o : Option Held). if has_stream s o t
 deed_same s t f g (Tick u) r h = refl
 deed_same s t f g (Close u) r h = refl
 deed_same s t f g (Collect u) r h = refl
+deed_same s t f g (Admit spec) r h = refl
 
 lt_or_le : (a b : ℕ) → (a < b) ⊎ (b ≤ a)
 lt_or_le a b = grind arith
@@ -109,10 +123,10 @@ below_cases : (b : Bool) (w n : ℕ) (h g : Option Held) → (w < n → b ≡ tr
 below_cases b w n h g t f one two =
     elim (lt_or_le w n) [ inl l ↦ rw (t l) (sym (one l)) | inr l ↦ rw (f l) (sym (two l)) ]
 
-below_yes : (w n : ℕ) → w < n → nat_lt w n ≡ true
+pub below_yes : (w n : ℕ) → w < n → nat_lt w n ≡ true
 below_yes w n l = grind (arith, nat_tests)
 
-below_no : (w n : ℕ) → n ≤ w → nat_lt w n ≡ false
+pub below_no : (w n : ℕ) → n ≤ w → nat_lt w n ≡ false
 below_no w n l = grind (arith, nat_tests)
 
 pub held_by_list : {F G : Type 0} (setup : Setup) (p : Transcript F G) (w : ℕ)
@@ -125,17 +139,57 @@ held_by_list setup p w =
     (λ l. held_at_map (λ v. held v p) w 0 xs (omega arith) ∙ rw add-zero refl)
     (λ l. held_at_past (λ v. held v p) w 0 xs (omega arith))
 
+module _ {F G : Type 0} (setup : Setup) where
+  -- nothing happened to a stream before it was there
+  pub history_new : (s : ℕ) (p : Transcript F G) → length (specs setup p) ≤ s → history setup s p ≡ []
+  history_new s Start l = refl
+  history_new s (Then p e r) l =
+      let before : length (specs setup p) ≤ s = le_trans (length_admitted (λ spec. spec) e r (specs setup p)) l in
+      rw (below_no s (length (specs setup p)) before) (history_new s p before)
+
+  pub next_is : (s : ℕ) (p : Transcript F G) (e : Event F) (r : Reply F G) → s < length (specs setup p)
+      → next_deed setup s p e r ≡ deed s (now p) (held_below setup.workers p) e r
+  next_is s p e r l = rw (below_yes s (length (specs setup p)) l) refl
+
+  -- a stream that wasn't there before the event has no past yet
+  pub next_new : (s : ℕ) (p : Transcript F G) (e : Event F) (r : Reply F G) → length (specs setup p) ≤ s
+      → history setup s (Then p e r) ≡ []
+  next_new s p e r l = rw (below_no s (length (specs setup p)) l) (history_new s p l)
+
+  streams_more : (p : Transcript F G) (e : Event F) (r : Reply F G)
+      → map_at 0 (λ s spec. stream_of spec (history setup s (Then p e r))) (specs setup p)
+      ≡ map_at 0 (λ s x. did_any x (deed s (now p) (held_at (state_of setup p).workers) e r))
+      (state_of setup p).streams
+  streams_more p e r =
+      map_at_map_below (λ s spec. stream_of spec (history setup s p))
+      (λ s spec. stream_of spec (history setup s (Then p e r)))
+      (λ s x. did_any x (deed s (now p) (held_at (state_of setup p).workers) e r)) 0 (specs setup p)
+      (λ s spec l.
+      ap (λ (o : Option (Deed F)). stream_of spec (with_deed o (history setup s p)))
+      (next_is s p e r (omega (arith, l)))
+      ∙ serving_more spec (history setup s p) (deed s (now p) (held_below setup.workers p) e r)
+      ∙ ap (λ (o : Option (Deed F)). did_any (stream_of spec (history setup s p)) o)
+      (deed_same s (now p) (held_below setup.workers p) (held_at (state_of setup p).workers) e r
+      (held_by_list setup p)))
+
+  -- the stream that is admitted, if one is
+  streams_joined : (p : Transcript F G) (e : Event F) (r : Reply F G)
+      → map_at 0 (λ s spec. stream_of spec (history setup s (Then p e r))) (specs setup (Then p e r))
+      ≡ with_admitted new_stream e r
+      (map_at 0 (λ s spec. stream_of spec (history setup s (Then p e r))) (specs setup p))
+  streams_joined p (Admit spec) (Admitted u) =
+      let xs = specs setup p in
+      let f = λ (s : ℕ) (spec : StreamSpec). stream_of spec (history setup s (Then p (Admit spec) (Admitted u))) in
+      map_at_push f 0 (length xs) xs spec (omega arith)
+      ∙ ap (λ (h : List (Deed F)). map_at 0 f xs ++ stream_of spec h ∷ [])
+      (next_new (length xs) p (Admit spec) (Admitted u) (le_refl (length xs)))
+  streams_joined p e r = refl
+
 pub summary_more : (F G : Type 0) (setup : Setup) (p : Transcript F G) (e : Event F) (r : Reply F G)
     → state_of setup (Then p e r) ≡ after (state_of setup p) e r
 summary_more F G setup p e r =
-    let n = setup.workers in
     state_is (clock_after (now p) e r) setup.quantum _ _ _ _
-    (map_at_map (λ s spec. stream_of spec (history n s p))
-    (λ s spec. stream_of spec (history n s (Then p e r)))
-    (λ s x. did_any x (deed s (now p) (held_at (state_of setup p).workers) e r)) 0 setup.streams
-    (λ s spec. serving_more spec (history n s p) (deed s (now p) (held_below n p) e r)
-    ∙ ap (λ (o : Option (Deed F)). did_any (stream_of spec (history n s p)) o)
-    (deed_same s (now p) (held_below n p) (held_at (state_of setup p).workers) e r
-    (held_by_list setup p))))
+    (streams_joined setup p e r
+    ∙ ap (λ (ys : List (StreamState F)). with_admitted new_stream e r ys) (streams_more setup p e r))
     (map_at_map {X = ℕ} (λ w none. held w p) (λ w none. held w (Then p e r)) (λ w h. held_after w h e r) 0
     (replicate setup.workers 0) (λ w none. refl))

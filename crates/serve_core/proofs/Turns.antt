@@ -8,7 +8,7 @@ use Rattle.serve_core.specs.declared.refusal.Refusal.TheVariants as refusals
 use Rattle.serve_core.specs.declared.held.Held.{Held}
 use Rattle.serve_core.specs.Counts.{Back, Deed, Ended, Lent, Worked, came, deed, has_stream, held_after}
 use Rattle.serve_core.specs.Counts.{one_more_used, shut, taken}
-use Rattle.serve_core.specs.Events.{Accepted, Arrive, Band, Close, Closing, Collect, Event, Finished}
+use Rattle.serve_core.specs.Events.{Accepted, Admit, Arrive, Band, Close, Closing, Collect, Event, Finished}
 use Rattle.serve_core.specs.Events.{GivenBack, Image, Lease, Leased, Refused, Reply, Returned, Settle}
 use Rattle.serve_core.specs.Events.{Stepped, Tick}
 use Rattle.serve_core.specs.Grants.{grant_of}
@@ -220,3 +220,4 @@ module _ {F G : Type 0} (measures : StreamSpec → F → Bool → Type 0)
   turns m (Tick to) r a = Quiet (λ s. tt) (λ w h. refl)
   turns m (Close u) r a = Quiet (λ s. quiet_shut (nat_eq u s) r) (λ w h. refl)
   turns m (Collect u) r a = Quiet (λ s. quiet_taken (nat_eq u s) r) (λ w h. refl)
+  turns m (Admit spec) r a = Quiet (λ s. tt) (λ w h. refl)

@@ -1,8 +1,8 @@
 -- Bare transcripts: those without their frames and images.
 use Rattle.std.specs.Prelude.{◌≡◌, ⊤, map}
-use Rattle.serve_core.specs.Events.{Event, Arrive, Lease, Band, Settle, Tick, Close, Collect, Transcript}
-use Rattle.serve_core.specs.Events.{Start, Then, Reply, Accepted, Leased, Stepped, Returned, Finished, Ticked}
-use Rattle.serve_core.specs.Events.{Closing, Image, Refused, GivenBack}
+use Rattle.serve_core.specs.Events.{Event, Arrive, Lease, Band, Settle, Tick, Close, Collect, Admit}
+use Rattle.serve_core.specs.Events.{Transcript, Start, Then, Reply, Accepted, Leased, Stepped, Returned}
+use Rattle.serve_core.specs.Events.{Finished, Ticked, Closing, Image, Admitted, Refused, GivenBack, SpecBack}
 use Rattle.serve_core.specs.Leads.{Leads}
 use Rattle.serve_core.specs.Rules.{IsLegal}
 use Rattle.serve_core.specs.Setup.{Setup, ImageRelation, SizeTest}
@@ -31,6 +31,7 @@ module _ {F : Type 0} where
   bare_event (Tick to) = Tick to
   bare_event (Close s) = Close s
   bare_event (Collect s) = Collect s
+  bare_event (Admit spec) = Admit spec
 
   -- a stream without its frames, but for their number
   abbrev pub bare_stream : StreamState F → StreamState Blank
@@ -66,8 +67,10 @@ module _ {F G : Type 0} where
   bare_reply Ticked = Ticked
   bare_reply Closing = Closing
   bare_reply (Image g) = Image tt
+  bare_reply (Admitted s) = Admitted s
   bare_reply (Refused k) = Refused k
   bare_reply (GivenBack k f) = GivenBack k tt
+  bare_reply (SpecBack k spec) = SpecBack k spec
 
   abbrev pub bare : Transcript F G → Transcript Blank Blank
   bare Start = Start

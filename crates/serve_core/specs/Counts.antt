@@ -1,13 +1,14 @@
 -- What is counted in a transcript: the clock, what each worker holds, and what happened to each stream.
 use Rattle.std.specs.Prelude.{ℕ, ◌+◌, Bool, true, false, nat_eq, nat_lt, List, [], ◌∷◌, ◌++◌, drop, replicate}
-use Rattle.std.specs.Prelude.{Option, Some, None, if◌then◌else◌}
+use Rattle.std.specs.Prelude.{length, Option, Some, None, if◌then◌else◌}
 use Rattle.cbs_account.specs.Laws.{unit_count}
 use Rattle.cbs_account.specs.Rules.{OwnEvent, UnitOfWork, Idle}
 use Rattle.serve_core.specs.declared.held.Held.{Held}
-use Rattle.serve_core.specs.Events.{Event, Arrive, Lease, Band, Settle, Tick, Close, Collect, Transcript}
-use Rattle.serve_core.specs.Events.{Start, Then, Reply, Accepted, Leased, Stepped, Returned, Finished, Ticked}
-use Rattle.serve_core.specs.Events.{Closing, Image}
+use Rattle.serve_core.specs.Events.{Event, Arrive, Lease, Band, Settle, Tick, Close, Collect, Admit}
+use Rattle.serve_core.specs.Events.{Transcript, Start, Then, Reply, Accepted, Leased, Stepped, Returned}
+use Rattle.serve_core.specs.Events.{Finished, Ticked, Closing, Image, with_admitted}
 use Rattle.serve_core.specs.Grants.{cost_of_band}
+use Rattle.serve_core.specs.Setup.{Setup, StreamSpec}
 
 -- what happens to one stream: a frame comes, a band of its frame is done, the frame is lent to a worker,
 -- comes back or is finished, the stream is shut, and an image of it is taken
@@ -104,15 +105,26 @@ module _ {F G : Type 0} where
   deed s t workers (Tick to) r = None
   deed s t workers (Close u) r = if nat_eq u s then shut r else None
   deed s t workers (Collect u) r = if nat_eq u s then taken r else None
+  deed s t workers (Admit spec) r = None
 
   -- what worker w holds where there are n workers
   abbrev pub held_below : ℕ → Transcript F G → ℕ → Option Held
   held_below n p w = if nat_lt w n then held w p else None
 
-  -- what happened to stream s, the latest first, there being n workers
-  abbrev pub history : ℕ → ℕ → Transcript F G → List (Deed F)
-  history n s Start = []
-  history n s (Then p e r) = with_deed (deed s (now p) (held_below n p) e r) (history n s p)
+  -- the streams: those of the setup, and behind them those that were admitted, in order
+  abbrev pub specs : Setup → Transcript F G → List StreamSpec
+  specs setup Start = setup.streams
+  specs setup (Then p e r) = with_admitted (λ spec. spec) e r (specs setup p)
+
+  -- what an event did to stream s, if that was there
+  abbrev pub next_deed : Setup → ℕ → Transcript F G → Event F → Reply F G → Option (Deed F)
+  next_deed setup s p e r =
+      if nat_lt s (length (specs setup p)) then deed s (now p) (held_below setup.workers p) e r else None
+
+  -- what happened to stream s, the latest first
+  abbrev pub history : Setup → ℕ → Transcript F G → List (Deed F)
+  history setup s Start = []
+  history setup s (Then p e r) = with_deed (next_deed setup s p e r) (history setup s p)
 
   -- the images that stream s gave, in order
   abbrev pub delivered : ℕ → Transcript F G → List G

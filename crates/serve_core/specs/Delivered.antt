@@ -2,7 +2,7 @@
 use Rattle.std.specs.Prelude.{ℕ, ◌≡◌, IsTrue, take, drop, slice_get, Some}
 use Rattle.std.specs.List.{AllZip}
 use Rattle.serve_core.specs.declared.refusal.Refusal.TheVariants as refusals
-use Rattle.serve_core.specs.Counts.{accepted, collected, is_closed, frames, waiting, delivered}
+use Rattle.serve_core.specs.Counts.{accepted, collected, is_closed, frames, waiting, delivered, specs}
 use Rattle.serve_core.specs.Events.{Collect, Refused, Transcript, Then, joined}
 use Rattle.serve_core.specs.Rules.{IsLegal}
 use Rattle.serve_core.specs.Setup.{Setup, StreamSpec, IsWithin, ImageRelation, SizeTest}
@@ -17,7 +17,7 @@ module _ {F G : Type 0} (measures : SizeTest F) (is_image : ImageRelation F G) w
   abbrev pub WaitingLaw : Type 0
   WaitingLaw =
       (setup : Setup) (p : Transcript F G) (s : ℕ) (spec : StreamSpec) → IsWithin setup
-      → IsLegal measures is_image setup p → slice_get setup.streams s ≡ Some spec
+      → IsLegal measures is_image setup p → slice_get (specs setup p) s ≡ Some spec
       → let h = past setup s p in waiting h ≡ drop (collected h) (frames h)
 
   -- what a stream delivered is the images of its first accepted frames, in order, each once: as many as were
@@ -25,14 +25,14 @@ module _ {F G : Type 0} (measures : SizeTest F) (is_image : ImageRelation F G) w
   abbrev pub DeliveredLaw : Type 0
   DeliveredLaw =
       (setup : Setup) (p : Transcript F G) (s : ℕ) (spec : StreamSpec) → IsWithin setup
-      → IsLegal measures is_image setup p → slice_get setup.streams s ≡ Some spec
+      → IsLegal measures is_image setup p → slice_get (specs setup p) s ≡ Some spec
       → let h = past setup s p in AllZip (is_image spec) (take (collected h) (frames h)) (delivered s p)
 
   -- nothing is accepted after a close
   abbrev pub CloseLaw : Type 0
   CloseLaw =
       (setup : Setup) (p q : Transcript F G) (s : ℕ) (spec : StreamSpec) → IsWithin setup
-      → IsLegal measures is_image setup p → slice_get setup.streams s ≡ Some spec
+      → IsLegal measures is_image setup p → slice_get (specs setup p) s ≡ Some spec
       → BeginsWith p q → IsTrue (is_closed (past setup s q))
       → frames (past setup s p) ≡ frames (past setup s q)
 
@@ -41,7 +41,7 @@ module _ {F G : Type 0} (measures : SizeTest F) (is_image : ImageRelation F G) w
   abbrev pub DrainedLaw : Type 0
   DrainedLaw =
       (setup : Setup) (p q : Transcript F G) (s : ℕ) (spec : StreamSpec) → IsWithin setup
-      → IsLegal measures is_image setup p → slice_get setup.streams s ≡ Some spec
+      → IsLegal measures is_image setup p → slice_get (specs setup p) s ≡ Some spec
       → BeginsWith p (Then q (Collect s) (Refused refusals.Drained))
       → let h = past setup s p in
       (collected h ≡ accepted h)

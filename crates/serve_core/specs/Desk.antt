@@ -3,6 +3,7 @@
 use Rattle.std.specs.Prelude.{ℕ, ◌≡◌, ◌≢◌, ◌≤◌, ◌<◌, ◌+◌, ◌-◌, ◌^◌, ◌↔◌, ◌⊎◌, max, nat_lt, Bool, true}
 use Rattle.std.specs.Prelude.{IsTrue, List, replicate, slice_get, Option, Some, None, IsSome, IsSomeAnd}
 use Rattle.std.specs.Prelude.{MatchBool, MatchOption, if◌then◌else◌}
+use Rattle.cbs_account.specs.declared.limits.TheConstants.{LAST_MOMENT}
 use Rattle.cbs_account.specs.Rules.{CanCharge}
 use Rattle.edf_pool.specs.Earliest.{IsEarliest}
 use Rattle.frame_view.specs.declared.frame.Frame.{Frame}
@@ -17,12 +18,12 @@ use Rattle.serve_core.specs.AtOnce.{bands_settled, cost_of_next, worked_at_once}
 use Rattle.serve_core.specs.Bare.{Blank, measures_any, is_any_image}
 use Rattle.serve_core.specs.Events.{Event, Arrive, Tick, Reply, Accepted, Returned, Finished, Ticked}
 use Rattle.serve_core.specs.Events.{Transcript, Start, Then}
-use Rattle.serve_core.specs.Lanes.{GainsImage, IsFresh, IsImageOf, IsStarted, Lane, with_leased}
+use Rattle.serve_core.specs.Lanes.{GainsImage, IsFresh, IsStarted, Lane, with_leased}
 use Rattle.serve_core.specs.Leads.{Leads}
 use Rattle.serve_core.specs.Rules.{arrival_refusal}
-use Rattle.serve_core.specs.Schedule.{HasLane, ScheduleValue, came, deadlines, finished, lent, returned}
-use Rattle.serve_core.specs.Schedule.{state_by, with_held, with_lane}
-use Rattle.serve_core.specs.Setup.{steps}
+use Rattle.serve_core.specs.Schedule.{HasLane, IsAdmitAnswer, ScheduleValue, came, deadlines, finished, lent}
+use Rattle.serve_core.specs.Schedule.{returned, state_by, with_held, with_lane}
+use Rattle.serve_core.specs.Setup.{StreamSpec, steps}
 use Rattle.serve_core.specs.States.{State}
 
 abbrev pub blanks : ℕ → List Blank
@@ -65,7 +66,7 @@ lane_refusal (Some lane) = arrival_refusal true lane.state
 -- why an offered job is refused, if it is
 abbrev pub job_refusal : ScheduleValue → (s at : ℕ) → Option Refusal
 job_refusal x s at =
-    if nat_lt (2 ^ 60) at then Some refusals.ClockEnd else lane_refusal (slice_get x.lanes s)
+    if nat_lt LAST_MOMENT at then Some refusals.ClockEnd else lane_refusal (slice_get x.lanes s)
 
 -- how a stream answers a frame of this geometry, want of memory aside: by a refusal, or by none
 abbrev pub IsArrivalAnswer : ScheduleValue → ℕ → Geometry → Option Refusal → Type 0
@@ -77,15 +78,11 @@ IsArrivalAnswer x s geometry answer =
 -- and how a desk answers it at a moment
 abbrev pub IsOfferAnswer : ScheduleValue → (s at : ℕ) → Geometry → Option Refusal → Type 0
 IsOfferAnswer x s at geometry answer =
-    MatchBool (nat_lt (2 ^ 60) at) (answer ≡ Some refusals.ClockEnd) (IsArrivalAnswer x s geometry answer)
+    MatchBool (nat_lt LAST_MOMENT at) (answer ≡ Some refusals.ClockEnd) (IsArrivalAnswer x s geometry answer)
 
 -- the job is fresh, and of stream s, if that is there
 abbrev pub IsFreshFor : ScheduleValue → ℕ → JobValue → Type 0
 IsFreshFor x s job = (lane : Lane) → slice_get x.lanes s ≡ Some lane → IsFresh lane.state.spec.chain job
-
--- the image is of the size of stream s's images, if that is there
-abbrev pub IsImageFor : ScheduleValue → ℕ → Frame → Type 0
-IsImageFor x s image = (lane : Lane) → slice_get x.lanes s ≡ Some lane → IsImageOf lane.state.spec.chain image
 
 -- at moment at, or at the clock if that is later, stream s takes the job behind all others
 abbrev pub TakesJob : (s at : ℕ) → JobValue → (number : ℕ) → (old new : ScheduleValue) → Type 0
@@ -104,6 +101,11 @@ abbrev pub RefusesOffer : ScheduleValue → (s at : ℕ) → Geometry → Refusa
 RefusesOffer x s at geometry e =
     IsOfferAnswer x s at geometry (Some e)
     ⊎ (e ≡ refusals.NoMemory) × IsOfferAnswer x s at geometry None
+
+-- why a stream isn't admitted
+abbrev pub RefusesAdmission : ScheduleValue → StreamSpec → Refusal → Type 0
+RefusesAdmission x spec e =
+    IsAdmitAnswer x spec (Some e) ⊎ (e ≡ refusals.NoMemory) × IsAdmitAnswer x spec None
 
 -- a stream is ready
 abbrev pub SomeReady : ScheduleValue → Type 0

@@ -3,6 +3,7 @@ use Rattle.std.specs.Prelude.{ℕ, ◌≡◌, List, slice_get, Option, Some, Non
 use Rattle.serve_core.specs.declared.held.Held.{Held}
 use Rattle.serve_core.specs.Desk.{desk_state}
 use Rattle.serve_core.specs.Lanes.{Lane}
+use Rattle.serve_core.specs.Released.{StillFits}
 use Rattle.serve_core.specs.Schedule.{ScheduleValue}
 use Rattle.serve_core.specs.Sound.{Sound}
 
@@ -16,5 +17,6 @@ AreUnused workers = (w : ℕ) (held : Held) → slice_get workers w ≡ Some (So
 
 pub record IsDesk (x : ScheduleValue) : Type 0 where
   pub sound : Sound (desk_state x)
+  pub fits : StillFits (desk_state x)
   pub away : AreAway x.lanes
   pub unused : AreUnused x.workers

@@ -7,6 +7,7 @@ use Rattle.cbs_account.specs.Rules.{cbs}
 use Rattle.edf_pool.specs.Earliest.{IsEarliest}
 use Rattle.serve_core.specs.declared.refusal.Refusal.TheVariants as refusals
 use Rattle.serve_core.specs.Counts.{Deed, finished, collected, is_closed, done, frames, own_events, delivered}
+use Rattle.serve_core.specs.Counts.{specs}
 use Rattle.serve_core.specs.Delivered.{BeginsWith}
 use Rattle.serve_core.specs.Events.{Event, Lease, Collect, Reply, Leased, Refused, Transcript, Then, told}
 use Rattle.serve_core.specs.Grants.{grant_of}
@@ -25,20 +26,20 @@ module _ {F : Type 0} where
 
 module _ {F G : Type 0} where
   abbrev pub own_deadlines : Setup → Transcript F G → List (Option ℕ)
-  own_deadlines setup p = map_at 0 (λ s spec. own_deadline spec (past setup s p)) setup.streams
+  own_deadlines setup p = map_at 0 (λ s spec. own_deadline spec (past setup s p)) (specs setup p)
 
   -- after the transcript p stream s may be leased: its first unfinished frame, for so many bands
   pub record IsDue (setup : Setup) (p : Transcript F G) (s number grant : ℕ) : Type 0 where
     -- no stream that can be leased has an earlier deadline
     pub earliest : IsEarliest (own_deadlines setup p) s
     -- and the stream's budget pays for the bands that are granted, but for a single one
-    pub granted : IsSomeAnd (slice_get setup.streams s) (λ spec.
+    pub granted : IsSomeAnd (slice_get (specs setup p) s) (λ spec.
         let h = past setup s p in
         (number ≡ finished h)
         × (grant ≡ grant_of setup.quantum (own_account spec h).budget (drop (done h) (costs spec))))
 
 module _ {F G : Type 0} (measures : SizeTest F) (is_image : ImageRelation F G) where
-  -- stream s of the setup after the transcript p
+  -- stream s after the transcript p, be it of the setup or admitted since
   pub record IsServed (setup : Setup) (p : Transcript F G) (s : ℕ) (spec : StreamSpec) : Type 0 where
     -- its delivered list is the images of its first accepted frames, in order, each once
     pub images :
@@ -53,7 +54,7 @@ module _ {F G : Type 0} (measures : SizeTest F) (is_image : ImageRelation F G) w
         → frames (past setup s p) ≡ frames (past setup s q)
 
   pub record IsAsPromised (setup : Setup) (p : Transcript F G) : Type 0 where
-    pub streams : (s : ℕ) (spec : StreamSpec) → slice_get setup.streams s ≡ Some spec
+    pub streams : (s : ℕ) (spec : StreamSpec) → slice_get (specs setup p) s ≡ Some spec
         → IsServed setup p s spec
     -- every lease goes to an earliest deadline and grants the bands that the budget pays for, or a single
     -- one; budget and deadlines are the rules' for the streams' own arrivals and charges

@@ -1,16 +1,18 @@
--- Laws of legal transcripts: soundness, what is right to answer, charges, delay and demand.
+-- Laws of legal transcripts: soundness, what is right to answer, charges, delay, admissions and demand.
 use Rattle.std.specs.Prelude.{ℕ, ◌+◌, ◌*◌, ◌≡◌, ◌≤◌, ◌↔◌, ◌⊎◌, Bool, true, IsTrue, nat_le, List, ◌∷◌, ◌++◌}
-use Rattle.std.specs.Prelude.{filter, sum_by, slice_get, Some}
+use Rattle.std.specs.Prelude.{filter, sum_by, slice_get, Some, IsSomeAnd}
 use Rattle.cbs_account.specs.Laws.{unit_count}
 use Rattle.cbs_account.specs.Rules.{OwnEvent, Idle}
 use Rattle.serve_core.specs.declared.held.Held.{Held}
 use Rattle.serve_core.specs.declared.refusal.Refusal.{Refusal}
 use Rattle.serve_core.specs.declared.refusal.Refusal.TheVariants as refusals
-use Rattle.serve_core.specs.Counts.{own_events}
-use Rattle.serve_core.specs.Events.{Event, Arrive, Lease, Reply, Accepted, Leased, GivenBack, Refused}
-use Rattle.serve_core.specs.Events.{Transcript}
-use Rattle.serve_core.specs.Events.{Then}
+use Rattle.serve_core.specs.Counts.{now, own_events, specs}
+use Rattle.serve_core.specs.Delivered.{BeginsWith}
+use Rattle.serve_core.specs.Events.{Event, Arrive, Lease, Admit, Reply, Accepted, Leased, Admitted, GivenBack}
+use Rattle.serve_core.specs.Events.{Refused, SpecBack, Transcript, Then}
 use Rattle.serve_core.specs.Grants.{cost_of_first}
+use Rattle.serve_core.specs.Leads.{Leads}
+use Rattle.serve_core.specs.Released.{StillFits, is_released, unreleased}
 use Rattle.serve_core.specs.Rules.{IsLegal, Allows}
 use Rattle.serve_core.specs.Setup.{Setup, StreamSpec, IsWithin, Fits, costs, cost}
 use Rattle.serve_core.specs.Sound.{Sound}
@@ -23,17 +25,27 @@ demand d streams = sum_by (λ x. x.charged) (filter (λ x. nat_le x.account.dead
 
 module _ {F G : Type 0} where
   -- an arrival that was accepted and, the other time, refused for want of memory
-  abbrev pub IsMemoryChoice : Event F → Reply F G → Reply F G → Type 0
-  IsMemoryChoice e r q =
+  abbrev pub IsArrivalChoice : Event F → Reply F G → Reply F G → Type 0
+  IsArrivalChoice e r q =
       (s n : ℕ) × (f : F) × (e ≡ Arrive s f) × (r ≡ Accepted n) × (q ≡ GivenBack refusals.NoMemory f)
+
+  -- and so a stream that was admitted
+  abbrev pub IsAdmissionChoice : Event F → Reply F G → Reply F G → Type 0
+  IsAdmissionChoice e r q =
+      (s : ℕ) × (spec : StreamSpec) × (e ≡ Admit spec) × (r ≡ Admitted s)
+      × (q ≡ SpecBack refusals.NoMemory spec)
+
+  abbrev pub IsMemoryChoice : Event F → Reply F G → Reply F G → Type 0
+  IsMemoryChoice e r q = IsArrivalChoice e r q ⊎ IsAdmissionChoice e r q
 
 -- a refusal leaves everything as it was
 abbrev pub RefusedLaw : (F G : Type 0) → Type 0
 RefusedLaw F G =
-    (m : State F) (e : Event F) (s : ℕ) (f : F) (k : Refusal)
+    (m : State F) (e : Event F) (s : ℕ) (f : F) (spec : StreamSpec) (k : Refusal)
     → let refused : Reply F G = Refused k in
     let given_back : Reply F G = GivenBack k f in
-    (after m e refused ≡ m) × (after m (Arrive s f) given_back ≡ m)
+    let spec_back : Reply F G = SpecBack k spec in
+    (after m e refused ≡ m) × (after m (Arrive s f) given_back ≡ m) × (after m (Admit spec) spec_back ≡ m)
 
 module _ {F G : Type 0} (measures : SizeTest F) (is_image : ImageRelation F G) where
   -- each right reply keeps a state sound
@@ -91,7 +103,7 @@ module _ {F G : Type 0} (measures : SizeTest F) (is_image : ImageRelation F G) w
       ((spec : StreamSpec) (f : F) → (is_sized : Bool) × measures spec f is_sized)
       → (setup : Setup) (p : Transcript F G) (e : Event F) → IsWithin setup
       → IsLegal measures is_image setup p
-      → ((s : ℕ) (spec : StreamSpec) (f : F) → slice_get setup.streams s ≡ Some spec → measures spec f true
+      → ((s : ℕ) (spec : StreamSpec) (f : F) → slice_get (specs setup p) s ≡ Some spec → measures spec f true
       → (g : G) × is_image spec f g)
       → (r : Reply F G) × Allows measures is_image (state_of setup p) e r
 
@@ -115,10 +127,36 @@ module _ {F G : Type 0} (measures : SizeTest F) (is_image : ImageRelation F G) w
       → (unit_count later + x.account.budget) * x.spec.period + r * x.spec.maximum
       ≤ y.account.deadline * x.spec.maximum
 
-  -- charged * T <= deadline * Q for each stream, and what is due by d is at most d for each worker
+  -- the shares of the streams that aren't released fit after each legal transcript
+  abbrev pub FitsLaw : Type 0
+  FitsLaw =
+      (setup : Setup) (p : Transcript F G) → IsWithin setup → Fits setup → IsLegal measures is_image setup p
+      → StillFits (state_of setup p)
+
+  -- and so they do where it led on from a sound state in which they fit
+  abbrev pub FitsFromLaw : Type 0
+  FitsFromLaw =
+      (m n : State F) (p : Transcript F G) → Sound m → StillFits m → Leads measures is_image m p n → StillFits n
+
+  -- a stream that is released stays so
+  abbrev pub ReleasedLaw : Type 0
+  ReleasedLaw =
+      (setup : Setup) (p q : Transcript F G) (s : ℕ) (x : StreamState F) → IsWithin setup
+      → IsLegal measures is_image setup p → BeginsWith p q → slice_get (state_of setup q).streams s ≡ Some x
+      → IsTrue (is_released (now q) x)
+      → IsSomeAnd (slice_get (state_of setup p).streams s) (λ y. IsTrue (is_released (now p) y))
+
+  -- charged * T <= deadline * Q for each stream, and of the streams that aren't released what is due by d is
+  -- at most d for each worker
   abbrev pub DemandLaw : Type 0
   DemandLaw =
       (setup : Setup) (p : Transcript F G) → IsWithin setup → Fits setup → IsLegal measures is_image setup p
       → ((s : ℕ) (x : StreamState F) → slice_get (state_of setup p).streams s ≡ Some x
       → x.charged * x.spec.period ≤ x.account.deadline * x.spec.maximum)
-      × ((d : ℕ) → demand d (state_of setup p).streams ≤ d * setup.workers)
+      × ((d : ℕ) → demand d (unreleased (state_of setup p)) ≤ d * setup.workers)
+
+  -- and so it is of all streams together, those that are released too: no share is held twice at a moment
+  abbrev pub WholeDemandLaw : Type 0
+  WholeDemandLaw =
+      (setup : Setup) (p : Transcript F G) (d : ℕ) → IsWithin setup → Fits setup
+      → IsLegal measures is_image setup p → demand d (state_of setup p).streams ≤ d * setup.workers

@@ -4,9 +4,11 @@ pub mod Grants
 pub mod Events
 pub mod Counts
 pub mod States
+pub mod Released
 pub mod Rules
 pub mod Sound
 pub mod Leads
+pub mod Reached
 pub mod AtOnce
 pub mod Bare
 pub mod Laws

@@ -2,6 +2,7 @@
 use Rattle.std.specs.Prelude.{ℕ, ◌≡◌, List, slice_get, Some, is_some}
 use Rattle.filters.specs.ChainImage.{FrameValue}
 use Rattle.serve_core.specs.Lanes.{Lane}
+use Rattle.serve_core.specs.Released.{StillFits}
 use Rattle.serve_core.specs.Schedule.{ScheduleValue, state_by}
 use Rattle.serve_core.specs.Sound.{Sound}
 use Rattle.serve_core.specs.States.{State}
@@ -17,4 +18,5 @@ AreWhole lanes = (s : ℕ) (lane : Lane) → slice_get lanes s ≡ Some lane
 
 pub record IsMachine (x : ScheduleValue) : Type 0 where
   pub sound : Sound (machine x)
+  pub fits : StillFits (machine x)
   pub whole : AreWhole x.lanes

@@ -1,7 +1,9 @@
 -- The streams and what workers hold, as machine and desk keep them.
 use Rattle.std.specs.Prelude.{ℕ, ◌≡◌, ◌≤◌, ◌<◌, ◌+◌, ◌^◌, nat_lt, List, [], ◌∷◌, ◌++◌, drop, map, replicate}
 use Rattle.std.specs.Prelude.{slice_get, slice_set, Option, Some, None, IsSome, IsSomeAnd, MatchOption}
-use Rattle.std.specs.Prelude.{if◌then◌else◌}
+use Rattle.std.specs.Prelude.{if◌then◌else◌, length, sum_by}
+use Rattle.cbs_account.specs.declared.limits.TheConstants.{LAST_MOMENT}
+use Rattle.cbs_account.specs.Admission.{Load}
 use Rattle.cbs_account.specs.Rules.{CanCharge}
 use Rattle.edf_pool.specs.Earliest.{IsEarliest, NoneReady}
 use Rattle.lease.specs.Job.{JobValue}
@@ -12,8 +14,9 @@ use Rattle.serve_core.specs.declared.refusal.Refusal.{Refusal}
 use Rattle.serve_core.specs.declared.refusal.Refusal.TheVariants as refusals
 use Rattle.serve_core.specs.Counts.{Came, Lent, Shut, Taken, Worked, Back, Ended}
 use Rattle.serve_core.specs.Lanes.{IsPair, IsStarted, Lane, listed, opened, source_in, source_of}
-use Rattle.serve_core.specs.Rules.{grant, lack}
-use Rattle.serve_core.specs.Setup.{Setup, steps}
+use Rattle.serve_core.specs.Released.{held_share}
+use Rattle.serve_core.specs.Rules.{CanAdmit, RefusesAdmit, grant, lack}
+use Rattle.serve_core.specs.Setup.{Setup, StreamSpec, steps}
 use Rattle.serve_core.specs.States.{State, StreamState, did, next_cost, ready_deadline}
 
 pub record ScheduleValue : Type 0 where
@@ -61,6 +64,24 @@ state_by frames x = record {
 abbrev pub deadlines : List Lane → List (Option ℕ)
 deadlines lanes = map (λ lane. ready_deadline lane.state) lanes
 
+-- the workers, and the shares that their streams hold
+abbrev pub held_of_lanes : (workers clock : ℕ) → List Lane → Load
+held_of_lanes workers clock lanes =
+    record { workers = workers; shares = sum_by (λ lane. held_share clock lane.state) lanes }
+
+abbrev pub held_by : ScheduleValue → Load
+held_by x = held_of_lanes (length x.workers) x.clock x.lanes
+
+-- how a schedule answers a stream that is to be admitted, want of memory aside: by a refusal, or by none
+abbrev pub IsAdmitAnswer : ScheduleValue → StreamSpec → Option Refusal → Type 0
+IsAdmitAnswer x spec None = CanAdmit (length x.lanes) (held_by x) spec
+IsAdmitAnswer x spec (Some refusals.NoMemory) = ⊥
+IsAdmitAnswer x spec (Some e) = RefusesAdmit (length x.lanes) (held_by x) spec e
+
+-- one stream more, behind all others
+abbrev pub with_stream : StreamSpec → ScheduleValue → ScheduleValue
+with_stream spec x = record x { lanes = x.lanes ++ opened spec ∷ [] }
+
 -- lane s, and the schedule without its clock
 abbrev pub HasLane : ScheduleValue → ℕ → (Lane → Type 0) → Type 0
 HasLane x s P = IsSomeAnd (slice_get x.lanes s) P
@@ -78,7 +99,7 @@ HasLease x w held = slice_get x.workers w ≡ Some (Some held)
 abbrev pub tick_refusal : (clock to : ℕ) → Option Refusal
 tick_refusal clock to =
     if nat_lt to clock then Some refusals.Past
-    else if nat_lt (2 ^ 60) to then Some refusals.ClockEnd
+    else if nat_lt LAST_MOMENT to then Some refusals.ClockEnd
     else None
 
 -- why worker w gets no lease

@@ -1,5 +1,6 @@
 -- What a schedule keeps, and what it stands for.
 use Rattle.std.specs.Prelude.{◌≡◌, ◌≤◌, ◌^◌}
+use Rattle.cbs_account.specs.declared.limits.TheConstants.{LAST_MOMENT}
 use Rattle.serve_core.specs.declared.schedule.Schedule.TheInside.{Inside}
 use Rattle.serve_core.specs.Schedule.{ScheduleValue, deadlines}
 
@@ -12,6 +13,6 @@ schedule a = record {
 }
 
 pub record IsSchedule (a : Inside) : Type 0 where
-  pub clock : a.clock ≤ 2 ^ 60
+  pub clock : a.clock ≤ LAST_MOMENT
   -- the pool shows the streams that are ready, with their deadlines
   pub pool : a.pool ≡ deadlines a.streams.items

@@ -1,5 +1,8 @@
 -- What a machine is made for, and the limits of its numbers.
 use Rattle.std.specs.Prelude.{ℕ, Bool, ◌≡◌, ◌≤◌, ◌^◌, All, List, length, map, sum}
+use Rattle.stream_queue.specs.declared.limits.TheConstants.{MOST_PLACES}
+use Rattle.cbs_account.specs.declared.limits.TheConstants.{MOST_WORKERS}
+use Rattle.edf_pool.specs.declared.limits.TheConstants.{MOST_STREAMS}
 use Rattle.cbs_account.specs.Admission.{Load, Reservation, load_of}
 use Rattle.cbs_account.specs.Admission as admission
 use Rattle.cbs_account.specs.Balance.{IsBandwidth}
@@ -54,20 +57,20 @@ pub record IsWithinLimits (spec : StreamSpec) : Type 0 where
   pub some_steps : 1 ≤ steps spec
   pub cost : cost spec ≤ 2 ^ 15
   pub some_places : 1 ≤ spec.queue
-  pub places : spec.queue ≤ 256
+  pub places : spec.queue ≤ MOST_PLACES
   pub some_room : 1 ≤ spec.outbox
-  pub room : spec.outbox ≤ 256
+  pub room : spec.outbox ≤ MOST_PLACES
   pub some_frames : 1 ≤ spec.frames
   pub frames : spec.frames ≤ 2 ^ 24
 
 -- the numbers of a setup, but those of the streams' accounts, are within their limits
 pub record HasLimits (setup : Setup) : Type 0 where
   pub some_workers : 1 ≤ setup.workers
-  pub workers : setup.workers ≤ 16
+  pub workers : setup.workers ≤ MOST_WORKERS
   pub some_quantum : 1 ≤ setup.quantum
   pub quantum : setup.quantum ≤ 64
   pub some_streams : 1 ≤ length setup.streams
-  pub streams : length setup.streams ≤ 64
+  pub streams : length setup.streams ≤ MOST_STREAMS
   pub each : All IsWithinLimits setup.streams
 
 abbrev pub HasBandwidth : StreamSpec → Type 0

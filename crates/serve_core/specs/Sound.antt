@@ -1,5 +1,6 @@
 -- What holds in every state that a legal transcript leads to.
 use Rattle.std.specs.Prelude.{ℕ, ◌+◌, ◌*◌, ◌≡◌, ◌≤◌, ◌<◌, ◌^◌, length, slice_get, Option, Some, None}
+use Rattle.cbs_account.specs.declared.limits.TheConstants.{LAST_MOMENT, MOST_WORKERS}
 use Rattle.cbs_account.specs.Balance.{Balance}
 use Rattle.serve_core.specs.declared.held.Held.{Held}
 use Rattle.serve_core.specs.Grants.{cost_of_first}
@@ -53,8 +54,10 @@ module _ {F : Type 0} where
     pub left : l.grant + x.done ≤ l.used + steps x.spec
 
   pub record Sound (m : State F) : Type 0 where
-    pub clock : m.clock ≤ 2 ^ 60
+    pub clock : m.clock ≤ LAST_MOMENT
     pub quantum : 1 ≤ m.quantum
+    pub some_workers : 1 ≤ length m.workers
+    pub workers : length m.workers ≤ MOST_WORKERS
     pub streams : (s : ℕ) (x : StreamState F) → slice_get m.streams s ≡ Some x → IsSound m.clock x
     -- a lease is of a stream that it holds, and what holds a stream is a lease of it
     pub leases : (w : ℕ) (l : Held) → slice_get m.workers w ≡ Some (Some l)

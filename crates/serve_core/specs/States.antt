@@ -6,8 +6,8 @@ use Rattle.cbs_account.specs.Rules.{after_units, after_idle, cbs}
 use Rattle.serve_core.specs.declared.held.Held.{Held}
 use Rattle.serve_core.specs.Counts.{Deed, Came, Worked, Lent, Back, Ended, Shut, Taken, deed, history}
 use Rattle.serve_core.specs.Counts.{clock_after, now, held_after, held, waiting, own_events, accepted}
-use Rattle.serve_core.specs.Counts.{finished, collected, is_closed, charged, done, holder}
-use Rattle.serve_core.specs.Events.{Event, Reply, Transcript, Start}
+use Rattle.serve_core.specs.Counts.{finished, collected, is_closed, charged, done, holder, specs}
+use Rattle.serve_core.specs.Events.{Event, Reply, Transcript, Start, with_admitted}
 use Rattle.serve_core.specs.Grants.{cost_of_band}
 use Rattle.serve_core.specs.Setup.{Setup, StreamSpec, costs}
 
@@ -59,6 +59,10 @@ module _ {F : Type 0} where
     frames = waiting h;
   }
 
+  -- one that nothing happened to yet
+  abbrev pub new_stream : StreamSpec → StreamState F
+  new_stream spec = stream_of spec []
+
   -- what the band that is next costs
   abbrev pub next_cost : StreamState F → ℕ
   next_cost x = cost_of_band x.done (costs x.spec)
@@ -101,16 +105,16 @@ module _ {F G : Type 0} where
   abbrev pub opening : Transcript F G
   opening = Start
 
-  -- what happened to stream s of a setup, the latest first
+  -- what happened to stream s, the latest first
   abbrev pub past : Setup → ℕ → Transcript F G → List (Deed F)
-  past setup s p = history setup.workers s p
+  past setup s p = history setup s p
 
   -- where a transcript leads from the setup
   abbrev pub state_of : Setup → Transcript F G → State F
   state_of setup p = record {
     clock = now p;
     quantum = setup.quantum;
-    streams = map_at 0 (λ s spec. stream_of spec (history setup.workers s p)) setup.streams;
+    streams = map_at 0 (λ s spec. stream_of spec (history setup s p)) (specs setup p);
     workers = map_at {X = ℕ} 0 (λ w none. held w p) (replicate setup.workers 0);
   }
 
@@ -119,6 +123,7 @@ module _ {F G : Type 0} where
   after m e r = record {
     clock = clock_after m.clock e r;
     quantum = m.quantum;
-    streams = map_at 0 (λ s x. did_any x (deed s m.clock (held_at m.workers) e r)) m.streams;
+    streams = with_admitted new_stream e r
+        (map_at 0 (λ s x. did_any x (deed s m.clock (held_at m.workers) e r)) m.streams);
     workers = map_at 0 (λ w h. held_after w h e r) m.workers;
   }

@@ -1,10 +1,9 @@
 //! The machine for workers that do their bands by themselves.
-ghost use Rattle.std.specs.Prelude.{◌≡◌, ◌≤◌, ◌<◌, ◌^◌, max, Some, None, slice_get, option_copied};
+ghost use Rattle.std.specs.Prelude.{◌≡◌, ◌≤◌, ◌<◌, ◌^◌, max, Some, None, length, slice_get, option_copied};
 ghost use Rattle.std.specs.Prelude.{◌↔◌, All, IsTrue, IsSome, IfOk, IfErr, IfSome, IfNone, OnOk};
 ghost use Rattle.std.specs.Prelude.{MatchOption};
 ghost use Rattle.std.specs.Arc.{arc_value};
 ghost use Rattle.std.specs.Option.{option_map};
-ghost use Rattle.filters.specs.ChainImage.{value_of};
 ghost use Rattle.serve_core.specs.declared.refusal.Refusal.TheVariants as refusals;
 ghost use Rattle.serve_core.specs.Bare.{Blank};
 ghost use Rattle.serve_core.specs.Desk as rules;
@@ -18,9 +17,12 @@ ghost use Rattle.serve_core.specs.Schedule.{HasLane, HasLease, account_of, count
 use crate::collected::Collected;
 use crate::counts::Counts;
 use crate::held::Held;
+use crate::newcomer::Newcomer;
 use crate::refusal::Refusal;
-use crate::schedule::{LAST_MOMENT, Schedule};
+use crate::schedule::Schedule;
 use crate::setup::Setup;
+use crate::spec::StreamSpec;
+use cbs_account::limits::LAST_MOMENT;
 use frame_view::Frame;
 use lease::{Job, JobSpec, Lease};
 use std::alloc::{AllocError, Global};
@@ -28,7 +30,7 @@ use std::marker::Model;
 use std::sync::Arc;
 
 /// The machine without the jobs that are out: a lease takes its job away, and its settlement brings it back
-/// with all bands that were done of it. Only `new`, `offer` and `offer_over` take memory.
+/// with all bands that were done of it. Only `new`, `offer`, `admit` and `admit_newcomer` take memory.
 ///
 /// Contracts see the `ScheduleValue` of `specs/Schedule.antt`, and tell of each call which bare events it is.
 #[derive(Drop)]
@@ -66,6 +68,13 @@ impl Desk {
         self.schedule.clock()
     }
 
+    /// How many streams there are.
+    pub fn streams(&self) -> usize
+        ensures { result ≡ length self.now.lanes }
+    {
+        self.schedule.streams()
+    }
+
     /// The budget and the deadline of stream `s`.
     pub fn account(&self, s: u32) -> Option<(u64, u64)>
         ensures { result ≡ option_map (λ lane. account_of lane.state) (slice_get self.now.lanes s) }
@@ -91,7 +100,7 @@ impl Desk {
     /// What [`Desk::offer`] would refuse this frame for, want of memory aside.
     pub fn offer_refusal(&self, s: u32, at: u64, frame: &Frame) -> Option<Refusal>
         ensures answer { IsOfferAnswer self.now s at frame.now.geometry result }
-        ensures moment { IfNone result (at ≤ 2 ^ 60) }
+        ensures moment { IfNone result (at ≤ LAST_MOMENT) }
         ensures place { IfNone result (HasLane self.now s (λ lane.
             (frame.now.geometry ≡ lane.state.spec.geometry) × HasPlace lane.state)) }
     {
@@ -126,35 +135,6 @@ impl Desk {
         }
     }
 
-    /// What [`Desk::offer`] does, in the memory of an image that isn't needed any more. It takes memory only
-    /// for the frame's line, and only where the image has another. A refused frame comes back with the image,
-    /// and the clock stays.
-    pub fn offer_over(
-        &mut self,
-        alloc: Global,
-        s: u32,
-        at: u64,
-        frame: Arc<Frame>,
-        image: Frame,
-    ) -> Result<u64, (Refusal, Arc<Frame>, Frame)>
-        requires { rules.IsImageFor self.old s image }
-        ensures events { IfOk result (λ n. Answers self.old (rules.offered self.old.clock s at n) self.new) }
-        ensures answer { OnOk result (IsOfferAnswer self.old s at (arc_value frame).geometry None) }
-        ensures job { IfOk result (λ n. rules.TakesFrame s at (arc_value frame) n self.old self.new) }
-        ensures refused { IfErr result (λ e.
-            rules.RefusesOffer self.old s at (arc_value frame).geometry e.0) }
-        ensures back { IfErr result (λ e. (e.1 ≡ frame) × (value_of e.2 ≡ value_of image)
-            × (self.new ≡ self.old)) }
-    {
-        if let Some(refusal) = self.offer_refusal(s, at, &frame) {
-            return Err((refusal, frame, image));
-        }
-        match self.schedule.job_over(alloc, s, frame, image) {
-            Ok(job) => Ok(self.accept(s, at, job)),
-            Err((frame, image)) => Err((Refusal::NoMemory, frame, image)),
-        }
-    }
-
     /// What [`Desk::offer_job`] would refuse.
     pub fn offer_job_refusal(&self, s: u32, at: u64) -> Option<Refusal>
         ensures { result ≡ rules.job_refusal self.now s at }
@@ -186,7 +166,7 @@ impl Desk {
 
     /// Stream `s` takes the job at a moment, or now if that is later.
     fn accept(&mut self, s: u32, at: u64, job: Job) -> u64
-        requires moment { at ≤ 2 ^ 60 }
+        requires moment { at ≤ LAST_MOMENT }
         requires lane { HasLane self.old s (λ lane. HasPlace lane.state × IsFresh lane.state.spec.chain job) }
         ensures events { Answers self.old (rules.offered self.old.clock s at result) self.new }
         ensures job { rules.TakesJob s at job result self.old self.new }
@@ -194,6 +174,68 @@ impl Desk {
         let moment = self.schedule.clock().max(at);
         self.schedule.tick(moment);
         self.schedule.accept(s, job)
+    }
+
+    /// What [`Desk::admit`] would refuse this stream for, want of memory aside.
+    pub fn admit_refusal(&self, spec: &StreamSpec) -> Option<Refusal>
+        ensures { schedules.IsAdmitAnswer self.now spec.now result }
+    {
+        self.schedule.admit_refusal(spec)
+    }
+
+    /// One stream more, with the number behind all others. A refused spec comes back.
+    pub fn admit(&mut self, alloc: Global, spec: StreamSpec) -> Result<u32, (Refusal, StreamSpec)>
+        ensures events { IfOk result (λ s. Answers self.old (one (events.Admit spec) (events.Admitted s))
+            self.new) }
+        ensures answer { OnOk result (schedules.IsAdmitAnswer self.old spec None) }
+        ensures stream { IfOk result (λ s. (s ≡ length self.old.lanes)
+            × (self.new ≡ schedules.with_stream spec self.old)) }
+        ensures refused { IfErr result (λ e. rules.RefusesAdmission self.old spec e.0) }
+        ensures back { IfErr result (λ e. (e.1 ≡ spec) × (self.new ≡ self.old)) }
+    {
+        if let Some(refusal) = self.schedule.admit_refusal(&spec) {
+            return Err((refusal, spec));
+        }
+        let newcomer = match Newcomer::new(alloc, spec) {
+            Ok(newcomer) => newcomer,
+            Err((_, spec)) => return Err((Refusal::NoMemory, spec)),
+        };
+        match self.add(newcomer) {
+            Ok(s) => Ok(s),
+            Err(newcomer) => Err((Refusal::NoMemory, newcomer.into_spec())),
+        }
+    }
+
+    /// What [`Desk::admit`] does, with the stream's memory, which was taken outside. A refused newcomer comes
+    /// back.
+    pub fn admit_newcomer(&mut self, newcomer: Newcomer) -> Result<u32, (Refusal, Newcomer)>
+        ensures events { IfOk result (λ s. Answers self.old (one (events.Admit newcomer) (events.Admitted s))
+            self.new) }
+        ensures answer { OnOk result (schedules.IsAdmitAnswer self.old newcomer None) }
+        ensures stream { IfOk result (λ s. (s ≡ length self.old.lanes)
+            × (self.new ≡ schedules.with_stream newcomer self.old)) }
+        ensures refused { IfErr result (λ e. rules.RefusesAdmission self.old newcomer e.0) }
+        ensures back { IfErr result (λ e. (e.1 ≡ newcomer) × (self.new ≡ self.old)) }
+    {
+        if let Some(refusal) = self.schedule.admit_refusal(newcomer.spec()) {
+            return Err((refusal, newcomer));
+        }
+        match self.add(newcomer) {
+            Ok(s) => Ok(s),
+            Err(newcomer) => Err((Refusal::NoMemory, newcomer)),
+        }
+    }
+
+    /// Takes a newcomer that can be admitted. It comes back where the memory for its place is refused.
+    fn add(&mut self, newcomer: Newcomer) -> Result<u32, Newcomer>
+        requires { schedules.IsAdmitAnswer self.old newcomer None }
+        ensures events { IfOk result (λ s. Answers self.old (one (events.Admit newcomer) (events.Admitted s))
+            self.new) }
+        ensures stream { IfOk result (λ s. (s ≡ length self.old.lanes)
+            × (self.new ≡ schedules.with_stream newcomer self.old)) }
+        ensures back { IfErr result (λ back. (back ≡ newcomer) × (self.new ≡ self.old)) }
+    {
+        self.schedule.join(newcomer)
     }
 
     /// What [`Desk::lease`] would refuse worker `w` for.
@@ -210,6 +252,8 @@ impl Desk {
         ensures events { IfOk result (λ lease. Answers self.old (one (events.Lease w)
             (events.Leased lease.stream lease.seq lease.granted)) self.new) }
         ensures job { IfOk result (λ lease. rules.GivesJob w lease self.old self.new) }
+        ensures free { OnOk result (slice_get self.old.workers w ≡ Some None) }
+        ensures ready { OnOk result (rules.SomeReady self.old) }
         ensures refused { IfErr result (λ e. schedules.RefusesLease self.old w e × (self.new ≡ self.old)) }
     {
         let held = self.schedule.lease(w)?;
@@ -259,14 +303,23 @@ impl Desk {
     {
         match self.schedule.held(w) {
             Err(refusal) => Err((refusal, lease)),
-            Ok(held) => {
-                let bands = lease.used();
-                let units = lease.spent() as u64;
-                let job = lease.into_job();
-                self.schedule.bring(held.stream, job, bands, units);
-                Ok(self.schedule.settle(w, held))
-            }
+            Ok(held) => Ok(self.take_back(w, held, lease)),
         }
+    }
+
+    /// What [`Desk::settle`] does where worker `w` holds this.
+    pub fn take_back(&mut self, w: u32, held: Held, lease: Lease) -> Option<u64>
+        requires holds { HasLease self.old w held }
+        requires recorded { rules.IsHeldBy self.old w lease }
+        ensures events { Answers self.old (rules.settlement w lease.used result) self.new }
+        ensures job { MatchOption result (rules.TakesBack w lease self.old self.new)
+            (λ number. rules.TakesImage w lease number self.old self.new) }
+    {
+        let bands = lease.used();
+        let units = lease.spent() as u64;
+        let job = lease.into_job();
+        self.schedule.bring(held.stream, job, bands, units);
+        self.schedule.settle(w, held)
     }
 
     /// Stream `s` accepts no more frames.

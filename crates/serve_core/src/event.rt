@@ -1,6 +1,7 @@
 //! What is asked of the machine, and what it answers.
 
 use crate::refusal::Refusal;
+use crate::spec::StreamSpec;
 use frame_view::Frame;
 use std::sync::Arc;
 
@@ -21,6 +22,8 @@ pub enum Event {
     Close(u32),
     /// The oldest image of a stream is asked for.
     Collect(u32),
+    /// One stream more is asked for.
+    Admit(StreamSpec),
 }
 
 /// What the machine answers.
@@ -42,8 +45,12 @@ pub enum Reply {
     Closing,
     /// The oldest image of the stream.
     Image(Frame),
+    /// The stream is there, with this number.
+    Admitted(u32),
     /// Nothing was done.
     Refused(Refusal),
     /// Nothing was done, and the frame comes back.
     GivenBack(Refusal, Arc<Frame>),
+    /// Nothing was done, and the spec comes back.
+    SpecBack(Refusal, StreamSpec),
 }

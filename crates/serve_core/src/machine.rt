@@ -1,5 +1,5 @@
 //! The machine: events in, replies out.
-ghost use Rattle.std.specs.Prelude.{◌≡◌, IfOk, length, map, slice_get};
+ghost use Rattle.std.specs.Prelude.{◌≡◌, IfOk, OnErr, length, map, slice_get};
 ghost use Rattle.std.specs.Arc.{arc_value};
 ghost use Rattle.std.specs.Option.{option_map};
 ghost use Rattle.filters.specs.ChainImage.{FrameValue, value_of};
@@ -18,6 +18,7 @@ use crate::event::{Event, Reply};
 use crate::refusal::Refusal;
 use crate::schedule::Schedule;
 use crate::setup::Setup;
+use crate::spec::StreamSpec;
 use frame_view::Frame;
 use std::alloc::{AllocError, Global};
 use std::marker::Model;
@@ -32,7 +33,8 @@ pub enum CoreError {
 }
 
 /// The machine. It keeps the jobs that are out, so it can be dropped with leases out. Contracts see the
-/// `State` of `specs/States.antt`, which is always sound as `specs/Sound.antt` says.
+/// `State` of `specs/States.antt`; that it is sound, as `specs/Sound.antt` says, is
+/// [`sound_law`](crate::laws::sound_law).
 #[derive(Drop)]
 pub struct Machine {
     schedule: Schedule,
@@ -61,8 +63,9 @@ impl Machine {
         Ok(Machine { schedule })
     }
 
-    /// One event. Only an arrival takes memory; where it is refused the frame comes back. Behind each legal
-    /// transcript that led to the machine's state, event and reply are legal again, and lead to the new one.
+    /// One event. Only an arrival and an admission take memory; where they are refused, the frame or the spec
+    /// comes back. Behind each legal transcript that led to the machine's state, event and reply are legal
+    /// again, and lead to the new one.
     pub fn step(&mut self, alloc: Global, event: Event) -> Reply
         ensures allowed { Allows measures is_image self.old (seen event) (heard result) }
         ensures state { self.new ≡ after self.old (seen event) (heard result) }
@@ -86,6 +89,7 @@ impl Machine {
             Event::Tick(to) => self.tick(to),
             Event::Close(s) => self.close(s),
             Event::Collect(s) => self.collect(s),
+            Event::Admit(spec) => self.admit(alloc, spec),
         }
     }
 
@@ -116,11 +120,12 @@ impl Machine {
         ensures count { IfOk result (λ replies. length replies.items ≡ length events.items) }
         ensures leads { IfOk result (λ replies. Leads measures is_image self.old
             (told Start (map seen events.items) (map heard replies.items)) self.new) }
+        ensures none { OnErr result (self.new ≡ self.old) }
     {
         let mut replies = Vec::with_capacity(alloc, events.len())?;
         for event in events {
             let reply = self.step(alloc, event);
-            replies.push(reply)?;
+            replies.push_reserved(reply);
         }
         Ok(replies)
     }
@@ -140,6 +145,20 @@ impl Machine {
         match self.schedule.job(alloc, s, frame) {
             Ok(job) => Reply::Accepted(self.schedule.accept(s, job)),
             Err(frame) => Reply::GivenBack(Refusal::NoMemory, frame),
+        }
+    }
+
+    /// One stream more is asked for.
+    fn admit(&mut self, alloc: Global, spec: StreamSpec) -> Reply
+        ensures allowed { Allows measures is_image self.old (rules.Admit spec) (heard result) }
+        ensures state { self.new ≡ after self.old (rules.Admit spec) (heard result) }
+    {
+        if let Some(refusal) = self.schedule.admit_refusal(&spec) {
+            return Reply::SpecBack(refusal, spec);
+        }
+        match self.schedule.admit(alloc, spec) {
+            Ok(s) => Reply::Admitted(s),
+            Err(spec) => Reply::SpecBack(Refusal::NoMemory, spec),
         }
     }
 

@@ -21,7 +21,7 @@ pub enum Refusal {
     /// As many frames as the queue has places are unfinished.
     #[error("Full")]
     Full,
-    /// The memory for the frame's job was refused.
+    /// The memory for the frame's job, or for a stream, was refused.
     #[error("NoMemory")]
     NoMemory,
     /// No worker has this number.
@@ -54,4 +54,17 @@ pub enum Refusal {
     /// No image will come: the stream is closed, and all its images were collected.
     #[error("Drained")]
     Drained,
+    /// As many streams as there can be at all have had a number.
+    #[error("TooManyStreams")]
+    TooManyStreams,
+    /// A number of the stream is outside its limits, but for those of its account, or its chain was made for
+    /// another geometry.
+    #[error("BadLimits")]
+    BadLimits,
+    /// The stream's maximum budget and period are not `1 <= Q <= T <= 1048576`.
+    #[error("BadBandwidth")]
+    BadBandwidth,
+    /// The stream's share is more than is left of the workers.
+    #[error("Overload")]
+    Overload,
 }

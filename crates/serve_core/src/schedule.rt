@@ -4,12 +4,12 @@ ghost use Rattle.std.specs.Prelude.{slice_set, IsTrue, IsFalse, IsSome, IsSomeAn
 ghost use Rattle.std.specs.Prelude.{IfSome, IfNone, OnOk};
 ghost use Rattle.std.specs.Arc.{arc_value};
 ghost use Rattle.std.specs.Option.{option_map};
+ghost use Rattle.cbs_account.specs.Admission.{Fits};
 ghost use Rattle.edf_pool.specs.Earliest.{IsEarliest};
-ghost use Rattle.filters.specs.ChainImage.{value_of};
 ghost use Rattle.serve_core.specs.declared.refusal.Refusal.TheVariants as refusals;
 ghost use Rattle.serve_core.specs.AtOnce.{with_used};
 ghost use Rattle.serve_core.specs.Desk.{SomeReady};
-ghost use Rattle.serve_core.specs.Lanes.{HasPlace, IsFresh, IsImageOf, GainsImage};
+ghost use Rattle.serve_core.specs.Lanes.{HasPlace, IsFresh, GainsImage};
 ghost use Rattle.serve_core.specs.Schedule as rules;
 ghost use Rattle.serve_core.specs.Schedule.{HasLane, HasLease, account_of, counts_of, with_held, with_lane};
 ghost use Rattle.serve_core.specs.Rules.{arrival_refusal};
@@ -21,18 +21,20 @@ mod handing;
 use crate::collected::Collected;
 use crate::counts::Counts;
 use crate::held::Held;
+use crate::newcomer::Newcomer;
 use crate::refusal::Refusal;
 use crate::setup::Setup;
+use crate::spec::StreamSpec;
 use crate::stream::Stream;
+use cbs_account::limits::{LAST_MOMENT, MOST_WORKERS};
+use cbs_account::{Admission, AdmissionError};
+use edf_pool::limits::MOST_STREAMS;
 use edf_pool::{Compares, Pool};
 use frame_view::{Frame, Geometry};
 use lease::Job;
 use std::alloc::{AllocError, Global};
 use std::marker::Model;
 use std::sync::Arc;
-
-/// The end of the clock.
-pub(crate) const LAST_MOMENT: u64 = 1 << 60;
 
 /// The streams with their jobs and images, what each worker holds, and the deadlines of the streams that are
 /// ready. Machine and desk stand on it. Contracts see the `ScheduleValue` of `specs/Schedule.antt`.
@@ -65,8 +67,10 @@ impl Schedule {
         let count = setup.streams.len();
         let mut streams = Vec::with_capacity(alloc, count)?;
         for spec in setup.streams {
-            let stream = Stream::new(alloc, spec)?;
-            streams.push(stream)?;
+            match Stream::new(alloc, spec) {
+                Ok(stream) => streams.push(stream)?,
+                Err(_) => return Err(AllocError),
+            }
         }
         let workers = vec![in alloc; None; setup.workers as usize]?;
         let pool = Pool::new(alloc, count as u32)?;
@@ -101,7 +105,7 @@ impl Schedule {
 
     /// Lets the clock go on to a moment.
     pub(crate) fn tick(&mut self, to: u64)
-        requires { to ≤ 2 ^ 60 }
+        requires { to ≤ LAST_MOMENT }
         ensures { self.new ≡ record self.old { clock = to } }
     {
         self.clock = to;
@@ -131,24 +135,6 @@ impl Schedule {
         self.streams[s as usize].job(alloc, frame)
     }
 
-    /// A job for a frame of stream `s`, in the memory of an image of it. Both come back where the memory for
-    /// another line is refused.
-    pub(crate) fn job_over(
-        &self,
-        alloc: Global,
-        s: u32,
-        frame: Arc<Frame>,
-        image: Frame,
-    ) -> Result<Job, (Arc<Frame>, Frame)>
-        requires { HasLane self.now s (λ lane. ((arc_value frame).geometry ≡ lane.state.spec.geometry)
-            × IsImageOf lane.state.spec.chain image) }
-        ensures ok { IfOk result (λ job. HasLane self.now s (λ lane. IsFresh lane.state.spec.chain job)) }
-        ensures source { IfOk result (λ job. job.source ≡ arc_value frame) }
-        ensures back { IfErr result (λ back. (back.0 ≡ frame) × (value_of back.1 ≡ value_of image)) }
-    {
-        self.streams[s as usize].job_over(alloc, frame, image)
-    }
-
     /// Takes a job behind all others of stream `s`, and answers its number.
     pub(crate) fn accept(&mut self, s: u32, job: Job) -> u64
         requires { HasLane self.old s (λ lane. HasPlace lane.state × IsFresh lane.state.spec.chain job) }
@@ -159,6 +145,64 @@ impl Schedule {
         let number = stream.accept(self.clock, job);
         show(&mut self.pool, s, stream);
         number
+    }
+
+    /// Why a stream isn't admitted, if it isn't, want of memory aside.
+    pub(crate) fn admit_refusal(&self, spec: &StreamSpec) -> Option<Refusal>
+        requires some { 1 ≤ length self.now.workers }
+        requires most { length self.now.workers ≤ MOST_WORKERS }
+        requires fits { Fits (rules.held_by self.now) }
+        ensures { rules.IsAdmitAnswer self.now spec.now result }
+    {
+        if self.streams.len() >= MOST_STREAMS {
+            return Some(Refusal::TooManyStreams);
+        }
+        if !spec.is_within_limits() {
+            return Some(Refusal::BadLimits);
+        }
+        let mut admission = held(self.workers.len() as u64, self.clock, &self.streams);
+        match admission.admit(spec.maximum, spec.period) {
+            Ok(()) => None,
+            Err(AdmissionError::BadBandwidth) => Some(Refusal::BadBandwidth),
+            Err(AdmissionError::Overload) => Some(Refusal::Overload),
+        }
+    }
+
+    /// Takes a stream behind all others, and answers its number. The spec comes back where the memory for it
+    /// is refused.
+    pub(crate) fn admit(&mut self, alloc: Global, spec: StreamSpec) -> Result<u32, StreamSpec>
+        requires few { length self.old.lanes < MOST_STREAMS }
+        ensures ok { IfOk result (λ s. (s ≡ length self.old.lanes)
+            × (self.new ≡ rules.with_stream spec self.old)) }
+        ensures err { IfErr result (λ back. (back ≡ spec) × (self.new ≡ self.old)) }
+    {
+        let newcomer = match Newcomer::new(alloc, spec) {
+            Ok(newcomer) => newcomer,
+            Err((_, spec)) => return Err(spec),
+        };
+        match self.join(newcomer) {
+            Ok(s) => Ok(s),
+            Err(newcomer) => Err(newcomer.into_spec()),
+        }
+    }
+
+    /// Takes a newcomer behind all others, and answers its number. It comes back where the memory for its
+    /// place is refused.
+    pub(crate) fn join(&mut self, newcomer: Newcomer) -> Result<u32, Newcomer>
+        requires few { length self.old.lanes < MOST_STREAMS }
+        ensures ok { IfOk result (λ s. (s ≡ length self.old.lanes)
+            × (self.new ≡ rules.with_stream newcomer self.old)) }
+        ensures err { IfErr result (λ back. (back ≡ newcomer) × (self.new ≡ self.old)) }
+    {
+        let number = self.streams.len() as u32;
+        newcomer.limits_law();
+        match self.streams.push(newcomer.into_stream()) {
+            Ok(()) => {
+                self.pool.grow();
+                Ok(number)
+            }
+            Err(refused) => Err(Newcomer::of(refused.value)),
+        }
     }
 
     /// Why worker `w` gets no lease, if it gets none.
@@ -315,6 +359,13 @@ impl Schedule {
         }
     }
 
+    /// How many streams there are.
+    pub(crate) fn streams(&self) -> usize
+        ensures { result ≡ length self.now.lanes }
+    {
+        self.streams.len()
+    }
+
     /// What stream `s` may still use, and its deadline.
     pub(crate) fn account(&self, s: u32) -> Option<(u64, u64)>
         ensures { result ≡ option_map (λ lane. account_of lane.state) (slice_get self.now.lanes s) }
@@ -328,6 +379,20 @@ impl Schedule {
     {
         self.streams.get(s as usize).map(|stream| stream.counts())
     }
+}
+
+/// The workers with the shares that the streams hold at a moment.
+fn held(workers: u64, moment: u64, streams: &[Stream]) -> Admission
+    requires some { 1 ≤ workers }
+    requires most { workers ≤ MOST_WORKERS }
+    requires fits { Fits (rules.held_of_lanes workers moment streams.now) }
+    ensures { result ≡ rules.held_of_lanes workers moment streams.now }
+{
+    let mut admission = Admission::new(workers);
+    for stream in streams {
+        stream.hold(moment, &mut admission);
+    }
+    admission
 }
 
 /// Tells the pool whether stream `s` is ready.

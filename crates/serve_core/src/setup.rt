@@ -4,15 +4,13 @@ ghost use Rattle.serve_core.specs.Admitted.{AreAdmitted, IsFault, IsRefusal};
 ghost use Rattle.serve_core.specs.Setup.{HasLimits, IsSetup, IsWithinLimits, setup_of};
 
 use crate::spec::StreamSpec;
+use cbs_account::limits::MOST_WORKERS;
 use cbs_account::{Admission, AdmissionError};
+use edf_pool::limits::MOST_STREAMS;
 use std::marker::Model;
 use thiserror::Error;
 
-const MOST_WORKERS: u64 = 16;
-
 const MOST_QUANTUM: u64 = 64;
-
-const MOST_STREAMS: usize = 64;
 
 /// Why there is no setup. Streams are told by their number, from 0.
 #[derive(Clone, Copy, Debug, PartialEq, Eq, Error)]
@@ -118,8 +116,8 @@ fn are_within_limits(streams: &[StreamSpec]) -> bool
 /// Admits the streams, one after the other.
 fn admit_all(workers: u64, streams: &[StreamSpec]) -> Result<(), SetupError>
     requires some { 1 ≤ workers }
-    requires most { workers ≤ 16 }
-    requires few { length streams.now ≤ 64 }
+    requires most { workers ≤ MOST_WORKERS }
+    requires few { length streams.now ≤ MOST_STREAMS }
     ensures ok { OnOk result (AreAdmitted workers streams.now) }
     ensures err { IfErr result (λ e. IsRefusal e workers streams.now) }
 {

@@ -10,9 +10,7 @@ use frame_view::Geometry;
 use lease::JobSpec;
 use std::marker::Model;
 use std::sync::Arc;
-
-/// The most frames of a stream that may be unfinished, and the most finished ones that may be uncollected.
-const MOST_PLACES: u64 = 256;
+use stream_queue::limits::MOST_PLACES;
 
 /// The most frames that a stream may accept at all.
 const MOST_FRAMES: u64 = 1 << 24;
@@ -52,7 +50,7 @@ impl StreamSpec {
     /// moments.
     ///
     /// At most `queue` of its frames may be unfinished and `outbox` finished ones uncollected, and `frames`
-    /// may be accepted at all. Nothing is checked before [`Setup::new`](crate::Setup::new).
+    /// may be accepted at all. Nothing is checked before a setup is made of it or it asks to be admitted.
     pub fn new(
         geometry: Geometry,
         spec: Arc<JobSpec>,

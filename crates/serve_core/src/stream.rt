@@ -3,13 +3,12 @@ ghost use Rattle.std.specs.Prelude.{◌≡◌, ◌≤◌, ◌<◌, ◌+◌, ◌-
 ghost use Rattle.std.specs.Prelude.{◌↔◌, ◌≢◌, IsTrue, IsFalse, IsSome, IsSomeAnd, IfOk, IfErr, IfSome};
 ghost use Rattle.std.specs.Prelude.{IfNone, OnOk, OnSome};
 ghost use Rattle.cbs_account.specs.Rules.{CanCharge};
-ghost use Rattle.filters.specs.ChainImage.{value_of};
 ghost use Rattle.filters.specs.Steps.{steps_of};
 ghost use Rattle.lease.specs.Job.{StepsOn};
 ghost use Rattle.serve_core.specs.AtOnce.{cost_of_next, worked_at_once};
 ghost use Rattle.serve_core.specs.Counts.{Came, Worked, Ended, Back, Lent, Shut, Taken};
 ghost use Rattle.serve_core.specs.Lanes.{GainsImage, HasPlace, IsFresh, IsPair, IsStarted, IsWithOne, listed};
-ghost use Rattle.serve_core.specs.Lanes.{IsImageOf, IsOver, opened, source_of, with_leased, source_in};
+ghost use Rattle.serve_core.specs.Lanes.{IsOver, opened, source_of, with_leased, source_in};
 ghost use Rattle.serve_core.specs.Rules as rules;
 ghost use Rattle.serve_core.specs.Schedule.{counts_of, finished, returned};
 ghost use Rattle.std.specs.Arc.{arc_value};
@@ -17,16 +16,19 @@ ghost use Rattle.serve_core.specs.Setup.{HasBandwidth, IsWithinLimits, steps};
 ghost use Rattle.serve_core.specs.States as states;
 ghost use Rattle.serve_core.specs.States.{did, next_cost};
 
+mod shares;
+
 use crate::collected::Collected;
 use crate::counts::Counts;
 use crate::grant::grant_of;
 use crate::refusal::Refusal;
 use crate::spec::{StreamSpec, is_same};
 use cbs_account::Account;
+use cbs_account::limits::LAST_MOMENT;
 use circular_buffer::HeapCircularBuffer;
 use frame_view::{Frame, Geometry};
-use lease::{Job, JobRefused, JobSpec, Lease, OverRefused, Scratch};
-use std::alloc::{AllocError, Global};
+use lease::{Job, JobRefused, JobSpec, Lease, Scratch};
+use std::alloc::Global;
 use std::marker::Model;
 use std::sync::Arc;
 use stream_queue::FrameQueue;
@@ -60,19 +62,26 @@ impl Model for Stream {
 }
 
 impl Stream {
-    /// A stream that has had no frame.
-    pub(crate) fn new(alloc: Global, spec: StreamSpec) -> Result<Stream, AllocError>
+    /// A stream that has had no frame. The spec comes back where its memory is refused.
+    pub(crate) fn new(alloc: Global, spec: StreamSpec) -> Result<Stream, StreamSpec>
         requires limits { IsWithinLimits spec }
         requires bandwidth { HasBandwidth spec }
-        ensures { IfOk result (λ x. x ≡ opened spec) }
+        ensures stream { IfOk result (λ x. x ≡ opened spec) }
+        ensures back { IfErr result (λ back. back ≡ spec) }
     {
         let account = match Account::new(spec.maximum, spec.period) {
             Ok(account) => account,
             Err(_) => unreachable!(),
         };
-        let queue = FrameQueue::new(alloc, spec.queue as usize)?;
-        let outbox = HeapCircularBuffer::with_capacity(alloc, spec.outbox as usize)?;
-        let scratch = Scratch::new(alloc, &spec.spec)?;
+        let Ok(queue) = FrameQueue::new(alloc, spec.queue as usize) else {
+            return Err(spec);
+        };
+        let Ok(outbox) = HeapCircularBuffer::with_capacity(alloc, spec.outbox as usize) else {
+            return Err(spec);
+        };
+        let Ok(scratch) = Scratch::new(alloc, &spec.spec) else {
+            return Err(spec);
+        };
         Ok(Stream {
             spec,
             account,
@@ -85,6 +94,20 @@ impl Stream {
             charged: 0,
             done: 0,
         })
+    }
+
+    /// What the stream was made for.
+    pub(crate) fn made_for(&self) -> &StreamSpec
+        ensures { result.now ≡ self.now.state.spec }
+    {
+        &self.spec
+    }
+
+    /// What the stream was made for. All else is given up.
+    pub(crate) fn into_spec(self) -> StreamSpec
+        ensures { result ≡ self.state.spec }
+    {
+        self.spec
     }
 
     /// What is done to the frames.
@@ -131,32 +154,6 @@ impl Stream {
         }
     }
 
-    /// A job for a frame of the stream's size, in the memory of an image of it. Both come back where the
-    /// memory for another line is refused.
-    pub(crate) fn job_over(
-        &self,
-        alloc: Global,
-        frame: Arc<Frame>,
-        image: Frame,
-    ) -> Result<Job, (Arc<Frame>, Frame)>
-        requires size { (arc_value frame).geometry ≡ self.now.state.spec.geometry }
-        requires image { IsImageOf self.now.state.spec.chain image }
-        ensures fresh { IfOk result (IsFresh self.now.state.spec.chain) }
-        ensures source { IfOk result (λ job. job.source ≡ arc_value frame) }
-        ensures back { IfErr result (λ back. (back.0 ≡ frame) × (value_of back.1 ≡ value_of image)) }
-    {
-        let spec = match self.spec.spec.clone() {
-            Ok(spec) => spec,
-            Err(_) => return Err((frame, image)),
-        };
-        match Job::over(alloc, spec, frame, image) {
-            Ok(job) => Ok(job),
-            Err(OverRefused::NoMemory(frame, image) | OverRefused::WrongSize(frame, image)) => {
-                Err((frame, image))
-            }
-        }
-    }
-
     /// Why a frame is refused, if it is. `is_sized` tells whether it has the stream's size.
     pub(crate) fn arrival_refusal(&self, is_sized: bool) -> Option<Refusal>
         ensures refusal { result ≡ rules.arrival_refusal is_sized self.now.state }
@@ -180,7 +177,7 @@ impl Stream {
     /// Takes a job behind all others.
     #[tactic(auto, using(crate::proofs::Lanes::here_more))]
     pub(crate) fn accept(&mut self, now: u64, job: Job) -> u64
-        requires clock { now ≤ 2 ^ 60 }
+        requires clock { now ≤ LAST_MOMENT }
         requires place { HasPlace self.old.state }
         requires fresh { IsFresh self.old.state.spec.chain job }
         ensures number { result ≡ self.old.state.accepted }

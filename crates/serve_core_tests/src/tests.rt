@@ -1,6 +1,8 @@
 //! Events with the replies that were worked out by hand, through `run` and through `Machine::step`.
 mod accounts;
+mod admissions;
 mod ends;
+mod fullest;
 mod leases;
 mod memory;
 mod refusals;
@@ -72,6 +74,7 @@ enum Asked<'a> {
     Tick(u64),
     Close(u32),
     Collect(u32),
+    Admit(&'a Served<'a>),
 }
 
 /// A reply, a frame and an image told by its line and its samples.
@@ -87,6 +90,9 @@ enum Told<'a> {
     Image(&'a [u8], &'a [u8]),
     Refused(Refusal),
     GivenBack(Refusal, &'a [u8], &'a [u8]),
+    Admitted(u32),
+    /// With the queue and the outbox of the spec that comes back.
+    SpecBack(Refusal, u64, u64),
 }
 
 /// A line of a script: an event and its reply, or what a stream stands at by now, as [`state_of`] tells it.
@@ -157,6 +163,7 @@ fn event_of(alloc: Global, asked: &Asked<'_>) -> Result<Event, Fail> {
         Asked::Tick(to) => Event::Tick(to),
         Asked::Close(s) => Event::Close(s),
         Asked::Collect(s) => Event::Collect(s),
+        Asked::Admit(served) => Event::Admit(spec_of(alloc, served)?),
     })
 }
 
@@ -173,6 +180,8 @@ fn content_of(reply: &Reply) -> Told<'_> {
         Reply::Image(image) => Told::Image(image.line(), image.data()),
         Reply::Refused(refusal) => Told::Refused(*refusal),
         Reply::GivenBack(refusal, frame) => Told::GivenBack(*refusal, frame.line(), frame.data()),
+        Reply::Admitted(s) => Told::Admitted(*s),
+        Reply::SpecBack(refusal, spec) => Told::SpecBack(*refusal, spec.queue(), spec.outbox()),
     }
 }
 

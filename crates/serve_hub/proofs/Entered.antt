@@ -1,7 +1,8 @@
 -- What each accepted call makes of a book.
 use Rattle.std.proofs.Common.{ℕ, ◌+◌, ◌≡◌, ◌≤◌, max, nat_lt, Bool, true, false, List, length, Some, None, slice_get}
-use Rattle.std.proofs.Common.{if◌then◌else◌, refl, sym, ◌∙◌, subst, arith}
-use Rattle.std.proofs.lemmas.List.{length-set}
+use Rattle.std.proofs.Common.{[], ◌∷◌, ◌++◌, Option, if◌then◌else◌, refl, sym, ◌∙◌, ap, subst, arith}
+use Rattle.std.proofs.lemmas.List.{length-map, length-set, map_push}
+use Rattle.std.proofs.lemmas.List.Sums.{sum_by_push}
 use Rattle.std.proofs.lemmas.Option.{slice_get_within}
 use Rattle.lease.specs.Job.{JobValue}
 use Rattle.lease.specs.Lease.{LeaseValue}
@@ -10,31 +11,32 @@ use Rattle.serve_core.specs.declared.counts.Counts.{Counts}
 use Rattle.serve_core.specs.declared.refusal.Refusal.TheVariants as refusals
 use Rattle.serve_core.specs.Bare.{Blank}
 use Rattle.serve_core.specs.Desk.{Answers, GivesJob, IsRecorded, TakesJob, bare_frames, desk_state, given, held_of, offered, one}
-use Rattle.serve_core.specs.Events.{Accepted, Arrive, Close, Closing, Collect, Image, Lease, Reply, Refused, Start}
+use Rattle.serve_core.specs.Events.{Accepted, Admit, Arrive, Close, Closing, Collect, Image, Lease, Reply, Refused, Start}
 use Rattle.serve_core.specs.Events.{Then, Tick, Ticked, Transcript}
 use Rattle.serve_core.specs.Events as events
-use Rattle.serve_core.specs.Lanes.{Lane}
-use Rattle.serve_core.specs.Schedule.{HasLane, ScheduleValue, came, counts_of, shut, taken, with_lane}
+use Rattle.serve_core.specs.Lanes.{Lane, opened}
+use Rattle.serve_core.specs.Schedule.{HasLane, ScheduleValue, came, counts_of, shut, taken, with_lane, with_stream}
+use Rattle.serve_core.specs.Setup.{StreamSpec}
 use Rattle.serve_core.proofs.Lifts.{stream_here}
-use Rattle.serve_core.proofs.Lists.{slice_get_set_same}
+use Rattle.serve_core.proofs.Lists.{push_last, slice_get_set_same}
 use Rattle.serve_core.proofs.Options.{and_some, some_and}
 use Rattle.serve_hub.specs.declared.entry.Act.{Act}
-use Rattle.serve_hub.specs.declared.entry.Act.TheVariants.{Offered, Closed, Leased, Collected}
+use Rattle.serve_hub.specs.declared.entry.Act.TheVariants.{Admitted, Offered, Closed, Leased, Collected}
 use Rattle.serve_hub.specs.declared.entry.Seat.{Seat}
 use Rattle.serve_hub.specs.declared.entry.Seat.TheVariants.{Stream, Worker}
 use Rattle.serve_hub.specs.Books as books
-use Rattle.serve_hub.specs.Books.{BookValue, IsBook, IsOut, reserved}
-use Rattle.serve_hub.specs.Journal.{IsEntry, events_of, tick_of, ticks, units_from}
+use Rattle.serve_hub.specs.Books.{BookValue, IsBook, IsOut, reserved, specs_of}
+use Rattle.serve_hub.specs.Journal.{IsEntry, admission_of, events_of, tick_of, ticks, units_from}
 use Rattle.serve_hub.proofs.Kept.{AddsUnits, grown, one_more}
 use Rattle.serve_hub.proofs.Rooms.{charged_still, lane_kept, lane_shut, lease_given}
-use Rattle.serve_hub.proofs.Units.{offer_units}
+use Rattle.serve_hub.proofs.Units.{admission_units, offer_units}
 
 -- one entry more, with so much more of the journal's places taken
 pub record IsEntered (b : BookValue) (seat : Seat) (act : Act) (desk : ScheduleValue) (units : List ℕ) (more : ℕ)
     : Type 0 where
   pub is_book : IsBook (grown b seat act desk units)
   pub count : books.taken (grown b seat act desk units) ≡ books.taken b + more
-  pub led : Answers b.desk (events_of (desk_state b.desk) seat act) desk
+  pub led : Answers b.desk (events_of (specs_of desk) (desk_state b.desk) seat act) desk
 
 ticks_by : (b : Bool) (at : ℕ) → ticks (if b then Some at else None)
     ≡ (if b then Then Start (Tick at) Ticked else Start)
@@ -42,28 +44,29 @@ ticks_by true at = refl
 ticks_by false at = refl
 
 offer_led : (x y : ScheduleValue) (s at n : ℕ) → Answers x (offered x.clock s at n) y
-    → Answers x (events_of (desk_state x) (Stream s) (Offered (tick_of x.clock at) n)) y
+    → Answers x (events_of (specs_of y) (desk_state x) (Stream s) (Offered (tick_of x.clock at) n)) y
 offer_led x y s at n led =
     subst (λ (p : Transcript Blank Blank). Answers x (Then p (Arrive s tt) (Accepted n)) y)
     (sym (ticks_by (nat_lt x.clock at) at)) led
 
 -- events of no band have no units
-quiet : (b : BookValue) (seat : Seat) (act : Act)
-    → ((w : ℕ) → units_from (desk_state b.desk) w (events_of (desk_state b.desk) seat act) ≡ 0)
-    → AddsUnits b seat act b.units
-quiet b seat act none w n e = let no = none w in (n, e, omega (arith, no))
+quiet : (b : BookValue) (desk : ScheduleValue) (seat : Seat) (act : Act)
+    → ((w : ℕ) → units_from (desk_state b.desk) w (events_of (specs_of desk) (desk_state b.desk) seat act) ≡ 0)
+    → AddsUnits b desk seat act b.units
+quiet b desk seat act none w n e = let no = none w in (n, e, omega (arith, no))
 
 -- a call of no band that leaves the number of workers
 entered : (b : BookValue) (seat : Seat) (act : Act) (desk : ScheduleValue) (more : ℕ) → IsBook b
-    → Answers b.desk (events_of (desk_state b.desk) seat act) desk → IsEntry (desk_state b.desk) seat act
-    → ((w : ℕ) → units_from (desk_state b.desk) w (events_of (desk_state b.desk) seat act) ≡ 0)
+    → Answers b.desk (events_of (specs_of desk) (desk_state b.desk) seat act) desk
+    → IsEntry (specs_of desk) (desk_state b.desk) seat act
+    → ((w : ℕ) → units_from (desk_state b.desk) w (events_of (specs_of desk) (desk_state b.desk) seat act) ≡ 0)
     → length desk.workers ≡ length b.desk.workers → books.charges desk ≡ books.charges b.desk
     → reserved desk + 1 ≡ reserved b.desk + more → books.taken b + more ≤ b.limit
     → IsEntered b seat act desk b.units more
 entered b seat act desk more h led is none workers charges places fits =
     let count : books.taken (grown b seat act desk b.units) ≡ books.taken b + more = omega (arith, places) in
     record {
-      is_book = one_more b seat act desk b.units h led is (h.workers ∙ sym workers) (quiet b seat act none)
+      is_book = one_more b seat act desk b.units h led is (h.workers ∙ sym workers) (quiet b desk seat act none)
           (h.charges ∙ sym charges) (omega (arith, count, fits));
       count = count;
       led = led;
@@ -85,7 +88,7 @@ pub offer_entered : (b : BookValue) (s at n : ℕ) (job : JobValue) (desk : Sche
 offer_entered b s at n job desk h led took fits =
     let same = desk_took s at n job b.desk desk took in
     entered b (Stream s) (Offered (tick_of b.desk.clock at) n) desk 1 h (offer_led b.desk desk s at n led) tt
-    (λ w. offer_units (desk_state b.desk) w s (tick_of b.desk.clock at) n) same.1 same.2
+    (λ w. offer_units (specs_of desk) (desk_state b.desk) w s (tick_of b.desk.clock at) n) same.1 same.2
     (omega (arith, same.0)) fits
 
 was_open : (b : Bool) → (let shut : Reply Blank Blank = Closing in
@@ -164,3 +167,30 @@ pub collected_here : (lanes : List Lane) (s : ℕ) (lane : Lane) (counts : Count
     → counts.collected ≡ lane.state.collected
 collected_here lanes s lane counts e told =
     let both : Some counts ≡ Some (counts_of lane.state) = told ∙ rw e refl in cc
+
+-- one stream more has no charges, and its close is reserved
+joined_places : (x : ScheduleValue) (spec : StreamSpec) → reserved (with_stream spec x) ≡ reserved x + 1
+joined_places x spec = omega (arith, sum_by_push books.one_open x.lanes (opened spec))
+
+joined_charges : (x : ScheduleValue) (spec : StreamSpec) → books.charges (with_stream spec x) ≡ books.charges x
+joined_charges x spec =
+    let more = sum_by_push (λ (lane : Lane). lane.state.charged) x.lanes (opened spec) in omega (arith, more)
+
+pub admit_entered : (b : BookValue) (s : ℕ) (spec : StreamSpec) (desk : ScheduleValue) → IsBook b
+    → Answers b.desk (one (Admit spec) (events.Admitted s)) desk
+    → (s ≡ length b.desk.lanes) × (desk ≡ with_stream spec b.desk) → books.taken b + 2 ≤ b.limit
+    → IsEntered b (Stream s) Admitted desk b.units 2
+admit_entered b s spec desk h led is fits =
+    let specs = specs_of desk in
+    let all : specs ≡ specs_of b.desk ++ spec ∷ [] =
+    ap specs_of is.1 ∙ map_push (λ (lane : Lane). lane.state.spec) b.desk.lanes (opened spec) in
+    let count = length-map b.desk.lanes (λ (lane : Lane). lane.state.spec) in
+    let its : slice_get specs s ≡ Some spec =
+    subst (λ (xs : List StreamSpec). slice_get xs s ≡ Some spec) (sym all)
+    (push_last (specs_of b.desk) spec s (omega (arith, count, is.0))) in
+    let told : Answers b.desk (events_of specs (desk_state b.desk) (Stream s) Admitted) desk =
+    subst (λ (o : Option StreamSpec). Answers b.desk (admission_of s o) desk) (sym its) led in
+    let places : reserved desk ≡ reserved b.desk + 1 = rw is.1 (joined_places b.desk spec) in
+    entered b (Stream s) Admitted desk 2 h told (slice_get_within specs s spec its)
+    (λ w. admission_units (desk_state b.desk) w s (slice_get specs s)) (ap (λ (x : ScheduleValue). length x.workers) is.1)
+    (rw is.1 (joined_charges b.desk spec)) (omega (arith, places)) fits

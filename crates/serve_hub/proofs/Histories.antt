@@ -1,37 +1,65 @@
 -- A journal whose book was opened for a setup, and what its streams were charged.
-use Rattle.std.proofs.Common.{ℕ, suc, ◌+◌, ◌*◌, ◌≡◌, ◌≤◌, ◌<◌, ◌⊎◌, inl, inr, All, Some, slice_get, slice_index_or}
-use Rattle.std.proofs.Common.{sym, ◌∙◌, ap, subst, arith, mul-le-mul_right}
+use Rattle.std.proofs.Common.{ℕ, suc, ◌+◌, ◌*◌, ◌^◌, ◌≡◌, ◌≤◌, ◌<◌, ◌⊎◌, inl, inr, All, List, Some, length}
+use Rattle.std.proofs.Common.{slice_get, slice_index_or, ap, subst, arith, mul-le-mul_right}
+use Rattle.std.proofs.lemmas.List.{length-map}
 use Rattle.std.proofs.Math.Nat.{suc-mul}
 use Rattle.std.proofs.lemmas.Option.{slice_get-get_or}
 use Rattle.serve_core.specs.Bare.{Blank, measures_any, is_any_image}
 use Rattle.serve_core.specs.Desk.{bare_frames, desk_state}
 use Rattle.serve_core.specs.Grants.{cost_of_first}
-use Rattle.serve_core.specs.Leads.{IsLegalFrom, opening_state, state_from}
-use Rattle.serve_core.specs.Schedule.{stream_by}
+use Rattle.serve_core.specs.Leads.{Leads}
+use Rattle.serve_core.specs.Reached.{IsReached}
+use Rattle.serve_core.specs.Schedule.{ScheduleValue, stream_by}
 use Rattle.serve_core.specs.Setup.{cost, costs}
 use Rattle.serve_core.specs.Sound.{IsSound}
-use Rattle.serve_core.specs.States.{State, StreamState}
+use Rattle.serve_core.specs.States.{StreamState}
 use Rattle.serve_core.proofs.Costs.{cost_within}
-use Rattle.serve_core.proofs.Desks.{desk_opened}
 use Rattle.serve_core.proofs.Lifts.{stream_here}
-use Rattle.serve_core.proofs.Openings.{opening_is}
-use Rattle.serve_hub.specs.Books.{BookValue, IsBook, book_transcript, opening_of}
-use Rattle.serve_hub.specs.Ends.{IsCharged, IsHistory, IsOpened}
-use Rattle.serve_hub.specs.Seats.{HubValue}
+use Rattle.serve_core.proofs.Options.{some_and}
+use Rattle.serve_core.proofs.Reached.{few_is, leads_behind, reached_is}
+use Rattle.serve_hub.specs.Books.{BookValue, IsBook, book_transcript}
+use Rattle.serve_hub.specs.Ends.{AreLanes, IsCharged, IsHistory, IsOpening}
+use Rattle.serve_hub.specs.Seats.{StreamSeatValue, collected_by}
 
--- the journal's transcript is one of the setup that its book was opened for
-pub history : (b : BookValue) (hub : HubValue) → IsBook b → IsOpened b.opening hub.streams hub.workers
-    → IsHistory b hub
-history b hub h o =
+-- the journal leads from where its book opened to where the desk is
+pub history : (opening : ScheduleValue) (b : BookValue) (w : ℕ) → IsBook b → IsOpening opening b.opening w
+    → IsHistory opening b
+history opening b w h o =
     let p = book_transcript b in
-    let before : opening_of b ≡ opening_state Blank Blank o.setup = ap desk_state o.desk ∙ desk_opened o.setup in
-    let law = opening_is measures_any is_any_image o.setup p in
-    let led = h.journal.leads in
+    let led : Leads measures_any is_any_image (desk_state opening) p (desk_state b.desk) =
+    subst (λ (x : ScheduleValue). Leads measures_any is_any_image (desk_state x) p (desk_state b.desk)) o.same
+    h.journal.leads in
     record {
-      opened = o;
-      legal = law.1.1 (subst (λ (m : State Blank). IsLegalFrom measures_any is_any_image m p) before led.0);
-      state = law.0 ∙ sym (ap (λ (m : State Blank). state_from m p) before) ∙ led.1;
+      same = o.same;
+      leads = record {
+        reached = o.reached;
+        behind = leads_behind measures_any is_any_image (desk_state opening) (desk_state b.desk) p led;
+      };
     }
+
+-- where the desk is, is reached
+pub reached_now : (opening : ScheduleValue) (b : BookValue) (w : ℕ) → IsBook b
+    → IsOpening opening b.opening w → IsReached measures_any is_any_image (desk_state b.desk)
+reached_now opening b w h o =
+    reached_is measures_any is_any_image (desk_state opening) (desk_state b.desk) (book_transcript b)
+    (history opening b w h o).leads
+
+-- a desk that is reached has few streams and workers
+pub few_here : (x : ScheduleValue) → IsReached measures_any is_any_image (desk_state x)
+    → (length x.lanes ≤ 64) × (length x.workers ≤ 16)
+few_here x r =
+    let few = few_is measures_any is_any_image (desk_state x) r in
+    (omega (arith, few.0, length-map x.lanes (stream_by bare_frames)), few.1)
+
+-- a seat that tells of its stream what the book has tells of few images
+pub few_collected : (b : BookValue) (seats : List StreamSeatValue) → IsBook b → AreLanes b.desk seats
+    → All (λ s. collected_by s ≤ 2 ^ 24) seats
+few_collected b seats h lanes = λ k d l.
+    let seat = slice_index_or seats k d in
+    let a = some_and (slice_get b.desk.lanes seat.number) _ (lanes k d l) in
+    let x = stream_by bare_frames a.0 in
+    let is = h.sound.streams seat.number x (stream_here bare_frames b.desk seat.number a.0 a.1) in
+    omega (arith, a.2.collected, is.in_order, is.finished, is.limit, is.limits.frames)
 
 equal_or_less : (a b : ℕ) → a ≤ b → (a ≡ b) ⊎ (a < b)
 equal_or_less a b l = grind arith

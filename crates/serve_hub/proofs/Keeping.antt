@@ -1,5 +1,5 @@
 -- The frames that a seat keeps.
-use Rattle.std.proofs.Common.{zero, suc, ◌≡◌, List, [], ◌∷◌, ◌++◌, drop, map, refl, subst, sym, arith}
+use Rattle.std.proofs.Common.{zero, suc, ◌≡◌, List, [], ◌∷◌, ◌++◌, drop, refl, subst, sym, arith}
 use Rattle.std.proofs.Common.{ap, Option, Some, None, IfSome}
 use Rattle.std.specs.Option.{option_to_list}
 use Rattle.std.proofs.lemmas.List.{map-append}

@@ -1,3 +1,4 @@
+pub mod Specs
 pub mod Journals
 pub mod Units
 pub mod Rooms
@@ -16,3 +17,6 @@ pub mod Refusing
 pub mod Histories
 pub mod Collecting
 pub mod Sharing
+pub mod Moving
+pub mod Freeing
+pub mod Admitting

@@ -1,23 +1,32 @@
 -- A book before any entry.
-use Rattle.std.proofs.Common.{ℕ, zero, suc, ◌≡◌, ◌≤◌, List, [], ◌∷◌, length, map, replicate, Some, None}
-use Rattle.std.proofs.Common.{slice_get, sum_by, Option, reverse, refl, sym, ap, subst, arith}
-use Rattle.std.proofs.lemmas.List.{length-replicate}
+use Rattle.std.proofs.Common.{ℕ, zero, suc, ◌^◌, ◌≡◌, ◌≤◌, Bool, true, false, List, [], ◌∷◌, length, map}
+use Rattle.std.proofs.Common.{replicate, Some, None, if◌then◌else◌}
+use Rattle.std.proofs.Common.{slice_get, sum_by, length-append, Option, reverse, refl, sym, ◌∙◌, ap, subst, arith}
+use Rattle.std.proofs.lemmas.List.{length-map, length-replicate}
 use Rattle.std.proofs.lemmas.List.Folds.{sum_by-replicate}
 use Rattle.std.proofs.lemmas.List.Sums.{sum_by-cons}
 use Rattle.serve_core.specs.declared.held.Held.{Held}
-use Rattle.serve_core.specs.Bare.{measures_any, is_any_image}
-use Rattle.serve_core.specs.Lanes.{opened}
+use Rattle.serve_core.specs.Bare.{Blank, measures_any, is_any_image}
+use Rattle.serve_core.specs.Counts.{held_after}
+use Rattle.serve_core.specs.Desk.{desk_state}
+use Rattle.serve_core.specs.Events.{Start, Then, Transcript}
+use Rattle.serve_core.specs.Lanes.{Lane, opened}
+use Rattle.serve_core.specs.Leads.{state_from}
 use Rattle.serve_core.specs.Schedule.{ScheduleValue, opened_schedule}
 use Rattle.serve_core.specs.Setup.{IsSetup, IsWithin, Setup, StreamSpec}
 use Rattle.serve_core.specs.Sound.{Sound}
+use Rattle.serve_core.specs.States.{State}
 use Rattle.serve_core.proofs.Desks.{desk_opened}
 use Rattle.serve_core.proofs.Kept.{opening_sound}
+use Rattle.serve_core.proofs.Reached.{length-map_at}
 use Rattle.std.specs.Vec.{vec_capacity}
 use Rattle.serve_hub.specs.declared.book.Book.TheInside.{Inside}
 use Rattle.serve_hub.specs.declared.entry.Entry.{Entry}
 use Rattle.serve_hub.specs.BookInside.{IsKept, book}
-use Rattle.serve_hub.specs.Books.{BookValue, IsBook, IsLimit, charges, one_open, one_out, opened_book, reserved, taken}
-use Rattle.serve_hub.specs.Ends.{IsOpened}
+use Rattle.serve_hub.specs.Books.{BookValue, IsBook, IsLimit, book_transcript, one_open, one_out, opened_book}
+use Rattle.serve_hub.specs.Books.{opening_of, reserved, specs_of, taken}
+use Rattle.serve_hub.specs.Ends.{AreFree, IsOpening}
+use Rattle.serve_hub.proofs.Specs.{added, specs_led}
 
 all_open : (specs : List StreamSpec) → sum_by one_open (map opened specs) ≡ length specs
 all_open [] = refl
@@ -34,27 +43,64 @@ no_units zero w m e = absurd (cc)
 no_units (suc n) zero m e = cc
 no_units (suc n) (suc w) m e = no_units n w m e
 
-pub is_book_opened : (setup : Setup) (limit : ℕ) → IsWithin setup → IsLimit (length setup.streams) limit
-    → IsBook (opened_book (opened_schedule setup) limit)
-is_book_opened setup limit v l =
-    let desk = opened_schedule setup in
+-- where no lease is out, there is an entry for each stream at most
+none_out : (workers : List (Option Held)) → AreFree workers → sum_by one_out workers ≡ 0
+none_out [] free = refl
+none_out (Some held ∷ workers) free = absurd (free 0 held refl)
+none_out (None ∷ workers) free =
+    omega (arith, sum_by-cons one_out None workers, none_out workers (λ w held e. free (suc w) held e))
+
+one_or_none : (b : Bool) → (if b then 0 else 1) ≤ 1
+one_or_none true = omega arith
+one_or_none false = omega arith
+
+few_open : (lanes : List Lane) → sum_by one_open lanes ≤ length lanes
+few_open [] = omega arith
+few_open (lane ∷ lanes) =
+    omega (arith, sum_by-cons one_open lane lanes, few_open lanes, one_or_none lane.state.is_closed)
+
+pub few_reserved : (x : ScheduleValue) → AreFree x.workers → reserved x ≤ length x.lanes
+few_reserved x free = omega (arith, none_out x.workers free, few_open x.lanes)
+
+-- a book without entries over any desk
+is_book_over : (desk : ScheduleValue) (limit : ℕ) → Sound (desk_state desk) → reserved desk ≤ limit
+    → IsBook (opened_book desk limit)
+is_book_over desk limit sound fits = record {
+  sound = sound;
+  journal = record { entries = tt; leads = (tt, refl) };
+  workers = length-replicate (length desk.workers) 0;
+  units = λ w m e. no_units (length desk.workers) w m e;
+  charges = omega (arith, sum_by-replicate (λ (n : ℕ). n) (length desk.workers) 0);
+  fits = omega (arith, fits);
+}
+
+same_book : (o d x : ScheduleValue) (p : List Entry) (l : ℕ) (u : List ℕ) → o ≡ d → d ≡ x → p ≡ []
+    → u ≡ replicate (length x.workers) 0
+    → let b : BookValue = record { opening = o; past = p; desk = d; limit = l; units = u } in
+    b ≡ opened_book x l
+same_book o d x p l u e f g h = cc
+
+-- what a book keeps that is opened over a desk
+pub kept_over : (z : Inside) (x : ScheduleValue) → Sound (desk_state x) → reserved x ≤ z.limit → z.limit ≤ 2 ^ 20
+    → z.opening.value ≡ z.desk → z.desk ≡ x → z.journal.items ≡ []
+    → z.units.items ≡ replicate (length x.workers) 0 → z.taken ≡ reserved x → z.limit ≤ vec_capacity z.journal
+    → IsKept z
+kept_over z x sound fits most o d j u t room =
+    let is : book z ≡ opened_book x z.limit =
+    same_book z.opening.value z.desk x (reverse z.journal.items) z.limit z.units.items o d (ap reverse j) u in
     record {
-      sound = subst Sound (sym (desk_opened setup)) (opening_sound measures_any is_any_image setup v);
-      journal = record { entries = tt; leads = (tt, refl) };
-      workers = length-replicate (length desk.workers) 0;
-      units = λ w m e. no_units (length desk.workers) w m e;
-      charges = omega (arith, sum_by-replicate (λ (n : ℕ). n) (length desk.workers) 0);
-      fits = omega (arith, places_opened setup, l.closes);
+      is_book = subst IsBook (sym is) (is_book_over x z.limit sound fits);
+      counted = omega (arith, t, ap taken is);
+      limit = most;
+      reserved = room;
+      few = λ w n e.
+          let none : n ≡ 0 = no_units (length x.workers) w n (rw u at e) in omega (arith, none);
     }
 
-same_book : (o d : ScheduleValue) (p : List Entry) (l : ℕ) (u : List ℕ) (setup : Setup) → o ≡ d
-    → d ≡ opened_schedule setup → p ≡ [] → u ≡ replicate setup.workers 0
-    → let b : BookValue = record { opening = o; past = p; desk = d; limit = l; units = u } in
-    b ≡ opened_book (opened_schedule setup) l
-same_book o d p l u setup e f g h =
-    let n : length (opened_schedule setup).workers ≡ setup.workers = length-replicate setup.workers _ in
-    let units : u ≡ replicate (length (opened_schedule setup).workers) 0 = rw n h in
-    cc
+pub over_is : (z : Inside) (x : ScheduleValue) → z.opening.value ≡ z.desk → z.desk ≡ x → z.journal.items ≡ []
+    → z.units.items ≡ replicate (length x.workers) 0 → book z ≡ opened_book x z.limit
+over_is z x o d j u =
+    same_book z.opening.value z.desk x (reverse z.journal.items) z.limit z.units.items o d (ap reverse j) u
 
 -- what a new book keeps
 pub kept_opened : (z : Inside) (setup : Setup) → IsWithin setup → IsLimit (length setup.streams) z.limit
@@ -62,30 +108,53 @@ pub kept_opened : (z : Inside) (setup : Setup) → IsWithin setup → IsLimit (l
     → z.units.items ≡ replicate setup.workers 0 → z.taken ≡ length setup.streams
     → z.limit ≤ vec_capacity z.journal → IsKept z
 kept_opened z setup v l o d j u t room =
-    let is : book z ≡ opened_book (opened_schedule setup) z.limit =
-    same_book z.opening.value z.desk (reverse z.journal.items) z.limit z.units.items setup o d (ap reverse j) u in
-    record {
-      is_book = subst IsBook (sym is) (is_book_opened setup z.limit v l);
-      counted = omega (arith, t, places_opened setup, ap taken is);
-      limit = l.most;
-      reserved = room;
-      few = λ w n e.
-          let none : n ≡ 0 = no_units setup.workers w n (rw u at e) in omega (arith, none);
-    }
+    let none : Option Held = None in
+    let n : length (opened_schedule setup).workers ≡ setup.workers = length-replicate setup.workers none in
+    let sound : Sound (desk_state (opened_schedule setup)) =
+    subst Sound (sym (desk_opened setup)) (opening_sound measures_any is_any_image setup v) in
+    kept_over z (opened_schedule setup) sound (omega (arith, places_opened setup, l.closes)) l.most o d j
+    (u ∙ ap (λ (k : ℕ). replicate k 0) (sym n)) (omega (arith, t, places_opened setup)) room
 
 -- a book that is opened over the desk of a setup
-pub is_opened : (b : BookValue) (setup : Setup) (limit n w : ℕ) → IsSetup setup
-    → b ≡ opened_book (opened_schedule setup) limit → n ≡ length setup.streams → w ≡ setup.workers
-    → IsOpened b.opening n w
-is_opened b setup limit n w is made streams workers = record {
-  setup = setup;
-  is_setup = is;
-  desk = ap (λ (x : BookValue). x.opening) made;
-  each_stream = sym streams;
-  each_worker = sym workers;
-}
+pub is_opening : (opening of_book : ScheduleValue) (setup : Setup) (w : ℕ) → IsSetup setup
+    → of_book ≡ opened_schedule setup → opened_schedule setup ≡ opening → w ≡ setup.workers
+    → IsOpening opening of_book w
+is_opening opening of_book setup w is made named workers =
+    let none : Option Held = None in
+    record {
+      same = made ∙ named;
+      reached = record {
+        setup = setup;
+        is_setup = is;
+        past = Start;
+        legal = tt;
+        state = sym (desk_opened setup) ∙ ap desk_state named;
+      };
+      each_worker = sym (ap (λ (x : ScheduleValue). length x.workers) named) ∙ length-replicate setup.workers none
+          ∙ sym workers;
+    }
 
--- and stays so, whatever is entered
-pub still_opened : (old new : BookValue) (n w : ℕ) → new.opening ≡ old.opening → IsOpened old.opening n w
-    → IsOpened new.opening n w
-still_opened old new n w same is = subst (λ (x : ScheduleValue). IsOpened x n w) (sym same) is
+-- transcripts change no number of workers
+workers_from : (m : State Blank) (p : Transcript Blank Blank)
+    → length (state_from m p).workers ≡ length m.workers
+workers_from m Start = refl
+workers_from m (Then p e r) =
+    length-map_at 0 (λ w h. held_after w h e r) (state_from m p).workers ∙ workers_from m p
+
+pub same_workers : (b : BookValue) → IsBook b → length b.desk.workers ≡ length b.opening.workers
+same_workers b h =
+    let now : state_from (opening_of b) (book_transcript b) ≡ desk_state b.desk = h.journal.leads.1 in
+    sym (ap (λ (m : State Blank). length m.workers) now) ∙ workers_from (opening_of b) (book_transcript b)
+
+-- the streams that a book opened with stay
+pub more_streams : (b : BookValue) → IsBook b → length b.opening.lanes ≤ length b.desk.lanes
+more_streams b h =
+    let p = book_transcript b in
+    let spec = λ (lane : Lane). lane.state.spec in
+    omega (
+      arith,
+      ap length (specs_led b.opening b.desk p h.journal.leads),
+      length-append (specs_of b.opening) (added p),
+      length-map b.opening.lanes spec,
+      length-map b.desk.lanes spec,
+    )

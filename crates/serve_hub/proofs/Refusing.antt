@@ -1,7 +1,16 @@
--- Offers that are refused.
-use Rattle.std.proofs.Common.{◌≡◌, Option, Some, MatchOption, subst}
+-- Calls that are refused.
+use Rattle.std.proofs.Common.{ℕ, ◌≡◌, ◌<◌, Option, None, Some, MatchOption, subst}
+use Rattle.serve_core.specs.declared.refusal.Refusal as core
+use Rattle.serve_hub.specs.Answers.{WithRoom, or_full}
+use Rattle.serve_hub.specs.Books.{BookValue, room}
 
 -- what holds of the value that is there
 pub matched : {X : Type 0} (A : Type 0) (B : X → Type 0) (o : Option X) (x : X) → o ≡ Some x
     → MatchOption o A B → B x
 matched A B o x e m = subst (λ p. MatchOption p A B) e m
+
+-- the answer where too few entries are left
+pub is_full : (need : ℕ) (b : BookValue) (IsAnswer : Option core.Refusal → Type 0) (o : Option core.Refusal)
+    → IsAnswer o → room b < need → WithRoom need b IsAnswer (Some (or_full o))
+is_full need b IsAnswer None answer few = (answer, few)
+is_full need b IsAnswer (Some e) answer few = answer

@@ -25,7 +25,7 @@ use Rattle.serve_hub.specs.declared.entry.Act.TheVariants.{Settled}
 use Rattle.serve_hub.specs.declared.entry.Seat.TheVariants.{Worker}
 use Rattle.serve_hub.specs.Answers.{is_finished, settled_as}
 use Rattle.serve_hub.specs.Books as books
-use Rattle.serve_hub.specs.Books.{BookValue, IsBook, reserved, with_units}
+use Rattle.serve_hub.specs.Books.{BookValue, IsBook, reserved, specs_of, with_units}
 use Rattle.serve_hub.specs.Journal.{events_of, number_of, units_from}
 use Rattle.serve_hub.proofs.Entered.{IsEntered}
 use Rattle.serve_hub.proofs.Kept.{AddsUnits, grown, one_more}
@@ -141,12 +141,12 @@ settle_entered b w lease n held desk h mine recorded unused within led takes =
     let left = desk_settled b.desk desk w lease n held mine takes in
     let act = Settled lease.used (is_some n) in
     let units = (with_units w (spent_of lease) b).units in
-    let its : Answers b.desk (events_of (desk_state b.desk) (Worker w) act) desk =
+    let its : Answers b.desk (events_of (specs_of desk) (desk_state b.desk) (Worker w) act) desk =
     subst (λ (o : Option ℕ). Answers b.desk (settlement w lease.used o) desk) number led in
     let all_used : held.used + lease.used ≤ held.grant = omega (arith, unused, within, is.grant) in
     let added = units_added b w lease.used (spent_of lease) n held lane h mine here all_used
     (spent_is lease held lane is) in
-    let adds : AddsUnits b (Worker w) act units =
+    let adds : AddsUnits b desk (Worker w) act units =
     subst (λ (o : Option ℕ). (v m : ℕ) → slice_get units v ≡ Some m → (l : ℕ) × (slice_get b.units v ≡ Some l)
     × (m ≡ l + units_from (desk_state b.desk) v (settlement w lease.used o))) number added in
     let count : books.taken (grown b (Worker w) act desk units) ≡ books.taken b + 0 = omega (arith, left.places) in

@@ -1,18 +1,19 @@
 -- The units of transcripts that follow one another, and of bands.
 use Rattle.std.proofs.Common.{ℕ, zero, suc, ◌+◌, ◌≡◌, ◌≤◌, nat_eq, Bool, true, false, Some, None, Option, slice_get}
-use Rattle.std.proofs.Common.{if◌then◌else◌, refl, sym, ap, arith}
+use Rattle.std.proofs.Common.{if◌then◌else◌, List, refl, sym, ap, arith}
 use Rattle.serve_core.specs.declared.held.Held.{Held}
 use Rattle.serve_core.specs.AtOnce.{at_once, bands, cost_of_next, with_used}
 use Rattle.serve_core.specs.Bare.{Blank, measures_any, is_any_image}
 use Rattle.serve_core.specs.Events.{Band, Start, Stepped, Then, Transcript, joined}
 use Rattle.serve_core.specs.Leads.{state_from}
+use Rattle.serve_core.specs.Setup.{StreamSpec}
 use Rattle.serve_core.specs.States.{State, StreamState, held_at}
 use Rattle.serve_core.proofs.AtOnce.{at_once_is, lease_at_once, next_more, stream_at_once}
 use Rattle.serve_core.proofs.Openings.{joined_state}
 use Rattle.serve_core.proofs.Steps.{held_at_is}
 use Rattle.serve_hub.specs.declared.entry.Act.TheVariants.{Offered}
 use Rattle.serve_hub.specs.declared.entry.Seat.TheVariants.{Stream}
-use Rattle.serve_hub.specs.Journal.{event_units, events_of, lease_cost, units_from}
+use Rattle.serve_hub.specs.Journal.{admission_of, event_units, events_of, lease_cost, units_from}
 
 pub units_joined : (o : State Blank) (w : ℕ) (p q : Transcript Blank Blank)
     → units_from o w (joined p q) ≡ units_from o w p + units_from (state_from o p) w q
@@ -22,10 +23,16 @@ units_joined o w p (Then q e r) =
     let same = ap (λ (n : State Blank). event_units w n e r) (joined_state o p q) in
     omega (arith, more, same)
 
-pub offer_units : (m : State Blank) (w s : ℕ) (tick : Option ℕ) (n : ℕ)
-    → units_from m w (events_of m (Stream s) (Offered tick n)) ≡ 0
-offer_units m w s None n = refl
-offer_units m w s (Some t) n = refl
+pub offer_units : (specs : List StreamSpec) (m : State Blank) (w s : ℕ) (tick : Option ℕ) (n : ℕ)
+    → units_from m w (events_of specs m (Stream s) (Offered tick n)) ≡ 0
+offer_units specs m w s None n = refl
+offer_units specs m w s (Some t) n = refl
+
+-- an admission has none
+pub admission_units : (m : State Blank) (w s : ℕ) (spec : Option StreamSpec)
+    → units_from m w (admission_of s spec) ≡ 0
+admission_units m w s None = refl
+admission_units m w s (Some spec) = refl
 
 -- one band more
 next_band : (m : State Blank) (w k : ℕ) (l : Held) (x : StreamState Blank)

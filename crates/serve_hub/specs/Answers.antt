@@ -7,7 +7,9 @@ use Rattle.serve_core.specs.declared.refusal.Refusal as core
 use Rattle.serve_core.specs.declared.refusal.Refusal.TheVariants as cores
 use Rattle.serve_core.specs.Desk as desks
 use Rattle.serve_core.specs.Desk.{SomeReady}
+use Rattle.serve_core.specs.Schedule as schedules
 use Rattle.serve_core.specs.Schedule.{HasLane, RefusesCollect, RefusesLease, ScheduleValue}
+use Rattle.serve_core.specs.Setup.{StreamSpec}
 use Rattle.serve_hub.specs.declared.entry.Settled as code
 use Rattle.serve_hub.specs.declared.entry.Settled.TheVariants as settled
 use Rattle.serve_hub.specs.declared.refusal.Refusal.{Refusal}
@@ -22,6 +24,11 @@ WithRoom need b IsAnswer (Some (Core e)) = IsAnswer (Some e)
 WithRoom need b IsAnswer (Some HistoryFull) = IsAnswer None × (room b < need)
 WithRoom need b IsAnswer (Some e) = ⊥
 
+-- how a call is refused for which too few entries are left
+abbrev pub or_full : Option core.Refusal → Refusal
+or_full None = HistoryFull
+or_full (Some e) = Core e
+
 -- the answer to a frame of this geometry, want of memory aside: a refusal, or none
 abbrev pub IsOfferAnswer : BookValue → (s at : ℕ) → Geometry → Option Refusal → Type 0
 IsOfferAnswer b s at geometry answer = WithRoom 1 b (desks.IsOfferAnswer b.desk s at geometry) answer
@@ -35,6 +42,16 @@ RefusesOffer b s at geometry e =
 -- the answer to a job that was made outside
 abbrev pub IsJobAnswer : BookValue → (s at : ℕ) → Option Refusal → Type 0
 IsJobAnswer b s at answer = WithRoom 1 b (λ e. desks.job_refusal b.desk s at ≡ e) answer
+
+-- the answer to a stream that is to be admitted, want of memory aside: it needs its own entry and that of its
+-- close
+abbrev pub IsAdmitAnswer : BookValue → StreamSpec → Option Refusal → Type 0
+IsAdmitAnswer b spec answer = WithRoom 2 b (schedules.IsAdmitAnswer b.desk spec) answer
+
+-- why it isn't admitted
+abbrev pub RefusesAdmission : BookValue → StreamSpec → Refusal → Type 0
+RefusesAdmission b spec e =
+    IsAdmitAnswer b spec (Some e) ⊎ (e ≡ Core cores.NoMemory) × IsAdmitAnswer b spec None
 
 -- how the desk answers a worker that asks for a lease, and a stream that asks for an image
 abbrev pub DeskLends : ScheduleValue → (w : ℕ) → Option core.Refusal → Type 0

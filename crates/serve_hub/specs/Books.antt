@@ -1,5 +1,5 @@
 -- What a book keeps.
-use Rattle.std.specs.Prelude.{ℕ, ◌+◌, ◌-◌, ◌≡◌, ◌≤◌, ◌^◌, List, [], ◌∷◌, length, replicate, slice_get}
+use Rattle.std.specs.Prelude.{ℕ, ◌+◌, ◌-◌, ◌≡◌, ◌≤◌, ◌^◌, List, [], ◌∷◌, ◌++◌, length, map, replicate, slice_get}
 use Rattle.std.specs.Prelude.{slice_set, slice_index_or, sum, sum_by, Option, Some, None, IsSomeAnd}
 use Rattle.std.specs.Prelude.{if◌then◌else◌}
 use Rattle.lease.specs.Lease.{LeaseValue}
@@ -9,6 +9,7 @@ use Rattle.serve_core.specs.Bare.{Blank}
 use Rattle.serve_core.specs.Events.{Transcript}
 use Rattle.serve_core.specs.Lanes.{Lane}
 use Rattle.serve_core.specs.Schedule.{HasLane, ScheduleValue}
+use Rattle.serve_core.specs.Setup.{StreamSpec}
 use Rattle.serve_core.specs.Sound.{Sound}
 use Rattle.serve_core.specs.States.{State}
 use Rattle.serve_hub.specs.declared.entry.Act.{Act}
@@ -26,6 +27,10 @@ pub record BookValue : Type 0 where
   pub limit : ℕ
   -- the units of each worker's bands
   pub units : List ℕ
+
+-- a desk of no stream and no worker
+abbrev pub no_schedule : ScheduleValue
+no_schedule = record { clock = 0; quantum = 0; lanes = []; workers = [] }
 
 -- a book without entries, over a desk
 abbrev pub opened_book : ScheduleValue → ℕ → BookValue
@@ -47,8 +52,12 @@ pub record IsLimit (streams limit : ℕ) : Type 0 where
 abbrev pub opening_of : BookValue → State Blank
 opening_of b = desk_state b.opening
 
+-- the specs of all streams, by number
+abbrev pub specs_of : ScheduleValue → List StreamSpec
+specs_of desk = map (λ lane. lane.state.spec) desk.lanes
+
 abbrev pub book_transcript : BookValue → Transcript Blank Blank
-book_transcript b = transcript_of (opening_of b) b.past
+book_transcript b = transcript_of (specs_of b.desk) (opening_of b) b.past
 
 abbrev pub one_out : Option Held → ℕ
 one_out None = 0
@@ -79,17 +88,21 @@ charges desk = sum_by (λ lane. lane.state.charged) desk.lanes
 -- what a book always is
 pub record IsBook (b : BookValue) : Type 0 where
   pub sound : Sound (desk_state b.desk)
-  pub journal : IsJournal (opening_of b) b.past (desk_state b.desk)
+  pub journal : IsJournal (specs_of b.desk) (opening_of b) b.past (desk_state b.desk)
   pub workers : length b.units ≡ length b.desk.workers
   pub units : AreUnits b
   -- all workers' units are what the streams were charged since the book was opened
   pub charges : sum b.units + charges b.opening ≡ charges b.desk
   pub fits : taken b ≤ b.limit
 
+-- a book has the streams that it opened with, and perhaps more behind them
+abbrev pub SpecsLaw : Type 0
+SpecsLaw = (b : BookValue) → IsBook b → (more : List StreamSpec) × (specs_of b.desk ≡ specs_of b.opening ++ more)
+
 -- one entry more, its own: the desk answers its events, and all else stays
 pub record Appends (seat : Seat) (act : Act) (old new : BookValue) : Type 0 where
   pub book : new ≡ record old { past = entry_of seat act ∷ old.past; desk = new.desk }
-  pub events : Answers old.desk (events_of (desk_state old.desk) seat act) new.desk
+  pub events : Answers old.desk (events_of (specs_of new.desk) (desk_state old.desk) seat act) new.desk
   pub fits : length new.past ≤ new.limit
 
 -- worker w has done bands of so many units more

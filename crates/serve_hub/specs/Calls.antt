@@ -1,7 +1,8 @@
 -- How the calls of a hub leave the seats, and which refusals a seat can be told.
-use Rattle.std.specs.Prelude.{ℕ, ◌+◌, ◌≡◌, ◌≢◌, ◌≤◌, ◌<◌, ◌^◌, ◌↔◌, ⊤, true, IsTrue, [], ◌∷◌}
+use Rattle.std.specs.Prelude.{ℕ, ◌+◌, ◌≡◌, ◌≢◌, ◌≤◌, ◌<◌, ◌↔◌, ⊤, true, IsTrue, [], ◌∷◌}
 use Rattle.std.specs.Prelude.{◌++◌, drop, length, slice_get, Option, Some, MatchOption}
 use Rattle.std.specs.Arc.{arc_value}
+use Rattle.cbs_account.specs.declared.limits.TheConstants.{LAST_MOMENT}
 use Rattle.frame_view.specs.declared.frame.Frame.{Frame}
 use Rattle.frame_view.specs.declared.geometry.Geometry.{Geometry}
 use Rattle.filters.specs.ChainImage.{FrameValue, IsChainImage, value_of}
@@ -11,18 +12,21 @@ use Rattle.serve_core.specs.declared.collected.Collected.{Collected}
 use Rattle.serve_core.specs.declared.refusal.Refusal as core
 use Rattle.serve_core.specs.declared.refusal.Refusal.TheVariants as cores
 use Rattle.serve_core.specs.Lanes.{IsImageOf, source_in}
+use Rattle.serve_core.specs.Setup.{HasBandwidth, IsWithinLimits, StreamSpec}
 use Rattle.serve_hub.specs.declared.entry.Act.TheVariants as acts
 use Rattle.serve_hub.specs.declared.entry.Settled as code
 use Rattle.serve_hub.specs.declared.entry.Settled.TheVariants as settled
 use Rattle.serve_hub.specs.declared.refusal.Came.TheVariants as came
 use Rattle.serve_hub.specs.declared.refusal.Refusal.{Refusal}
 use Rattle.serve_hub.specs.declared.refusal.Refusal.TheVariants.{Core, HistoryFull, StrayLease, Torn}
+use Rattle.serve_hub.specs.declared.refused.AdmitRefused.{AdmitRefused}
 use Rattle.serve_hub.specs.declared.refused.CollectRefused.{CollectRefused}
 use Rattle.serve_hub.specs.declared.refused.LeaseRefused.{LeaseRefused}
 use Rattle.serve_hub.specs.declared.refused.OfferRefused.{OfferRefused}
 use Rattle.serve_hub.specs.declared.refused.OverRefused.{OverRefused}
 use Rattle.serve_hub.specs.Answers.{is_finished}
-use Rattle.serve_hub.specs.Seats.{StreamSeatValue, WorkSeatValue, with_call}
+use Rattle.serve_hub.specs.Journal.{tick_of}
+use Rattle.serve_hub.specs.Seats.{StreamSeatValue, WorkSeatValue, no_calls, opened_rest, seat_over, with_call}
 
 -- a refusal as a seat is told it: one that the seat allows, or what contradicts the seat
 abbrev pub IsTold : (core.Refusal → Type 0) → Refusal → Type 0
@@ -35,7 +39,7 @@ IsTold Allows (Torn c) = ⊥
 
 -- which refusals a seat allows: of a frame of this geometry that is offered at a moment
 abbrev pub AllowsOffer : StreamSeatValue → (at : ℕ) → Geometry → core.Refusal → Type 0
-AllowsOffer seat at geometry cores.ClockEnd = 2 ^ 60 < at
+AllowsOffer seat at geometry cores.ClockEnd = LAST_MOMENT < at
 AllowsOffer seat at geometry cores.Closed = IsTrue seat.is_closed
 AllowsOffer seat at geometry cores.WrongSize = geometry ≢ seat.chain.geometry
 AllowsOffer seat at geometry cores.TooManyFrames = seat.accepted ≡ seat.frames
@@ -54,6 +58,33 @@ AllowsCollect seat cores.Empty = ⊤
 AllowsCollect seat cores.Drained = IsTrue seat.is_closed × (seat.kept ≡ [])
 AllowsCollect seat e = ⊥
 
+-- a spec that a stream may have
+abbrev pub IsSpec : StreamSpec → Type 0
+IsSpec spec = IsWithinLimits spec × HasBandwidth spec
+
+-- why a stream of this spec isn't admitted: what is wrong with the spec comes before all that isn't told by it,
+-- but the number of streams
+abbrev pub AllowsAdmission : StreamSpec → Refusal → Type 0
+AllowsAdmission spec (Core cores.TooManyStreams) = ⊤
+AllowsAdmission spec (Core cores.BadLimits) = ¬ IsWithinLimits spec
+AllowsAdmission spec (Core cores.BadBandwidth) = IsWithinLimits spec × ¬ HasBandwidth spec
+AllowsAdmission spec (Core cores.Overload) = IsSpec spec
+AllowsAdmission spec (Core cores.NoMemory) = IsSpec spec
+AllowsAdmission spec HistoryFull = IsSpec spec
+AllowsAdmission spec (Torn came.Other) = ⊤
+AllowsAdmission spec e = ⊥
+
+-- the seat of a stream that was admitted, which is its only call yet
+abbrev pub Admits : StreamSpec → StreamSeatValue → Type 0
+Admits spec seat =
+    seat ≡ record (seat_over seat.calls.limit (opened_rest seat.number spec)) {
+      calls = with_call acts.Admitted (no_calls seat.calls.limit);
+    }
+
+-- why a stream isn't admitted, whose spec comes back
+abbrev pub IsAdmitRefused : StreamSpec → AdmitRefused → Type 0
+IsAdmitRefused spec e = (e.spec ≡ spec) × AllowsAdmission spec e.refusal
+
 -- a frame of the seat was accepted, with this number, and is the last that the seat keeps
 pub record Accepts (frame : FrameValue) (number : ℕ) (old new : StreamSeatValue) : Type 0 where
   pub tick : Option ℕ
@@ -63,6 +94,15 @@ pub record Accepts (frame : FrameValue) (number : ℕ) (old new : StreamSeatValu
     accepted = old.accepted + 1;
     kept = old.kept ++ frame ∷ [];
   }
+
+-- the seat's last call is an offer at a moment, which the clock went on to from another
+pub record NotesFrom (clock at : ℕ) (old new : StreamSeatValue) : Type 0 where
+  pub number : ℕ
+  pub calls : new.calls ≡ with_call (acts.Offered (tick_of clock at) number) old.calls
+
+-- the same, wherever the clock was
+abbrev pub Notes : (at : ℕ) → (old new : StreamSeatValue) → Type 0
+Notes at old new = (clock : ℕ) × NotesFrom clock at old new
 
 -- an accepted frame got another number than the seat's next
 abbrev pub AcceptsOther : FrameValue → Refusal → (old new : StreamSeatValue) → Type 0

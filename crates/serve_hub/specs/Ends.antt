@@ -1,21 +1,21 @@
 -- What is left of a hub whose seats are all back.
 use Rattle.std.specs.Prelude.{ℕ, ◌+◌, ◌*◌, ◌≡◌, ◌≢◌, ◌≤◌, ◌<◌, ◌⊎◌, ◌==◌, Bool, true, false, List, [], ◌∷◌}
-use Rattle.std.specs.Prelude.{All, filter, length, map, reverse, sum_by}
+use Rattle.std.specs.Prelude.{All, filter, length, map, reverse, slice_get, sum_by, Option, Some}
 use Rattle.std.specs.List.{Any}
+use Rattle.serve_core.specs.declared.held.Held.{Held}
 use Rattle.serve_core.specs.Bare.{measures_any, is_any_image}
 use Rattle.serve_core.specs.Desk.{desk_state}
 use Rattle.serve_core.specs.Lanes.{Lane}
-use Rattle.serve_core.specs.Rules.{IsLegal}
-use Rattle.serve_core.specs.Schedule.{HasLane, ScheduleValue, opened_schedule}
-use Rattle.serve_core.specs.Setup.{IsSetup, Setup, cost}
-use Rattle.serve_core.specs.States.{state_of}
+use Rattle.serve_core.specs.Reached.{IsReached, LeadsOver}
+use Rattle.serve_core.specs.Schedule.{HasLane, ScheduleValue}
+use Rattle.serve_core.specs.Setup.{cost}
 use Rattle.serve_hub.specs.declared.entry.Act.{Act}
-use Rattle.serve_hub.specs.declared.entry.Act.TheVariants.{Collected, Leased}
+use Rattle.serve_hub.specs.declared.entry.Act.TheVariants.{Leased}
 use Rattle.serve_hub.specs.declared.entry.Entry.{Entry}
 use Rattle.serve_hub.specs.declared.entry.Seat.{Seat}
 use Rattle.serve_hub.specs.declared.entry.Seat.TheVariants.{Stream, Worker}
 use Rattle.serve_hub.specs.Books.{BookValue, book_transcript}
-use Rattle.serve_hub.specs.Seats.{HubValue, StreamSeatValue, WorkSeatValue}
+use Rattle.serve_hub.specs.Seats.{HubValue, StreamRest, StreamSeatValue, WorkSeatValue, collected_by}
 
 abbrev pub is_same_seat : Seat → Seat → Bool
 is_same_seat (Stream a) (Stream b) = a == b
@@ -61,20 +61,31 @@ begins_with_lease (act ∷ acts) = is_lease act
 abbrev pub HasLeaseOut : WorkSeatValue → Type 0
 HasLeaseOut seat = begins_with_lease (reverse seat.calls.list) ≡ true
 
--- a desk of so many streams and workers before any event
-pub record IsOpened (opening : ScheduleValue) (streams workers : ℕ) : Type 0 where
-  pub setup : Setup
-  pub is_setup : IsSetup setup
-  pub desk : opening ≡ opened_schedule setup
-  pub each_stream : length setup.streams ≡ streams
-  pub each_worker : setup.workers ≡ workers
+-- a book opened from this desk, of so many workers, which a legal transcript of a setup led to
+pub record IsOpening (opening of_book : ScheduleValue) (workers : ℕ) : Type 0 where
+  pub same : of_book ≡ opening
+  pub reached : IsReached measures_any is_any_image (desk_state opening)
+  pub each_worker : length opening.workers ≡ workers
 
--- the book was opened for a setup of the hub's streams and workers. Its journal's transcript is legal for
--- that setup, and leads to where the desk is
-pub record IsHistory (b : BookValue) (hub : HubValue) : Type 0 where
-  pub opened : IsOpened b.opening hub.streams hub.workers
-  pub legal : IsLegal measures_any is_any_image opened.setup (book_transcript b)
-  pub state : state_of opened.setup (book_transcript b) ≡ desk_state b.desk
+-- the book opened from this desk, and its journal's transcript leads from there to where the desk is
+pub record IsHistory (opening : ScheduleValue) (b : BookValue) : Type 0 where
+  pub same : b.opening ≡ opening
+  pub leads : LeadsOver measures_any is_any_image (desk_state opening) (book_transcript b) (desk_state b.desk)
+
+-- what is left of a hub: its book, and what the seats of its streams leave
+pub record EndedValue : Type 0 where
+  pub book : BookValue
+  pub streams : List StreamRest
+
+-- no worker holds a lease
+abbrev pub AreFree : List (Option Held) → Type 0
+AreFree workers = (w : ℕ) (held : Held) → slice_get workers w ≢ Some (Some held)
+
+-- a hub can open from what is left of it
+pub record IsEnded (e : EndedValue) : Type 0 where
+  pub free : AreFree e.book.desk.workers
+  pub each_stream : length e.streams ≡ length e.book.desk.lanes
+  pub reached : IsReached measures_any is_any_image (desk_state e.book.desk)
 
 -- each of so many streams has its seat here, and each of so many workers
 abbrev pub HaveStreams : ℕ → List StreamSeatValue → Type 0
@@ -83,16 +94,12 @@ HaveStreams count seats = (n : ℕ) → n < count → Any (λ s. s.number ≡ n)
 abbrev pub HaveWorkers : ℕ → List WorkSeatValue → Type 0
 HaveWorkers count seats = (n : ℕ) → n < count → Any (λ s. s.number ≡ n) seats
 
-abbrev pub one_collection : Act → ℕ
-one_collection (Collected number) = 1
-one_collection act = 0
-
 -- the seat's stream: it has the seat's chain, and as many of its frames were accepted and collected as the
 -- seat tells
 pub record IsLaneOf (seat : StreamSeatValue) (lane : Lane) : Type 0 where
   pub chain : lane.state.spec.chain ≡ seat.chain
   pub accepted : lane.state.accepted ≡ seat.accepted
-  pub collected : lane.state.collected ≡ sum_by one_collection seat.calls.list
+  pub collected : lane.state.collected ≡ collected_by seat
 
 abbrev pub AreLanes : ScheduleValue → List StreamSeatValue → Type 0
 AreLanes desk seats = All (λ s. HasLane desk s.number (IsLaneOf s)) seats

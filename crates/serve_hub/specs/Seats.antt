@@ -1,5 +1,6 @@
 -- What the seats of a hub keep.
 use Rattle.std.specs.Prelude.{ℕ, suc, ◌+◌, ◌≡◌, ◌<◌, Bool, false, List, [], ◌∷◌, ◌++◌, All, length, map}
+use Rattle.std.specs.Prelude.{sum_by}
 use Rattle.std.specs.declared.alloc.Global.{Global}
 use Rattle.std.specs.declared.sync.Arc.{Arc}
 use Rattle.std.specs.Arc.{arc_value}
@@ -9,6 +10,7 @@ use Rattle.filters.specs.Chain.{ChainValue}
 use Rattle.filters.specs.ChainImage.{FrameValue, value_of}
 use Rattle.serve_core.specs.Setup.{StreamSpec}
 use Rattle.serve_hub.specs.declared.entry.Act.{Act}
+use Rattle.serve_hub.specs.declared.entry.Act.TheVariants.{Collected}
 use Rattle.serve_hub.specs.Books.{BookValue}
 
 -- the accepted calls of a seat, the oldest first, and how many entries its journal may have
@@ -34,6 +36,29 @@ pub record StreamSeatValue : Type 0 where
   -- the frames that were accepted and aren't collected, the oldest first, and how many it has places for
   pub kept : List FrameValue
   pub places : ℕ
+  -- how many images of its stream were collected before the seat was there
+  pub before : ℕ
+
+-- what the seat of a stream leaves for that of the next epoch
+pub record StreamRest : Type 0 where
+  pub number : ℕ
+  pub chain : ChainValue
+  pub queue : ℕ
+  pub frames : ℕ
+  -- how many frames were accepted, and how many images collected, in all epochs
+  pub accepted : ℕ
+  pub collected : ℕ
+  pub is_closed : Bool
+  pub kept : List FrameValue
+  pub places : ℕ
+
+abbrev pub one_collection : Act → ℕ
+one_collection (Collected number) = 1
+one_collection act = 0
+
+-- how many images of the seat's stream were collected, in all epochs
+abbrev pub collected_by : StreamSeatValue → ℕ
+collected_by seat = seat.before + sum_by one_collection seat.calls.list
 
 -- the seat can keep one frame more
 pub record HasPlace (seat : StreamSeatValue) : Type 0 where
@@ -56,7 +81,7 @@ pub record WorkSeatValue : Type 0 where
   pub number : ℕ
   pub calls : CallsValue
 
--- how many seats a hub has
+-- how many seats a hub has: of the streams that it opened with, and of its workers
 pub record HubValue : Type 0 where
   pub streams : ℕ
   pub workers : ℕ
@@ -64,14 +89,43 @@ pub record HubValue : Type 0 where
 abbrev pub no_calls : ℕ → CallsValue
 no_calls limit = record { limit = limit; list = [] }
 
-abbrev pub opened_stream : (limit number : ℕ) → StreamSpec → StreamSeatValue
-opened_stream limit number spec = record {
-  number = number;
+abbrev pub left_by : StreamSeatValue → StreamRest
+left_by seat = record {
+  number = seat.number;
+  chain = seat.chain;
+  queue = seat.queue;
+  frames = seat.frames;
+  accepted = seat.accepted;
+  collected = collected_by seat;
+  is_closed = seat.is_closed;
+  kept = seat.kept;
+  places = seat.places;
+}
+
+-- the seat of a stream in the next epoch, without calls yet
+abbrev pub seat_over : (limit : ℕ) → StreamRest → StreamSeatValue
+seat_over limit rest = record {
+  number = rest.number;
   calls = no_calls limit;
+  chain = rest.chain;
+  queue = rest.queue;
+  frames = rest.frames;
+  accepted = rest.accepted;
+  is_closed = rest.is_closed;
+  kept = rest.kept;
+  places = rest.places;
+  before = rest.collected;
+}
+
+-- what there is of a stream before its first epoch
+abbrev pub opened_rest : (number : ℕ) → StreamSpec → StreamRest
+opened_rest number spec = record {
+  number = number;
   chain = spec.chain;
   queue = spec.queue;
   frames = spec.frames;
   accepted = 0;
+  collected = 0;
   is_closed = false;
   kept = [];
   places = spec.queue + spec.outbox;
@@ -80,11 +134,14 @@ opened_stream limit number spec = record {
 abbrev pub opened_worker : (limit number : ℕ) → WorkSeatValue
 opened_worker limit number = record { number = number; calls = no_calls limit }
 
+-- for each of these streams, numbered from `first` on
+abbrev pub opened_rests : (first : ℕ) → List StreamSpec → List StreamRest
+opened_rests first [] = []
+opened_rests first (spec ∷ specs) = opened_rest first spec ∷ opened_rests (suc first) specs
+
 -- a seat for each of these streams, numbered from `first` on
 abbrev pub opened_streams : (limit first : ℕ) → List StreamSpec → List StreamSeatValue
-opened_streams limit first [] = []
-opened_streams limit first (spec ∷ specs) =
-    opened_stream limit first spec ∷ opened_streams limit (suc first) specs
+opened_streams limit first specs = map (seat_over limit) (opened_rests first specs)
 
 -- what stands under the lock of a hub: the book, and how many seats there are
 pub record SharedValue : Type 0 where

@@ -7,9 +7,9 @@ ghost use Rattle.serve_hub.specs.Ends.{acts_of};
 
 use crate::book::Book;
 use crate::entry::{Act, Entry, Seat};
+use crate::epoch::Epoch;
 use crate::stream_seat::StreamSeat;
 use crate::work_seat::WorkSeat;
-use std::sync::ledger::Ledger;
 
 fn is_same_seat(a: Seat, b: Seat) -> bool
     ensures { result ≡ rules.is_same_seat a b }
@@ -37,7 +37,7 @@ fn agrees(journal: &[Entry], seat: Seat, calls: &[Act]) -> bool
     next == calls.len()
 }
 
-pub(crate) fn streams_agree<L: Ledger>(journal: &[Entry], seats: &Vec<StreamSeat<L>>) -> bool
+pub(crate) fn streams_agree<L: Epoch>(journal: &[Entry], seats: &Vec<StreamSeat<L>>) -> bool
     ensures { IsTrue result → AreStreamCalls journal.now seats.now.items }
 {
     for seat in seats {
@@ -48,7 +48,7 @@ pub(crate) fn streams_agree<L: Ledger>(journal: &[Entry], seats: &Vec<StreamSeat
     true
 }
 
-pub(crate) fn workers_agree<L: Ledger>(journal: &[Entry], seats: &Vec<WorkSeat<L>>) -> bool
+pub(crate) fn workers_agree<L: Epoch>(journal: &[Entry], seats: &Vec<WorkSeat<L>>) -> bool
     ensures { IsTrue result → AreWorkCalls journal.now seats.now.items }
 {
     for seat in seats {
@@ -60,7 +60,7 @@ pub(crate) fn workers_agree<L: Ledger>(journal: &[Entry], seats: &Vec<WorkSeat<L
 }
 
 /// Whether each of so many streams has its seat.
-pub(crate) fn have_streams<L: Ledger>(count: usize, seats: &Vec<StreamSeat<L>>) -> bool
+pub(crate) fn have_streams<L: Epoch>(count: usize, seats: &Vec<StreamSeat<L>>) -> bool
     ensures { IsTrue result → HaveStreams count seats.now.items }
 {
     for number in 0..count {
@@ -71,7 +71,7 @@ pub(crate) fn have_streams<L: Ledger>(count: usize, seats: &Vec<StreamSeat<L>>) 
     true
 }
 
-fn has_stream<L: Ledger>(seats: &Vec<StreamSeat<L>>, number: usize) -> bool
+fn has_stream<L: Epoch>(seats: &Vec<StreamSeat<L>>, number: usize) -> bool
     ensures { IsTrue result → Any (λ s. s.number ≡ number) seats.now.items }
 {
     for seat in seats {
@@ -83,7 +83,7 @@ fn has_stream<L: Ledger>(seats: &Vec<StreamSeat<L>>, number: usize) -> bool
 }
 
 /// Whether each of so many workers has its seat.
-pub(crate) fn have_workers<L: Ledger>(count: usize, seats: &Vec<WorkSeat<L>>) -> bool
+pub(crate) fn have_workers<L: Epoch>(count: usize, seats: &Vec<WorkSeat<L>>) -> bool
     ensures { IsTrue result → HaveWorkers count seats.now.items }
 {
     for number in 0..count {
@@ -94,14 +94,14 @@ pub(crate) fn have_workers<L: Ledger>(count: usize, seats: &Vec<WorkSeat<L>>) ->
     true
 }
 
-fn has_worker<L: Ledger>(seats: &Vec<WorkSeat<L>>, number: usize) -> bool
+fn has_worker<L: Epoch>(seats: &Vec<WorkSeat<L>>, number: usize) -> bool
     ensures { IsTrue result → Any (λ s. s.number ≡ number) seats.now.items }
 {
     seats.iter().any(|seat| seat.worker() as usize == number)
 }
 
 /// Whether each seat's stream is in the book as the seat tells of it.
-pub(crate) fn are_lanes<L: Ledger>(book: &Book, seats: &Vec<StreamSeat<L>>) -> bool
+pub(crate) fn are_lanes<L: Epoch>(book: &Book, seats: &Vec<StreamSeat<L>>) -> bool
     ensures { IsTrue result → AreLanes book.now.desk seats.now.items }
 {
     for seat in seats {

@@ -1,13 +1,16 @@
 //! A desk with the journal of what it accepted.
-ghost use Rattle.std.specs.Prelude.{◌≡◌, ◌<◌, ◌≤◌, ◌^◌, ◌↔◌, All, IfOk, IfSome, IsErrOf, IsSome, IsTrue};
+ghost use Rattle.std.specs.Prelude.{◌≡◌, ◌<◌, ◌≤◌, ◌^◌, ◌↔◌, [], All, IfOk, IfSome, IsErrOf, IsSome, IsTrue};
 ghost use Rattle.std.specs.Prelude.{length, option_copied, reverse, slice_get};
+ghost use Rattle.std.specs.Vec.{vec_capacity};
 ghost use Rattle.std.specs.Option.{option_map};
 ghost use Rattle.serve_core.specs.Lanes.{IsOver};
 ghost use Rattle.serve_core.specs.Schedule.{HasLane, account_of, counts_of, opened_schedule};
-ghost use Rattle.serve_hub.specs.Books.{IsBook, IsLimit, book_transcript, opened_book, opening_of};
+ghost use Rattle.serve_hub.specs.Books.{IsBook, IsLimit, book_transcript, opened_book, opening_of, reserved};
 ghost use Rattle.serve_hub.specs.Books as rules;
+ghost use Rattle.serve_hub.specs.Ends.{AreFree};
 ghost use Rattle.serve_hub.specs.Journal.{act_bands, bands_of, units_from};
 
+mod admissions;
 mod leases;
 mod offers;
 
@@ -45,7 +48,7 @@ impl From<AllocError> for BookError {
 ///
 /// The journal has a limit. An entry is reserved for the settlement of each lease that is out and for the
 /// close of each stream that isn't closed, so these are never refused for it. The memory for the journal is
-/// taken when the book is made, so only `new`, `offer` and `offer_over` take any.
+/// taken when the book is made, so only `new`, `offer` and `admit` take any.
 ///
 /// Contracts see the `BookValue` of `specs/Books.antt`: the journal leads from the desk as it was when the
 /// book was opened to the desk as it is.
@@ -95,6 +98,35 @@ impl Book {
             taken: streams,
             units,
         })
+    }
+
+    /// A book of the same desk with this journal, which is empty, and what was accepted until then, the
+    /// oldest first.
+    pub(crate) fn reopened(self, journal: Vec<Entry>, limit: usize) -> (Book, Vec<Entry>)
+        requires empty { journal.items ≡ [] }
+        requires capacity { limit ≤ vec_capacity journal }
+        requires most { limit ≤ 2 ^ 20 }
+        requires fits { reserved self.desk ≤ limit }
+        ensures book { result.0 ≡ opened_book self.desk limit }
+        ensures past { reverse result.1.items ≡ self.past }
+    {
+        let Book {
+            desk,
+            journal: past,
+            taken,
+            mut units,
+            ..
+        } = self;
+        units.fill(0);
+        let book = Book {
+            opening: Snapshot::of(&desk),
+            desk,
+            journal,
+            limit,
+            taken: taken - past.len(),
+            units,
+        };
+        (book, past)
     }
 
     /// What was accepted, the oldest first.
@@ -160,6 +192,36 @@ impl Book {
         ensures { IsTrue result ↔ All IsOver self.now.desk.lanes }
     {
         self.desk.is_over()
+    }
+
+    /// How many streams there are.
+    pub(crate) fn streams(&self) -> usize
+        ensures count { result ≡ length self.now.desk.lanes }
+        ensures more { length self.now.opening.lanes ≤ result }
+    {
+        self.desk.streams()
+    }
+
+    /// How many workers there are.
+    pub(crate) fn workers(&self) -> usize
+        ensures { result ≡ length self.now.desk.workers }
+    {
+        self.units.len()
+    }
+
+    /// Whether no worker holds a lease.
+    pub(crate) fn is_free(&self) -> bool
+        ensures { IsTrue result → AreFree self.now.desk.workers }
+    {
+        let Ok(workers) = u32::try_from(self.units.len()) else {
+            return false;
+        };
+        for w in 0..workers {
+            if self.desk.held(w).is_ok() {
+                return false;
+            }
+        }
+        true
     }
 
     /// How many units the bands cost that worker `w` settled since the book was opened.

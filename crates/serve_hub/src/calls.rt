@@ -1,8 +1,7 @@
 //! The calls that a seat made.
 ghost use Rattle.std.specs.Prelude.{◌≡◌, ◌+◌, ◌<◌, ◌≤◌, [], length, sum_by};
-ghost use Rattle.std.specs.Prelude.{IfOk, IsSomeAnd, slice_get};
-ghost use Rattle.serve_hub.specs.Ends.{one_collection};
-ghost use Rattle.serve_hub.specs.Seats.{no_calls, with_call};
+ghost use Rattle.std.specs.Prelude.{IfOk, IsSomeAnd, slice_get, vec_capacity};
+ghost use Rattle.serve_hub.specs.Seats.{no_calls, one_collection, with_call};
 
 use crate::book::Book;
 use crate::entry::Act;
@@ -38,7 +37,18 @@ impl<L: Ledger> Calls<L> {
         ensures { IfOk result (λ calls. calls ≡ no_calls limit) }
     {
         let list = Vec::with_capacity(alloc, limit)?;
-        Ok(Calls { list, limit, share })
+        Ok(Calls::over(list, limit, share))
+    }
+
+    /// No calls yet, with this memory for them.
+    pub(crate) fn over(list: Vec<Act>, limit: usize, share: Share<L>) -> Calls<L>
+        requires part { share.parts ≡ 1 }
+        requires amount { share.amount ≡ 0 }
+        requires none { list.items ≡ [] }
+        requires room { limit ≤ vec_capacity list }
+        ensures { result ≡ no_calls limit }
+    {
+        Calls { list, limit, share }
     }
 
     pub(crate) fn list(&self) -> &[Act]

@@ -22,6 +22,8 @@ pub enum Act {
     Settled(u32, bool),
     /// The image of the frame of this number was given away.
     Collected(u64),
+    /// The stream was admitted while the book was open. It is what the book tells of the stream.
+    Admitted,
 }
 
 /// An accepted call.

@@ -2,27 +2,36 @@
 ghost use Rattle.std.specs.Prelude.{◌≡◌, ◌+◌, ◌≤◌, ◌↔◌, [], All, IfErr, IfNone, IfOk, IsErrOf, IsFalse};
 ghost use Rattle.std.specs.Prelude.{IsTrue, MatchResult, OnOk, Some, length, map, reverse, vec_len};
 ghost use Rattle.std.specs.List.{range_with_len};
+ghost use Rattle.serve_core.specs.Schedule.{opened_schedule};
 ghost use Rattle.serve_core.specs.Setup.{IsWithinLimits};
 ghost use Rattle.serve_hub.specs.declared.ended.Fault.TheVariants as faults;
 ghost use Rattle.serve_hub.specs.Books.{IsBook, IsLimit};
-ghost use Rattle.serve_hub.specs.Ends.{AreCalls, AreLanes, AreStreamCalls, AreWorkCalls, HasLeaseOut};
-ghost use Rattle.serve_hub.specs.Ends.{HaveStreams, HaveWorkers, IsCharged, IsHistory, IsMissing, IsOpened};
-ghost use Rattle.serve_hub.specs.Seats.{hub_of, opened_streams, opened_worker};
+ghost use Rattle.serve_hub.specs.Ends.{AreCalls, AreFree, AreLanes, AreStreamCalls, AreWorkCalls};
+ghost use Rattle.serve_hub.specs.Ends.{HasLeaseOut, HaveStreams, HaveWorkers, IsCharged, IsHistory};
+ghost use Rattle.serve_hub.specs.Ends.{IsMissing, IsOpening};
+ghost use Rattle.serve_hub.specs.Seats.{hub_of, left_by, opened_rests, opened_streams, opened_worker};
 
+mod admissions;
+mod epochs;
 mod images;
 mod leases;
 mod offers;
 
 use crate::book::Book;
 use crate::ended::{Ended, Fault, Mismatch};
+use crate::epoch::Epoch;
 use crate::limit::is_limit;
+use crate::rest::SeatRest;
+use crate::room::Room;
 use crate::shared::Shared;
 use crate::stream_seat::StreamSeat;
 use crate::work_seat::WorkSeat;
+use edf_pool::limits::MOST_STREAMS;
+pub use epochs::{ReopenRefused, Reopened};
 use serve_core::{Setup, StreamSpec};
 use std::alloc::{AllocError, Global};
 use std::marker::Model;
-use std::sync::ledger::{Blank, Ledger, Share};
+use std::sync::ledger::Blank;
 use std::sync::{Condvar, Mutex};
 use thiserror::Error;
 
@@ -32,15 +41,16 @@ use thiserror::Error;
 /// call that is accepted wakes those whom it may help: a worker where a stream may be ready, and the streams
 /// where an image may be there. Contracts see how many seats there are.
 #[derive(Drop)]
-pub struct Hub<L: Ledger> {
+pub struct Hub<L: Epoch> {
     shared: Mutex<Shared<L>>,
     for_workers: Condvar,
     for_streams: Condvar,
     streams: usize,
     workers: usize,
+    limit: usize,
 }
 
-impl<L: Ledger> Model for Hub<L> {
+impl<L: Epoch> Model for Hub<L> {
     ghost use Rattle.serve_hub.specs.Seats.{HubValue};
 
     ghost Value = { HubValue };
@@ -72,10 +82,9 @@ impl From<AllocError> for HubError {
 /// A hub with the seats of its streams and of its workers.
 pub type Opened<L> = (Hub<L>, Vec<StreamSeat<L>>, Vec<WorkSeat<L>>);
 
-impl<L: Ledger> Hub<L> {
+impl<L: Epoch> Hub<L> {
     /// A hub without entries, for at most `limit`, with a seat for each stream and each worker. The ledger's
     /// 80 parts are enough for these: a seat has one.
-    #[tactic(auto, using(crate::proofs::Opened::is_opened))]
     pub fn new(
         alloc: Global,
         blank: Blank,
@@ -85,6 +94,7 @@ impl<L: Ledger> Hub<L> {
         requires name { blank.name ≡ L.name }
         requires parts { blank.parts ≡ L.parts }
         requires enough { blank.parts ≡ 80 }
+        requires opening { opened_schedule setup ≡ L.opening }
         ensures hub { IfOk result (λ r. r.0 ≡ hub_of (length setup.streams) setup.workers) }
         ensures streams { IfOk result (λ r. r.1.items ≡ opened_streams limit 0 setup.streams) }
         ensures workers { IfOk result (λ r.
@@ -98,17 +108,15 @@ impl<L: Ledger> Hub<L> {
         if !is_limit(streams, limit) {
             return Err(HubError::BadLimit);
         }
-        let (total, mut spare) = blank.open::<L>();
-        let stream_seats = stream_seats(alloc, &mut spare, setup.streams(), limit)?;
-        let work_seats = work_seats(alloc, &mut spare, workers, limit)?;
+        let room = Room::<L>::new(alloc, blank, streams, workers, limit)?;
+        let rests = rests_of(alloc, setup.streams())?;
         let Ok(book) = Book::new(alloc, setup, limit) else {
             return Err(HubError::NoMemory);
         };
-        let shared = Shared::new(book, limit, total, spare, streams, workers);
-        Ok((Hub::of(shared, streams, workers), stream_seats, work_seats))
+        Ok(room.opened(book, limit, rests, workers))
     }
 
-    fn of(shared: Shared<L>, streams: usize, workers: usize) -> Hub<L>
+    pub(crate) fn of(shared: Shared<L>, streams: usize, workers: usize, limit: usize) -> Hub<L>
         ensures { result ≡ hub_of streams workers }
     {
         Hub {
@@ -117,28 +125,37 @@ impl<L: Ledger> Hub<L> {
             for_streams: Condvar::new(),
             streams,
             workers,
+            limit,
         }
     }
 
     /// What the hub did, where all seats are back, no lease is out, and what the seats keep of their calls
-    /// and their streams is what the book has. A hub that can't be ended comes back with the seats.
+    /// and their streams is what the book has. A hub that can't be ended comes back with the seats, and with
+    /// the number of all streams, those that were admitted too.
     ///
-    /// No contract can name what is under a lock, so what the end tells of the hub's setup and its streams'
-    /// chains is compared with the seats here.
+    /// No contract can name what is under a lock, so what the end tells of the streams' chains and of their
+    /// counts is compared with the seats here. What the hub opened from is a part of its name.
     pub fn finish(
         self,
         streams: Vec<StreamSeat<L>>,
         workers: Vec<WorkSeat<L>>,
     ) -> Result<Ended, Mismatch<L>>
-        ensures calls { IfOk result (λ ended. AreCalls ended streams.items workers.items) }
-        ensures each_stream { OnOk result (HaveStreams self.streams streams.items) }
+        ensures calls { IfOk result (λ ended. AreCalls ended.book streams.items workers.items) }
+        ensures each_stream { IfOk result (λ ended.
+            HaveStreams (length ended.book.desk.lanes) streams.items) }
         ensures each_worker { OnOk result (HaveWorkers self.workers workers.items) }
-        ensures history { IfOk result (λ ended. IsHistory ended self) }
-        ensures book { IfOk result IsBook }
-        ensures lanes { IfOk result (λ ended. AreLanes ended.desk streams.items) }
-        ensures charges { IfOk result (λ ended. All IsCharged ended.desk.lanes) }
-        ensures missing { MatchResult result (λ _. ¬ IsMissing self (vec_len streams) (vec_len workers))
-            (λ m. (m.fault ≡ faults.SeatMissing) ↔ IsMissing self (vec_len streams) (vec_len workers)) }
+        ensures history { IfOk result (λ ended. IsHistory L.opening ended.book) }
+        ensures book { IfOk result (λ ended. IsBook ended.book) }
+        ensures lanes { IfOk result (λ ended. AreLanes ended.book.desk streams.items) }
+        ensures charges { IfOk result (λ ended. All IsCharged ended.book.desk.lanes) }
+        ensures left { IfOk result (λ ended. ended.streams ≡ map left_by streams.items) }
+        ensures all_workers { IfOk result (λ ended. length ended.book.desk.workers ≡ self.workers) }
+        ensures missing { MatchResult result
+            (λ ended. ¬ IsMissing (hub_of (length ended.book.desk.lanes) self.workers) (vec_len streams)
+            (vec_len workers))
+            (λ m. (m.fault ≡ faults.SeatMissing) ↔ IsMissing (hub_of m.all_streams self.workers)
+            (vec_len streams) (vec_len workers)) }
+        ensures all_streams { IfErr result (λ m. length L.opening.lanes ≤ m.all_streams) }
         ensures out { IfErr result (λ m. m.fault ≡ faults.LeaseOut
             → ¬ All (λ s. ¬ HasLeaseOut s) workers.items) }
         ensures settled { OnOk result (All (λ s. ¬ HasLeaseOut s) workers.items) }
@@ -150,18 +167,21 @@ impl<L: Ledger> Hub<L> {
             shared,
             streams: stream_count,
             workers: worker_count,
+            limit,
             ..
         } = self;
         let shared = shared.into_inner();
-        if let Some(fault) = fault(&shared, (stream_count, worker_count), &streams, &workers) {
+        let all_streams = shared.all_streams();
+        if let Some(fault) = fault(&shared, (all_streams, worker_count), &streams, &workers) {
             return Err(Mismatch {
                 fault,
-                hub: Hub::of(shared, stream_count, worker_count),
+                hub: Hub::of(shared, stream_count, worker_count, limit),
+                all_streams,
                 streams,
                 workers,
             });
         }
-        Ok(Ended::new(shared.into_book(streams, workers)))
+        Ok(shared.into_ended(streams, workers))
     }
 
     /// Wakes those who wait in vain from now on, where the journal has no place for another lease.
@@ -174,7 +194,7 @@ impl<L: Ledger> Hub<L> {
 }
 
 /// What does not fit between a hub of so many streams and workers and the seats.
-fn fault<L: Ledger>(
+fn fault<L: Epoch>(
     shared: &Shared<L>,
     counts: (usize, usize),
     streams: &Vec<StreamSeat<L>>,
@@ -190,10 +210,12 @@ fn fault<L: Ledger>(
         (AreStreamCalls (reverse shared.now.book.past) streams.now.items) }
     ensures of_workers { IfNone result
         (AreWorkCalls (reverse shared.now.book.past) workers.now.items) }
+    ensures count { IfNone result (shared.now.streams ≡ length shared.now.book.desk.lanes) }
     ensures each_stream { IfNone result (HaveStreams counts.0 streams.now.items) }
     ensures each_worker { IfNone result (HaveWorkers counts.1 workers.now.items) }
     ensures lanes { IfNone result (AreLanes shared.now.book.desk streams.now.items) }
-    ensures opened { IfNone result (IsOpened shared.now.book.opening counts.0 counts.1) }
+    ensures free { IfNone result (AreFree shared.now.book.desk.workers) }
+    ensures opened { IfNone result (IsOpening L.opening shared.now.book.opening counts.1) }
     ensures book { IfNone result (IsBook shared.now.book) }
 {
     let (stream_count, worker_count) = counts;
@@ -210,56 +232,24 @@ fn fault<L: Ledger>(
 }
 
 /// Whether a worker's latest call is a lease.
-fn any_lease_out<L: Ledger>(seats: &Vec<WorkSeat<L>>) -> bool
+fn any_lease_out<L: Epoch>(seats: &Vec<WorkSeat<L>>) -> bool
     ensures out { IsTrue result → ¬ All (λ s. ¬ HasLeaseOut s) seats.now.items }
     ensures settled { IsFalse result → All (λ s. ¬ HasLeaseOut s) seats.now.items }
 {
     seats.iter().any(|seat| seat.has_lease())
 }
 
-/// Cuts a part for the seat of each stream.
-#[tactic(auto, using(crate::proofs::Seating::one_more_seat))]
-fn stream_seats<L: Ledger>(
-    alloc: Global,
-    rest: &mut Share<L>,
-    streams: &[StreamSpec],
-    limit: usize,
-) -> Result<Vec<StreamSeat<L>>, AllocError>
-    requires parts { length streams.now ≤ rest.old.parts }
-    requires amount { rest.old.amount ≡ 0 }
+/// What there is of each stream before its first epoch.
+#[tactic(auto, using(crate::proofs::Seating::one_more_rest))]
+fn rests_of(alloc: Global, streams: &[StreamSpec]) -> Result<Vec<SeatRest>, AllocError>
     requires limits { All IsWithinLimits streams.now }
-    requires few { length streams.now ≤ 64 }
-    ensures seats { IfOk result (λ seats. seats.items ≡ opened_streams limit 0 streams.now) }
-    ensures parts { OnOk result (rest.new.parts + length streams.now ≡ rest.old.parts) }
-    ensures amount { rest.new.amount ≡ 0 }
+    requires few { length streams.now ≤ MOST_STREAMS }
+    ensures rests { IfOk result (λ rests. rests.items ≡ opened_rests 0 streams.now) }
+    ensures count { IfOk result (λ rests. vec_len rests ≡ length streams.now) }
 {
-    let mut seats = Vec::with_capacity(alloc, streams.len())?;
+    let mut rests = Vec::with_capacity(alloc, streams.len())?;
     for (s, stream) in streams.iter().enumerate() {
-        let share = rest.split_off(1, 0);
-        seats.push(StreamSeat::new(alloc, s as u32, stream, limit, share)?)?;
+        rests.push(SeatRest::new(alloc, s as u32, stream)?)?;
     }
-    Ok(seats)
-}
-
-/// Cuts a part for the seat of each worker.
-fn work_seats<L: Ledger>(
-    alloc: Global,
-    rest: &mut Share<L>,
-    workers: usize,
-    limit: usize,
-) -> Result<Vec<WorkSeat<L>>, AllocError>
-    requires parts { workers ≤ rest.old.parts }
-    requires amount { rest.old.amount ≡ 0 }
-    requires few { workers ≤ 16 }
-    ensures seats { IfOk result (λ seats.
-        seats.items ≡ map (opened_worker limit) (range_with_len 0 workers)) }
-    ensures parts { OnOk result (rest.new.parts + workers ≡ rest.old.parts) }
-    ensures amount { rest.new.amount ≡ 0 }
-{
-    let mut seats = Vec::with_capacity(alloc, workers)?;
-    for w in 0..workers {
-        let share = rest.split_off(1, 0);
-        seats.push(WorkSeat::new(alloc, w as u32, limit, share)?)?;
-    }
-    Ok(seats)
+    Ok(rests)
 }

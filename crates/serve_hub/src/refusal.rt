@@ -1,5 +1,6 @@
 //! Why a call on a book is refused.
 ghost use Rattle.std.specs.Prelude.{◌≡◌};
+ghost use Rattle.serve_hub.specs.Answers as answers;
 
 use thiserror::Error;
 
@@ -12,8 +13,8 @@ pub enum Came {
     Refused(serve_core::Refusal),
     /// The image was of another frame than the oldest that the seat keeps.
     Source,
-    /// The stream has another chain than the seat, or the journal another limit, or more frames would be
-    /// accepted than the seat has places for.
+    /// The stream has another chain than the seat, or the journal another limit, or the book other streams
+    /// than those that have a seat, or more frames would be accepted than the seat has places for.
     Other,
 }
 
@@ -32,6 +33,16 @@ pub enum Refusal {
     /// What the book answered contradicts the seat. Only a hub answers so.
     #[error("Torn")]
     Torn(Came),
+}
+
+/// As the desk refuses a call, or where it would accept it, as a full journal does.
+pub(crate) fn or_full(refusal: Option<serve_core::Refusal>) -> Refusal
+    ensures { result ≡ answers.or_full refusal }
+{
+    match refusal {
+        Some(refusal) => Refusal::Core(refusal),
+        None => Refusal::HistoryFull,
+    }
 }
 
 impl From<serve_core::Refusal> for Refusal {

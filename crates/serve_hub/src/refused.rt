@@ -3,7 +3,7 @@
 use crate::refusal::Refusal;
 use frame_view::Frame;
 use lease::Lease;
-use serve_core::Collected;
+use serve_core::{Collected, StreamSpec};
 use std::sync::Arc;
 
 /// An offer was refused, and the frame comes back. There is none where it was accepted after all, with a
@@ -20,6 +20,13 @@ pub struct OfferRefused {
 pub struct OverRefused {
     pub refusal: Refusal,
     pub back: Option<(Arc<Frame>, Frame)>,
+}
+
+/// A stream wasn't admitted, and its spec comes back.
+#[derive(Drop)]
+pub struct AdmitRefused {
+    pub refusal: Refusal,
+    pub spec: StreamSpec,
 }
 
 /// A collection gave no image of the oldest frame that the seat keeps. There is a pair where it gave another.

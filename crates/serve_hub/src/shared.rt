@@ -1,36 +1,51 @@
 //! What stands under the lock of a hub.
-ghost use Rattle.std.specs.Prelude.{◌≡◌, ◌+◌, ◌<◌, ◌≤◌, ◌↔◌, ◌⊎◌, [], All, IfNone, IfSome, IsTrue, length};
-ghost use Rattle.std.specs.Prelude.{reverse, sum_by, vec_len};
+ghost use Rattle.std.specs.Prelude.{◌≡◌, ◌+◌, ◌<◌, ◌≤◌, ◌^◌, ◌↔◌, ◌⊎◌, [], All, IfErr, IfNone, IfOk, IfSome};
+ghost use Rattle.std.specs.Prelude.{IsTrue, length, map, reverse, sum_by, vec_len};
+ghost use Rattle.std.specs.Vec.{vec_capacity};
 ghost use Rattle.serve_core.specs.declared.refusal.Refusal.TheVariants.{Drained};
 ghost use Rattle.serve_core.specs.Lanes.{IsOver};
 ghost use Rattle.serve_hub.specs.declared.refusal.Refusal.TheVariants.{Core, HistoryFull};
-ghost use Rattle.serve_hub.specs.Books.{IsBook, room};
-ghost use Rattle.serve_hub.specs.Ends.{AreLanes, AreStreamCalls, AreWorkCalls, HaveStreams, HaveWorkers};
-ghost use Rattle.serve_hub.specs.Ends.{IsOpened, calls_in};
+ghost use Rattle.serve_hub.specs.declared.entry.Act.TheVariants.{Admitted};
+ghost use Rattle.serve_hub.specs.declared.entry.Seat.TheVariants.{Stream};
+ghost use Rattle.serve_hub.specs.Books.{Appends, IsBook, room};
+ghost use Rattle.serve_hub.specs.Calls.{Admits, IsAdmitRefused};
+ghost use Rattle.serve_hub.specs.Ends.{AreFree, AreLanes, AreStreamCalls, AreWorkCalls, HaveStreams};
+ghost use Rattle.serve_hub.specs.Ends.{HaveWorkers, IsOpening, calls_in};
+ghost use Rattle.serve_hub.specs.Seats.{collected_by, left_by, opened_rest};
 
 use crate::agree::{are_lanes, have_streams, have_workers, streams_agree, workers_agree};
 use crate::book::Book;
-use crate::refusal::Refusal;
+use crate::calls::Calls;
+use crate::ended::Ended;
+use crate::entry::Act;
+use crate::epoch::Epoch;
+use crate::refusal::{Came, Refusal};
+use crate::refused::AdmitRefused;
+use crate::rest::SeatRest;
 use crate::stream_seat::StreamSeat;
 use crate::work_seat::WorkSeat;
+use edf_pool::limits::MOST_STREAMS;
+use serve_core::Newcomer;
 use std::marker::Model;
-use std::sync::ledger::{Book as Total, Ledger, Share};
+use std::sync::ledger::{Book as Total, Share};
 
 /// The book, its limit, the total of the ledger that counts its entries, and the parts that have no seat, of
-/// so many streams and workers.
+/// so many streams and workers. There is room for what the seats of the streams leave.
 #[derive(Drop)]
-pub(crate) struct Shared<L: Ledger> {
+pub(crate) struct Shared<L: Epoch> {
     pub(crate) book: Book,
     pub(crate) limit: usize,
     pub(crate) total: Total<L>,
     spare: Share<L>,
     streams: usize,
     workers: usize,
+    rests: Vec<SeatRest>,
 }
 
-impl<L: Ledger> Model for Shared<L> {
-    ghost use Rattle.std.specs.Prelude.{◌≡◌, ◌+◌, length};
-    ghost use Rattle.serve_hub.specs.Ends.{IsOpened};
+impl<L: Epoch> Model for Shared<L> {
+    ghost use Rattle.std.specs.Prelude.{◌≡◌, ◌+◌, ◌≤◌, [], length, vec_capacity};
+    ghost use Rattle.edf_pool.specs.declared.limits.TheConstants.{MOST_STREAMS};
+    ghost use Rattle.serve_hub.specs.Ends.{IsOpening};
     ghost use Rattle.serve_hub.specs.Seats.{SharedValue};
 
     ghost Value = { SharedValue };
@@ -39,10 +54,11 @@ impl<L: Ledger> Model for Shared<L> {
 
     ghost invariant = { λ a. (a.total.total ≡ length a.book.past) × (a.limit ≡ a.book.limit)
         × (a.spare.parts + a.streams + a.workers ≡ L.parts) × (a.spare.amount ≡ 0)
-        × IsOpened a.book.opening a.streams a.workers };
+        × IsOpening L.opening a.book.opening a.workers
+        × (a.rests.items ≡ []) × (MOST_STREAMS ≤ vec_capacity a.rests) × (L.parts ≡ 80) };
 }
 
-impl<L: Ledger> Shared<L> {
+impl<L: Epoch> Shared<L> {
     pub(crate) fn new(
         book: Book,
         limit: usize,
@@ -50,12 +66,16 @@ impl<L: Ledger> Shared<L> {
         spare: Share<L>,
         streams: usize,
         workers: usize,
+        rests: Vec<SeatRest>,
     ) -> Shared<L>
         requires entries { total.total ≡ length book.past }
         requires limit { limit ≡ book.limit }
         requires parts { spare.parts + streams + workers ≡ L.parts }
         requires amount { spare.amount ≡ 0 }
-        requires opened { IsOpened book.opening streams workers }
+        requires opened { IsOpening L.opening book.opening workers }
+        requires none { rests.items ≡ [] }
+        requires room { MOST_STREAMS ≤ vec_capacity rests }
+        requires enough { L.parts ≡ 80 }
     {
         Shared {
             book,
@@ -64,7 +84,53 @@ impl<L: Ledger> Shared<L> {
             spare,
             streams,
             workers,
+            rests,
         }
+    }
+
+    /// One stream more, with its seat, in this memory. The spec of a refused newcomer comes back.
+    pub(crate) fn admit(
+        &mut self,
+        newcomer: Newcomer,
+        rest: SeatRest,
+        list: Vec<Act>,
+    ) -> Result<StreamSeat<L>, AdmitRefused>
+        requires rest { rest ≡ opened_rest rest.number newcomer }
+        requires list { list.items ≡ [] }
+        ensures seat { IfOk result (Admits newcomer) }
+        ensures entry { IfOk result (λ seat.
+            Appends (Stream seat.number) Admitted self.old.book self.new.book) }
+        ensures behind { IfOk result (λ seat. length L.opening.lanes ≤ seat.number) }
+        ensures few { IfOk result (λ seat. seat.number < MOST_STREAMS) }
+        ensures refused { IfErr result (IsAdmitRefused newcomer) }
+    {
+        if self.book.streams() != self.streams || list.capacity() < self.limit {
+            return Err(AdmitRefused {
+                refusal: Refusal::Torn(Came::Other),
+                spec: newcomer.into_spec(),
+            });
+        }
+        match self.book.admit_newcomer(newcomer) {
+            Err((refusal, newcomer)) => Err(AdmitRefused {
+                refusal,
+                spec: newcomer.into_spec(),
+            }),
+            Ok(number) => {
+                let mut rest = rest;
+                rest.number = number;
+                let calls = Calls::over(list, self.limit, self.spare.split_off(1, 0));
+                self.streams += 1;
+                Ok(StreamSeat::admitted(rest, calls, &self.book, &mut self.total))
+            }
+        }
+    }
+
+    /// How many streams there are, those that were admitted too.
+    pub(crate) fn all_streams(&self) -> usize
+        ensures count { result ≡ length self.now.book.desk.lanes }
+        ensures more { length L.opening.lanes ≤ result }
+    {
+        self.book.streams()
     }
 
     /// Whether the journal has no place for another lease and its settlement.
@@ -99,9 +165,10 @@ impl<L: Ledger> Shared<L> {
     /// what the book has.
     pub(crate) fn agrees(&self, streams: &Vec<StreamSeat<L>>, workers: &Vec<WorkSeat<L>>) -> bool
         ensures book { IsBook self.now.book }
-        ensures opened { IsOpened self.now.book.opening self.now.streams self.now.workers }
+        ensures opened { IsOpening L.opening self.now.book.opening self.now.workers }
         ensures streams { IsTrue result → vec_len streams.now ≡ self.now.streams }
         ensures workers { IsTrue result → vec_len workers.now ≡ self.now.workers }
+        ensures count { IsTrue result → self.now.streams ≡ length self.now.book.desk.lanes }
         ensures of_streams { IsTrue result
             → AreStreamCalls (reverse self.now.book.past) streams.now.items }
         ensures of_workers { IsTrue result
@@ -109,49 +176,64 @@ impl<L: Ledger> Shared<L> {
         ensures each_stream { IsTrue result → HaveStreams self.now.streams streams.now.items }
         ensures each_worker { IsTrue result → HaveWorkers self.now.workers workers.now.items }
         ensures lanes { IsTrue result → AreLanes self.now.book.desk streams.now.items }
+        ensures free { IsTrue result → AreFree self.now.book.desk.workers }
     {
         let journal = self.book.journal();
         streams.len() == self.streams
             && workers.len() == self.workers
+            && self.book.streams() == self.streams
             && streams_agree(journal, streams)
             && workers_agree(journal, workers)
             && have_streams(self.streams, streams)
             && have_workers(self.workers, workers)
             && are_lanes(&self.book, streams)
+            && self.book.is_free()
     }
 
-    /// The book. It has as many entries as the seats made calls.
-    pub(crate) fn into_book(self, streams: Vec<StreamSeat<L>>, workers: Vec<WorkSeat<L>>) -> Book
+    /// The book, with what the seats leave. It has as many entries as they made calls.
+    pub(crate) fn into_ended(self, streams: Vec<StreamSeat<L>>, workers: Vec<WorkSeat<L>>) -> Ended
         requires streams { vec_len streams ≡ self.streams }
         requires workers { vec_len workers ≡ self.workers }
-        ensures book { result ≡ self.book }
-        ensures counted { length result.past ≡ calls_in streams.items workers.items }
+        requires count { self.streams ≡ length self.book.desk.lanes }
+        requires is_book { IsBook self.book }
+        requires lanes { AreLanes self.book.desk streams.items }
+        requires free { AreFree self.book.desk.workers }
+        ensures book { result.book ≡ self.book }
+        ensures counted { length result.book.past ≡ calls_in streams.items workers.items }
+        ensures left { result.streams ≡ map left_by streams.items }
     {
         let Shared {
             book,
             mut total,
             mut spare,
+            mut rests,
             ..
         } = self;
-        merge_streams(&mut spare, streams);
+        merge_streams(&mut spare, &mut rests, streams);
         merge_workers(&mut spare, workers);
         total.audit(&mut spare);
-        book
+        Ended::new(book, rests)
     }
 }
 
-/// Gives the parts of the seats of streams back, with their amounts.
-fn merge_streams<L: Ledger>(all: &mut Share<L>, seats: Vec<StreamSeat<L>>)
+/// Gives the parts of the seats of streams back, with their amounts, and takes what else they leave.
+fn merge_streams<L: Epoch>(all: &mut Share<L>, rests: &mut Vec<SeatRest>, seats: Vec<StreamSeat<L>>)
+    requires none { rests.old.items ≡ [] }
+    requires room { vec_len seats ≤ vec_capacity rests.old }
+    requires few { All (λ s. collected_by s ≤ 2 ^ 24) seats.items }
     ensures parts { all.new.parts ≡ all.old.parts + vec_len seats }
     ensures amount { all.new.amount ≡ all.old.amount + sum_by (λ s. length s.calls.list) seats.items }
+    ensures left { rests.new.items ≡ map left_by seats.items }
 {
     for seat in seats {
-        all.merge(seat.into_share());
+        let (share, rest) = seat.leave();
+        all.merge(share);
+        rests.push_reserved(rest);
     }
 }
 
 /// Gives the parts of the seats of workers back, with their amounts.
-fn merge_workers<L: Ledger>(all: &mut Share<L>, seats: Vec<WorkSeat<L>>)
+fn merge_workers<L: Epoch>(all: &mut Share<L>, seats: Vec<WorkSeat<L>>)
     ensures parts { all.new.parts ≡ all.old.parts + vec_len seats }
     ensures amount { all.new.amount ≡ all.old.amount + sum_by (λ s. length s.calls.list) seats.items }
 {

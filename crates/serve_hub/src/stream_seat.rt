@@ -1,9 +1,8 @@
 //! The seat of a stream.
-ghost use Rattle.std.specs.Prelude.{◌≡◌, ◌≤◌, ◌^◌, length, IfOk, IsTrue};
+ghost use Rattle.std.specs.Prelude.{◌≡◌, ◌+◌, ◌≤◌, ◌^◌, length, slice_get, IsSomeAnd, IsTrue};
 ghost use Rattle.serve_core.specs.Schedule.{HasLane};
-ghost use Rattle.serve_core.specs.Setup.{IsWithinLimits};
 ghost use Rattle.serve_hub.specs.Ends.{IsLaneOf};
-ghost use Rattle.serve_hub.specs.Seats.{opened_stream};
+ghost use Rattle.serve_hub.specs.Seats.{collected_by, left_by, no_calls, seat_over, with_call};
 
 mod images;
 mod offers;
@@ -11,24 +10,23 @@ mod offers;
 use crate::book::Book;
 use crate::calls::Calls;
 use crate::entry::Act;
+use crate::epoch::Epoch;
+use crate::rest::SeatRest;
 use crate::same::is_same_spec;
 use crate::shared::Shared;
 use frame_view::Frame;
 use lease::JobSpec;
-pub(crate) use offers::LAST_MOMENT;
-use serve_core::StreamSpec;
-use std::alloc::{AllocError, Global};
 use std::collections::VecDeque;
 use std::marker::Model;
 use std::sync::Arc;
-use std::sync::ledger::{Ledger, Share};
+use std::sync::ledger::{Book as Total, Share};
 
 /// Who offers the frames of one stream of a hub, closes it, and collects its images.
 ///
 /// The seat keeps each frame until its image is collected, and its calls that were accepted. It is a seat of
 /// the hub whose ledger has the name `L`. Contracts see the `StreamSeatValue` of `specs/Seats.antt`.
 #[derive(Drop)]
-pub struct StreamSeat<L: Ledger> {
+pub struct StreamSeat<L: Epoch> {
     number: u32,
     calls: Calls<L>,
     spec: Arc<JobSpec>,
@@ -37,9 +35,10 @@ pub struct StreamSeat<L: Ledger> {
     accepted: u64,
     is_closed: bool,
     kept: VecDeque<Arc<Frame>>,
+    before: u64,
 }
 
-impl<L: Ledger> Model for StreamSeat<L> {
+impl<L: Epoch> Model for StreamSeat<L> {
     ghost use Rattle.std.specs.Prelude.{◌≤◌, ◌^◌};
     ghost use Rattle.std.specs.Arc.{arc_value};
     ghost use Rattle.std.specs.VecDeque.{deque_capacity};
@@ -57,36 +56,92 @@ impl<L: Ledger> Model for StreamSeat<L> {
       is_closed = a.is_closed;
       kept = kept_in a.kept.items;
       places = deque_capacity a.kept;
+      before = a.before;
     } };
 
     ghost invariant = { λ a. AreSized (arc_value a.spec).geometry (kept_in a.kept.items)
-        × (a.frames ≤ 2 ^ 24) };
+        × (a.frames ≤ 2 ^ 24) × (a.before ≤ 2 ^ 24) };
 }
 
-impl<L: Ledger> StreamSeat<L> {
-    pub(crate) fn new(
-        alloc: Global,
-        number: u32,
-        stream: &StreamSpec,
-        limit: usize,
-        share: Share<L>,
-    ) -> Result<StreamSeat<L>, AllocError>
-        requires part { share.parts ≡ 1 }
-        requires amount { share.amount ≡ 0 }
-        requires stream { IsWithinLimits stream.now }
-        ensures { IfOk result (λ seat. seat ≡ opened_stream limit number stream.now) }
+impl<L: Epoch> StreamSeat<L> {
+    /// The seat of a stream without calls, over what the stream's last one left.
+    pub(crate) fn over(rest: SeatRest, calls: Calls<L>) -> StreamSeat<L>
+        requires { calls ≡ no_calls calls.limit }
+        ensures { result ≡ seat_over calls.limit rest }
     {
-        let places = stream.queue() + stream.outbox();
-        Ok(StreamSeat {
+        let SeatRest {
             number,
-            calls: Calls::new(alloc, limit, share)?,
-            spec: Arc::try_clone(stream.spec())?,
-            queue: stream.queue(),
-            frames: stream.frames(),
-            accepted: 0,
-            is_closed: false,
-            kept: VecDeque::with_capacity(alloc, places as usize)?,
-        })
+            spec,
+            queue,
+            frames,
+            accepted,
+            collected,
+            is_closed,
+            kept,
+        } = rest;
+        StreamSeat {
+            number,
+            calls,
+            spec,
+            queue,
+            frames,
+            accepted,
+            is_closed,
+            kept,
+            before: collected,
+        }
+    }
+
+    /// The seat of a stream whose admission is the book's latest entry, which the total doesn't count yet.
+    pub(crate) fn admitted(
+        rest: SeatRest,
+        calls: Calls<L>,
+        book: &Book,
+        total: &mut Total<L>,
+    ) -> StreamSeat<L>
+        requires none { calls ≡ no_calls calls.limit }
+        requires behind { total.old.total + 1 ≡ length book.now.past }
+        requires fits { length book.now.past ≤ calls.limit }
+        ensures total { total.new.total ≡ length book.now.past }
+        ensures number { result.number ≡ rest.number }
+        ensures seat { IsSomeAnd (slice_get book.now.past 0) (λ e.
+            result ≡ record (seat_over calls.limit rest) { calls = with_call e.act calls }) }
+    {
+        let mut seat = StreamSeat::over(rest, calls);
+        seat.calls.count(book, total);
+        seat
+    }
+
+    /// What it leaves, and the part of the ledger that counted its calls.
+    pub(crate) fn leave(self) -> (Share<L>, SeatRest)
+        requires { collected_by self ≤ 2 ^ 24 }
+        ensures parts { result.0.parts ≡ 1 }
+        ensures amount { result.0.amount ≡ length self.calls.list }
+        ensures rest { result.1 ≡ left_by self }
+    {
+        let collected = self.before + self.calls.collections();
+        let StreamSeat {
+            number,
+            calls,
+            spec,
+            queue,
+            frames,
+            accepted,
+            is_closed,
+            kept,
+            before: _,
+        } = self;
+        let rest = SeatRest {
+            number,
+            spec,
+            queue,
+            frames,
+            accepted,
+            collected,
+            is_closed,
+            kept,
+        };
+        (calls.into_share(), rest)
     }
 
     /// The stream's number.
@@ -110,7 +165,14 @@ impl<L: Ledger> StreamSeat<L> {
         self.accepted
     }
 
-    /// Whether the stream was closed, by this seat.
+    /// How many images of its stream were collected before this seat was there.
+    pub fn before(&self) -> u64
+        ensures { result ≡ self.now.before }
+    {
+        self.before
+    }
+
+    /// Whether the stream was closed, by this seat or by its seat in an earlier epoch.
     pub fn is_closed(&self) -> bool
         ensures { result ≡ self.now.is_closed }
     {
@@ -146,14 +208,6 @@ impl<L: Ledger> StreamSeat<L> {
         self.calls.list()
     }
 
-    /// The part of the ledger that counted its calls.
-    pub(crate) fn into_share(self) -> Share<L>
-        ensures parts { result.parts ≡ 1 }
-        ensures amount { result.amount ≡ length self.calls.list }
-    {
-        self.calls.into_share()
-    }
-
     /// Whether the book has its stream, with its chain, and as many frames accepted and collected as the seat
     /// tells.
     pub(crate) fn has_lane(&self, book: &Book) -> bool
@@ -163,7 +217,8 @@ impl<L: Ledger> StreamSeat<L> {
             return false;
         };
         counts.accepted == self.accepted
-            && counts.collected == self.calls.collections()
+            && self.before <= counts.collected
+            && counts.collected - self.before == self.calls.collections()
             && is_same_spec(spec, &self.spec)
     }
 

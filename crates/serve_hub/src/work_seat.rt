@@ -6,25 +6,26 @@ ghost use Rattle.serve_hub.specs.Seats.{opened_worker};
 
 use crate::calls::Calls;
 use crate::entry::{Act, Settled};
+use crate::epoch::Epoch;
 use crate::refusal::{Came, Refusal};
 use crate::refused::LeaseRefused;
 use crate::shared::Shared;
 use lease::Lease;
 use std::alloc::{AllocError, Global};
 use std::marker::Model;
-use std::sync::ledger::{Ledger, Share};
+use std::sync::ledger::Share;
 
 /// Who leases jobs of a hub, and settles them.
 ///
 /// The seat keeps its calls that were accepted. It is a seat of the hub whose ledger has the name `L`.
 /// Contracts see the `WorkSeatValue` of `specs/Seats.antt`.
 #[derive(Drop)]
-pub struct WorkSeat<L: Ledger> {
+pub struct WorkSeat<L: Epoch> {
     number: u32,
     calls: Calls<L>,
 }
 
-impl<L: Ledger> Model for WorkSeat<L> {
+impl<L: Epoch> Model for WorkSeat<L> {
     ghost use Rattle.serve_hub.specs.Seats.{WorkSeatValue};
 
     ghost Value = { WorkSeatValue };
@@ -32,7 +33,7 @@ impl<L: Ledger> Model for WorkSeat<L> {
     ghost view = { λ a. record { number = a.number; calls = a.calls } };
 }
 
-impl<L: Ledger> WorkSeat<L> {
+impl<L: Epoch> WorkSeat<L> {
     pub(crate) fn new(
         alloc: Global,
         number: u32,

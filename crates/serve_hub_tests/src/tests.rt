@@ -1,11 +1,14 @@
 //! Books and hubs that are called in turn, with the answers that were worked out by hand, and hubs that
 //! threads call at once.
+mod admissions;
 mod calls;
 mod clients;
+mod epochs;
 mod full;
 mod hubs;
 mod jobs;
 mod leases;
+mod newcomers;
 mod seated;
 mod seats;
 mod steps;
@@ -89,18 +92,23 @@ fn job_spec_of(alloc: Global, served: &Served<'_>) -> Result<Arc<JobSpec>, Fail>
 fn setup_of(alloc: Global, workers: u64, streams: &[Served<'_>]) -> Result<Setup, Fail> {
     let mut specs = Vec::new(alloc);
     for served in streams {
-        let (q, t) = served.account;
-        specs.push(StreamSpec::new(
-            geometry_of(served.size),
-            job_spec_of(alloc, served)?,
-            q,
-            t,
-            served.queue,
-            4,
-            1 << 24,
-        ))?;
+        specs.push(stream_spec_of(alloc, served)?)?;
     }
     Ok(Setup::new(workers, 4, specs)?)
+}
+
+fn stream_spec_of(alloc: Global, served: &Served<'_>) -> Result<StreamSpec, Fail> {
+    let (q, t) = served.account;
+    let spec = job_spec_of(alloc, served)?;
+    Ok(StreamSpec::new(
+        geometry_of(served.size),
+        spec,
+        q,
+        t,
+        served.queue,
+        4,
+        1 << 24,
+    ))
 }
 
 /// A book of one worker and at most 16 entries.

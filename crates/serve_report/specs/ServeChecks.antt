@@ -10,6 +10,7 @@ use Rattle.cbs_account.specs.Admission.{Fits, Load, load_of, with_share}
 use Rattle.cbs_account.specs.Balance.{IsBandwidth}
 use Rattle.cbs_account.specs.declared.admission.AdmissionError.{AdmissionError}
 use Rattle.cbs_account.specs.declared.admission.AdmissionError.TheVariants as shares
+use Rattle.edf_pool.specs.declared.limits.TheConstants.{MOST_STREAMS}
 use Rattle.filters.specs.OpsText.{ops_of}
 use Rattle.filters.specs.declared.error.FilterError.{FilterError}
 use Rattle.filters.specs.declared.error.FilterError.TheVariants as filter
@@ -112,7 +113,7 @@ SharesGive workers streams (Err fault) = AdmissionGives (load_of workers []) str
 abbrev pub ChecksGive : ServeWords → Result (List StreamAsked) Fault → Type 0
 ChecksGive words given =
     ((¬ IsBandHeight words.band) × (given ≡ Err BadBand))
-    ⊎ (IsBandHeight words.band × (64 < length words.streams.items) × (given ≡ Err TooManyStreams))
-    ⊎ (IsBandHeight words.band × (length words.streams.items ≤ 64)
+    ⊎ (IsBandHeight words.band × (MOST_STREAMS < length words.streams.items) × (given ≡ Err TooManyStreams))
+    ⊎ (IsBandHeight words.band × (length words.streams.items ≤ MOST_STREAMS)
     × MatchResult (words_given [] (words_asked words.streams.items))
     (λ streams. SharesGive words.workers streams given) (λ fault. given ≡ Err fault))

@@ -186,6 +186,13 @@ Commands of a session script after 'start':
                  case.
   state NAME     Shows the stream: 'budget C deadline D accepted A finished F
                  collected K charged U'.
+  admit NAME Q T QUEUE OUTBOX OPS HEADER  Prints 'admitted S', the next number.
+                 One stream more is asked for. The line is read and checked as
+                 that of 'stream', with the last 'band' and 'frames'. The shares
+                 that are held have to leave room for its own: a stream holds its
+                 share until it is closed, all its frames are finished and
+                 collected, and the clock has come to its deadline. A refused
+                 stream's name stays free.
 
 Refusals change nothing, and the script goes on: 'refused N WORD', the lowest N:
   1 NoStream       No stream has the name.
@@ -193,7 +200,8 @@ Refusals change nothing, and the script goes on: 'refused N WORD', the lowest N:
   3 WrongSize      A frame of the stream has another number of samples.
   4 TooManyFrames  The stream has accepted as many frames as it may.
   5 Full           As many frames as QUEUE says are unfinished.
-  6 NoMemory       There was no memory for the frame's images.
+  6 NoMemory       There was no memory for the frame's images; or for a stream
+                   that is asked for, and nothing else speaks against it.
   7 NoWorker       There is no such worker.
   8 Busy           The worker holds a lease.
   9 NoneReady      No stream is ready.
@@ -204,6 +212,11 @@ Refusals change nothing, and the script goes on: 'refused N WORD', the lowest N:
   14 AlreadyClosed  The stream was closed before.
   15 Empty         No image waits.
   16 Drained       No image will come: the stream is closed and all is collected.
+  20 TooManyStreams  64 streams have a number, and none is used again.
+  21 BadLimits     A number of the line that asks for a stream is outside its
+                   limits, or the last 'frames' is.
+  22 BadBandwidth  Its Q and T are out of range.
+  23 Overload      The shares that are held leave the stream less than its share.
 
 Example: with one worker these lines print 'stream 0', 'stream 1', 'stream 2' and
 'line 4: Overload c', status 1; behind 'workers 2', which prints 'ok', the last

@@ -20,8 +20,8 @@ use Rattle.serve_core.specs.Setup.{StreamSpec}
 use Rattle.serve_script.specs.ScriptFault as faults
 use Rattle.serve_script.specs.ScriptFault.{Fault}
 use Rattle.serve_script.specs.ScriptState.{Given, Faults, MayFault, Session, TakesMemory}
-use Rattle.serve_script.specs.SessionInside.{IsArrivalEvent, IsArriving, IsAt, IsFrameOf, IsNoFrame, IsTableOf, SessionValue, Streams, fills_geometry}
-use Rattle.serve_script.specs.SessionRun.{ArrivalGives, EventGives, IsArrival, IsSingleRow, fills, is_too_wide, stream_named}
+use Rattle.serve_script.specs.SessionInside.{AsksForNone, IsArrivalEvent, IsArriving, IsAt, IsFrameOf, IsNoFrame, IsTableOf, SessionValue, Streams, fills_geometry}
+use Rattle.serve_script.specs.SessionRun.{ArrivalGives, EventGives, IsArrival, IsSingleRow, fills, is_too_wide, stream_named, streams_in}
 use Rattle.serve_script.specs.SessionWords.{is_hex}
 
 -- the number of a name is at most that of the names
@@ -120,11 +120,11 @@ arrival_of_frame stream hex frame is = (
 -- the geometry that the table has for a name is that of the name's stream
 served_named : (kept : SessionValue) (name : List ℕ) (number : ℕ) (served : Option Geometry) (session : Session)
     → number ≡ stream_named kept.streams.names name → served ≡ slice_get kept.streams.geometries number → IsAt kept session
-    → served ≡ geometry_in (slice_get session.setup.streams (stream_named session.names name))
+    → served ≡ geometry_in (slice_get (streams_in session) (stream_named session.names name))
 served_named kept name number served session named found stands =
     let place : number ≡ stream_named session.names name = named ∙ ap (λ names. stream_named names name) stands.names in
-    found ∙ geometry_named kept.streams session.setup.streams number stands.table
-    ∙ ap (λ n. geometry_in (slice_get session.setup.streams n)) place
+    found ∙ geometry_named kept.streams (streams_in session) number stands.table
+    ∙ ap (λ n. geometry_in (slice_get (streams_in session) n)) place
 
 -- and the event of such a frame is that of the line
 pub arrival_event : (kept : SessionValue) (name hex : List ℕ) (number : ℕ) (served : Option Geometry) (frame : FrameValue)
@@ -133,10 +133,15 @@ pub arrival_event : (kept : SessionValue) (name hex : List ℕ) (number : ℕ) (
     → (session : Session) → IsAt kept session → IsArrivalEvent session name hex event
 arrival_event kept name hex number served frame event named found is e session stands =
     let place : number ≡ stream_named session.names name = named ∙ ap (λ names. stream_named names name) stands.names in
-    let stream = slice_get session.setup.streams (stream_named session.names name) in
+    let stream = slice_get (streams_in session) (stream_named session.names name) in
     let of_stream : IsFrameOf (geometry_in stream) hex frame = rw (served_named kept name number served session named found stands) at is in
     let arrives = arrival_of_frame stream hex frame of_stream in
     (frame, e ∙ ap (λ n. Arrive n frame) place, is.decoded, arrives.0, arrives.1)
+
+-- which asks for no stream
+pub arrival_alone : (session : Session) (name hex : List ℕ) (event : Event FrameValue) → IsArrivalEvent session name hex event
+    → AsksForNone event
+arrival_alone session name hex event is = rw is.1 tt
 
 narrow_gives : (wide : Bool) (Wide Narrow : Type 0) → wide ≡ false → Narrow → MatchBool wide Wide Narrow
 narrow_gives true Wide Narrow few h = absurd (cc)
@@ -162,11 +167,11 @@ arrival_takes session stream number samples given false few gives = event_takes 
 
 -- so does the line of an arrival whose samples aren't too many
 pub narrow_takes : (session : Session) (name hex : List ℕ)
-    → is_too_wide (slice_get session.setup.streams (stream_named session.names name)) (length hex / 2) ≡ false
+    → is_too_wide (slice_get (streams_in session) (stream_named session.names name)) (length hex / 2) ≡ false
     → (given : Given) → ArrivalGives session name hex given → TakesMemory given
 narrow_takes session name hex few given gives =
     let number = stream_named session.names name in
-    let stream = slice_get session.setup.streams number in
+    let stream = slice_get (streams_in session) number in
     let half = half_of_digits hex gives.0 gives.1 in
     arrival_takes session stream number gives.0 given (is_too_wide stream (length gives.0)) (rw half at few) gives.2
 
@@ -177,24 +182,24 @@ wide_gives given false Other many e = absurd (cc)
 
 -- and one whose samples are is a fault
 pub wide_faults : (session : Session) (name hex : List ℕ) → is_hex hex ≡ true
-    → is_too_wide (slice_get session.setup.streams (stream_named session.names name)) (length hex / 2) ≡ true
+    → is_too_wide (slice_get (streams_in session) (stream_named session.names name)) (length hex / 2) ≡ true
     → ArrivalGives session name hex (Faults faults.BadLine)
 wide_faults session name hex h many =
     let number = stream_named session.names name in
-    let stream = slice_get session.setup.streams number in
+    let stream = slice_get (streams_in session) number in
     let read = decoded hex h in
     let half = half_of_digits hex read.0 read.1 in
     (read.0, read.1, wide_gives (Faults faults.BadLine) (is_too_wide stream (length read.0)) _ (rw half at many) refl)
 
 -- why a line's samples make no frame is its fault, or want of memory
 no_frame_faults : (session : Session) (name hex : List ℕ) (served : Option Geometry) (fault : Fault) → is_hex hex ≡ true
-    → served ≡ geometry_in (slice_get session.setup.streams (stream_named session.names name)) → IsNoFrame served hex fault
+    → served ≡ geometry_in (slice_get (streams_in session) (stream_named session.names name)) → IsNoFrame served hex fault
     → MayFault (ArrivalGives session name hex) fault
 no_frame_faults session name hex served faults.BadLine h e why =
-    let stream = slice_get session.setup.streams (stream_named session.names name) in
+    let stream = slice_get (streams_in session) (stream_named session.names name) in
     wide_faults session name hex h (too_wide stream (length hex / 2) (rw e at why.0) why.1)
 no_frame_faults session name hex served faults.NoMemory h e why =
-    let stream = slice_get session.setup.streams (stream_named session.names name) in
+    let stream = slice_get (streams_in session) (stream_named session.names name) in
     narrow_takes session name hex (narrow stream (length hex / 2) (rw e at why))
 no_frame_faults session name hex served faults.BadName h e why = absurd why
 no_frame_faults session name hex served faults.BadBandwidth h e why = absurd why

@@ -10,6 +10,7 @@ pub mod SetupFaults
 pub mod SetupSteps
 pub mod Arrivals
 pub mod Sessions
+pub mod Admits
 pub mod ScriptSteps
 pub mod LineRuns
 pub mod Replays

@@ -1,5 +1,5 @@
 -- How a command before `start` ends, by what the program keeps.
-use Rattle.std.proofs.Common.{◌≡◌, ℕ, inl, inr, Bool, true, false, List, Option, None, Some, Result, Ok, Err, refl, sym, subst, MatchBool, MatchOption}
+use Rattle.std.proofs.Common.{◌≡◌, ℕ, inl, inr, List, Option, None, Some, Result, Ok, Err, refl, sym, subst, MatchOption}
 use Rattle.serve_core.specs.Setup.{IsSetup, StreamSpec}
 use Rattle.serve_script.specs.ScriptFault as faults
 use Rattle.serve_script.specs.ScriptFault.{Fault, fault_told}
@@ -7,11 +7,13 @@ use Rattle.serve_script.specs.LineEnds.{Ends}
 use Rattle.serve_script.specs.ScriptReport.{SetupLineGives}
 use Rattle.serve_script.specs.ScriptState.{Given, Prints, Faults, MayFault, Preparation, ScriptState, TakesMemory}
 use Rattle.serve_script.specs.SessionCommand.{SetupForm, StreamForm, setup_of}
-use Rattle.serve_script.specs.SessionSetup.{AsksFor, BandGives, SetupGives, StartGives, StreamGives, is_taken, prepared_setup, settled, started, stream_given}
+use Rattle.serve_script.specs.SessionInside.{MayLack}
+use Rattle.serve_script.specs.SessionSetup.{BandGives, SetupGives, StartGives, StreamGives, prepared_setup, settled, started, stream_added}
+use Rattle.serve_script.specs.StreamLine.{AsksFor}
 use Rattle.serve_script.specs.declared.fault.ScriptFault.{ScriptFault}
 use Rattle.serve_script.specs.declared.run.Script.{Script}
 use Rattle.serve_script.proofs.SetupFaults.{start_lost}
-use Rattle.serve_script.proofs.StreamGiven.{stream_lost}
+use Rattle.serve_script.proofs.StreamGiven.{line_faults, line_lost}
 
 -- what a line gives before `start`, where it writes a command or not
 abbrev FormGives : Preparation → Option SetupForm → Given → Type 0
@@ -44,22 +46,24 @@ band_ends p next rows (Ok kept) before after gives a =
 band_ends p next rows (Err fault) before after gives (may, same) =
     (subst (MayFault (BandGives p rows)) (sym (only_memory next (fault_told fault) may)) (band_memory p next rows gives), same)
 
--- what a line's stream gives, where its name is taken or not
-abbrev GivesByName : Preparation → StreamForm → Bool → Given → Type 0
-GivesByName p form taken given =
-    MatchBool taken (given ≡ Faults faults.BadName)
-    ((asked : Result StreamSpec Fault) × AsksFor p form asked × (given ≡ stream_given p form.name asked))
+stream_takes : (p : Preparation) (form : StreamForm) (spec : StreamSpec) (given : Given) → given ≡ stream_added p form.name spec
+    → TakesMemory given
+stream_takes p form spec given is = subst TakesMemory (sym is) tt
 
-unkept_by_name : (p : Preparation) (form : StreamForm) (taken : Bool) (answer : List ℕ) (end : ScriptState) → is_taken form.name p.names ≡ taken
-    → GivesByName p form taken (Prints answer end) → MayFault (StreamGives p form) faults.NoMemory
-unkept_by_name p form true answer end is made = absurd cc
-unkept_by_name p form false answer end free (Ok spec, asks, is) = stream_lost p form spec asks free
-unkept_by_name p form false answer end free (Err fault, asks, is) = absurd cc
+module _ (p : Preparation) (form : StreamForm) where
+  -- a fault of what a line asks for is the line's
+  pub stream_faults : (fault : Fault) → MayLack (AsksFor p.names p.settings form) fault → MayFault (StreamGives p form) fault
+  stream_faults fault may = line_faults p.names p.settings form _ (stream_takes p form) fault may
 
--- there is no memory for a stream that could be made
-pub stream_unkept : (p : Preparation) (form : StreamForm) (answer : List ℕ) (end : ScriptState) → StreamGives p form (Prints answer end)
-    → MayFault (StreamGives p form) faults.NoMemory
-stream_unkept p form answer end made = unkept_by_name p form (is_taken form.name p.names) answer end refl made
+  -- there is no memory for a stream that it asks for
+  pub stream_lost : (spec : StreamSpec) → AsksFor p.names p.settings form (Ok spec) → MayFault (StreamGives p form) faults.NoMemory
+  stream_lost spec asks = line_lost p.names p.settings form _ (stream_takes p form) spec asks
+
+  -- or for its answer
+  pub stream_unkept : (answer : List ℕ) (end : ScriptState) → StreamGives p form (Prints answer end)
+      → MayFault (StreamGives p form) faults.NoMemory
+  stream_unkept answer end (Ok spec, asks, is) = stream_lost spec asks
+  stream_unkept answer end (Err fault, asks, is) = absurd cc
 
 starting : (p : Preparation) → StartGives p (started p) → IsSetup (prepared_setup p)
 starting p (inl is) = is.0

@@ -1,4 +1,4 @@
--- What a stream's line asks for, and its faults.
+-- What a stream's line asks for by its operations, its header and its chain, and their faults.
 use Rattle.std.proofs.Common.{◌≡◌, ◌≢◌, ◌≤◌, ◌<◌, ◌⊎◌, ◌↔◌, inl, inr, Bool, true, false, nat_lt, List, length, Option, Some, None, Ok, Err, Result, IsErrOf, IsSomeAnd, ⊎_elim, refl, sym, subst}
 use Rattle.std.proofs.lemmas.Bool.{ltb-false, ltb-true, le-ltb, lt-ltb}
 use Rattle.serve_core.proofs.Options.{some_and}
@@ -17,10 +17,10 @@ use Rattle.y4m_header.specs.declared.error.HeaderError.TheVariants as header
 use Rattle.serve_core.specs.Setup.{StreamSpec}
 use Rattle.serve_script.specs.ScriptFault as faults
 use Rattle.serve_script.specs.ScriptFault.{Fault, filter_fault, header_fault}
-use Rattle.serve_script.specs.ScriptState.{Preparation}
+use Rattle.serve_script.specs.ScriptState.{Settings}
 use Rattle.serve_script.specs.SessionCommand.{StreamForm}
 use Rattle.serve_script.specs.SessionInside.{IsLate, MayLack}
-use Rattle.serve_script.specs.SessionSetup.{AsksFor, AsksOfChain, AsksOfHeader, spec_with}
+use Rattle.serve_script.specs.StreamLine.{AsksOfChain, AsksOfHeader, AsksOfOps, spec_with}
 use Rattle.serve_script.proofs.SaidOps.{AreSaid, said_ops}
 
 -- the operations of a line, which are few enough
@@ -28,16 +28,18 @@ pub record Says (form : StreamForm) (ops : List Op) : Type 0 where
   pub said : ops_of form.operations ≡ Some ops
   pub few : length ops ≤ 8
 
-module _ (p : Preparation) (form : StreamForm) where
+module _ (settings : Settings) (form : StreamForm) where
   -- the line asks for what its header and its chain come to
-  pub asked_of : (ops : List Op) (asked : Result StreamSpec Fault) → Says form ops → AsksOfHeader p form ops asked → AsksFor p form asked
+  pub asked_of : (ops : List Op) (asked : Result StreamSpec Fault) → Says form ops → AsksOfHeader settings form ops asked
+      → AsksOfOps settings form asked
   asked_of ops asked says h = rw (says.said, le-ltb 8 (length ops) says.few) h
 
-  pub asks_of : (ops : List Op) (asked : Result StreamSpec Fault) → Says form ops → AsksFor p form asked → AsksOfHeader p form ops asked
+  pub asks_of : (ops : List Op) (asked : Result StreamSpec Fault) → Says form ops → AsksOfOps settings form asked
+      → AsksOfHeader settings form ops asked
   asks_of ops asked says h = rw (says.said, le-ltb 8 (length ops) says.few) at h
 
   late_chain : (chain : ChainValue) (asked : Result StreamSpec Fault) → AreSaid chain.ops → length chain.ops ≤ 8
-      → AsksOfChain p form chain asked → IsLate asked
+      → AsksOfChain settings form chain asked → IsLate asked
   late_chain chain asked said few (inl made) = subst IsLate (sym made.1) tt
   late_chain chain asked said few (inr refused) = subst IsLate (sym refused.3) (by refused.0 refused.1 refused.2)
     where
@@ -49,10 +51,10 @@ module _ (p : Preparation) (form : StreamForm) where
       by filter.NoMemory own is = own refl
 
   -- behind its operations, a line's faults are late
-  pub late : (ops : List Op) (asked : Result StreamSpec Fault) → Says form ops → AsksFor p form asked → IsLate asked
+  pub late : (ops : List Op) (asked : Result StreamSpec Fault) → Says form ops → AsksOfOps settings form asked → IsLate asked
   late ops asked says h = by (asks_of ops asked says h)
     where
-      by : AsksOfHeader p form ops asked → IsLate asked
+      by : AsksOfHeader settings form ops asked → IsLate asked
       by (inl made) = late_chain (chain_of ops made.0 made.1) asked (said_ops form.operations ops says.said) says.few made.4
       by (inr refused) = subst IsLate (sym refused.3) tt
 
@@ -61,7 +63,7 @@ module _ (p : Preparation) (form : StreamForm) where
       (IsErrOf r filter.BadOp ↔ (ops_of form.operations ≡ None))
       → (IsErrOf r filter.TooManyOps ↔ IsSomeAnd (ops_of form.operations) (λ ops. 8 < length ops))
       → (error ≡ filter.BadOp) ⊎ (error ≡ filter.TooManyOps) ⊎ (error ≡ filter.NoMemory)
-      → MayLack (AsksFor p form) (filter_fault error)
+      → MayLack (AsksOfOps settings form) (filter_fault error)
   ops_fault filter.BadOp bad many one = rw (bad.0 refl) refl
   ops_fault filter.TooManyOps bad many one =
       let some = some_and (ops_of form.operations) (λ ops. 8 < length ops) (many.0 refl) in
@@ -70,20 +72,21 @@ module _ (p : Preparation) (form : StreamForm) where
   ops_fault filter.TooManySteps bad many one = ⊎_elim (λ is. absurd cc) (⊎_elim (λ is. absurd cc) (λ is. absurd cc)) one
   ops_fault {T} filter.NoMemory bad many one = λ asked h. by asked h (ops_of form.operations) refl
     where
-      counted : (asked : Result StreamSpec Fault) → AsksFor p form asked → (ops : List Op) → ops_of form.operations ≡ Some ops
+      counted : (asked : Result StreamSpec Fault) → AsksOfOps settings form asked → (ops : List Op) → ops_of form.operations ≡ Some ops
           → (is_many : Bool) → nat_lt 8 (length ops) ≡ is_many → IsLate asked
       counted asked h ops is true long =
           let most = ltb-true 8 (length ops) long in
           let other = many.1 (rw is most) in absurd cc
       counted asked h ops is false short = late ops asked (record { said = is; few = ltb-false 8 (length ops) short }) h
 
-      by : (asked : Result StreamSpec Fault) → AsksFor p form asked → (o : Option (List Op)) → ops_of form.operations ≡ o → IsLate asked
+      by : (asked : Result StreamSpec Fault) → AsksOfOps settings form asked → (o : Option (List Op)) → ops_of form.operations ≡ o
+          → IsLate asked
       by asked h None is = let other = bad.1 is in absurd cc
       by asked h (Some ops) is = counted asked h ops is (nat_lt 8 (length ops)) refl
 
   -- a header that is refused
   pub header_refused : (ops : List Op) (error : HeaderError) → Says form ops → IsRefusedAs error form.header
-      → MayLack (AsksFor p form) (header_fault error)
+      → MayLack (AsksOfOps settings form) (header_fault error)
   header_refused ops header.NotY4m says is = asked_of ops _ says (inr (header.NotY4m, (λ same. absurd cc), is, refl))
   header_refused ops header.BadNumber says is = asked_of ops _ says (inr (header.BadNumber, (λ same. absurd cc), is, refl))
   header_refused ops header.RepeatedTag says is = asked_of ops _ says (inr (header.RepeatedTag, (λ same. absurd cc), is, refl))
@@ -94,21 +97,23 @@ module _ (p : Preparation) (form : StreamForm) where
   header_refused ops header.NoMemory says is = λ asked h. late ops asked says h
   header_refused ops header.NotFrame says is = absurd is
 
-module _ (p : Preparation) (form : StreamForm) (geometry : Geometry) (height : BandHeight) (ops : List Op) (says : Says form ops)
-    (line : IsHeaderLine form.header geometry.width geometry.height geometry.chroma) (rows : height.rows ≡ p.band) where
+module _ (settings : Settings) (form : StreamForm) (geometry : Geometry) (height : BandHeight) (ops : List Op) (says : Says form ops)
+    (line : IsHeaderLine form.header geometry.width geometry.height geometry.chroma) (rows : height.rows ≡ settings.band) where
   refused_by : (error : FilterError) → error ≢ filter.NoMemory → IsChainRefusedAs error (chain_of ops geometry height)
-      → AsksFor p form (Err (faults.BadChain error))
+      → AsksOfOps settings form (Err (faults.BadChain error))
   refused_by error own is =
-      asked_of p form ops (Err (faults.BadChain error)) says (inl (geometry, height, line, rows, inr (error, own, is, refl)))
+      asked_of settings form ops (Err (faults.BadChain error)) says (inl (geometry, height, line, rows, inr (error, own, is, refl)))
 
   -- operations that make no chain for the frames of the header
-  pub chain_refused : (error : FilterError) → IsChainRefusedAs error (chain_of ops geometry height) → MayLack (AsksFor p form) (filter_fault error)
+  pub chain_refused : (error : FilterError) → IsChainRefusedAs error (chain_of ops geometry height)
+      → MayLack (AsksOfOps settings form) (filter_fault error)
   chain_refused filter.BadOp is = refused_by filter.BadOp (λ same. absurd cc) is
   chain_refused filter.TooManyOps is = refused_by filter.TooManyOps (λ same. absurd cc) is
   chain_refused filter.BadCrop is = refused_by filter.BadCrop (λ same. absurd cc) is
   chain_refused filter.TooManySteps is = refused_by filter.TooManySteps (λ same. absurd cc) is
-  chain_refused filter.NoMemory is = λ asked h. late p form ops asked says h
+  chain_refused filter.NoMemory is = λ asked h. late settings form ops asked says h
 
   -- operations that make one
-  pub chain_made : IsChain (chain_of ops geometry height) → AsksFor p form (Ok (spec_with p form (chain_of ops geometry height)))
-  chain_made is = asked_of p form ops _ says (inl (geometry, height, line, rows, inl (is, refl)))
+  pub chain_made : IsChain (chain_of ops geometry height)
+      → AsksOfOps settings form (Ok (spec_with settings form (chain_of ops geometry height)))
+  chain_made is = asked_of settings form ops _ says (inl (geometry, height, line, rows, inl (is, refl)))

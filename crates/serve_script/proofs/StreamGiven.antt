@@ -1,89 +1,95 @@
--- What a stream's line gives, where it asks for such a thing.
+-- What the line of a stream gives, by what it asks for.
 use Rattle.std.proofs.Common.{◌≡◌, ℕ, ◌+◌, inl, inr, Bool, true, false, nat_lt, List, [], ◌∷◌, ◌++◌, length, Option, Some, None, Ok, Err, Result, IfOk, refl, sym, ap, ◌∙◌, subst, length-append}
 use Rattle.std.proofs.lemmas.Bool.{ltb-false}
 use Rattle.std.proofs.lemmas.List.{map_push}
 use Rattle.filters.specs.Chain.{ChainValue}
 use Rattle.filters.specs.OpsText.{ops_of}
 use Rattle.filters.specs.declared.op.Op.{Op}
-use Rattle.frame_view.specs.declared.geometry.Geometry.{Geometry}
 use Rattle.serve_core.specs.Setup.{StreamSpec}
 use Rattle.serve_script.specs.ScriptFault as faults
 use Rattle.serve_script.specs.ScriptFault.{Fault}
-use Rattle.serve_script.specs.ScriptState.{Given, Faults, MayFault, Preparation, TakesMemory}
+use Rattle.serve_script.specs.ScriptState.{Given, MayFault, Settings, TakesMemory}
 use Rattle.serve_script.specs.SessionCommand.{StreamForm}
-use Rattle.serve_script.specs.SessionInside.{IsLate, IsTableOf, MayLack, Streams, geometries_of, with_named}
-use Rattle.serve_script.specs.SessionSetup.{AsksFor, AsksOfChain, AsksOfHeader, StreamGives, is_taken, stream_given}
+use Rattle.serve_script.specs.SessionInside.{IsLate, IsTableOf, MayLack, Streams, with_named}
+use Rattle.serve_script.specs.StreamLine.{AsksFor, AsksOfChain, AsksOfHeader, AsksOfOps, GivenFor, LineGives, is_taken}
 use Rattle.serve_script.proofs.StreamAsked.{Says, asks_of, late}
 
-module _ (p : Preparation) (form : StreamForm) where
-  -- a name that is taken
-  pub name_taken : is_taken form.name p.names ≡ true → StreamGives p form (Faults faults.BadName)
-  name_taken taken = rw taken refl
+module _ (names : List (List ℕ)) (settings : Settings) (form : StreamForm) where
+  -- where the name is free, a line asks for what its operations come to
+  pub asks_free : (asked : Result StreamSpec Fault) → is_taken form.name names ≡ false → AsksOfOps settings form asked
+      → AsksFor names settings form asked
+  asks_free asked free h = rw free h
 
-  -- a line whose name isn't taken gives what it asks for
-  pub given_of : (asked : Result StreamSpec Fault) → is_taken form.name p.names ≡ false → AsksFor p form asked
-      → StreamGives p form (stream_given p form.name asked)
-  given_of asked free h = rw free (asked, h, refl)
+  free_asks : (asked : Result StreamSpec Fault) → is_taken form.name names ≡ false → AsksFor names settings form asked
+      → AsksOfOps settings form asked
+  free_asks asked free h = rw free at h
 
-  late_given : (asked : Result StreamSpec Fault) → IsLate asked → TakesMemory (stream_given p form.name asked)
-  late_given (Ok spec) h = tt
-  late_given (Err fault) h = h
+  module _ (spec : StreamSpec) (asks : AsksFor names settings form (Ok spec)) where
+    is_free : is_taken form.name names ≡ false
+    is_free = by (is_taken form.name names) refl
+      where
+        by : (taken : Bool) → is_taken form.name names ≡ taken → taken ≡ false
+        by true is = let none = rw is at asks in absurd cc
+        by false is = refl
 
-  lost : is_taken form.name p.names ≡ false → ((asked : Result StreamSpec Fault) → AsksFor p form asked → IsLate asked)
-      → (given : Given) → StreamGives p form given → TakesMemory given
-  lost free each given gives =
-      let found = rw free at gives in
-      subst TakesMemory (sym found.2) (late_given found.0 (each found.0 found.1))
-
-  -- and its faults are those of what it asks for
-  pub given_fault : (fault : Fault) → is_taken form.name p.names ≡ false → MayLack (AsksFor p form) fault → MayFault (StreamGives p form) fault
-  given_fault faults.BadLine free h = given_of (Err faults.BadLine) free h
-  given_fault faults.BadName free h = given_of (Err faults.BadName) free h
-  given_fault faults.BadBandwidth free h = given_of (Err faults.BadBandwidth) free h
-  given_fault faults.Range free h = given_of (Err faults.Range) free h
-  given_fault (faults.BadHeader error) free h = given_of (Err (faults.BadHeader error)) free h
-  given_fault (faults.BadChain error) free h = given_of (Err (faults.BadChain error)) free h
-  given_fault faults.BadLimits free h = given_of (Err faults.BadLimits) free h
-  given_fault (faults.BadBandwidthOf name) free h = given_of (Err (faults.BadBandwidthOf name)) free h
-  given_fault (faults.OverloadOf name) free h = given_of (Err (faults.OverloadOf name)) free h
-  given_fault faults.TooLong free h = given_of (Err faults.TooLong) free h
-  given_fault faults.NoMemory free h = lost free h
-
-  module _ (spec : StreamSpec) (asks : AsksFor p form (Ok spec)) where
     says_some : (ops : List Op) × Says form ops
     says_some = by (ops_of form.operations) refl
       where
+        asks_so : AsksOfOps settings form (Ok spec)
+        asks_so = free_asks (Ok spec) is_free asks
+
         counted : (ops : List Op) → ops_of form.operations ≡ Some ops → (is_many : Bool) → nat_lt 8 (length ops) ≡ is_many
             → (ops : List Op) × Says form ops
-        counted ops is true long = let none = rw (is, long) at asks in absurd cc
+        counted ops is true long = let none = rw (is, long) at asks_so in absurd cc
         counted ops is false short = (ops, record { said = is; few = ltb-false 8 (length ops) short })
 
         by : (o : Option (List Op)) → ops_of form.operations ≡ o → (ops : List Op) × Says form ops
-        by None is = let none = rw is at asks in absurd cc
+        by None is = let none = rw is at asks_so in absurd cc
         by (Some ops) is = counted ops is (nat_lt 8 (length ops)) refl
 
-    -- the stream can't be kept
-    pub stream_lost : is_taken form.name p.names ≡ false → (given : Given) → StreamGives p form given → TakesMemory given
-    stream_lost free = lost free (λ asked h. late p form says_some.0 asked says_some.1 h)
+    -- a line that asks for a stream has no early fault
+    pub asked_late : (asked : Result StreamSpec Fault) → AsksFor names settings form asked → IsLate asked
+    asked_late asked h = late settings form says_some.0 asked says_some.1 (free_asks asked is_free h)
 
-    made_geometry : (chain : ChainValue) → AsksOfChain p form chain (Ok spec) → spec.geometry ≡ spec.chain.geometry
+    made_geometry : (chain : ChainValue) → AsksOfChain settings form chain (Ok spec) → spec.geometry ≡ spec.chain.geometry
     made_geometry chain (inl made) = subst (λ asked. IfOk asked (λ made. made.geometry ≡ made.chain.geometry)) (sym made.1) refl
     made_geometry chain (inr refused) = let is = refused.3 in absurd cc
 
     -- its chain is for its frames
     pub asked_geometry : spec.geometry ≡ spec.chain.geometry
-    asked_geometry = by (asks_of p form says_some.0 (Ok spec) says_some.1 asks)
+    asked_geometry = by (asks_of settings form says_some.0 (Ok spec) says_some.1 (free_asks (Ok spec) is_free asks))
       where
-        by : AsksOfHeader p form says_some.0 (Ok spec) → spec.geometry ≡ spec.chain.geometry
+        by : AsksOfHeader settings form says_some.0 (Ok spec) → spec.geometry ≡ spec.chain.geometry
         by (inl made) = made_geometry _ made.4
         by (inr refused) = let is = refused.3 in absurd cc
 
+  -- what a stream gives that is asked for takes memory before it is known
+  module _ (SpecGives : StreamSpec → Given → Type 0)
+      (takes : (spec : StreamSpec) (given : Given) → SpecGives spec given → TakesMemory given) where
+    late_given : (asked : Result StreamSpec Fault) (given : Given) → IsLate asked → GivenFor SpecGives asked given → TakesMemory given
+    late_given (Ok spec) given h gives = takes spec given gives
+    late_given (Err fault) given h gives = subst TakesMemory (sym gives) h
+
+    lost : ((asked : Result StreamSpec Fault) → AsksFor names settings form asked → IsLate asked)
+        → (given : Given) → LineGives names settings form SpecGives given → TakesMemory given
+    lost each given (asked, asks, gives) = late_given asked given (each asked asks) gives
+
+    -- a fault of what the line asks for is the line's
+    pub line_faults : (fault : Fault) → MayLack (AsksFor names settings form) fault
+        → MayFault (LineGives names settings form SpecGives) fault
+    line_faults faults.NoMemory h = lost h
+    line_faults fault h = (Err fault, h, refl)
+
+    -- and so is want of memory for a stream that it asks for
+    pub line_lost : (spec : StreamSpec) → AsksFor names settings form (Ok spec)
+        → MayFault (LineGives names settings form SpecGives) faults.NoMemory
+    line_lost spec asks = lost (asked_late spec asks)
+
 -- a table with a stream more
-pub table_more : (streams : Streams) (specs : List StreamSpec) (name : List ℕ) (geometry : Geometry) (spec : StreamSpec)
-    → IsTableOf streams specs → geometry ≡ spec.geometry → IsTableOf (with_named name geometry streams) (specs ++ spec ∷ [])
-table_more streams specs name geometry spec table is = record {
+pub table_more : (streams : Streams) (specs : List StreamSpec) (name : List ℕ) (spec : StreamSpec)
+    → IsTableOf streams specs → IsTableOf (with_named name spec.geometry streams) (specs ++ spec ∷ [])
+table_more streams specs name spec table = record {
   names = length-append streams.names (name ∷ []) ∙ ap (λ n. n + 1) table.names ∙ sym (length-append specs (spec ∷ []));
   geometries =
-      ap (λ all. all ++ geometry ∷ []) table.geometries ∙ ap (λ g. geometries_of specs ++ g ∷ []) is
-      ∙ sym (map_push (λ spec. spec.geometry) specs spec);
+      ap (λ all. all ++ spec.geometry ∷ []) table.geometries ∙ sym (map_push (λ spec. spec.geometry) specs spec);
 }

@@ -1,13 +1,16 @@
 -- Streams that stand in a table by their borrowed names.
-use Rattle.std.proofs.Common.{◌≡◌, ℕ, ◌+◌, Bool, true, false, true≢false, cond, not, ◌||◌, nat_lt, List, [], ◌∷◌, ◌++◌, map, length, position, bytes_eq, Option, unwrap_or, Some, None, refl, sym, ap, ◌∙◌, arith, Bor}
+use Rattle.std.proofs.Common.{◌≡◌, ℕ, ◌+◌, Bool, true, false, true≢false, cond, not, ◌||◌, nat_lt, List, [], ◌∷◌, ◌++◌, map, length, take, position, bytes_eq, Option, unwrap_or, Some, None, refl, sym, ap, ◌∙◌, arith, Bor}
 use Rattle.std.proofs.lemmas.Bool.{ltb-false}
-use Rattle.std.proofs.lemmas.List.{length-map, map_push}
+use Rattle.std.proofs.lemmas.List.{length-map, map_push, take-map}
 use Rattle.std.proofs.lemmas.List.Sums.{prefix_len-le-length}
 use Rattle.std.specs.List.{list_any, position_or_len}
 use Rattle.std.specs.Map.{keys_of}
 use Rattle.frame_view.specs.declared.geometry.Geometry.{Geometry}
 use Rattle.indexmap.specs.IndexMap.{insert_entry}
-use Rattle.serve_script.specs.SessionInside.{Streams, with_named}
+use Rattle.serve_core.specs.Seen.{heard}
+use Rattle.serve_core.specs.declared.event.Reply.{Reply}
+use Rattle.serve_core.specs.declared.event.Reply.TheVariants as replies
+use Rattle.serve_script.specs.SessionInside.{Streams, admitted_streams, first_streams, with_named}
 
 -- the bytes of the names
 abbrev pub names_of : {X : Type 0} → List (Bor (List ℕ) × X) → List (List ℕ)
@@ -65,10 +68,10 @@ named_last {X} name value (entry ∷ more) free = by (bytes_eq name.now entry.0.
     by true free last = absurd (true≢false free)
     by false free last = ap (λ rest. entry ∷ rest) (last free)
 
-abbrev streams_of : List (Bor (List ℕ) × Geometry) → Streams
+abbrev pub streams_of : List (Bor (List ℕ) × Geometry) → Streams
 streams_of entries = record { names = names_of entries; geometries = map (λ entry. entry.1) entries }
 
-same_streams : (a b : List (List ℕ)) (g h : List Geometry) → a ≡ b → g ≡ h
+pub same_streams : (a b : List (List ℕ)) (g h : List Geometry) → a ≡ b → g ≡ h
     → let one : Streams = record { names = a; geometries = g } in let other : Streams = record { names = b; geometries = h } in one ≡ other
 same_streams a b g h e f = cc
 
@@ -78,3 +81,14 @@ pub with_one_more : (name : Bor (List ℕ)) (geometry : Geometry) (entries later
 with_one_more name geometry entries later is =
     ap streams_of is
     ∙ same_streams _ _ _ _ (map_push (λ entry. entry.0.now) entries (name, geometry)) (map_push (λ entry. entry.1) entries (name, geometry))
+
+-- its first entries
+pub first_entries : (n : ℕ) (entries : List (Bor (List ℕ) × Geometry)) → streams_of (take n entries) ≡ first_streams n (streams_of entries)
+first_entries n entries =
+    same_streams _ _ _ _ (sym (take-map (λ entry. entry.0.now) n entries)) (sym (take-map (λ entry. entry.1) n entries))
+
+-- where the machine has admitted none, the first ones are left
+pub first_unless : (n : ℕ) (streams : Streams) (reply : Reply) → ((s : ℕ) → reply ≡ replies.Admitted s → ⊥)
+    → first_streams n streams ≡ admitted_streams n (heard reply) streams
+first_unless n streams (replies.Admitted s) other = absurd (other s refl)
+first_unless n streams reply other = refl

@@ -6,6 +6,7 @@ pub mod AccountScript
 pub mod SessionWords
 pub mod SessionCommand
 pub mod SessionLine
+pub mod StreamLine
 pub mod SessionSetup
 pub mod SessionRun
 pub mod ScriptReport

@@ -8,26 +8,35 @@ use Rattle.serve_script.specs.ScriptFault as faults
 use Rattle.serve_script.specs.ScriptFault.{Fault}
 use Rattle.serve_script.specs.declared.command.AccountCommand.{AccountCommand}
 
+-- how streams are served where their own lines don't say it: the luma rows of a band, and how many frames may
+-- come
+pub record Settings : Type 0 where
+  pub band : ℕ
+  pub frames : ℕ
+
+-- before any command: bands of 16 rows, 2^24 frames
+abbrev pub first_settings : Settings
+first_settings = record { band = 16; frames = 16777216 }
+
 -- what a session script has set up before its `start`
 pub record Preparation : Type 0 where
   pub workers : ℕ
   pub quantum : ℕ
-  -- for the streams that follow: the luma rows of a band, and how many frames may come
-  pub band : ℕ
-  pub frames : ℕ
+  -- for the streams that follow
+  pub settings : Settings
   -- the streams, by number: their names, and what they are served with
   pub names : List (List ℕ)
   pub streams : List StreamSpec
 
--- before any command: one worker, 4 bands a lease, bands of 16 rows, 2^24 frames
+-- before any command: one worker, 4 bands a lease
 abbrev pub unprepared : Preparation
-unprepared =
-    record { workers = 1; quantum = 4; band = 16; frames = 16777216; names = []; streams = [] }
+unprepared = record { workers = 1; quantum = 4; settings = first_settings; names = []; streams = [] }
 
--- a session script after its `start`: its streams' names, what its machine was made for, and what the machine
--- was asked and answered
+-- a session script after its `start`: its streams' names, how those that are admitted are served, what its
+-- machine was made for, and what the machine was asked and answered
 pub record Session : Type 0 where
   pub names : List (List ℕ)
+  pub settings : Settings
   pub setup : Setup
   pub past : Transcript FrameValue FrameValue
 

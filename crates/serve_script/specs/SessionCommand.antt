@@ -10,8 +10,8 @@ use Rattle.serve_script.specs.declared.session.run_command.RunCommand.{RunComman
 use Rattle.serve_script.specs.declared.session.run_command.RunCommand.TheVariants as run
 use Rattle.serve_script.specs.declared.session.setup_command.SetupCommand.{SetupCommand}
 use Rattle.serve_script.specs.declared.session.setup_command.SetupCommand.TheVariants as setup
-use Rattle.serve_script.specs.declared.session.setup_command.StreamCommand.{StreamCommand}
-use Rattle.serve_script.specs.declared.session.setup_command.StreamWords.{StreamWords}
+use Rattle.serve_script.specs.declared.session.stream_command.StreamCommand.{StreamCommand}
+use Rattle.serve_script.specs.declared.session.stream_command.StreamWords.{StreamWords}
 
 -- a stream, as its line asks for it
 pub record StreamForm : Type 0 where
@@ -41,6 +41,7 @@ pub data RunForm : Type 0 where
   Tick : (moment : ℕ) → RunForm
   Close : (name : List ℕ) → RunForm
   Collect : (name : List ℕ) → RunForm
+  Admit : (stream : StreamForm) → RunForm
   State : (name : List ℕ) → RunForm
 
 -- a stream by its texts and the numbers that were read, if all of them are numbers
@@ -65,7 +66,8 @@ stream_of_parts (name ∷ q ∷ t ∷ queue ∷ outbox ∷ operations ∷ header
     else None
 stream_of_parts _ = None
 
--- the stream that the text behind `stream` asks for: the header is all that follows the sixth space
+-- the stream that the text behind `stream` or `admit` asks for: the header is all that follows the sixth
+-- space
 abbrev pub stream_of : List ℕ → Option StreamForm
 stream_of text = stream_of_parts (cut_at_spaces 6 text)
 
@@ -105,6 +107,7 @@ run_with word rest =
     else if bytes_eq word (codes "tick") then option_map (λ moment. Tick moment) (word_number rest)
     else if bytes_eq word (codes "close") then option_map (λ name. Close name) (name_of rest)
     else if bytes_eq word (codes "collect") then option_map (λ name. Collect name) (name_of rest)
+    else if bytes_eq word (codes "admit") then option_map (λ stream. Admit stream) (stream_of rest)
     else if bytes_eq word (codes "state") then option_map (λ name. State name) (name_of rest)
     else None
 
@@ -140,6 +143,7 @@ run_told (run.Settle worker) = Settle worker
 run_told (run.Tick moment) = Tick moment
 run_told (run.Close name) = Close name.now
 run_told (run.Collect name) = Collect name.now
+run_told (run.Admit stream) = Admit (stream_told stream)
 run_told (run.State name) = State name.now
 
 -- the words of a stream's line, in order

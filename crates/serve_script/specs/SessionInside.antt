@@ -1,22 +1,24 @@
 -- What the program keeps of a session script.
 use Rattle.std.specs.Prelude.{ℕ, ◌≡◌, ◌≤◌, ◌<◌, ◌/◌, ◌⊎◌, ⊤, Bool, false, true, nat_eq, List, [], ◌∷◌, ◌++◌}
-use Rattle.std.specs.Prelude.{length, map}
+use Rattle.std.specs.Prelude.{length, map, take}
 use Rattle.std.specs.Prelude.{codes, slice_get, Option, Some, MatchBool, Result, Ok, Err}
 use Rattle.hex.specs.Hex.{decode_of}
-use Rattle.serve_core.specs.Events.{Event, Arrive}
+use Rattle.serve_core.specs.Events.{Admit, Admitted, Arrive, Event, Reply}
 use Rattle.std.specs.Option.{option_map_or}
 use Rattle.filters.specs.ChainImage.{FrameValue}
 use Rattle.frame_view.specs.Places.{frame_len}
 use Rattle.frame_view.specs.declared.geometry.Geometry.{Geometry}
 use Rattle.serve_core.specs.Frames.{is_image, measures}
+use Rattle.serve_core.specs.Reached.{IsReached}
 use Rattle.serve_core.specs.Rules.{IsLegal}
 use Rattle.serve_core.specs.Setup.{IsSetup, StreamSpec}
 use Rattle.serve_core.specs.States.{State, state_of}
 use Rattle.serve_script.specs.ScriptFault as faults
 use Rattle.serve_script.specs.ScriptFault.{Fault}
-use Rattle.serve_script.specs.ScriptState.{ComesLate, Given, InSession, Prints, Session}
+use Rattle.serve_script.specs.ScriptState.{ComesLate, Given, InSession, Prints, Session, Settings}
 use Rattle.serve_script.specs.ScriptReport.{line_text}
-use Rattle.serve_script.specs.SessionRun.{IsArrival, IsSingleRow, is_too_wide, stream_named}
+use Rattle.serve_script.specs.declared.session.stream_settings.StreamSettings.{StreamSettings}
+use Rattle.serve_script.specs.SessionRun.{IsArrival, IsSingleRow, is_too_wide, stream_named, streams_in}
 
 -- the streams by number: their names, and the geometries of their frames
 pub record Streams : Type 0 where
@@ -32,6 +34,15 @@ with_named name geometry streams = record {
   geometries = streams.geometries ++ geometry ∷ [];
 }
 
+abbrev pub first_streams : ℕ → Streams → Streams
+first_streams n streams =
+    record { names = take n streams.names; geometries = take n streams.geometries }
+
+-- the streams where the machine has answered so and there were n before the last one
+abbrev pub admitted_streams : ℕ → Reply FrameValue FrameValue → Streams → Streams
+admitted_streams n (Admitted stream) streams = streams
+admitted_streams n reply streams = first_streams n streams
+
 abbrev pub geometries_of : List StreamSpec → List Geometry
 geometries_of specs = map (λ spec. spec.geometry) specs
 
@@ -39,6 +50,10 @@ geometries_of specs = map (λ spec. spec.geometry) specs
 pub record IsTableOf (streams : Streams) (specs : List StreamSpec) : Type 0 where
   pub names : length streams.names ≡ length specs
   pub geometries : streams.geometries ≡ geometries_of specs
+
+-- the settings of the program as scripts have them
+abbrev pub settings_told : StreamSettings → Settings
+settings_told settings = record { band = settings.height.rows; frames = settings.frames }
 
 -- the fault of a stream's line, which asks for such a thing: it is what the line asks for, or there is no
 -- memory for what it asks for
@@ -50,18 +65,30 @@ abbrev pub MayLack : (Result StreamSpec Fault → Type 0) → Fault → Type 0
 MayLack Asks faults.NoMemory = (asked : Result StreamSpec Fault) → Asks asked → IsLate asked
 MayLack Asks fault = Asks (Err fault)
 
--- what the program keeps of a session: the streams, and the machine
+-- what the program keeps of a session: the streams, how those that are admitted are served, and the machine
 pub record SessionValue : Type 0 where
   pub streams : Streams
+  pub settings : Settings
   pub machine : State FrameValue
+
+-- events of some setup led to the machine, and each name is that of one of its streams
+pub record IsRunning (streams : Streams) (machine : State FrameValue) : Type 0 where
+  pub names : length streams.names ≤ length machine.streams
+  pub reached : IsReached measures is_image machine
 
 -- this is kept of a session
 pub record IsAt (kept : SessionValue) (session : Session) : Type 0 where
   pub names : kept.streams.names ≡ session.names
-  pub table : IsTableOf kept.streams session.setup.streams
+  pub settings : kept.settings ≡ session.settings
+  pub table : IsTableOf kept.streams (streams_in session)
   pub setup : IsSetup session.setup
   pub legal : IsLegal measures is_image session.setup session.past
   pub machine : kept.machine ≡ state_of session.setup session.past
+
+-- an event that asks for no stream
+abbrev pub AsksForNone : Event FrameValue → Type 0
+AsksForNone (Admit spec) = ⊥
+AsksForNone event = ⊤
 
 -- a session's line that gives such a thing was answered so, the answer was printed, and this is kept of what
 -- it led to
@@ -101,5 +128,5 @@ abbrev pub IsArrivalEvent : Session → List ℕ → List ℕ → Event FrameVal
 IsArrivalEvent session name hex event =
     let number = stream_named session.names name in
     (frame : FrameValue) × (event ≡ Arrive number frame) × (decode_of hex ≡ Ok frame.samples)
-    × (is_too_wide (slice_get session.setup.streams number) (length frame.samples) ≡ false)
-    × IsArrival (slice_get session.setup.streams number) frame.samples frame
+    × (is_too_wide (slice_get (streams_in session) number) (length frame.samples) ≡ false)
+    × IsArrival (slice_get (streams_in session) number) frame.samples frame

@@ -3,7 +3,7 @@ use Rattle.std.specs.Prelude.{ℕ, List, ◌++◌, codes, decimal}
 use Rattle.hex.specs.Hex.{encode_upper}
 use Rattle.filters.specs.ChainImage.{FrameValue}
 use Rattle.serve_core.specs.Events.{Reply, Accepted, Leased, Stepped, Returned, Finished, Ticked, Closing}
-use Rattle.serve_core.specs.Events.{Image, Refused, GivenBack}
+use Rattle.serve_core.specs.Events.{Image, Admitted, Refused, GivenBack, SpecBack}
 use Rattle.serve_core.specs.declared.counts.Counts.{Counts}
 use Rattle.serve_core.specs.declared.refusal.Refusal.{Refusal}
 use Rattle.serve_core.specs.declared.refusal.Refusal.TheVariants as refusals
@@ -26,6 +26,10 @@ refusal_number refusals.ClockEnd = 13
 refusal_number refusals.AlreadyClosed = 14
 refusal_number refusals.Empty = 15
 refusal_number refusals.Drained = 16
+refusal_number refusals.TooManyStreams = 20
+refusal_number refusals.BadLimits = 21
+refusal_number refusals.BadBandwidth = 22
+refusal_number refusals.Overload = 23
 
 abbrev pub refusal_word : Refusal → List ℕ
 refusal_word refusals.NoStream = codes "NoStream"
@@ -44,6 +48,10 @@ refusal_word refusals.ClockEnd = codes "ClockEnd"
 refusal_word refusals.AlreadyClosed = codes "AlreadyClosed"
 refusal_word refusals.Empty = codes "Empty"
 refusal_word refusals.Drained = codes "Drained"
+refusal_word refusals.TooManyStreams = codes "TooManyStreams"
+refusal_word refusals.BadLimits = codes "BadLimits"
+refusal_word refusals.BadBandwidth = codes "BadBandwidth"
+refusal_word refusals.Overload = codes "Overload"
 
 -- `refused N WORD`
 abbrev pub refused_line : Refusal → List ℕ
@@ -69,8 +77,10 @@ reply_line name (Finished number) = codes "finished " ++ decimal number
 reply_line name Ticked = codes "ticked"
 reply_line name Closing = codes "closing"
 reply_line name (Image image) = image_line image.samples
+reply_line name (Admitted stream) = codes "admitted " ++ decimal stream
 reply_line name (Refused refusal) = refused_line refusal
 reply_line name (GivenBack refusal frame) = refused_line refusal
+reply_line name (SpecBack refusal spec) = refused_line refusal
 
 -- `budget C deadline D`
 abbrev pub account_text : ℕ × ℕ → List ℕ

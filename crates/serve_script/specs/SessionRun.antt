@@ -1,5 +1,6 @@
 -- What the lines of a session script give after its `start`.
-use Rattle.std.specs.Prelude.{ℕ, ◌≡◌, Bool, not, false, ◌&&◌, nat_eq, nat_lt, List, [], length, codes}
+use Rattle.std.specs.Prelude.{ℕ, ◌≡◌, Bool, not, false, ◌&&◌, nat_eq, nat_lt, List, [], ◌∷◌, ◌++◌, length}
+use Rattle.std.specs.Prelude.{codes}
 use Rattle.std.specs.Prelude.{slice_get, slice_index_or, Option, Some, None, IsSomeAnd, MatchBool, Ok}
 use Rattle.std.specs.List.{position_or_len}
 use Rattle.std.specs.Option.{option_map_or}
@@ -9,8 +10,9 @@ use Rattle.filters.specs.ChainImage.{FrameValue}
 use Rattle.frame_view.specs.Places.{frame_len}
 use Rattle.frame_view.specs.declared.geometry.Geometry.{Geometry}
 use Rattle.y4m_header.specs.declared.chroma.Chroma.TheVariants.{Mono}
+use Rattle.serve_core.specs.Counts.{specs}
 use Rattle.serve_core.specs.Events as events
-use Rattle.serve_core.specs.Events.{Event, Leased, Reply, Then}
+use Rattle.serve_core.specs.Events.{Admitted, Event, Leased, Reply, Then}
 use Rattle.serve_core.specs.Frames.{is_image, measures}
 use Rattle.serve_core.specs.Rules.{IsLegal}
 use Rattle.serve_core.specs.Schedule.{account_of, counts_of}
@@ -20,8 +22,13 @@ use Rattle.serve_core.specs.declared.refusal.Refusal.TheVariants.{NoStream}
 use Rattle.serve_script.specs.ScriptFault as faults
 use Rattle.serve_script.specs.ScriptState.{Given, Prints, Faults, InSession, Session}
 use Rattle.serve_script.specs.SessionCommand.{RunForm, Arrive, Lease, Step, Settle, Tick, Close, Collect}
-use Rattle.serve_script.specs.SessionCommand.{State}
+use Rattle.serve_script.specs.SessionCommand.{Admit, State, StreamForm}
 use Rattle.serve_script.specs.SessionLine.{refused_line, reply_line, state_line}
+use Rattle.serve_script.specs.StreamLine.{LineGives}
+
+-- the streams of a session, by number: those of its setup, and behind them those that were admitted
+abbrev pub streams_in : Session → List StreamSpec
+streams_in session = specs session.setup session.past
 
 -- the number of the stream of this name; a name that no stream has stands for the number after the last one's
 abbrev pub stream_named : List (List ℕ) → List ℕ → ℕ
@@ -32,13 +39,38 @@ abbrev pub leased_name : List (List ℕ) → Reply FrameValue FrameValue → Lis
 leased_name names (Leased stream number grant) = slice_index_or names stream []
 leased_name names reply = []
 
--- an event gives the line of a reply that is right behind all that was asked and answered before
-abbrev pub EventGives : Session → Event FrameValue → Given → Type 0
-EventGives session event given =
+-- the line of a reply where the streams have these names
+abbrev pub answer_in : List (List ℕ) → Reply FrameValue FrameValue → List ℕ
+answer_in names reply = reply_line (leased_name names reply) reply
+
+-- an event gives the line of a reply that is right behind all that was asked and answered before; the streams
+-- then have these names
+abbrev pub ReplyGives :
+    Session → Event FrameValue → (Reply FrameValue FrameValue → List (List ℕ)) → Given → Type 0
+ReplyGives session event names_after given =
     (reply : Reply FrameValue FrameValue)
     × IsLegal measures is_image session.setup (Then session.past event reply)
-    × (given ≡ Prints (reply_line (leased_name session.names reply) reply)
-    (InSession (record session { past = Then session.past event reply })))
+    × (given ≡ Prints (answer_in (names_after reply) reply)
+    (InSession (record session { names = names_after reply; past = Then session.past event reply })))
+
+-- an event that asks for no stream leaves the names
+abbrev pub EventGives : Session → Event FrameValue → Given → Type 0
+EventGives session event given = ReplyGives session event (λ reply. session.names) given
+
+-- a stream that is admitted takes the name; else the name stays free
+abbrev pub names_with : List ℕ → List (List ℕ) → Reply FrameValue FrameValue → List (List ℕ)
+names_with name names (Admitted stream) = names ++ name ∷ []
+names_with name names reply = names
+
+-- one stream more is asked for
+abbrev pub SpecGives : Session → List ℕ → StreamSpec → Given → Type 0
+SpecGives session name spec given =
+    ReplyGives session (events.Admit spec) (names_with name session.names) given
+
+-- by a line
+abbrev pub AdmitGives : Session → StreamForm → Given → Type 0
+AdmitGives session form given =
+    LineGives session.names session.settings form (SpecGives session form.name) given
 
 -- so many samples fill a frame of the stream, if there is one
 abbrev pub fills : Option StreamSpec → ℕ → Bool
@@ -67,7 +99,7 @@ is_too_wide stream count = not (fills stream count) && nat_lt 16384 count
 abbrev pub ArrivalGives : Session → List ℕ → List ℕ → Given → Type 0
 ArrivalGives session name hex given =
     let number = stream_named session.names name in
-    let stream = slice_get session.setup.streams number in
+    let stream = slice_get (streams_in session) number in
     (samples : List ℕ) × (decode_of hex ≡ Ok samples)
     × MatchBool (is_too_wide stream (length samples)) (given ≡ Faults faults.BadLine)
     ((frame : FrameValue) × IsArrival stream samples frame
@@ -94,4 +126,5 @@ RunGives session (Close name) given =
     EventGives session (events.Close (stream_named session.names name)) given
 RunGives session (Collect name) given =
     EventGives session (events.Collect (stream_named session.names name)) given
+RunGives session (Admit form) given = AdmitGives session form given
 RunGives session (State name) given = StateGives session name given

@@ -35,6 +35,7 @@
 //! | `tick N` | `ticked` |
 //! | `close NAME` | `closing` |
 //! | `collect NAME` | `image HEX` |
+//! | `admit NAME Q T QUEUE OUTBOX OPS HEADER` | `admitted S` |
 //! | `state NAME` | `budget C deadline D accepted A finished F collected K charged U` |
 //!
 //! What the machine refuses prints `refused N WORD`, and the script goes on. The first fault prints

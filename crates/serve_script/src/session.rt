@@ -8,5 +8,7 @@ pub mod preparation;
 pub mod run_command;
 pub mod running;
 pub mod setup_command;
+pub mod stream_command;
+pub mod stream_settings;
 pub mod streams;
 pub mod word;

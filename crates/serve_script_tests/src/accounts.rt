@@ -39,8 +39,7 @@ fn expect_replay<R: Read + Drop>(
     whole: bool,
 ) {
     let (printed, outcome) = replay_into_memory(alloc, script);
-    assert_eq!(rt; outcome, Ok(whole));
-    assert_eq!(rt; str::from_utf8(&printed), Ok(lines));
+    assert_eq!(rt; (outcome, str::from_utf8(&printed)), (Ok(whole), Ok(lines)));
 }
 
 /// Replays a script that is held in memory, and compares what it prints and answers.
@@ -55,8 +54,8 @@ pub type Case<'a> = (&'a str, &'a str, bool);
 pub fn expect_each(rt: &impl Abort, alloc: Global, cases: &[Case<'_>]) {
     for (script, lines, whole) in cases {
         let (printed, outcome) = replay_into_memory(alloc, script.as_bytes());
-        assert_eq!(rt; (*script, outcome), (*script, Ok(*whole)));
-        assert_eq!(rt; (*script, str::from_utf8(&printed)), (*script, Ok(*lines)));
+        let told = (*script, outcome, str::from_utf8(&printed));
+        assert_eq!(rt; told, (*script, Ok(*whole), Ok(*lines)));
     }
 }
 

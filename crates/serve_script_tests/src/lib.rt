@@ -4,6 +4,8 @@
 #[cfg(test)]
 mod accounts;
 #[cfg(test)]
+mod admissions;
+#[cfg(test)]
 mod lines;
 #[cfg(test)]
 mod prefixes;

@@ -30,6 +30,7 @@ fn each_reply_has_its_line(rt: HostRuntime) -> Result<(), AllocError> {
         (Reply::Finished(7), "finished 7\n"),
         (Reply::Ticked, "ticked\n"),
         (Reply::Closing, "closing\n"),
+        (Reply::Admitted(63), "admitted 63\n"),
     ] {
         expect_line(&rt, rt.alloc(), &reply, line)?;
     }
@@ -53,6 +54,10 @@ const REFUSALS: &[(Refusal, &str)] = &[
     (Refusal::AlreadyClosed, "refused 14 AlreadyClosed\n"),
     (Refusal::Empty, "refused 15 Empty\n"),
     (Refusal::Drained, "refused 16 Drained\n"),
+    (Refusal::TooManyStreams, "refused 20 TooManyStreams\n"),
+    (Refusal::BadLimits, "refused 21 BadLimits\n"),
+    (Refusal::BadBandwidth, "refused 22 BadBandwidth\n"),
+    (Refusal::Overload, "refused 23 Overload\n"),
 ];
 
 #[test]

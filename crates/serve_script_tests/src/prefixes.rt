@@ -105,6 +105,14 @@ const SESSION: &[Line<'_>] = &[
     ("lease 0", "leased a 1 grant 1\n"),
     ("close a", "closing\n"),
     ("tick 11", "ticked\n"),
+    (
+        "admit b 1 4 1 1 vflip YUV4MPEG2 W1 H1 Cmono",
+        "admitted 1\n",
+    ),
+    (
+        "state b",
+        "budget 1 deadline 0 accepted 0 finished 0 collected 0 charged 0\n",
+    ),
 ];
 
 const SESSION_CUTS: &[Cut<'_>] = &[
@@ -140,6 +148,32 @@ const SESSION_CUTS: &[Cut<'_>] = &[
     ),
     ("tick ", Told::Fault("BadLine")),
     ("tick 1", Told::Answer("refused 12 Past\n")),
+    ("admit b 1 4 1 1 vflip", Told::Fault("BadLine")),
+    ("admit b 1 4 1 1 vflip YUV4MPEG", Told::Fault("NotY4m")),
+    (
+        "admit b 1 4 1 1 vflip YUV4MPEG2 ",
+        Told::Fault("MissingSize"),
+    ),
+    (
+        "admit b 1 4 1 1 vflip YUV4MPEG2 W",
+        Told::Fault("BadNumber"),
+    ),
+    (
+        "admit b 1 4 1 1 vflip YUV4MPEG2 W1 ",
+        Told::Fault("MissingSize"),
+    ),
+    (
+        "admit b 1 4 1 1 vflip YUV4MPEG2 W1 H",
+        Told::Fault("BadNumber"),
+    ),
+    (
+        "admit b 1 4 1 1 vflip YUV4MPEG2 W1 H1 ",
+        Told::Fault("NotDivisible"),
+    ),
+    (
+        "admit b 1 4 1 1 vflip YUV4MPEG2 W1 H1 Cmon",
+        Told::Fault("UnknownChroma"),
+    ),
 ];
 
 const ACCOUNT: &[Line<'_>] = &[

@@ -1,6 +1,7 @@
 use crate::accounts::{Case, expect_each, expect_lines};
 use serve_script::{ReplayFault, replay};
 use std::alloc::{AllocError, Global};
+use std::process::Abort;
 use std::str;
 use std::test::Fail;
 use y4m_stream::{OverRead, OverWrite};
@@ -371,12 +372,51 @@ fn many_samples_are_a_frame_of_their_stream_alone(rt: HostRuntime) -> Result<(),
     Ok(())
 }
 
+/// A stream is admitted, from its first frame until it is drained.
+const ADMITTED: Case<'_> = (
+    "stream a 1 4 1 4 invert YUV4MPEG2 W1 H1 Cmono\n\
+     start\n\
+     admit b 1 4 1 4 invert+hflip YUV4MPEG2 W2 H1 Cmono\n\
+     arrive b 0001\n\
+     close b\n\
+     lease 0\n\
+     band 0\n\
+     settle 0\n\
+     lease 0\n\
+     band 0\n\
+     settle 0\n\
+     collect b\n\
+     collect b\n",
+    "stream 0\n\
+     started\n\
+     admitted 1\n\
+     accepted 0\n\
+     closing\n\
+     leased b 0 grant 1\n\
+     stepped\n\
+     returned\n\
+     leased b 0 grant 1\n\
+     stepped\n\
+     finished 0\n\
+     image FEFF\n\
+     refused 16 Drained\n",
+    true,
+);
+
 #[test]
 fn a_session_that_lacks_memory_says_so(rt: HostRuntime) -> Result<(), Fail> {
-    let (script, lines, _) = DRAINED;
+    for script in [DRAINED, ADMITTED] {
+        expect_said(&rt, rt.alloc(), script)?;
+    }
+    Ok(())
+}
+
+/// Replays a script of at most 512 bytes of lines. Where a growth is refused, the script says so.
+fn expect_said(rt: &impl Abort, alloc: Global, case: Case<'_>) -> Result<(), Fail> {
+    let (script, lines, _) = case;
     let mut room = [0; 512];
     let output = OverWrite::new(room.as_mut_slice());
-    let (output, outcome) = replay(rt.alloc(), OverRead::new(script.as_bytes()), output);
+    let (output, outcome) = replay(alloc, OverRead::new(script.as_bytes()), output);
     let left = output.into_inner().len();
     let printed = str::from_utf8(&room[..512 - left.min(512)])?;
     let is_refused = printed.contains("refused 6 NoMemory\n");

@@ -182,6 +182,14 @@ const BEHIND: &[(&str, &[&str], &str, bool)] = &[
             "quantum 2",
             "frames 2",
             "stream b 1 4 4 4 invert YUV4MPEG2 W1 H1 Cmono",
+            "admit",
+            "admit ",
+            "admit b 1 4 4 4 invert",
+            "admit b 1 4 4 4  YUV4MPEG2 W1 H1 Cmono",
+            "admit  1 4 4 4 invert YUV4MPEG2 W1 H1 Cmono",
+            "admit b/c 1 4 4 4 invert YUV4MPEG2 W1 H1 Cmono",
+            "admit b 1 4 4 12345678901234567890 invert YUV4MPEG2 W1 H1 Cmono",
+            " admit b 1 4 4 4 invert YUV4MPEG2 W1 H1 Cmono",
             "account 1 3",
             "idle 0",
             "charge 0",
@@ -273,28 +281,32 @@ const STREAM_LINES: &[(&str, &str, &str)] = &[
     ("b 5 4 4 4", "crop:1,0,2,2 YUV4MPEG2 W4 H2", "BadCrop"),
 ];
 
+/// Where a second stream is asked for behind one of the name `a`: the lines before, the command, what they
+/// print, and the number of its line. Its bands have 2 rows.
+const SECOND: &[(&str, &str, &str, usize)] = &[
+    (
+        "stream a 1 4 4 4 invert YUV4MPEG2 W1 H1 Cmono\nband 2\n",
+        "stream",
+        "stream 0\nok\n",
+        3,
+    ),
+    (
+        "stream a 1 4 4 4 invert YUV4MPEG2 W1 H1 Cmono\nband 2\nstart\n",
+        "admit",
+        "stream 0\nok\nstarted\n",
+        4,
+    ),
+];
+
 #[test]
 fn a_streams_line_has_one_fault_and_is_read_from_its_front(rt: HostRuntime) -> Result<(), Fail> {
-    for (numbers, words, word) in STREAM_LINES {
-        expect_stream_fault(&rt, rt.alloc(), numbers, words, word)?;
+    let alloc = rt.alloc();
+    for (front, command, lines, line) in SECOND {
+        for (numbers, words, word) in STREAM_LINES {
+            let script = format!(in alloc; "{front}{command} {numbers} {words}")?;
+            let lines = format!(in alloc; "{lines}line {line}: {word}\n")?;
+            expect_lines(&rt, alloc, script.as_bytes(), lines.as_str(), false);
+        }
     }
-    Ok(())
-}
-
-/// A second stream of these words stops a script whose first one has the name `a`. Its bands have 2 rows.
-fn expect_stream_fault(
-    rt: &impl Abort,
-    alloc: Global,
-    numbers: &str,
-    words: &str,
-    word: &str,
-) -> Result<(), Fail> {
-    let mut script = Vec::new(alloc);
-    script.extend_from_slice(b"band 2\nstream a 1 4 4 4 invert YUV4MPEG2 W1 H1 Cmono\nstream")?;
-    for text in [" ", numbers, " ", words] {
-        script.extend_from_slice(text.as_bytes())?;
-    }
-    let lines = format!(in alloc; "ok\nstream 0\nline 3: {word}\n")?;
-    expect_lines(rt, alloc, &script, lines.as_str(), false);
     Ok(())
 }

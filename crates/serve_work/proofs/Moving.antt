@@ -396,6 +396,10 @@ refused_core cores.GrantSpent old new writer p same = absurd p
 refused_core cores.Past old new writer p same = absurd p
 refused_core cores.ClockEnd old new writer p same = absurd p
 refused_core cores.AlreadyClosed old new writer p same = absurd p
+refused_core cores.TooManyStreams old new writer p same = absurd p
+refused_core cores.BadLimits old new writer p same = absurd p
+refused_core cores.BadBandwidth old new writer p same = absurd p
+refused_core cores.Overload old new writer p same = absurd p
 refused_core cores.Empty old new writer p same = nothing_torn old new writer
 refused_core cores.Drained old new writer p same = record {
   moved = Moves-none old new writer writer same refl;
@@ -515,6 +519,10 @@ offer_core cores.ClockEnd frame at seat p not = (λ is. absurd (cc), refl)
 offer_core cores.AlreadyClosed frame at seat p not = absurd p
 offer_core cores.Empty frame at seat p not = absurd p
 offer_core cores.Drained frame at seat p not = absurd p
+offer_core cores.TooManyStreams frame at seat p not = absurd p
+offer_core cores.BadLimits frame at seat p not = absurd p
+offer_core cores.BadBandwidth frame at seat p not = absurd p
+offer_core cores.Overload frame at seat p not = absurd p
 
 pub offer_refused : (e : Refusal) (frame : Frame) (at : ℕ) (seat : StreamSeatValue) → IsTold (AllowsOffer seat at frame.geometry) e
     → e ≢ hub.Core cores.Full → IsOffered (offered.Stopped (stop_of e)) frame seat seat

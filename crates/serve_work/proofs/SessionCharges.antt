@@ -12,9 +12,9 @@ use Rattle.serve_core.specs.Lanes.{Lane}
 use Rattle.serve_core.specs.Schedule.{HasLane, ScheduleValue, counts_of}
 use Rattle.serve_core.specs.Setup.{StreamSpec}
 use Rattle.serve_hub.specs.declared.entry.Act.{Act}
-use Rattle.serve_hub.specs.declared.entry.Act.TheVariants.{Closed, Collected, Leased, Offered, Settled}
-use Rattle.serve_hub.specs.Ends.{AreLanes, IsCharged, IsLaneOf, one_collection}
-use Rattle.serve_hub.specs.Seats.{StreamSeatValue, opened_streams}
+use Rattle.serve_hub.specs.declared.entry.Act.TheVariants.{Admitted, Closed, Collected, Leased, Offered, Settled}
+use Rattle.serve_hub.specs.Ends.{AreLanes, IsCharged, IsLaneOf}
+use Rattle.serve_hub.specs.Seats.{StreamSeatValue, one_collection, opened_streams}
 use Rattle.serve_work.specs.Clients.{ClientEnds, ClientOutcome, ClientStart, collections_in}
 use Rattle.serve_work.specs.Sessions.{AreServed, IsServed, ServedValue, starts_of}
 use Rattle.serve_work.specs.SessionInside.{AllLeave, ClientLeft}
@@ -42,6 +42,7 @@ collections_counted : (calls : List Act) → collections_in calls ≡ sum_by one
 collections_counted [] = refl
 collections_counted (Offered tick number ∷ calls) = collections_counted calls
 collections_counted (Closed ∷ calls) = collections_counted calls
+collections_counted (Admitted ∷ calls) = collections_counted calls
 collections_counted (Leased stream number grant ∷ calls) = collections_counted calls
 collections_counted (Settled bands finished ∷ calls) = collections_counted calls
 collections_counted (Collected number ∷ calls) =

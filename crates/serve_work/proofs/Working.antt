@@ -2,7 +2,7 @@
 use Rattle.std.proofs.Common.{◌≡◌, ℕ, Bool, true, List, [], ◌∷◌, ◌++◌, Option, Some, None, MatchOption, refl, ap, ◌∙◌, append_assoc, inl, inr}
 use Rattle.lease.specs.Lease.{LeaseValue}
 use Rattle.serve_hub.specs.declared.entry.Act.{Act}
-use Rattle.serve_hub.specs.declared.entry.Act.TheVariants.{Closed, Collected, Leased, Offered, Settled}
+use Rattle.serve_hub.specs.declared.entry.Act.TheVariants.{Admitted, Closed, Collected, Leased, Offered, Settled}
 use Rattle.serve_hub.specs.declared.refusal.Came.TheVariants as came
 use Rattle.serve_hub.specs.declared.refusal.Refusal.{Refusal}
 use Rattle.serve_hub.specs.declared.refusal.Refusal.TheVariants.{Core, HistoryFull, StrayLease, Torn}
@@ -20,10 +20,12 @@ spent_then (Leased a b c ∷ Leased x y z ∷ calls) stream seq grant bands fini
 spent_then (Leased a b c ∷ Offered x y ∷ calls) stream seq grant bands finished p e = absurd p
 spent_then (Leased a b c ∷ Collected x ∷ calls) stream seq grant bands finished p e = absurd p
 spent_then (Leased a b c ∷ Closed ∷ calls) stream seq grant bands finished p e = absurd p
+spent_then (Leased a b c ∷ Admitted ∷ calls) stream seq grant bands finished p e = absurd p
 spent_then (Settled x y ∷ calls) stream seq grant bands finished p e = absurd p
 spent_then (Offered x y ∷ calls) stream seq grant bands finished p e = absurd p
 spent_then (Collected x ∷ calls) stream seq grant bands finished p e = absurd p
 spent_then (Closed ∷ calls) stream seq grant bands finished p e = absurd p
+spent_then (Admitted ∷ calls) stream seq grant bands finished p e = absurd p
 
 adding_more : (a b : List Act) (seat : WorkSeatValue) → adding b (adding a seat) ≡ adding (a ++ b) seat
 adding_more a b seat =

@@ -14,10 +14,9 @@ use crate::feeding::feed;
 use crate::gate::Clock;
 use crate::stop::{Cause, Stop};
 use filters::FilterError;
-use serve_hub::{Hub, StreamSeat};
+use serve_hub::{Epoch, Hub, StreamSeat};
 use std::alloc::Global;
 use std::sync::Wait;
-use std::sync::ledger::Ledger;
 use y4m_header::Header;
 use y4m_stream::reader::Phase;
 use y4m_stream::{
@@ -27,7 +26,7 @@ use y4m_stream::{
 /// What a client leaves: its seat, which is closed and keeps no frame where all went well, its source without
 /// the bytes that were read ahead, and its writer, which is flushed unless it failed or nothing was written.
 #[derive(Drop)]
-pub struct ClientEnd<L: Ledger, R: Source, W: Sink> {
+pub struct ClientEnd<L: Epoch, R: Source, W: Sink> {
     pub seat: StreamSeat<L>,
     pub source: R,
     pub writer: W,
@@ -40,7 +39,7 @@ pub struct ClientEnd<L: Ledger, R: Source, W: Sink> {
 }
 
 /// Feeds the seat and drains it, and answers the first fault.
-fn serve<L: Ledger, R: Source + Drop, W: Sink, K: Clock, T: Wait>(
+fn serve<L: Epoch, R: Source + Drop, W: Sink, K: Clock, T: Wait>(
     rt: &T,
     alloc: Global,
     hub: &Hub<L>,
@@ -84,7 +83,7 @@ fn flushed(stop: Stop, flush: Result<(), WriteFault>) -> Stop
 }
 
 /// Where nothing was written, or not all of the header line: the stream is closed, and nothing is offered.
-fn unopened<L: Ledger, R: Source + Drop, W: Sink, T: Wait>(
+fn unopened<L: Epoch, R: Source + Drop, W: Sink, T: Wait>(
     rt: &T,
     hub: &Hub<L>,
     mut seat: StreamSeat<L>,
@@ -113,7 +112,7 @@ fn unopened<L: Ledger, R: Source + Drop, W: Sink, T: Wait>(
 
 /// What is taken before anything is written: the header of the images where they have another size, and the
 /// places for the memory that is used again.
-fn prepare<L: Ledger>(
+fn prepare<L: Epoch>(
     alloc: Global,
     seat: &StreamSeat<L>,
     header: &Header,
@@ -129,7 +128,7 @@ fn prepare<L: Ledger>(
 }
 
 /// Serves a stream whose header line was written.
-fn run<L: Ledger, R: Source + Drop, W: Sink, K: Clock, T: Wait>(
+fn run<L: Epoch, R: Source + Drop, W: Sink, K: Clock, T: Wait>(
     rt: &T,
     alloc: Global,
     hub: &Hub<L>,
@@ -193,7 +192,7 @@ fn run<L: Ledger, R: Source + Drop, W: Sink, K: Clock, T: Wait>(
 /// images that are left. After a fault of the writer, or an answer that contradicts the seat, these are
 /// thrown away, and nothing more is written. Once a stream runs, frames and images have the memory of those
 /// before them.
-pub fn client<L: Ledger, R: Source + Drop, W: Sink, K: Clock, T: Wait>(
+pub fn client<L: Epoch, R: Source + Drop, W: Sink, K: Clock, T: Wait>(
     rt: &T,
     alloc: Global,
     hub: &Hub<L>,

@@ -11,13 +11,12 @@ ghost use Rattle.serve_work.specs.ClientInside.{TalliesSeat};
 
 use crate::stop::Stop;
 use serve_core::Collected;
-use serve_hub::{Hub, Refusal, StreamSeat};
+use serve_hub::{Epoch, Hub, Refusal, StreamSeat};
 use std::sync::Wait;
-use std::sync::ledger::Ledger;
 use y4m_stream::{Sink, StreamWriter};
 
 /// Collects an image and writes it. It answers `Whole` where nothing is left to collect.
-pub(crate) fn deliver<L: Ledger, W: Sink, T: Wait>(
+pub(crate) fn deliver<L: Epoch, W: Sink, T: Wait>(
     rt: &T,
     hub: &Hub<L>,
     seat: &mut StreamSeat<L>,
@@ -44,7 +43,7 @@ pub(crate) fn deliver<L: Ledger, W: Sink, T: Wait>(
 }
 
 /// Collects and writes until nothing is left, or that fails.
-pub(crate) fn drain<L: Ledger, W: Sink, T: Wait>(
+pub(crate) fn drain<L: Epoch, W: Sink, T: Wait>(
     rt: &T,
     hub: &Hub<L>,
     seat: &mut StreamSeat<L>,
@@ -69,7 +68,7 @@ pub(crate) fn drain<L: Ledger, W: Sink, T: Wait>(
 }
 
 /// Collects and throws away until that is refused, where no image is to be written any more.
-pub(crate) fn discard<L: Ledger, T: Wait>(rt: &T, hub: &Hub<L>, seat: &mut StreamSeat<L>)
+pub(crate) fn discard<L: Epoch, T: Wait>(rt: &T, hub: &Hub<L>, seat: &mut StreamSeat<L>)
     ensures tally { TalliesSeat seat.old seat.new }
     ensures kept { GivesUp seat.old seat.new }
 {

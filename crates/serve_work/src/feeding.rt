@@ -16,9 +16,8 @@ use crate::gate::Clock;
 use crate::stop::{Cause, Stop};
 use frame_view::Frame;
 use serve_core::Refusal as Core;
-use serve_hub::{Hub, OfferRefused, OverRefused, Refusal, StreamSeat};
+use serve_hub::{Epoch, Hub, OfferRefused, OverRefused, Refusal, StreamSeat};
 use std::alloc::Global;
-use std::sync::ledger::Ledger;
 use std::sync::{Arc, Wait};
 use y4m_stream::reader::Phase;
 use y4m_stream::{Sink, Source, StreamReader, StreamWriter};
@@ -88,7 +87,7 @@ fn read_into<R: Source + Drop>(
 
 /// New memory for the image of a frame, where it is granted.
 #[tactic(auto, using(filters::proofs::ChainImages::is_frame_line))]
-fn new_image<L: Ledger>(alloc: Global, seat: &StreamSeat<L>, frame: &Frame) -> Option<Frame>
+fn new_image<L: Epoch>(alloc: Global, seat: &StreamSeat<L>, frame: &Frame) -> Option<Frame>
     ensures { IfSome result (IsImageOf seat.now.chain) }
 {
     Frame::blank(alloc, seat.spec().chain().out_geometry(), frame.line()).ok()
@@ -96,7 +95,7 @@ fn new_image<L: Ledger>(alloc: Global, seat: &StreamSeat<L>, frame: &Frame) -> O
 
 /// Offers a frame once, over the memory of an image if one is at hand, else over new memory, so that none is
 /// lost where the queue is full.
-fn offer_once<L: Ledger, T: Wait>(
+fn offer_once<L: Epoch, T: Wait>(
     rt: &T,
     alloc: Global,
     hub: &Hub<L>,
@@ -146,7 +145,7 @@ fn refused(refusal: Refusal, frame: Arc<Frame>, image: Option<Frame>) -> Offered
 }
 
 /// Offers a frame until it is accepted; while the queue is full it collects and writes.
-fn accept<L: Ledger, W: Sink, K: Clock, T: Wait>(
+fn accept<L: Epoch, W: Sink, K: Clock, T: Wait>(
     rt: &T,
     alloc: Global,
     hub: &Hub<L>,
@@ -187,7 +186,7 @@ fn accept<L: Ledger, W: Sink, K: Clock, T: Wait>(
 }
 
 /// Reads and offers frames until that fails, or the input ends.
-pub(crate) fn feed<L: Ledger, R: Source + Drop, W: Sink, K: Clock, T: Wait>(
+pub(crate) fn feed<L: Epoch, R: Source + Drop, W: Sink, K: Clock, T: Wait>(
     rt: &T,
     alloc: Global,
     hub: &Hub<L>,

@@ -1,6 +1,6 @@
 //! A session: streams that clients serve, each by a thread, and workers beside them.
 ghost use Rattle.std.specs.Prelude.{◌≡◌, ◌<◌, ◌^◌, ◌↔◌, ℕ, ⊤, IfOk, IsErrOf, length, map, vec_len};
-ghost use Rattle.serve_core.specs.Schedule.{HasLane};
+ghost use Rattle.serve_core.specs.Schedule.{HasLane, opened_schedule};
 ghost use Rattle.serve_hub.specs.Books.{IsLimit};
 ghost use Rattle.serve_hub.specs.Seats.{opened_streams};
 ghost use Rattle.serve_work.specs.SessionInside.{AreTold};
@@ -14,11 +14,11 @@ use crate::gate::{Clock, Gate};
 use crate::stop::Stop;
 use finished::Places;
 use serve_core::Setup;
-use serve_hub::{Ended, Hub, HubError};
+use serve_hub::{Ended, Epoch, Hub, HubError};
 use std::alloc::{AllocError, Global};
 use std::marker::Brand;
 use std::sync::Wait;
-use std::sync::ledger::{Blank, Ledger};
+use std::sync::ledger::Blank;
 use std::thread::Threads;
 use thiserror::Error;
 use threads::run_threads;
@@ -110,7 +110,7 @@ pub fn serve_session<
 
 /// The same, with the ledger's name.
 fn serve_named<
-    L: Ledger + Send + Sync,
+    L: Epoch + Send + Sync,
     R: Source + Drop + Send,
     W: Sink + Drop + Send,
     G: Gate + Sync,
@@ -129,6 +129,7 @@ fn serve_named<
     requires name { blank.name ≡ L.name }
     requires parts { blank.parts ≡ L.parts }
     requires enough { blank.parts ≡ 80 }
+    requires opening { opened_schedule setup ≡ L.opening }
     requires inputs { AreInputs setup.streams inputs.items }
     ensures streams { IfOk result (λ served. AreServed
         (starts_of W.contents W.failures (opened_streams limit 0 setup.streams) inputs.items)
@@ -151,10 +152,10 @@ fn serve_named<
 /// Tells what each stream was charged.
 fn charge<R: Source, W: Sink>(ended: &Ended, served: &mut Vec<Served<R, W>>)
     requires few { vec_len served.old < 2 ^ 32 }
-    requires lanes { (n : ℕ) → n < vec_len served.old → HasLane ended.now.desk n (λ _. ⊤) }
+    requires lanes { (n : ℕ) → n < vec_len served.old → HasLane ended.now.book.desk n (λ _. ⊤) }
     ensures outcomes { map (outcome_of R.remaining R.failures W.contents W.failures W.is_flushed) served.new.items
         ≡ map (outcome_of R.remaining R.failures W.contents W.failures W.is_flushed) served.old.items }
-    ensures told { AreTold ended.now.desk (vec_len served.new) served.new.items }
+    ensures told { AreTold ended.now.book.desk (vec_len served.new) served.new.items }
 {
     for n in 0..served.len() {
         let Some(counts) = ended.counts(n as u32) else {

@@ -4,9 +4,8 @@ ghost use Rattle.serve_work.specs.Workers.{Works};
 
 use crate::gate::Gate;
 use lease::Lease;
-use serve_hub::{Hub, LeaseRefused, Refusal, WorkSeat};
+use serve_hub::{Epoch, Hub, LeaseRefused, Refusal, WorkSeat};
 use std::sync::Wait;
-use std::sync::ledger::Ledger;
 use std::thread::Threads;
 
 /// Does the next band of a lease, by two threads where the gate says so.
@@ -50,7 +49,7 @@ fn given_up(refused: LeaseRefused) -> Refusal
 ///
 /// Before each band it tells the gate. It holds no lock while it filters. A lease whose settlement is refused
 /// is given up, with its job.
-pub fn work<L: Ledger, G: Gate + Sync, T: Threads + Wait>(
+pub fn work<L: Epoch, G: Gate + Sync, T: Threads + Wait>(
     rt: &T,
     hub: &Hub<L>,
     seat: WorkSeat<L>,

@@ -3,6 +3,7 @@
 //! Contracts see a [`FrameQueue`] as the numbered list of `specs/Queue.antt`.
 #![tactic(auto)]
 
+pub mod limits;
 pub mod queue;
 
 pub use queue::{AlreadyClosed, FrameQueue, Refused};

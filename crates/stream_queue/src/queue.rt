@@ -1,9 +1,10 @@
 //! A queue whose front item may be out, and keeps its number and its place until it has finished.
-ghost use Rattle.std.specs.Prelude.{◌≡◌, ◌≤◌, ◌<◌, ◌^◌, ◌↔◌, true, IsTrue, IsFalse, IsOk, IfOk, OnOk, OnErr};
+ghost use Rattle.std.specs.Prelude.{◌≡◌, ◌≤◌, ◌<◌, ◌↔◌, true, IsTrue, IsFalse, IsOk, IfOk, OnOk, OnErr};
 ghost use Rattle.std.specs.Prelude.{IsErrOf, IfSome, OnSome, IfNone, IsNone, [], ◌∷◌, option_copied};
 ghost use Rattle.stream_queue.specs.Queue.{HasRoom, IsFull, IsSound, front, opened, with_front};
 ghost use Rattle.stream_queue.specs.Queue.{with_front_out, with_last, with_one_finished};
 
+use crate::limits::{MOST_ITEMS, MOST_PLACES};
 use circular_buffer::HeapCircularBuffer;
 use std::alloc::{AllocError, Global};
 use std::marker::Model;
@@ -68,7 +69,7 @@ impl<T> Model for FrameQueue<T> {
 impl<T> FrameQueue<T> {
     /// A queue with places for `capacity` items.
     pub fn new(alloc: Global, capacity: usize) -> Result<FrameQueue<T>, AllocError>
-        requires { (1 ≤ capacity) × (capacity ≤ 256) }
+        requires { (1 ≤ capacity) × (capacity ≤ MOST_PLACES) }
         ensures { IfOk result (λ q. q ≡ opened capacity) }
     {
         let ring = HeapCircularBuffer::with_capacity(alloc, capacity)?;
@@ -83,7 +84,7 @@ impl<T> FrameQueue<T> {
 
     /// Accepts an item behind all others, and answers its number. A refused item comes back.
     pub fn offer(&mut self, item: T) -> Result<u64, Refused<T>>
-        requires { self.old.accepted < 2 ^ 40 }
+        requires { self.old.accepted < MOST_ITEMS }
         ensures closed { IsErrOf result (Refused.Closed item) ↔ IsTrue self.old.is_closed }
         ensures full { IsErrOf result (Refused.Full item) ↔ (IsFalse self.old.is_closed × IsFull self.old) }
         ensures accepted { IsOk result ↔ (IsFalse self.old.is_closed × HasRoom self.old) }

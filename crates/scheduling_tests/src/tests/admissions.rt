@@ -58,6 +58,15 @@ fn servers_are_admitted_by_their_shares(rt: HostRuntime) {
 }
 
 #[test]
+fn a_released_share_is_left_again(rt: HostRuntime) {
+    let mut admission = Admission::new(1);
+    assert!(rt; admission.admit(1, 1).is_ok());
+    assert!(rt; admission.admit(1, 2) == OVERLOAD);
+    admission.release(1, 1);
+    assert!(rt; admission.admit(1, 2).is_ok());
+}
+
+#[test]
 fn refusals_have_their_names(rt: HostRuntime) -> Result<(), AllocError> {
     prints(
         &rt,

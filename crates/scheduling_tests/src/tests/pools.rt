@@ -66,6 +66,16 @@ fn one_stream_is_a_pool(rt: HostRuntime) -> Result<(), AllocError> {
 }
 
 #[test]
+fn a_pool_grows_behind_its_streams(rt: HostRuntime) -> Result<(), AllocError> {
+    let mut pool = Pool::new(rt.alloc(), 1)?;
+    assert!(rt; set(&mut pool, 1, 0, Some(5)) == Some(0));
+    pool.grow();
+    assert!(rt; pool.earliest() == Some(0));
+    assert!(rt; set(&mut pool, 2, 1, Some(4)) == Some(1));
+    Ok(())
+}
+
+#[test]
 fn the_count_takes_no_bytes(rt: HostRuntime) {
     assert!(rt; size_of::<Compares>() == 0);
 }

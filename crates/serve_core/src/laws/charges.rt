@@ -3,7 +3,7 @@ ghost use Rattle.serve_core.specs.AtOnce.{AtOnceLaw, LentLaw, SettledLaw, StillL
 ghost use Rattle.serve_core.specs.Bare.{measures_any, is_any_image};
 ghost use Rattle.serve_core.specs.Frames.{measures, is_image};
 ghost use Rattle.serve_core.specs.Grants.{GrantLaw};
-ghost use Rattle.serve_core.specs.Laws.{ChargeLaw, DelayLaw, DemandLaw};
+ghost use Rattle.serve_core.specs.Laws.{ChargeLaw, DelayLaw, DemandLaw, WholeDemandLaw};
 
 use cbs_account::bandwidth;
 
@@ -27,12 +27,24 @@ pub fn delay_law()
     bandwidth();
 }
 
-/// What the streams were charged whose deadline is at most a moment is no more than the workers can do by
-/// then.
+/// What the streams were charged whose deadline is at most a moment, but for those that are released, is no
+/// more than the workers can do by then.
 pub fn demand_law()
     ensures of_frames { DemandLaw measures is_image }
     ensures bare { DemandLaw measures_any is_any_image }
 {}
+
+/// What all the streams that there ever were were charged, and whose deadline is at most a moment, is no more
+/// than the workers can do by then.
+///
+/// A stream that is admitted finds only the time behind the deadlines of those whose share it takes over: this
+/// is why a share is held up to its stream's deadline.
+pub fn whole_demand_law()
+    ensures of_frames { WholeDemandLaw measures is_image }
+    ensures bare { WholeDemandLaw measures_any is_any_image }
+{
+    bandwidth();
+}
 
 /// Bands that are charged one by one lead to where their sum leads at once.
 pub fn at_once_law()

@@ -2,6 +2,7 @@
 ghost use Rattle.serve_core.specs.Bare.{BareFromLaw, BareLaw, measures_any, is_any_image};
 ghost use Rattle.serve_core.specs.Frames.{measures, is_image};
 ghost use Rattle.serve_core.specs.Leads.{GoingOnLaw, JoinLaw, OpeningLaw, StepLaw};
+ghost use Rattle.serve_core.specs.Reached.{FewLaw, OverJoinLaw, OverLaw, ReachedLaw};
 
 /// One more event with a right reply leads a legal transcript on to another, whose state is what the event
 /// makes of the state before.
@@ -35,4 +36,14 @@ pub fn join_law()
 pub fn bare_law()
     ensures of_setup { BareLaw measures is_image }
     ensures from { BareFromLaw measures is_image }
+{}
+
+/// From a state that a legal transcript of a setup leads to, a transcript leads to another exactly where
+/// behind each such transcript it is legal and leads there. Then that state is reached too, and what leads on
+/// from it is joined.
+pub fn reached_law()
+    ensures over { OverLaw measures_any is_any_image }
+    ensures reached { ReachedLaw measures_any is_any_image }
+    ensures joined { OverJoinLaw measures_any is_any_image }
+    ensures few { FewLaw measures_any is_any_image }
 {}

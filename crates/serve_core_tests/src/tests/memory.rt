@@ -1,10 +1,13 @@
-//! Arrivals whose memory may be refused. Each of these tests holds whichever growths are refused.
+//! Arrivals and admissions whose memory may be refused. Each of these tests holds whichever growths are
+//! refused.
 use super::Asked::{Arrive, Band, Close, Collect, Lease, Settle};
 use super::Line::{self, Asks};
 use super::Size::Dot;
 use super::Told::{Accepted, Closing, Finished, GivenBack, Image, Leased, Refused, Stepped};
-use super::{LINE, PLAIN, Plan, Served, are_told, frame_of, replies_to, setup_of, state_of};
-use serve_core::{Event, Machine, Refusal, Reply};
+use super::{
+    LINE, PLAIN, Plan, Served, are_told, frame_of, replies_to, setup_of, spec_of, state_of,
+};
+use serve_core::{Desk, Event, Machine, Newcomer, Refusal, Reply};
 use std::test::Fail;
 
 /// One place for a frame.
@@ -118,5 +121,71 @@ fn a_frame_without_memory_leaves_the_machine(rt: HostRuntime) -> Result<(), Fail
         _ => assert!(rt; false, "another answer"),
     }
     assert_eq!(rt; machine.clock(), 7);
+    Ok(())
+}
+
+/// The stream is there with its share, or the spec comes back and another has its place.
+#[test]
+fn a_stream_without_memory_leaves_the_machine(rt: HostRuntime) -> Result<(), Fail> {
+    let alloc = rt.alloc();
+    let mut machine = Machine::new(alloc, setup_of(alloc, &NARROW)?)?;
+    let spec = spec_of(alloc, &PLAIN)?;
+    let _ticked = machine.step(alloc, Event::Tick(7));
+    let state = state_of(&machine, 0);
+    match machine.step(alloc, Event::Admit(spec)) {
+        Reply::Admitted(s) => {
+            assert_eq!(rt; s, 1);
+            assert_eq!(rt; state_of(&machine, 1), Some([2, 0, 0, 0, 0, 0]));
+        }
+        Reply::SpecBack(Refusal::NoMemory, spec) => {
+            assert_eq!(rt; (spec.queue(), spec.outbox()), (4, 4));
+            assert_eq!(rt; state_of(&machine, 1), None);
+        }
+        _ => assert!(rt; false, "another answer"),
+    }
+    assert_eq!(rt; (machine.clock(), state_of(&machine, 0)), (7, state));
+    Ok(())
+}
+
+/// So it is at a desk.
+#[test]
+fn a_stream_without_memory_leaves_the_desk(rt: HostRuntime) -> Result<(), Fail> {
+    let alloc = rt.alloc();
+    let mut desk = Desk::new(alloc, setup_of(alloc, &NARROW)?)?;
+    match desk.admit(alloc, spec_of(alloc, &PLAIN)?) {
+        Ok(s) => assert_eq!(rt; (s, desk.streams(), desk.account(1)), (1, 2, Some((2, 0)))),
+        Err((refusal, spec)) => {
+            assert_eq!(rt; refusal, Refusal::NoMemory);
+            assert_eq!(rt; (spec.queue(), spec.outbox()), (4, 4));
+            assert_eq!(rt; (desk.streams(), desk.account(1)), (1, None));
+            assert_eq!(rt; desk.admit_refusal(&spec), None);
+        }
+    }
+    assert_eq!(rt; (desk.clock(), desk.account(0)), (0, Some((1, 0))));
+    Ok(())
+}
+
+/// The memory of a stream is there before the desk is asked, but for its place.
+#[test]
+fn a_newcomer_without_a_place_leaves_the_desk(rt: HostRuntime) -> Result<(), Fail> {
+    let alloc = rt.alloc();
+    let mut desk = Desk::new(alloc, setup_of(alloc, &NARROW)?)?;
+    let newcomer = match Newcomer::new(alloc, spec_of(alloc, &PLAIN)?) {
+        Ok(newcomer) => newcomer,
+        Err((refusal, spec)) => {
+            assert_eq!(rt;
+                (refusal, spec.queue(), spec.outbox()),
+                (Refusal::NoMemory, 4, 4)
+            );
+            return Ok(());
+        }
+    };
+    match desk.admit_newcomer(newcomer) {
+        Ok(s) => assert_eq!(rt; (s, desk.streams(), desk.account(1)), (1, 2, Some((2, 0)))),
+        Err((refusal, newcomer)) => {
+            assert_eq!(rt; (refusal, newcomer.spec().queue()), (Refusal::NoMemory, 4));
+            assert_eq!(rt; (desk.streams(), desk.account(1)), (1, None));
+        }
+    }
     Ok(())
 }

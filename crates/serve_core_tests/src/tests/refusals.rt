@@ -131,6 +131,10 @@ const REFUSALS: &[(Refusal, &str)] = &[
     (Refusal::AlreadyClosed, "AlreadyClosed"),
     (Refusal::Empty, "Empty"),
     (Refusal::Drained, "Drained"),
+    (Refusal::TooManyStreams, "TooManyStreams"),
+    (Refusal::BadLimits, "BadLimits"),
+    (Refusal::BadBandwidth, "BadBandwidth"),
+    (Refusal::Overload, "Overload"),
 ];
 
 const SETUP_ERRORS: &[(SetupError, &str)] = &[

@@ -13,10 +13,10 @@ ghost use Rattle.serve_hub.specs.Books.{Appends, IsOut, with_units};
 
 use super::Book;
 use crate::entry::{Act, Entry, Seat, Settled};
-use crate::refusal::Refusal;
+use crate::refusal::{Refusal, or_full};
 use crate::same::is_same_spec;
 use lease::Lease;
-use serve_core::{Collected, Held};
+use serve_core::{Collected, Held, Refusal as CoreRefusal};
 
 impl Book {
     /// What [`Book::lease`] would refuse worker `w` for.
@@ -41,8 +41,8 @@ impl Book {
         ensures answer { OnOk result (IsLeaseAnswer self.old w None) }
         ensures refused { IfErr result (λ e. IsLeaseAnswer self.old w (Some e) × (self.new ≡ self.old)) }
     {
-        if let Some(refusal) = self.lease_refusal(w) {
-            return Err(refusal);
+        if self.room() < 2 {
+            return Err(or_full(self.desk.lease_refusal(w)));
         }
         let lease = self.desk.lease(w)?;
         self.journal.push_reserved(Entry::new(
@@ -72,17 +72,13 @@ impl Book {
             return Err((Refusal::StrayLease, lease));
         }
         let (bands, units) = (lease.used(), lease.spent());
-        match self.desk.settle(w, lease) {
-            Ok(number) => {
-                self.journal.push_reserved(Entry::new(
-                    Seat::Worker(w),
-                    Act::Settled(bands, number.is_some()),
-                ));
-                self.units[w as usize] += units as u64;
-                Ok(settled(number))
-            }
-            Err((refusal, lease)) => Err((Refusal::Core(refusal), lease)),
-        }
+        let number = self.desk.take_back(w, held, lease);
+        self.journal.push_reserved(Entry::new(
+            Seat::Worker(w),
+            Act::Settled(bands, number.is_some()),
+        ));
+        self.units[w as usize] += units as u64;
+        Ok(settled(number))
     }
 
     /// Whether the lease is what the desk has of it, with the chain and the first band of its stream.
@@ -136,11 +132,11 @@ impl Book {
         ensures opening { self.new.opening ≡ self.old.opening }
         ensures refused { IfErr result (λ e. IsCollectAnswer self.old s (Some e) × (self.new ≡ self.old)) }
     {
-        if let Some(refusal) = self.collect_refusal(s) {
-            return Err(refusal);
+        if self.room() < 1 {
+            return Err(or_full(self.desk.collect_refusal(s)));
         }
         let Some(counts) = self.desk.counts(s) else {
-            unreachable!()
+            return Err(Refusal::Core(CoreRefusal::NoStream));
         };
         let pair = self.desk.collect(s)?;
         self.journal.push_reserved(Entry::new(Seat::Stream(s), Act::Collected(counts.collected)));

@@ -1,8 +1,7 @@
 //! Frames that are offered.
 ghost use Rattle.std.specs.Prelude.{◌≡◌, None, Some, IfErr, IfOk, OnOk};
 ghost use Rattle.std.specs.Arc.{arc_value};
-ghost use Rattle.filters.specs.ChainImage.{value_of};
-ghost use Rattle.serve_core.specs.Desk.{IsFreshFor, IsImageFor, TakesFrame, TakesJob};
+ghost use Rattle.serve_core.specs.Desk.{IsFreshFor, TakesFrame, TakesJob};
 ghost use Rattle.serve_hub.specs.declared.entry.Act.TheVariants.{Offered};
 ghost use Rattle.serve_hub.specs.declared.entry.Seat.TheVariants.{Stream};
 ghost use Rattle.serve_hub.specs.Answers.{IsJobAnswer, IsOfferAnswer, RefusesOffer};
@@ -11,7 +10,7 @@ ghost use Rattle.serve_hub.specs.Journal as journals;
 
 use super::Book;
 use crate::entry::{Act, Entry, Seat};
-use crate::refusal::Refusal;
+use crate::refusal::{Refusal, or_full};
 use frame_view::Frame;
 use lease::Job;
 use std::alloc::Global;
@@ -47,8 +46,8 @@ impl Book {
         ensures refused { IfErr result (λ e. RefusesOffer self.old s at (arc_value frame).geometry e.0) }
         ensures back { IfErr result (λ e. (e.1 ≡ frame) × (self.new ≡ self.old)) }
     {
-        if let Some(refusal) = self.offer_refusal(s, at, &frame) {
-            return Err((refusal, frame));
+        if self.room() < 1 {
+            return Err((or_full(self.desk.offer_refusal(s, at, &frame)), frame));
         }
         let tick = tick_of(self.desk.clock(), at);
         match self.desk.offer(alloc, s, at, frame) {
@@ -59,41 +58,6 @@ impl Book {
                 Ok(number)
             }
             Err((refusal, frame)) => Err((Refusal::Core(refusal), frame)),
-        }
-    }
-
-    /// What [`Book::offer`] does, in the memory of an image that isn't needed any more. It takes memory only
-    /// for the frame's line, and only where the image has another. A refused frame comes back with the image,
-    /// and the clock stays.
-    pub fn offer_over(
-        &mut self,
-        alloc: Global,
-        s: u32,
-        at: u64,
-        frame: Arc<Frame>,
-        image: Frame,
-    ) -> Result<u64, (Refusal, Arc<Frame>, Frame)>
-        requires { IsImageFor self.old.desk s image }
-        ensures entry { IfOk result (λ n.
-            Appends (Stream s) (Offered (journals.tick_of self.old.desk.clock at) n) self.old self.new) }
-        ensures job { IfOk result (λ n. TakesFrame s at (arc_value frame) n self.old.desk self.new.desk) }
-        ensures answer { OnOk result (IsOfferAnswer self.old s at (arc_value frame).geometry None) }
-        ensures refused { IfErr result (λ e. RefusesOffer self.old s at (arc_value frame).geometry e.0) }
-        ensures back { IfErr result (λ e. (e.1 ≡ frame) × (value_of e.2 ≡ value_of image)
-            × (self.new ≡ self.old)) }
-    {
-        if let Some(refusal) = self.offer_refusal(s, at, &frame) {
-            return Err((refusal, frame, image));
-        }
-        let tick = tick_of(self.desk.clock(), at);
-        match self.desk.offer_over(alloc, s, at, frame, image) {
-            Ok(number) => {
-                self.journal
-                    .push_reserved(Entry::new(Seat::Stream(s), Act::Offered(tick, number)));
-                self.taken += 1;
-                Ok(number)
-            }
-            Err((refusal, frame, image)) => Err((Refusal::Core(refusal), frame, image)),
         }
     }
 
@@ -122,8 +86,8 @@ impl Book {
         ensures refused { IfErr result (λ e. IsJobAnswer self.old s at (Some e.0)) }
         ensures back { IfErr result (λ e. (e.1 ≡ job) × (self.new ≡ self.old)) }
     {
-        if let Some(refusal) = self.offer_job_refusal(s, at) {
-            return Err((refusal, job));
+        if self.room() < 1 {
+            return Err((or_full(self.desk.offer_job_refusal(s, at)), job));
         }
         let tick = tick_of(self.desk.clock(), at);
         match self.desk.offer_job(s, at, job) {

@@ -1,22 +1,23 @@
 //! Streams that threads close, and images that they collect.
 ghost use Rattle.std.specs.Prelude.{◌≡◌, ◌≢◌, IfErr, IfOk, OnOk};
 ghost use Rattle.serve_core.specs.declared.refusal.Refusal.TheVariants.{Empty};
-ghost use Rattle.serve_hub.specs.declared.refusal.Refusal.TheVariants.{Core};
+ghost use Rattle.serve_hub.specs.declared.refusal.Refusal.TheVariants.{Core, HistoryFull};
 ghost use Rattle.serve_hub.specs.Calls.{AllowsClose, Closes, Gives, IsCollectRefused, IsTold};
 
 use super::Hub;
+use crate::epoch::Epoch;
 use crate::refusal::Refusal;
 use crate::refused::CollectRefused;
 use crate::stream_seat::StreamSeat;
 use serve_core::{Collected, Refusal as CoreRefusal};
 use std::sync::Wait;
-use std::sync::ledger::Ledger;
 
-impl<L: Ledger> Hub<L> {
+impl<L: Epoch> Hub<L> {
     /// The seat's stream accepts no more frames.
     pub fn close(&self, rt: &impl Wait, seat: &mut StreamSeat<L>) -> Result<(), Refusal>
         ensures closed { OnOk result (Closes seat.old seat.new) }
         ensures refused { IfErr result (λ e. IsTold (AllowsClose seat.old) e × (seat.new ≡ seat.old)) }
+        ensures reserved { IfErr result (λ e. e ≢ HistoryFull) }
     {
         let mut shared = self.shared.lock(rt);
         let answer = seat.close(&mut shared);

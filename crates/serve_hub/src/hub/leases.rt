@@ -6,15 +6,15 @@ ghost use Rattle.serve_hub.specs.Calls.{HasNumber, IsOutcome, IsSettleRefused, L
 
 use super::Hub;
 use crate::entry::Settled;
+use crate::epoch::Epoch;
 use crate::refusal::Refusal;
 use crate::refused::LeaseRefused;
 use crate::work_seat::WorkSeat;
 use lease::Lease;
 use serve_core::Refusal as CoreRefusal;
 use std::sync::Wait;
-use std::sync::ledger::Ledger;
 
-impl<L: Ledger> Hub<L> {
+impl<L: Epoch> Hub<L> {
     /// The front job of the ready stream that has the earliest deadline, with the lease. It waits for the
     /// lock alone.
     pub fn try_lease(&self, rt: &impl Wait, seat: &mut WorkSeat<L>) -> Result<Lease, Refusal>

@@ -1,22 +1,23 @@
 //! Frames that threads offer.
-ghost use Rattle.std.specs.Prelude.{◌≡◌, ◌<◌, ◌^◌, IfErr, IfOk, IsErr, MatchOption};
+ghost use Rattle.std.specs.Prelude.{◌≡◌, ◌<◌, IfErr, IfNone, IfOk, IsErr, MatchOption, OnOk};
 ghost use Rattle.std.specs.Arc.{arc_value};
 ghost use Rattle.filters.specs.ChainImage.{value_of};
 ghost use Rattle.serve_core.specs.declared.refusal.Refusal.TheVariants.{ClockEnd};
 ghost use Rattle.serve_core.specs.Lanes.{IsFresh, IsImageOf};
 ghost use Rattle.serve_hub.specs.declared.refusal.Refusal.TheVariants.{Core};
 ghost use Rattle.serve_hub.specs.Calls.{Accepts, AcceptsOther, AllowsOffer, IsTold};
-ghost use Rattle.serve_hub.specs.Calls.{IsOfferRefused, IsOverRefused};
+ghost use Rattle.serve_hub.specs.Calls.{IsOfferRefused, IsOverRefused, Notes};
 
 use super::Hub;
+use crate::epoch::Epoch;
 use crate::refusal::Refusal;
 use crate::refused::{OfferRefused, OverRefused};
-use crate::stream_seat::{LAST_MOMENT, StreamSeat};
+use crate::stream_seat::StreamSeat;
+use cbs_account::limits::LAST_MOMENT;
 use frame_view::Frame;
 use lease::Job;
 use serve_core::Refusal as CoreRefusal;
 use std::alloc::Global;
-use std::sync::ledger::Ledger;
 use std::sync::{Arc, Wait};
 
 /// No memory was granted for a job.
@@ -24,7 +25,7 @@ const NO_MEMORY: Refusal = Refusal::Core(CoreRefusal::NoMemory);
 
 const CLOCK_END: Refusal = Refusal::Core(CoreRefusal::ClockEnd);
 
-impl<L: Ledger> Hub<L> {
+impl<L: Epoch> Hub<L> {
     /// The seat's stream is offered a frame at a moment, or now if that is later. It answers the frame's
     /// number.
     ///
@@ -39,9 +40,11 @@ impl<L: Ledger> Hub<L> {
     ) -> Result<u64, OfferRefused>
         ensures accepted { IfOk result (λ n. (n ≡ seat.old.accepted)
             × Accepts (value_of (arc_value frame)) n seat.old seat.new) }
+        ensures moment { OnOk result (Notes at seat.old seat.new) }
+        ensures other_moment { IfErr result (λ e. IfNone e.frame (Notes at seat.old seat.new)) }
         ensures refused { IfErr result (λ e. IsOfferRefused at (arc_value frame) e seat.old seat.new) }
-        ensures clock_end { 2 ^ 60 < at → IsErr result }
-        ensures ended { IfErr result (λ e. 2 ^ 60 < at → e.refusal ≡ Core ClockEnd) }
+        ensures clock_end { LAST_MOMENT < at → IsErr result }
+        ensures ended { IfErr result (λ e. LAST_MOMENT < at → e.refusal ≡ Core ClockEnd) }
     {
         if at > LAST_MOMENT {
             return Err(OfferRefused {
@@ -85,9 +88,11 @@ impl<L: Ledger> Hub<L> {
         requires { IsImageOf seat.old.chain image }
         ensures accepted { IfOk result (λ n. (n ≡ seat.old.accepted)
             × Accepts (value_of (arc_value frame)) n seat.old seat.new) }
+        ensures moment { OnOk result (Notes at seat.old seat.new) }
+        ensures other_moment { IfErr result (λ e. IfNone e.back (Notes at seat.old seat.new)) }
         ensures refused { IfErr result (λ e. IsOverRefused at (arc_value frame) e seat.old seat.new) }
-        ensures clock_end { 2 ^ 60 < at → IsErr result }
-        ensures ended { IfErr result (λ e. 2 ^ 60 < at → e.refusal ≡ Core ClockEnd) }
+        ensures clock_end { LAST_MOMENT < at → IsErr result }
+        ensures ended { IfErr result (λ e. LAST_MOMENT < at → e.refusal ≡ Core ClockEnd) }
     {
         if at > LAST_MOMENT {
             return Err(OverRefused {
@@ -127,6 +132,8 @@ impl<L: Ledger> Hub<L> {
         requires size { (arc_value kept).geometry ≡ seat.old.chain.geometry }
         ensures accepted { IfOk result (λ n. (n ≡ seat.old.accepted)
             × Accepts (value_of (arc_value kept)) n seat.old seat.new) }
+        ensures moment { OnOk result (Notes at seat.old seat.new) }
+        ensures other_moment { IfErr result (λ e. IfNone e.1 (Notes at seat.old seat.new)) }
         ensures refused { IfErr result (λ e. MatchOption e.1
             (AcceptsOther (value_of (arc_value kept)) e.0 seat.old seat.new)
             (λ back. (back ≡ job) × (seat.new ≡ seat.old)

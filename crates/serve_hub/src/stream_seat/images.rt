@@ -1,13 +1,15 @@
 //! Images that a seat collects, and its close.
-ghost use Rattle.std.specs.Prelude.{◌≡◌, Ok, None, IfErr, IfOk, IfSome, MatchResult, OnOk, slice_get};
+ghost use Rattle.std.specs.Prelude.{◌≡◌, ◌≢◌, Ok, None, IfErr, IfOk, IfSome, MatchResult, OnOk, slice_get};
 ghost use Rattle.std.specs.Arc.{arc_value};
 ghost use Rattle.std.specs.Option.{option_map};
 ghost use Rattle.filters.specs.ChainImage.{value_of};
 ghost use Rattle.serve_core.specs.Lanes.{source_in};
+ghost use Rattle.serve_hub.specs.declared.refusal.Refusal.TheVariants.{HistoryFull};
 ghost use Rattle.serve_hub.specs.Calls.{AllowsClose, AllowsCollect, Closes, Collects, IsOldest, IsOther};
 ghost use Rattle.serve_hub.specs.Calls.{IsTold, after_refusal, gives_up};
 
 use super::StreamSeat;
+use crate::epoch::Epoch;
 use crate::refusal::{Came, Refusal};
 use crate::refused::CollectRefused;
 use crate::same_frame::is_same_frame;
@@ -15,12 +17,12 @@ use crate::shared::Shared;
 use frame_view::Frame;
 use serve_core::{Collected, Refusal as Core};
 use std::sync::Arc;
-use std::sync::ledger::Ledger;
 
-impl<L: Ledger> StreamSeat<L> {
+impl<L: Epoch> StreamSeat<L> {
     pub(crate) fn close(&mut self, shared: &mut Shared<L>) -> Result<(), Refusal>
         ensures closed { OnOk result (Closes self.old self.new) }
         ensures refused { IfErr result (λ e. IsTold (AllowsClose self.old) e × (self.new ≡ self.old)) }
+        ensures reserved { IfErr result (λ e. e ≢ HistoryFull) }
     {
         if !self.is_of(shared) {
             return Err(Refusal::Torn(Came::Other));
@@ -108,11 +110,13 @@ impl<L: Ledger> StreamSeat<L> {
     }
 
     fn told_close(&self, refusal: Refusal) -> Refusal
-        ensures { IsTold (AllowsClose self.now) result }
+        ensures told { IsTold (AllowsClose self.now) result }
+        ensures reserved { result ≢ HistoryFull }
     {
         match refusal {
-            Refusal::HistoryFull => refusal,
-            Refusal::StrayLease | Refusal::Torn(_) => Refusal::Torn(Came::Other),
+            Refusal::HistoryFull | Refusal::StrayLease | Refusal::Torn(_) => {
+                Refusal::Torn(Came::Other)
+            }
             Refusal::Core(Core::AlreadyClosed) if self.is_closed => refusal,
             Refusal::Core(core) => Refusal::Torn(Came::Refused(core)),
         }

@@ -1,27 +1,25 @@
 //! Frames that a seat offers.
-ghost use Rattle.std.specs.Prelude.{◌≡◌, ◌↔◌, ◌<◌, IfErr, IfOk, IsTrue, MatchOption};
+ghost use Rattle.std.specs.Prelude.{◌≡◌, ◌↔◌, ◌<◌, IfErr, IfNone, IfOk, IsTrue, MatchOption, OnOk};
 ghost use Rattle.std.specs.Arc.{arc_value};
 ghost use Rattle.filters.specs.ChainImage.{value_of};
 ghost use Rattle.serve_core.specs.Lanes.{IsFresh, IsImageOf};
 ghost use Rattle.serve_core.specs.Schedule.{HasLane};
-ghost use Rattle.serve_hub.specs.Calls.{Accepts, AcceptsOther, AllowsOffer, IsTold};
+ghost use Rattle.serve_hub.specs.Calls.{Accepts, AcceptsOther, AllowsOffer, IsTold, NotesFrom};
 ghost use Rattle.serve_hub.specs.Seats.{HasPlace, kept_more};
 
 use super::StreamSeat;
+use crate::epoch::Epoch;
 use crate::refusal::{Came, Refusal};
 use crate::same_frame::is_same_geometry;
 use crate::shared::Shared;
+use cbs_account::limits::LAST_MOMENT;
 use frame_view::{Frame, Geometry};
 use lease::{Job, JobRefused, OverRefused};
 use serve_core::Refusal as Core;
 use std::alloc::Global;
 use std::sync::Arc;
-use std::sync::ledger::Ledger;
 
-/// The last moment of a clock.
-pub(crate) const LAST_MOMENT: u64 = 1 << 60;
-
-impl<L: Ledger> StreamSeat<L> {
+impl<L: Epoch> StreamSeat<L> {
     /// The job of a frame, and the frame for the seat to keep. A frame of another size comes back, and so
     /// does one for whose job no memory is granted.
     pub(crate) fn job(
@@ -82,6 +80,9 @@ impl<L: Ledger> StreamSeat<L> {
         requires size { (arc_value frame).geometry ≡ self.old.chain.geometry }
         ensures accepted { IfOk result (λ n. (n ≡ self.old.accepted)
             × Accepts (value_of (arc_value frame)) n self.old self.new) }
+        ensures moment { OnOk result (NotesFrom shared.old.book.desk.clock at self.old self.new) }
+        ensures other_moment { IfErr result (λ e.
+            IfNone e.1 (NotesFrom shared.old.book.desk.clock at self.old self.new)) }
         ensures refused { IfErr result (λ e. MatchOption e.1
             (AcceptsOther (value_of (arc_value frame)) e.0 self.old self.new)
             (λ back. (back ≡ job) × (self.new ≡ self.old)
@@ -113,6 +114,9 @@ impl<L: Ledger> StreamSeat<L> {
         requires place { HasPlace self.old }
         ensures accepted { IfOk result (λ n. (n ≡ self.old.accepted)
             × Accepts (value_of (arc_value frame)) n self.old self.new) }
+        ensures moment { OnOk result (NotesFrom shared.old.book.desk.clock at self.old self.new) }
+        ensures other_moment { IfErr result (λ e.
+            IfNone e.1 (NotesFrom shared.old.book.desk.clock at self.old self.new)) }
         ensures refused { IfErr result (λ e. MatchOption e.1
             (AcceptsOther (value_of (arc_value frame)) e.0 self.old self.new)
             (λ back. (back ≡ job) × (self.new ≡ self.old)

@@ -4,18 +4,18 @@ ghost use Rattle.serve_core.specs.Lanes.{IsImageOf};
 
 use super::{Core, frame_of};
 use frame_view::Frame;
-use serve_hub::{Came, Hub, Refusal, StreamSeat};
+use serve_hub::{Came, Epoch, Hub, Refusal, StreamSeat};
 use std::alloc::Global;
-use std::sync::ledger::Ledger;
 use std::sync::{Arc, Wait};
 use std::test::Fail;
 
 /// The seat of a stream with the frames to offer, how many right images came in order, and what went wrong
 /// first.
 #[derive(Drop)]
-pub(super) struct Client<L: Ledger> {
+pub(super) struct Client<L: Epoch> {
     pub(super) seat: StreamSeat<L>,
     alloc: Global,
+    first: u32,
     frames: Vec<Arc<Frame>>,
     pub(super) delivered: u64,
     pub(super) outcome: Result<(), Refusal>,
@@ -24,31 +24,53 @@ pub(super) struct Client<L: Ledger> {
 /// How many frames of a stream differ. It begins again with the first.
 const PERIOD: u64 = 8;
 
-/// The sample of frame `n` of stream `s`.
-fn sample_of(s: u32, n: u64) -> u8 {
-    (n.wrapping_mul(32).wrapping_add(s as u64) % 256) as u8
+/// The sample of frame `n` of those that begin with this one.
+fn sample_of(first: u32, n: u64) -> u8 {
+    (n.wrapping_mul(32).wrapping_add(first as u64) % 256) as u8
 }
 
-impl<L: Ledger> Client<L> {
+/// The frames that begin with this sample.
+pub(super) fn frames_of(alloc: Global, first: u32) -> Result<Vec<Arc<Frame>>, Fail> {
+    let mut frames = Vec::new(alloc);
+    for n in 0..PERIOD {
+        frames.push(frame_of(alloc, &[sample_of(first, n)])?)?;
+    }
+    Ok(frames)
+}
+
+impl<L: Epoch> Client<L> {
     pub(super) fn new(alloc: Global, seat: StreamSeat<L>) -> Result<Client<L>, Fail> {
-        let mut frames = Vec::new(alloc);
-        for n in 0..PERIOD {
-            frames.push(frame_of(alloc, &[sample_of(seat.number(), n)])?)?;
-        }
-        Ok(Client {
+        let first = seat.number();
+        let frames = frames_of(alloc, first)?;
+        Ok(Client::over(alloc, seat, first, frames))
+    }
+
+    /// A client whose frames are these, which begin with sample `first`.
+    pub(super) fn over(
+        alloc: Global,
+        seat: StreamSeat<L>,
+        first: u32,
+        frames: Vec<Arc<Frame>>,
+    ) -> Client<L> {
+        Client {
             seat,
             alloc,
+            first,
             frames,
             delivered: 0,
             outcome: Ok(()),
-        })
+        }
     }
 
     /// Offers so many frames, and closes. Before each frame from the fifth on it collects an image, and
     /// offers the frame in its memory.
     ///
-    /// It closes also where it couldn't offer all of them, so that no worker waits for it.
+    /// It closes also where it couldn't offer all of them, so that no worker waits for it. A stream that was
+    /// closed in an earlier epoch gets no more.
     pub(super) fn feed<R: Wait>(&mut self, rt: &R, hub: &Hub<L>, count: u64) {
+        if self.seat.is_closed() {
+            return;
+        }
         let offered = self.offer_all(rt, hub, count);
         let closed = hub.close(rt, &mut self.seat);
         self.outcome = offered.and(closed);
@@ -111,7 +133,7 @@ impl<L: Ledger> Client<L> {
     fn collect<R: Wait>(&mut self, rt: &R, hub: &Hub<L>) -> Result<Frame, Refusal>
         ensures { IfOk result (λ image. IsImageOf self.new.seat.chain image) }
     {
-        let sample = sample_of(self.seat.number(), self.delivered);
+        let sample = sample_of(self.first, self.delivered);
         let pair = match hub.collect(rt, &mut self.seat) {
             Ok(pair) => pair,
             Err(refused) => return Err(refused.refusal),

@@ -1,51 +1,58 @@
 //! Hubs that one thread calls in turn, with the answers that were worked out by hand.
 ghost use Rattle.std.specs.Prelude.{◌≡◌};
+ghost use Rattle.serve_core.specs.Schedule.{opened_schedule};
 
 use super::seated::{Seated, seated_after};
 use super::steps::{Answer, Call, FIFTEEN_FRAMES, SEVEN_LEASES, Step, TWELVE_FRAMES};
 use super::{Core, PLAIN, frame_of, same, setup_of, state_of, stepped, told};
-use serve_hub::{Ended, Hub, HubError, OfferRefused, Refusal, Settled};
+use serve_core::Setup;
+use serve_hub::{Ended, Epoch, Hub, HubError, OfferRefused, Refusal, Settled};
 use std::alloc::Global;
 use std::marker::Brand;
 use std::process::Abort;
 use std::sync::Wait;
-use std::sync::ledger::{Blank, Ledger};
+use std::sync::ledger::Blank;
 use std::test::Fail;
 
 /// The end of a hub of one worker and one stream, which is closed after these calls.
-fn ended_after<L: Ledger, R: Wait + Abort>(
+pub(super) fn ended_after<L: Epoch, R: Wait + Abort>(
     rt: &R,
     alloc: Global,
     blank: Blank,
+    setup: Setup,
     steps: &[Step],
 ) -> Result<Ended, Fail>
     requires name { blank.name ≡ L.name }
     requires parts { blank.parts ≡ L.parts }
     requires enough { blank.parts ≡ 80 }
+    requires opening { opened_schedule setup ≡ L.opening }
 {
-    let mut seated = seated_after::<L, R>(rt, alloc, blank, 1, &[PLAIN], steps)?;
+    let mut seated = seated_after::<L, R>(rt, alloc, blank, setup, steps)?;
     same(rt, seated.close(rt, 0), Ok(()));
     Ok(seated.ended(rt))
 }
 
 #[test]
 fn offers_fill_the_journal(rt: HostRuntime) -> Result<(), Fail> {
-    let ended = ended_after::<Brand, _>(&rt, rt.alloc(), Blank::new(80), FIFTEEN_FRAMES)?;
+    let setup = setup_of(rt.alloc(), 1, &[PLAIN])?;
+    let ended = ended_after::<Brand, _>(&rt, rt.alloc(), Blank::new(80), setup, FIFTEEN_FRAMES)?;
     same(&rt, ended.journal().len(), 16);
     Ok(())
 }
 
 #[test]
 fn a_limit_has_limits(rt: HostRuntime) -> Result<(), Fail> {
-    short::<Brand, _>(&rt, rt.alloc(), Blank::new(80))
+    let setup = setup_of(rt.alloc(), 1, &[PLAIN])?;
+    short::<Brand, _>(&rt, rt.alloc(), Blank::new(80), setup)
 }
 
-fn short<L: Ledger, R: Abort>(rt: &R, alloc: Global, blank: Blank) -> Result<(), Fail>
+fn short<L: Epoch, R: Abort>(rt: &R, alloc: Global, blank: Blank, setup: Setup) -> Result<(), Fail>
     requires name { blank.name ≡ L.name }
     requires parts { blank.parts ≡ L.parts }
     requires enough { blank.parts ≡ 80 }
+    requires opening { opened_schedule setup ≡ L.opening }
 {
-    match Hub::<L>::new(alloc, blank, setup_of(alloc, 1, &[PLAIN])?, 15) {
+    match Hub::<L>::new(alloc, blank, setup, 15) {
         Ok(_) => assert!(rt; false, "a limit of 15"),
         Err(e) => same(rt, e, HubError::BadLimit),
     }
@@ -54,7 +61,8 @@ fn short<L: Ledger, R: Abort>(rt: &R, alloc: Global, blank: Blank) -> Result<(),
 
 #[test]
 fn leases_without_a_band_fill_the_journal(rt: HostRuntime) -> Result<(), Fail> {
-    let ended = ended_after::<Brand, _>(&rt, rt.alloc(), Blank::new(80), SEVEN_LEASES)?;
+    let setup = setup_of(rt.alloc(), 1, &[PLAIN])?;
+    let ended = ended_after::<Brand, _>(&rt, rt.alloc(), Blank::new(80), setup, SEVEN_LEASES)?;
     same(&rt, ended.journal().len(), 16);
     let state = state_of(ended.account(0), ended.counts(0));
     same(&rt, state, Some([1, 4, 1, 0, 0, 0]));
@@ -65,7 +73,8 @@ fn leases_without_a_band_fill_the_journal(rt: HostRuntime) -> Result<(), Fail> {
 /// The entries of the settlement and the close are kept for them.
 #[test]
 fn a_lease_is_out_while_the_journal_fills(rt: HostRuntime) -> Result<(), Fail> {
-    let ended = full_with_a_lease::<Brand, _>(&rt, rt.alloc(), Blank::new(80))?;
+    let setup = setup_of(rt.alloc(), 1, &[PLAIN])?;
+    let ended = full_with_a_lease::<Brand, _>(&rt, rt.alloc(), Blank::new(80), setup)?;
     same(&rt, ended.journal().len(), 16);
     let state = state_of(ended.account(0), ended.counts(0));
     same(&rt, state, Some([1, 8, 13, 1, 0, 1]));
@@ -73,22 +82,24 @@ fn a_lease_is_out_while_the_journal_fills(rt: HostRuntime) -> Result<(), Fail> {
     Ok(())
 }
 
-fn full_with_a_lease<L: Ledger, R: Wait + Abort>(
+fn full_with_a_lease<L: Epoch, R: Wait + Abort>(
     rt: &R,
     alloc: Global,
     blank: Blank,
+    setup: Setup,
 ) -> Result<Ended, Fail>
     requires name { blank.name ≡ L.name }
     requires parts { blank.parts ≡ L.parts }
     requires enough { blank.parts ≡ 80 }
+    requires opening { opened_schedule setup ≡ L.opening }
 {
-    let mut seated = seated_after::<L, R>(rt, alloc, blank, 1, &[PLAIN], TWELVE_FRAMES)?;
+    let mut seated = seated_after::<L, R>(rt, alloc, blank, setup, TWELVE_FRAMES)?;
     fill_beside_a_lease(rt, alloc, &mut seated)?;
     Ok(seated.ended(rt))
 }
 
 /// Leases the first of twelve frames, and offers the thirteenth and one more before its settlement.
-fn fill_beside_a_lease<L: Ledger, R: Wait + Abort>(
+fn fill_beside_a_lease<L: Epoch, R: Wait + Abort>(
     rt: &R,
     alloc: Global,
     seated: &mut Seated<L>,

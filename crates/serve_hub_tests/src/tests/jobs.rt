@@ -1,20 +1,21 @@
 //! Jobs that were made outside, and frames that are offered in the memory of images.
 ghost use Rattle.std.specs.Prelude.{◌≡◌, IfOk, None};
-ghost use Rattle.serve_core.specs.Desk.{IsFreshFor, IsImageFor};
+ghost use Rattle.serve_core.specs.Desk.{IsFreshFor};
+ghost use Rattle.serve_core.specs.Schedule.{opened_schedule};
 
 use super::seated::{Seated, seated_after};
 use super::steps::Answer::{Accepted, Closed, Given, Refused, Returned, Worked};
 use super::steps::Call::{Close, Collect, Offer, OfferOver, Work};
-use super::steps::{Answer, Step, book_after, follow};
+use super::steps::{Answer, Step, follow};
 use super::{Core, LINE, PLAIN, came_back, frame_of, same, setup_of};
 use frame_view::Frame;
 use lease::{Job, JobSpec};
 use serve_core::Setup;
-use serve_hub::{Book, Ended, Refusal, Settled, is_same_spec};
+use serve_hub::{Book, Ended, Epoch, Refusal, Settled, is_same_spec};
 use std::alloc::Global;
 use std::marker::Brand;
 use std::process::Abort;
-use std::sync::ledger::{Blank, Ledger};
+use std::sync::ledger::Blank;
 use std::sync::{Arc, Wait};
 use std::test::Fail;
 use y4m_header::check_frame_line;
@@ -26,16 +27,11 @@ const COLLECTED: &[Step] = &[
     (Close(0), Closed),
 ];
 
-/// A frame is offered to a book over an image of zeros, and another one behind the close.
-const OVER_ZEROS: &[Step] = &[
-    (OfferOver(0, 0x5A), Accepted(0)),
+/// A frame is worked and collected, and its stream is closed.
+const OTHER_COLLECTED: &[Step] = &[
     (Work(0, 1), Worked((0, 0, 1), Settled::Finished(0))),
     (Collect(0), Given(Some(0x5A), Some(0xA5))),
     (Close(0), Closed),
-    (
-        OfferOver(0, 0x01),
-        Returned(Refusal::Core(Core::Closed), Some(0x00)),
-    ),
 ];
 
 /// A frame is offered to a hub over the first one's image, and another one behind the close.
@@ -71,15 +67,29 @@ fn job_for(
     Ok(Job::new(alloc, spec.clone()?, frame_of(alloc, samples)?)?)
 }
 
-/// An image of stream `s` whose samples are 0.
-fn image_for(alloc: Global, book: &Book, s: u32) -> Result<Frame, Fail>
-    ensures { IfOk result (λ image. IsImageFor book.now.desk s image) }
+/// The same, in the memory of an image whose samples are 0.
+fn job_over_zeros(
+    alloc: Global,
+    book: &Book,
+    s: u32,
+    spec: &Arc<JobSpec>,
+    samples: &[u8],
+) -> Result<Job, Fail>
+    ensures fresh { IfOk result (λ job. IsFreshFor book.now.desk s job) }
+    ensures waiting { IfOk result (λ job. job.scratch ≡ None) }
 {
-    let Some(spec) = book.spec(s) else {
+    let Some(there) = book.spec(s) else {
         return Err("no stream".into());
     };
+    if !is_same_spec(there, spec) {
+        return Err("another chain".into());
+    }
     check_frame_line(LINE)?;
-    Ok(Frame::blank(alloc, spec.chain().out_geometry(), LINE)?)
+    let image = Frame::blank(alloc, spec.chain().out_geometry(), LINE)?;
+    match Job::over(alloc, spec.clone()?, frame_of(alloc, samples)?, image) {
+        Ok(job) => Ok(job),
+        Err(_) => Err("no job".into()),
+    }
 }
 
 /// Offers a job of a frame for the first stream.
@@ -137,17 +147,20 @@ fn serve_jobs(
     Ok(())
 }
 
-/// Offers a frame in the memory of an image of zeros.
-pub(super) fn offered_over(
+/// Offers a job in the memory of an image of zeros, and answers with both where it is refused.
+fn offered_over(
     alloc: Global,
     book: &mut Book,
-    s: u32,
+    spec: &Arc<JobSpec>,
     samples: &[u8],
 ) -> Result<Answer, Fail> {
-    let (frame, image) = (frame_of(alloc, samples)?, image_for(alloc, book, s)?);
-    match book.offer_over(alloc, s, 0, frame, image) {
+    let job = job_over_zeros(alloc, book, 0, spec, samples)?;
+    match book.offer_job(0, 0, job) {
         Ok(number) => Ok(Accepted(number)),
-        Err((refusal, frame, image)) => both_back(refusal, &frame, &image, samples),
+        Err((refusal, job)) => {
+            let (frame, image) = job.undo();
+            both_back(refusal, &frame, &image, samples)
+        }
     }
 }
 
@@ -166,12 +179,31 @@ fn both_back(
 
 #[test]
 fn an_image_lends_a_book_its_memory(rt: HostRuntime) -> Result<(), Fail> {
-    let _book = book_after(&rt, rt.alloc(), &[PLAIN], OVER_ZEROS)?;
+    let alloc = rt.alloc();
+    let setup = setup_of(alloc, 1, &[PLAIN])?;
+    let spec = first_spec(&setup)?;
+    let mut book = Book::new(alloc, setup, 16)?;
+    serve_jobs_over(&rt, alloc, &mut book, &spec)
+}
+
+/// A job over an image is offered, and another one behind the close.
+fn serve_jobs_over(
+    rt: &impl Abort,
+    alloc: Global,
+    book: &mut Book,
+    spec: &Arc<JobSpec>,
+) -> Result<(), Fail> {
+    let offered = offered_over(alloc, book, spec, &[0x5A])?;
+    same(rt, offered, Accepted(0));
+    follow(rt, alloc, book, OTHER_COLLECTED)?;
+    let refused = offered_over(alloc, book, spec, &[0x01])?;
+    let want = Returned(Refusal::Core(Core::Closed), Some(0x00));
+    same(rt, refused, want);
     Ok(())
 }
 
 /// Collects an image of stream `s` of a hub, and offers a frame in its memory.
-pub(super) fn hub_offered_over<L: Ledger>(
+pub(super) fn hub_offered_over<L: Epoch>(
     rt: &impl Wait,
     alloc: Global,
     seated: &mut Seated<L>,
@@ -196,16 +228,23 @@ pub(super) fn hub_offered_over<L: Ledger>(
 
 #[test]
 fn an_image_lends_a_hub_its_memory(rt: HostRuntime) -> Result<(), Fail> {
-    let ended = over::<Brand, _>(&rt, rt.alloc(), Blank::new(80))?;
+    let setup = setup_of(rt.alloc(), 1, &[PLAIN])?;
+    let ended = over::<Brand, _>(&rt, rt.alloc(), Blank::new(80), setup)?;
     same(&rt, ended.journal().len(), 9);
     Ok(())
 }
 
-fn over<L: Ledger, R: Wait + Abort>(rt: &R, alloc: Global, blank: Blank) -> Result<Ended, Fail>
+fn over<L: Epoch, R: Wait + Abort>(
+    rt: &R,
+    alloc: Global,
+    blank: Blank,
+    setup: Setup,
+) -> Result<Ended, Fail>
     requires name { blank.name ≡ L.name }
     requires parts { blank.parts ≡ L.parts }
     requires enough { blank.parts ≡ 80 }
+    requires opening { opened_schedule setup ≡ L.opening }
 {
-    let seated = seated_after::<L, R>(rt, alloc, blank, 1, &[PLAIN], OVER_IMAGES)?;
+    let seated = seated_after::<L, R>(rt, alloc, blank, setup, OVER_IMAGES)?;
     Ok(seated.ended(rt))
 }

@@ -1,19 +1,20 @@
 //! A hub beside all its seats, as one thread calls it.
 ghost use Rattle.std.specs.Prelude.{◌≡◌};
+ghost use Rattle.serve_core.specs.Schedule.{opened_schedule};
 
 use super::jobs::hub_offered_over;
 use super::steps::{Answer, Call, Step, closed};
-use super::{Core, Served, came_back, frame_of, same, setup_of, stepped, told};
+use super::{Core, Served, came_back, frame_of, same, stepped, stream_spec_of, told};
 use frame_view::Frame;
 use lease::Lease;
-use serve_core::Collected;
+use serve_core::{Collected, Setup};
 use serve_hub::{
-    CollectRefused, Ended, Hub, LeaseRefused, Mismatch, OfferRefused, Refusal, Settled, StreamSeat,
-    WorkSeat,
+    CollectRefused, Ended, Epoch, Hub, LeaseRefused, Mismatch, OfferRefused, Refusal, Reopened,
+    Settled, StreamSeat, WorkSeat,
 };
 use std::alloc::Global;
 use std::process::Abort;
-use std::sync::ledger::{Blank, Ledger};
+use std::sync::ledger::Blank;
 use std::sync::{Arc, Wait};
 use std::test::Fail;
 
@@ -23,24 +24,19 @@ const NO_WORKER: Refusal = Refusal::Core(Core::NoWorker);
 
 /// A hub with its seats, which are called by their numbers, at moment 0.
 #[derive(Drop)]
-pub(super) struct Seated<L: Ledger> {
+pub(super) struct Seated<L: Epoch> {
     pub(super) hub: Hub<L>,
     pub(super) streams: Vec<StreamSeat<L>>,
     pub(super) workers: Vec<WorkSeat<L>>,
 }
 
-/// A hub of these streams, for at most 16 entries.
-fn seated_of<L: Ledger>(
-    alloc: Global,
-    blank: Blank,
-    workers: u64,
-    streams: &[Served<'_>],
-) -> Result<Seated<L>, Fail>
+/// A hub of this setup, for at most 16 entries.
+fn seated_of<L: Epoch>(alloc: Global, blank: Blank, setup: Setup) -> Result<Seated<L>, Fail>
     requires name { blank.name ≡ L.name }
     requires parts { blank.parts ≡ L.parts }
     requires enough { blank.parts ≡ 80 }
+    requires opening { opened_schedule setup ≡ L.opening }
 {
-    let setup = setup_of(alloc, workers, streams)?;
     let (hub, streams, workers) = Hub::<L>::new(alloc, blank, setup, 16)?;
     Ok(Seated {
         hub,
@@ -49,25 +45,40 @@ fn seated_of<L: Ledger>(
     })
 }
 
-/// A hub of these streams, for at most 16 entries, after these calls.
-pub(super) fn seated_after<L: Ledger, R: Wait + Abort>(
+/// A hub of this setup, for at most 16 entries, after these calls.
+pub(super) fn seated_after<L: Epoch, R: Wait + Abort>(
     rt: &R,
     alloc: Global,
     blank: Blank,
-    workers: u64,
-    streams: &[Served<'_>],
+    setup: Setup,
     steps: &[Step],
 ) -> Result<Seated<L>, Fail>
     requires name { blank.name ≡ L.name }
     requires parts { blank.parts ≡ L.parts }
     requires enough { blank.parts ≡ 80 }
+    requires opening { opened_schedule setup ≡ L.opening }
 {
-    let mut seated = seated_of::<L>(alloc, blank, workers, streams)?;
+    let mut seated = seated_of::<L>(alloc, blank, setup)?;
     seated.follow(rt, alloc, steps)?;
     Ok(seated)
 }
 
-impl<L: Ledger> Seated<L> {
+impl<L: Epoch> Seated<L> {
+    /// The next epoch of a hub.
+    pub(super) fn again(reopened: Reopened<L>) -> Seated<L> {
+        let Reopened {
+            hub,
+            streams,
+            workers,
+            journal: _,
+        } = reopened;
+        Seated {
+            hub,
+            streams,
+            workers,
+        }
+    }
+
     /// Calls the hub in turn, and compares each answer.
     pub(super) fn follow<R: Wait + Abort>(
         &mut self,
@@ -128,6 +139,22 @@ impl<L: Ledger> Seated<L> {
                 let frame = refused.frame.ok_or("no frame")?;
                 came_back(refused.refusal, &frame, samples)
             }
+        }
+    }
+
+    /// Admits a stream, whose seat comes behind the others.
+    pub(super) fn admit(
+        &mut self,
+        rt: &impl Wait,
+        alloc: Global,
+        served: &Served<'_>,
+    ) -> Result<Option<Refusal>, Fail> {
+        match self.hub.admit(rt, alloc, stream_spec_of(alloc, served)?) {
+            Ok(seat) => {
+                self.streams.push(seat)?;
+                Ok(None)
+            }
+            Err(refused) => Ok(Some(refused.refusal)),
         }
     }
 

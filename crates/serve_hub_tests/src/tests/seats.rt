@@ -1,21 +1,23 @@
 //! Seats that come too early, and leases that come to the wrong seat or hub.
 ghost use Rattle.std.specs.Prelude.{◌≡◌};
+ghost use Rattle.serve_core.specs.Schedule.{opened_schedule};
 
 use super::leases::{TALL, TALL_FRAME, strays};
 use super::seated::{Seated, seated_after};
 use super::steps::{Answer, Call};
-use super::{Core, PLAIN, same, stepped, told};
+use super::{Core, PLAIN, same, setup_of, stepped, told};
 use lease::Lease;
-use serve_hub::{Came, CollectRefused, Ended, Fault, Refusal, Settled};
+use serve_core::Setup;
+use serve_hub::{Came, CollectRefused, Ended, Epoch, Fault, Refusal, Settled};
 use std::alloc::Global;
 use std::marker::Brand;
 use std::process::Abort;
 use std::sync::Wait;
-use std::sync::ledger::{Blank, Ledger};
+use std::sync::ledger::Blank;
 use std::test::Fail;
 
 /// The lease comes back, since it isn't the one that the worker got.
-fn came_back<L: Ledger, R: Wait + Abort>(
+fn came_back<L: Epoch, R: Wait + Abort>(
     rt: &R,
     seated: &mut Seated<L>,
     w: u32,
@@ -32,7 +34,7 @@ fn came_back<L: Ledger, R: Wait + Abort>(
 }
 
 /// The hub and its seats, which come back for this fault.
-fn not_ended<L: Ledger, R: Abort>(rt: &R, seated: Seated<L>, fault: Fault) -> Seated<L> {
+fn not_ended<L: Epoch, R: Abort>(rt: &R, seated: Seated<L>, fault: Fault) -> Seated<L> {
     match seated.finish() {
         Ok(_) => panic!(rt; "ended in spite of {fault:?}"),
         Err(mismatch) => {
@@ -48,14 +50,19 @@ fn not_ended<L: Ledger, R: Abort>(rt: &R, seated: Seated<L>, fault: Fault) -> Se
 
 #[test]
 fn seats_come_early(rt: HostRuntime) -> Result<(), Fail> {
-    early::<Brand, Brand, _>(&rt, rt.alloc(), Blank::new(80), Blank::new(80))
+    let alloc = rt.alloc();
+    let setup = setup_of(alloc, 2, &[PLAIN, PLAIN])?;
+    let strange = setup_of(alloc, 1, &[PLAIN])?;
+    early::<Brand, Brand, _>(&rt, alloc, Blank::new(80), Blank::new(80), setup, strange)
 }
 
-fn early<L: Ledger, M: Ledger, R: Wait + Abort>(
+fn early<L: Epoch, M: Epoch, R: Wait + Abort>(
     rt: &R,
     alloc: Global,
     blank: Blank,
     other: Blank,
+    setup: Setup,
+    strange: Setup,
 ) -> Result<(), Fail>
     requires name { blank.name ≡ L.name }
     requires parts { blank.parts ≡ L.parts }
@@ -63,14 +70,16 @@ fn early<L: Ledger, M: Ledger, R: Wait + Abort>(
     requires other_name { other.name ≡ M.name }
     requires other_parts { other.parts ≡ M.parts }
     requires other_enough { other.parts ≡ 80 }
+    requires opening { opened_schedule setup ≡ L.opening }
+    requires other_opening { opened_schedule strange ≡ M.opening }
 {
     let frame = [(Call::Offer(0, 0x00), Answer::Accepted(0))];
-    let mut stranger = seated_after::<M, R>(rt, alloc, other, 1, &[PLAIN], &frame)?;
+    let mut stranger = seated_after::<M, R>(rt, alloc, other, strange, &frame)?;
     let frames = [
         (Call::Offer(0, 0x00), Answer::Accepted(0)),
         (Call::Offer(1, 0x00), Answer::Accepted(0)),
     ];
-    let seated = seated_after::<L, R>(rt, alloc, blank, 2, &[PLAIN, PLAIN], &frames)?;
+    let seated = seated_after::<L, R>(rt, alloc, blank, setup, &frames)?;
     let mut seated = settled_in_time(rt, seated);
     let lease = stranger.try_lease(rt, 0).expect(rt, "a lease");
     let refused = seated.settled(rt, 0, lease);
@@ -81,7 +90,7 @@ fn early<L: Ledger, M: Ledger, R: Wait + Abort>(
 }
 
 /// The end of a hub, which can't be ended while a seat is missing.
-fn with_all_seats<L: Ledger, R: Abort>(rt: &R, seated: Seated<L>) -> Ended {
+fn with_all_seats<L: Epoch, R: Abort>(rt: &R, seated: Seated<L>) -> Ended {
     let mut seated = seated;
     let last = seated.workers.pop().expect(rt, "a seat");
     let seated = not_ended(rt, seated, Fault::SeatMissing);
@@ -92,7 +101,7 @@ fn with_all_seats<L: Ledger, R: Abort>(rt: &R, seated: Seated<L>) -> Ended {
 
 /// Both workers lease. The second can't settle the first one's lease, and the hub can't be ended before each
 /// has settled its own.
-fn settled_in_time<L: Ledger, R: Wait + Abort>(rt: &R, seated: Seated<L>) -> Seated<L> {
+fn settled_in_time<L: Epoch, R: Wait + Abort>(rt: &R, seated: Seated<L>) -> Seated<L> {
     let mut seated = seated;
     let first = seated.lease(rt, 0).expect(rt, "a lease");
     let second = seated.try_lease(rt, 1).expect(rt, "a lease");
@@ -106,20 +115,27 @@ fn settled_in_time<L: Ledger, R: Wait + Abort>(rt: &R, seated: Seated<L>) -> Sea
 
 #[test]
 fn a_stray_lease_comes_back(rt: HostRuntime) -> Result<(), Fail> {
-    strayed::<Brand, _>(&rt, rt.alloc(), Blank::new(80))
+    let setup = setup_of(rt.alloc(), 1, &[TALL])?;
+    strayed::<Brand, _>(&rt, rt.alloc(), Blank::new(80), setup)
 }
 
 /// Leases of another grant and another number than the worker's come back, and its own settles.
-fn strayed<L: Ledger, R: Wait + Abort>(rt: &R, alloc: Global, blank: Blank) -> Result<(), Fail>
+fn strayed<L: Epoch, R: Wait + Abort>(
+    rt: &R,
+    alloc: Global,
+    blank: Blank,
+    setup: Setup,
+) -> Result<(), Fail>
     requires name { blank.name ≡ L.name }
     requires parts { blank.parts ≡ L.parts }
     requires enough { blank.parts ≡ 80 }
+    requires opening { opened_schedule setup ≡ L.opening }
 {
-    let mut seated = seated_after::<L, R>(rt, alloc, blank, 1, &[TALL], TALL_FRAME)?;
+    let mut seated = seated_after::<L, R>(rt, alloc, blank, setup, TALL_FRAME)?;
     settle_strays(rt, alloc, &mut seated)
 }
 
-fn settle_strays<L: Ledger, R: Wait + Abort>(
+fn settle_strays<L: Epoch, R: Wait + Abort>(
     rt: &R,
     alloc: Global,
     seated: &mut Seated<L>,
@@ -138,14 +154,18 @@ fn settle_strays<L: Ledger, R: Wait + Abort>(
 /// Two hubs can't tell each other's leases where stream, number, grant, first band and chain are the same.
 #[test]
 fn equal_leases_are_settled_crosswise(rt: HostRuntime) -> Result<(), Fail> {
-    crosswise::<Brand, Brand, _>(&rt, rt.alloc(), Blank::new(80), Blank::new(80))
+    let alloc = rt.alloc();
+    let (setup, twin) = (setup_of(alloc, 1, &[PLAIN])?, setup_of(alloc, 1, &[PLAIN])?);
+    crosswise::<Brand, Brand, _>(&rt, alloc, Blank::new(80), Blank::new(80), setup, twin)
 }
 
-fn crosswise<L: Ledger, M: Ledger, R: Wait + Abort>(
+fn crosswise<L: Epoch, M: Epoch, R: Wait + Abort>(
     rt: &R,
     alloc: Global,
     blank: Blank,
     other: Blank,
+    setup: Setup,
+    twin: Setup,
 ) -> Result<(), Fail>
     requires name { blank.name ≡ L.name }
     requires parts { blank.parts ≡ L.parts }
@@ -153,11 +173,13 @@ fn crosswise<L: Ledger, M: Ledger, R: Wait + Abort>(
     requires other_name { other.name ≡ M.name }
     requires other_parts { other.parts ≡ M.parts }
     requires other_enough { other.parts ≡ 80 }
+    requires opening { opened_schedule setup ≡ L.opening }
+    requires other_opening { opened_schedule twin ≡ M.opening }
 {
     let dark = [(Call::Offer(0, 0x00), Answer::Accepted(0))];
-    let mut one = seated_after::<L, R>(rt, alloc, blank, 1, &[PLAIN], &dark)?;
+    let mut one = seated_after::<L, R>(rt, alloc, blank, setup, &dark)?;
     let light = [(Call::Offer(0, 0x01), Answer::Accepted(0))];
-    let mut two = seated_after::<M, R>(rt, alloc, other, 1, &[PLAIN], &light)?;
+    let mut two = seated_after::<M, R>(rt, alloc, other, twin, &light)?;
     exchange(rt, &mut one, &mut two);
     same(rt, torn(rt, &mut one), Some(0xFE));
     same(rt, torn(rt, &mut two), Some(0xFF));
@@ -167,11 +189,7 @@ fn crosswise<L: Ledger, M: Ledger, R: Wait + Abort>(
 }
 
 /// The worker of each hub settles the other's lease.
-fn exchange<L: Ledger, M: Ledger, R: Wait + Abort>(
-    rt: &R,
-    one: &mut Seated<L>,
-    two: &mut Seated<M>,
-) {
+fn exchange<L: Epoch, M: Epoch, R: Wait + Abort>(rt: &R, one: &mut Seated<L>, two: &mut Seated<M>) {
     let first = stepped(one.try_lease(rt, 0).expect(rt, "a lease"), 1);
     let second = stepped(two.try_lease(rt, 0).expect(rt, "a lease"), 1);
     let done = (one.settled(rt, 0, second), two.settled(rt, 0, first));
@@ -180,7 +198,7 @@ fn exchange<L: Ledger, M: Ledger, R: Wait + Abort>(
 }
 
 /// The first sample of an image of another frame than the oldest that the seat keeps, which it gives up.
-fn torn<L: Ledger, R: Wait + Abort>(rt: &R, seated: &mut Seated<L>) -> Option<u8> {
+fn torn<L: Epoch, R: Wait + Abort>(rt: &R, seated: &mut Seated<L>) -> Option<u8> {
     match seated.try_collect(rt, 0) {
         Ok(_) => panic!(rt; "not torn"),
         Err(refused) => {

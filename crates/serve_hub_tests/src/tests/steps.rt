@@ -1,7 +1,6 @@
 //! Calls on a book or a hub, with the answers that were worked out by hand.
 use self::Answer::{Accepted, Given, Refused, Worked};
 use self::Call::{Close, Collect, Offer, Work};
-use super::jobs::offered_over;
 use super::{Core, Served, book_of, collected, offered, same, worked};
 use serve_hub::{Book, Refusal, Settled};
 use std::alloc::Global;
@@ -15,7 +14,7 @@ pub(super) enum Call {
     Offer(u32, u8),
     /// The stream offers a frame of the samples 1 to 4.
     OfferTall(u32),
-    /// The stream offers a frame of this sample in the memory of an image, which a hub has to give first.
+    /// The stream of a hub collects an image, and offers a frame of this sample in its memory.
     OfferOver(u32, u8),
     /// The worker leases, does so many bands, and settles.
     Work(u32, u32),
@@ -148,7 +147,7 @@ fn answer_to(alloc: Global, book: &mut Book, call: Call) -> Result<Answer, Fail>
     match call {
         Offer(s, sample) => offered(alloc, book, s, 0, &[sample]),
         Call::OfferTall(s) => offered(alloc, book, s, 0, &[1, 2, 3, 4]),
-        Call::OfferOver(s, sample) => offered_over(alloc, book, s, &[sample]),
+        Call::OfferOver(..) => Err("a book takes no image".into()),
         Work(w, bands) => Ok(worked(book, w, bands)),
         Collect(s) => Ok(collected(book, s)),
         Close(s) => Ok(closed(book.close(s))),

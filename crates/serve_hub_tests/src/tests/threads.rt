@@ -1,15 +1,17 @@
 //! Hubs that threads call at once.
 ghost use Rattle.std.specs.Prelude.{◌≡◌};
+ghost use Rattle.serve_core.specs.Schedule.{opened_schedule};
 ghost use Rattle.std.specs.Thread.{IsSend, IsSync};
 
 use super::clients::Client;
-use super::{PLAIN, same, setup_of, stepped};
-use serve_hub::{Ended, Hub, LeaseRefused, StreamSeat, WorkSeat};
+use super::{PLAIN, Served, same, setup_of, stepped};
+use serve_core::Setup;
+use serve_hub::{Ended, Epoch, Hub, LeaseRefused, Refusal, Reopened, StreamSeat, WorkSeat};
 use std::alloc::Global;
 use std::marker::Brand;
 use std::process::Abort;
 use std::sync::Wait;
-use std::sync::ledger::{Blank, Ledger};
+use std::sync::ledger::Blank;
 use std::test::Fail;
 use std::thread;
 use std::thread::Threads;
@@ -24,6 +26,18 @@ struct Plan {
     stop: u64,
 }
 
+/// A sixteenth of a worker.
+const LIGHT: Served<'static> = Served {
+    account: (1, 16),
+    ..PLAIN
+};
+
+impl Plan {
+    fn setup(self, alloc: Global) -> Result<Setup, Fail> {
+        setup_of(alloc, self.workers, &vec![in alloc; LIGHT; self.streams]?)
+    }
+}
+
 /// As many frames as a client offers before it collects: it passes also where no thread is granted.
 #[test]
 fn two_streams_and_two_workers(rt: HostRuntime) -> Result<(), Fail> {
@@ -33,7 +47,8 @@ fn two_streams_and_two_workers(rt: HostRuntime) -> Result<(), Fail> {
         frames: 4,
         stop: u64::MAX,
     };
-    session::<Brand, _>(&rt, rt.alloc(), Blank::new(80), plan)
+    let setup = plan.setup(rt.alloc())?;
+    session::<Brand, _>(&rt, rt.alloc(), Blank::new(80), setup, plan)
 }
 
 /// 2,000 frames.
@@ -45,7 +60,8 @@ fn sixteen_streams_and_eight_workers(rt: HostRuntime) -> Result<(), Fail> {
         frames: 125,
         stop: u64::MAX,
     };
-    session::<Brand, _>(&rt, rt.alloc(), Blank::new(80), plan)
+    let setup = plan.setup(rt.alloc())?;
+    session::<Brand, _>(&rt, rt.alloc(), Blank::new(80), setup, plan)
 }
 
 /// 2,000 frames each time. The other workers do what the first leaves.
@@ -58,23 +74,94 @@ fn a_worker_stops_early(rt: HostRuntime) -> Result<(), Fail> {
             frames: 125,
             stop,
         };
-        session::<Brand, _>(&rt, rt.alloc(), Blank::new(80), plan)?;
+        let setup = plan.setup(rt.alloc())?;
+        session::<Brand, _>(&rt, rt.alloc(), Blank::new(80), setup, plan)?;
     }
     Ok(())
 }
 
-/// Serves the frames of all streams by threads, and ends.
-fn session<L: Ledger + Send + Sync, R: Threads + Wait + Abort + Sync>(
+/// No worker leases in the first epoch, whose journal is full of offers and closes. The second serves them.
+#[test]
+fn sixteen_streams_go_on_in_another_epoch(rt: HostRuntime) -> Result<(), Fail> {
+    let plan = Plan {
+        streams: 16,
+        workers: 1,
+        frames: 4,
+        stop: u64::MAX,
+    };
+    let setup = plan.setup(rt.alloc())?;
+    let ended = offered_all::<Brand, _>(&rt, rt.alloc(), Blank::new(80), setup, plan)?;
+    go_on::<Brand, _>(&rt, rt.alloc(), Blank::new(80), ended, plan)
+}
+
+/// An epoch in which all frames are offered, and nobody waits for an image.
+fn offered_all<L: Epoch + Send + Sync, R: Threads + Wait + Abort + Sync>(
     rt: &R,
     alloc: Global,
     blank: Blank,
+    setup: Setup,
+    plan: Plan,
+) -> Result<Ended, Fail>
+    requires name { blank.name ≡ L.name }
+    requires parts { blank.parts ≡ L.parts }
+    requires enough { blank.parts ≡ 80 }
+    requires opening { opened_schedule setup ≡ L.opening }
+{
+    let (hub, seats, workers) = Hub::<L>::new(alloc, blank, setup, 80)?;
+    let clients = feed_each(rt, &hub, clients_of(alloc, seats)?, plan.frames);
+    let seats = seats_of(rt, alloc, clients, (Ok(()), 0))?;
+    match hub.finish(seats, workers) {
+        Ok(ended) => Ok(ended),
+        Err(mismatch) => Err(mismatch.fault.into()),
+    }
+}
+
+/// The next epoch, in which each frame is leased, settled and collected.
+fn go_on<L: Epoch + Send + Sync, R: Threads + Wait + Abort + Sync>(
+    rt: &R,
+    alloc: Global,
+    blank: Blank,
+    ended: Ended,
     plan: Plan,
 ) -> Result<(), Fail>
     requires name { blank.name ≡ L.name }
     requires parts { blank.parts ≡ L.parts }
     requires enough { blank.parts ≡ 80 }
+    requires opening { ended.book.desk ≡ L.opening }
 {
-    let setup = setup_of(alloc, plan.workers, &vec![in alloc; PLAIN; plan.streams]?)?;
+    let Reopened {
+        hub,
+        streams,
+        workers,
+        journal,
+    } = match Hub::<L>::reopen(alloc, blank, ended, 192) {
+        Ok(reopened) => reopened,
+        Err(refused) => return Err(refused.refusal.into()),
+    };
+    same(rt, journal.len(), 80);
+    let (seats, workers) = served(rt, alloc, &hub, streams, workers, plan)?;
+    match hub.finish(seats, workers) {
+        Ok(ended) => {
+            same(rt, (ended.journal().len(), ended.bands(0)), (192, 64));
+            Ok(())
+        }
+        Err(mismatch) => Err(mismatch.fault.into()),
+    }
+}
+
+/// Serves the frames of all streams by threads, and ends.
+fn session<L: Epoch + Send + Sync, R: Threads + Wait + Abort + Sync>(
+    rt: &R,
+    alloc: Global,
+    blank: Blank,
+    setup: Setup,
+    plan: Plan,
+) -> Result<(), Fail>
+    requires name { blank.name ≡ L.name }
+    requires parts { blank.parts ≡ L.parts }
+    requires enough { blank.parts ≡ 80 }
+    requires opening { opened_schedule setup ≡ L.opening }
+{
     let (hub, seats, workers) = Hub::<L>::new(alloc, blank, setup, 10_000)?;
     let (seats, workers) = served(rt, alloc, &hub, seats, workers, plan)?;
     match hub.finish(seats, workers) {
@@ -87,7 +174,7 @@ fn session<L: Ledger + Send + Sync, R: Threads + Wait + Abort + Sync>(
 }
 
 /// The seats, once all frames are served.
-fn served<L: Ledger + Send + Sync, R: Threads + Wait + Abort + Sync>(
+fn served<L: Epoch + Send + Sync, R: Threads + Wait + Abort + Sync>(
     rt: &R,
     alloc: Global,
     hub: &Hub<L>,
@@ -97,11 +184,14 @@ fn served<L: Ledger + Send + Sync, R: Threads + Wait + Abort + Sync>(
 ) -> Result<(Vec<StreamSeat<L>>, Vec<WorkSeat<L>>), Fail> {
     let clients = clients_of(alloc, seats)?;
     let (workers, clients) = run(rt, hub, workers, clients, plan)?;
-    let seats = seats_of(rt, alloc, clients, plan.frames)?;
+    let seats = seats_of(rt, alloc, clients, (Ok(()), plan.frames))?;
     Ok((seats, workers))
 }
 
-fn clients_of<L: Ledger>(alloc: Global, seats: Vec<StreamSeat<L>>) -> Result<Vec<Client<L>>, Fail> {
+pub(super) fn clients_of<L: Epoch>(
+    alloc: Global,
+    seats: Vec<StreamSeat<L>>,
+) -> Result<Vec<Client<L>>, Fail> {
     let mut clients = Vec::new(alloc);
     for seat in seats {
         clients.push(Client::new(alloc, seat)?)?;
@@ -109,17 +199,16 @@ fn clients_of<L: Ledger>(alloc: Global, seats: Vec<StreamSeat<L>>) -> Result<Vec
     Ok(clients)
 }
 
-/// The seats of clients who got so many images each.
-fn seats_of<L: Ledger>(
+/// The seats of clients who ended so, with so many images each.
+fn seats_of<L: Epoch>(
     rt: &impl Abort,
     alloc: Global,
     clients: Vec<Client<L>>,
-    count: u64,
+    want: (Result<(), Refusal>, u64),
 ) -> Result<Vec<StreamSeat<L>>, Fail> {
     let mut seats = Vec::new(alloc);
     for client in clients {
-        let served = (client.outcome, client.delivered);
-        same(rt, served, (Ok(()), count));
+        same(rt, (client.outcome, client.delivered), want);
         seats.push(client.seat)?;
     }
     Ok(seats)
@@ -159,7 +248,7 @@ fn bands(rt: &impl Abort, ended: &Ended, workers: u64) -> u64 {
 
 /// The workers work in a thread of their own while the clients are served. Where it isn't granted, all that
 /// the clients can offer is worked before they collect.
-fn run<L: Ledger + Send + Sync, R: Threads + Wait + Sync>(
+fn run<L: Epoch + Send + Sync, R: Threads + Wait + Sync>(
     rt: &R,
     hub: &Hub<L>,
     workers: Vec<WorkSeat<L>>,
@@ -191,20 +280,39 @@ fn run<L: Ledger + Send + Sync, R: Threads + Wait + Sync>(
     )
 }
 
-fn feed_all<L: Ledger, R: Wait>(rt: &R, hub: &Hub<L>, clients: &mut Vec<Client<L>>, count: u64) {
+fn feed_all<L: Epoch, R: Wait>(rt: &R, hub: &Hub<L>, clients: &mut Vec<Client<L>>, count: u64) {
     for client in clients {
         client.feed(rt, hub, count);
     }
 }
 
-fn drain_all<L: Ledger, R: Wait>(rt: &R, hub: &Hub<L>, clients: &mut Vec<Client<L>>) {
+fn drain_all<L: Epoch, R: Wait>(rt: &R, hub: &Hub<L>, clients: &mut Vec<Client<L>>) {
     for client in clients {
         client.drain(rt, hub);
     }
 }
 
+/// As [`serve_all`], but that no image is collected.
+fn feed_each<L: Epoch + Send + Sync, R: Threads + Wait + Sync>(
+    rt: &R,
+    hub: &Hub<L>,
+    clients: Vec<Client<L>>,
+    count: u64,
+) -> Vec<Client<L>> {
+    let mut clients = clients;
+    thread::for_each_mut(
+        rt,
+        &mut clients,
+        16,
+        &|_, client: &mut Client<L>| {
+            client.feed(rt, hub, count);
+        },
+    );
+    clients
+}
+
 /// A thread for each client, or one for some where others are refused.
-fn serve_all<L: Ledger + Send + Sync, R: Threads + Wait + Sync>(
+fn serve_all<L: Epoch + Send + Sync, R: Threads + Wait + Sync>(
     rt: &R,
     hub: &Hub<L>,
     clients: Vec<Client<L>>,
@@ -224,7 +332,7 @@ fn serve_all<L: Ledger + Send + Sync, R: Threads + Wait + Sync>(
 }
 
 /// A thread for each worker, or one for some where others are refused.
-fn work_all<L: Ledger + Send + Sync, R: Threads + Wait + Sync>(
+pub(super) fn work_all<L: Epoch + Send + Sync, R: Threads + Wait + Sync>(
     rt: &R,
     hub: &Hub<L>,
     workers: Vec<WorkSeat<L>>,
@@ -243,7 +351,7 @@ fn work_all<L: Ledger + Send + Sync, R: Threads + Wait + Sync>(
 }
 
 /// Leases and settles until it is refused, or the first worker has settled so many.
-fn work<L: Ledger, R: Wait>(rt: &R, hub: &Hub<L>, seat: &mut WorkSeat<L>, stop: u64) {
+fn work<L: Epoch, R: Wait>(rt: &R, hub: &Hub<L>, seat: &mut WorkSeat<L>, stop: u64) {
     let most = if seat.worker() == 0 { stop } else { u64::MAX };
     for _ in 0..most {
         let Ok(lease) = hub.lease(rt, seat) else {

@@ -1,35 +1,39 @@
 //! A hub beside a book of the same setup, which answer the same.
 ghost use Rattle.std.specs.Prelude.{◌≡◌};
+ghost use Rattle.serve_core.specs.Schedule.{opened_schedule};
 
 use super::calls::after_one_frame;
 use super::seated::{Seated, seated_after};
 use super::steps::{AFTER_CLOSE, Answer, FIRST_FRAME, FIRST_IMAGE};
-use super::{Core, PLAIN, same, same_list, stepped, told};
-use serve_hub::{Ended, Refusal, Settled};
+use super::{Core, PLAIN, same, same_list, setup_of, stepped, told};
+use serve_core::Setup;
+use serve_hub::{Ended, Epoch, Refusal, Settled};
 use std::alloc::Global;
 use std::marker::Brand;
 use std::process::Abort;
 use std::sync::Wait;
-use std::sync::ledger::{Blank, Ledger};
+use std::sync::ledger::Blank;
 use std::test::Fail;
 
 /// The end of a hub after one frame.
-fn ended_after_one_frame<L: Ledger, R: Wait + Abort>(
+fn ended_after_one_frame<L: Epoch, R: Wait + Abort>(
     rt: &R,
     alloc: Global,
     blank: Blank,
+    setup: Setup,
 ) -> Result<Ended, Fail>
     requires name { blank.name ≡ L.name }
     requires parts { blank.parts ≡ L.parts }
     requires enough { blank.parts ≡ 80 }
+    requires opening { opened_schedule setup ≡ L.opening }
 {
-    let mut hub = seated_after::<L, R>(rt, alloc, blank, 1, &[PLAIN], FIRST_FRAME)?;
+    let mut hub = seated_after::<L, R>(rt, alloc, blank, setup, FIRST_FRAME)?;
     goes_on(rt, alloc, &mut hub)?;
     Ok(hub.ended(rt))
 }
 
 /// From the lease of the one frame on, as a book answers in [`after_one_frame`].
-fn goes_on<L: Ledger, R: Wait + Abort>(
+fn goes_on<L: Epoch, R: Wait + Abort>(
     rt: &R,
     alloc: Global,
     hub: &mut Seated<L>,
@@ -41,7 +45,7 @@ fn goes_on<L: Ledger, R: Wait + Abort>(
 }
 
 /// Leases, is refused a second lease and an image, and settles.
-fn works<L: Ledger, R: Wait + Abort>(rt: &R, hub: &mut Seated<L>) {
+fn works<L: Epoch, R: Wait + Abort>(rt: &R, hub: &mut Seated<L>) {
     let lease = hub.try_lease(rt, 0).expect(rt, "a lease");
     same(rt, told(&lease), (0, 0, 1));
     let busy = Answer::Refused(Refusal::Core(Core::Busy));
@@ -58,7 +62,8 @@ fn works<L: Ledger, R: Wait + Abort>(rt: &R, hub: &mut Seated<L>) {
 #[test]
 fn a_hub_answers_as_its_book(rt: HostRuntime) -> Result<(), Fail> {
     let alloc = rt.alloc();
-    let ended = ended_after_one_frame::<Brand, _>(&rt, alloc, Blank::new(80))?;
+    let setup = setup_of(alloc, 1, &[PLAIN])?;
+    let ended = ended_after_one_frame::<Brand, _>(&rt, alloc, Blank::new(80), setup)?;
     let book = after_one_frame(&rt, alloc)?;
     same(&rt, ended.journal().len(), 5);
     same_list(&rt, ended.journal(), book.journal());

@@ -8,14 +8,13 @@ ghost use Rattle.serve_report.specs.ServeChecks.{word_given, words_asked, words_
 
 use super::stream_word::{StreamWord, parse_stream_word};
 use crate::words::ServeWords;
+use cbs_account::limits::MOST_WORKERS;
 use cbs_account::{Admission, AdmissionError};
+use edf_pool::limits::MOST_STREAMS;
 use filters::{FilterError, Op, parse_ops};
 use row_bands::BandHeight;
 use std::alloc::{AllocFailed, Global};
 use std::fmt;
-
-/// The most streams that are served at once.
-const MOST_STREAMS: usize = 64;
 
 /// A stream that the words ask for.
 #[derive(Drop)]
@@ -181,7 +180,7 @@ fn has_name(streams: &[Asked<'_>], name: &str) -> bool
 /// Asks for the streams' shares of the workers, one after the other.
 fn admit_all<'a>(workers: u64, streams: &[Asked<'a>]) -> Result<(), WordFault<'a>>
     requires some { 1 ≤ workers }
-    requires most { workers ≤ 16 }
+    requires most { workers ≤ MOST_WORKERS }
     ensures { MatchResult result
         (λ _. AdmissionGives (load_of workers []) (all_told streams.now) None)
         (λ fault. MayTell fault

@@ -1,10 +1,8 @@
 //! The clock of a run.
 
+use cbs_account::limits::LAST_MOMENT;
 use serve_work::Clock;
 use std::sync::{Mutex, Wait};
-
-/// The last moment.
-const CLOCK_END: u64 = 1 << 60;
 
 /// A clock that counts how often it was asked, from 0: a moment passes with each offer of a frame. It has a
 /// lock of its own. Once it has come to 2^60 it stays there.
@@ -34,9 +32,9 @@ impl<'a, T: Wait> Clock for Counter<'a, T> {
 
 /// The moment after this one.
 fn following(moment: u64) -> u64 {
-    if moment < CLOCK_END {
+    if moment < LAST_MOMENT {
         moment + 1
     } else {
-        CLOCK_END
+        LAST_MOMENT
     }
 }

@@ -133,7 +133,7 @@ fn helps(
     front: &str,
     words: &[&str],
 ) -> Result<(), Fail> {
-    let mut room = [0; 8192];
+    let mut room = [0; 16384];
     let left = says(rt, alloc, line, b"".as_slice(), &mut room, "", 0)?;
     let text = str::from_utf8(written(&room, left))?;
     assert!(rt; text.starts_with(front), "{line}");
@@ -189,6 +189,9 @@ const REPLAY_WORDS: &[&str] = &[
     "account Q T",
     "idle R",
     "charge K",
+    "admit NAME Q T QUEUE OUTBOX OPS HEADER",
+    "TooManyStreams",
+    "Overload",
     "line N: WORD",
     "BadLine",
     "BadBandwidth",

@@ -33,8 +33,10 @@ pub fn push_reply(
         Reply::Ticked => push_line(printed, b"ticked".as_slice()),
         Reply::Closing => push_line(printed, b"closing".as_slice()),
         Reply::Image(image) => push_image(alloc, printed, image.data()),
+        Reply::Admitted(s) => push_numbered(printed, b"admitted ".as_slice(), *s as u64),
         Reply::Refused(refusal) => push_refusal(printed, *refusal),
         Reply::GivenBack(refusal, _) => push_refusal(printed, *refusal),
+        Reply::SpecBack(refusal, _) => push_refusal(printed, *refusal),
     }
 }
 
@@ -124,6 +126,10 @@ fn number_of(refusal: Refusal) -> u32
         Refusal::AlreadyClosed => 14,
         Refusal::Empty => 15,
         Refusal::Drained => 16,
+        Refusal::TooManyStreams => 20,
+        Refusal::BadLimits => 21,
+        Refusal::BadBandwidth => 22,
+        Refusal::Overload => 23,
     }
 }
 
@@ -148,6 +154,10 @@ fn word_of(refusal: Refusal) -> &'static str
         Refusal::AlreadyClosed => "AlreadyClosed",
         Refusal::Empty => "Empty",
         Refusal::Drained => "Drained",
+        Refusal::TooManyStreams => "TooManyStreams",
+        Refusal::BadLimits => "BadLimits",
+        Refusal::BadBandwidth => "BadBandwidth",
+        Refusal::Overload => "Overload",
     }
 }
 

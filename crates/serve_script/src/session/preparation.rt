@@ -1,28 +1,20 @@
 //! A session script before its `start`.
-ghost use Rattle.std.specs.Prelude.{◌≡◌, IfErr, IfOk, Ok, length};
+ghost use Rattle.std.specs.Prelude.{◌≡◌, IfErr, IfOk, length};
 ghost use Rattle.serve_script.specs.ScriptFault.{fault_told};
 ghost use Rattle.serve_script.specs.ScriptState.{InSetup, MayFault, Prints, unprepared};
 ghost use Rattle.serve_script.specs.SessionCommand.{stream_told};
-ghost use Rattle.serve_script.specs.SessionInside.{IsAt, MayLack};
-ghost use Rattle.serve_script.specs.SessionSetup.{AsksFor, BandGives, StartGives, StreamGives, begun};
-ghost use Rattle.serve_script.specs.SessionSetup.{settled, start_fault, started, stream_line};
+ghost use Rattle.serve_script.specs.SessionInside.{IsAt};
+ghost use Rattle.serve_script.specs.SessionSetup.{BandGives, StartGives, StreamGives, begun, settled};
+ghost use Rattle.serve_script.specs.SessionSetup.{start_fault, started, stream_line, with_settings};
 
 use super::running::Session;
-use super::setup_command::StreamCommand;
+use super::stream_command::StreamCommand;
+use super::stream_settings::StreamSettings;
 use super::streams::StreamTable;
 use crate::fault::ScriptFault;
-use filters::{Chain, parse_ops};
-use frame_view::Geometry;
-use lease::JobSpec;
-use row_bands::BandHeight;
 use serve_core::{Setup, SetupError, StreamSpec};
 use std::alloc::Global;
 use std::marker::Model;
-use std::sync::Arc;
-use y4m_header::Header;
-
-/// The most luma rows of a band.
-const MOST_ROWS: u64 = 128;
 
 /// What a session script has set up so far. Contracts see it as the record of that name in
 /// `specs/ScriptState.antt`.
@@ -33,29 +25,25 @@ pub struct Preparation<'a> {
     specs: Vec<StreamSpec>,
     workers: u64,
     quantum: u64,
-    /// The luma rows of a band, for the streams that follow.
-    rows: u32,
-    /// The most frames of a stream, for the streams that follow.
-    frames: u64,
+    /// For the streams that follow.
+    settings: StreamSettings,
 }
 
 impl<'a> Model for Preparation<'a> {
     ghost use Rattle.serve_script.specs.ScriptState.{Preparation as Prepared};
-    ghost use Rattle.row_bands.specs.Height.{IsBandHeight};
-    ghost use Rattle.serve_script.specs.SessionInside.{IsTableOf};
+    ghost use Rattle.serve_script.specs.SessionInside.{IsTableOf, settings_told};
 
     ghost Value = { Prepared };
 
     ghost view = { λ a. record {
       workers = a.workers;
       quantum = a.quantum;
-      band = a.rows;
-      frames = a.frames;
+      settings = settings_told a.settings;
       names = a.streams.names;
       streams = a.specs.items;
     } };
 
-    ghost invariant = { λ a. IsTableOf a.streams a.specs.items × IsBandHeight a.rows };
+    ghost invariant = { λ a. IsTableOf a.streams a.specs.items };
 }
 
 impl<'a> Preparation<'a> {
@@ -68,8 +56,7 @@ impl<'a> Preparation<'a> {
             specs: Vec::new(alloc),
             workers: 1,
             quantum: 4,
-            rows: 16,
-            frames: 1 << 24,
+            settings: StreamSettings::new(),
         }
     }
 
@@ -97,10 +84,10 @@ impl<'a> Preparation<'a> {
     }
 
     pub fn with_frames(self, most: u64) -> Preparation<'a>
-        ensures { result ≡ record self.entry { frames = most } }
+        ensures { result ≡ with_settings (record self.entry.settings { frames = most }) self.entry }
     {
         let mut next = self;
-        next.frames = most;
+        next.settings = next.settings.with_frames(most);
         next
     }
 
@@ -109,15 +96,8 @@ impl<'a> Preparation<'a> {
         ensures ok { IfOk result (λ next. BandGives self.entry rows (settled next)) }
         ensures fault { IfErr result (λ fault. MayFault (BandGives self.entry rows) (fault_told fault)) }
     {
-        if rows > MOST_ROWS {
-            return Err(ScriptFault::BadLimits);
-        }
-        let rows = rows as u32;
-        if BandHeight::new(rows).is_none() {
-            return Err(ScriptFault::BadLimits);
-        }
         let mut next = self;
-        next.rows = rows;
+        next.settings = next.settings.with_band(rows).ok_or(ScriptFault::BadLimits)?;
         Ok(next)
     }
 
@@ -132,56 +112,22 @@ impl<'a> Preparation<'a> {
         ensures fault { IfErr result
             (λ fault. MayFault (StreamGives self.entry (stream_told stream.entry)) (fault_told fault)) }
     {
-        if self.streams.has(stream.name) {
-            return Err(ScriptFault::BadName);
-        }
-        let spec = self.spec_of(alloc, stream)?;
-        let geometry = spec.spec().chain().geometry();
         let Preparation {
-            streams,
+            mut streams,
             mut specs,
             workers,
             quantum,
-            rows,
-            frames,
+            settings,
         } = self;
-        let streams = streams.with(stream.name, geometry)?;
+        let spec = streams.enter(alloc, settings, stream)?;
         specs.push(spec)?;
         Ok(Preparation {
             streams,
             specs,
             workers,
             quantum,
-            rows,
-            frames,
+            settings,
         })
-    }
-
-    /// What the stream of a line is served with.
-    fn spec_of(
-        &self,
-        alloc: Global,
-        stream: StreamCommand<'a>,
-    ) -> Result<StreamSpec, ScriptFault<'a>>
-        ensures ok { IfOk result (λ spec. AsksFor self.now (stream_told stream.entry) (Ok spec)) }
-        ensures fault { IfErr result
-            (λ fault. MayLack (AsksFor self.now (stream_told stream.entry)) (fault_told fault)) }
-    {
-        let height = BandHeight::new(self.rows).ok_or(ScriptFault::BadLimits)?;
-        let ops = parse_ops(alloc, stream.operations)?;
-        let header = Header::parse(alloc, stream.header)?;
-        let geometry = Geometry::of(&header);
-        let chain = Chain::new(alloc, ops, geometry, height)?;
-        let spec = Arc::new(alloc, JobSpec::new(chain))?;
-        Ok(StreamSpec::new(
-            geometry,
-            spec,
-            stream.q,
-            stream.t,
-            stream.queue,
-            stream.outbox,
-            self.frames,
-        ))
     }
 
     /// The session of this setup, before any event.
@@ -195,10 +141,10 @@ impl<'a> Preparation<'a> {
             specs,
             workers,
             quantum,
-            ..
+            settings,
         } = self;
         match Setup::new(workers, quantum, specs) {
-            Ok(setup) => Ok(Session::new(alloc, streams, setup)?),
+            Ok(setup) => Ok(Session::new(alloc, streams, settings, setup)?),
             Err(error) => Err(start_fault(&streams, error)),
         }
     }

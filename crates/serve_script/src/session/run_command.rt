@@ -3,6 +3,7 @@ ghost use Rattle.std.specs.Prelude.{◌≡◌, IfSome};
 ghost use Rattle.std.specs.Option.{option_map};
 ghost use Rattle.serve_script.specs.SessionCommand.{HasHex, arrival_of, run_of, run_told, run_with};
 
+use super::stream_command::{StreamCommand, parse_stream};
 use super::word::{is_hex, is_name, parse_name, parse_worker};
 use crate::command::parse_number;
 use y4m_header::text::cut;
@@ -24,6 +25,8 @@ pub enum RunCommand<'a> {
     Close { name: &'a [u8] },
     /// `collect NAME`: the oldest image of a stream is asked for.
     Collect { name: &'a [u8] },
+    /// `admit NAME ..`: one stream more is asked for.
+    Admit(StreamCommand<'a>),
     /// `state NAME`: the account and the counts of a stream are asked for.
     State { name: &'a [u8] },
 }
@@ -62,6 +65,9 @@ fn parse_with<'a>(word: &[u8], rest: &'a [u8]) -> Option<RunCommand<'a>>
     } else if word == b"collect".as_slice() {
         let name = parse_name(rest)?;
         Some(RunCommand::Collect { name })
+    } else if word == b"admit".as_slice() {
+        let stream = parse_stream(rest)?;
+        Some(RunCommand::Admit(stream))
     } else if word == b"state".as_slice() {
         let name = parse_name(rest)?;
         Some(RunCommand::State { name })

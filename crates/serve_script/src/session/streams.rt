@@ -1,11 +1,20 @@
 //! The streams of a session script by name.
-ghost use Rattle.std.specs.Prelude.{◌≡◌, [], false, length, slice_get, slice_index_or, IfOk};
-ghost use Rattle.serve_script.specs.SessionInside.{Streams, no_streams, with_named};
+ghost use Rattle.std.specs.Prelude.{◌≡◌, [], IfErr, IfOk, Ok, OnErr, OnOk, false, length, slice_get};
+ghost use Rattle.std.specs.Prelude.{slice_index_or};
+ghost use Rattle.serve_core.specs.Seen.{heard};
+ghost use Rattle.serve_script.specs.ScriptFault.{fault_told};
+ghost use Rattle.serve_script.specs.SessionCommand.{stream_told};
+ghost use Rattle.serve_script.specs.SessionInside.{MayLack, admitted_streams, no_streams, settings_told};
+ghost use Rattle.serve_script.specs.SessionInside.{with_named};
 ghost use Rattle.serve_script.specs.SessionRun.{stream_named};
-ghost use Rattle.serve_script.specs.SessionSetup.{is_taken};
+ghost use Rattle.serve_script.specs.StreamLine.{AsksFor, is_taken};
 
+use super::stream_command::StreamCommand;
+use super::stream_settings::StreamSettings;
+use crate::fault::ScriptFault;
 use frame_view::Geometry;
 use indexmap::IndexMap;
+use serve_core::{Reply, StreamSpec};
 use std::alloc::{AllocError, Global};
 use std::marker::Model;
 
@@ -81,15 +90,48 @@ impl<'a> StreamTable<'a> {
         Some(*geometry)
     }
 
-    /// One stream more.
-    pub fn with(self, name: &'a [u8], geometry: Geometry) -> Result<StreamTable<'a>, AllocError>
-        requires { is_taken name.now self.names ≡ false }
-        ensures { IfOk result (λ next. next ≡ with_named name.now geometry self.entry) }
+    /// Puts the stream of a line behind the others. It answers what the stream is served with.
+    pub fn enter(
+        &mut self,
+        alloc: Global,
+        settings: StreamSettings,
+        stream: StreamCommand<'a>,
+    ) -> Result<StreamSpec, ScriptFault<'a>>
+        ensures asked { IfOk result
+            (λ spec. AsksFor self.old.names (settings_told settings) (stream_told stream.entry) (Ok spec)) }
+        ensures entered { IfOk result
+            (λ spec. self.new ≡ with_named stream.entry.name.now spec.geometry self.old) }
+        ensures fault { IfErr result (λ fault. MayLack
+            (AsksFor self.old.names (settings_told settings) (stream_told stream.entry)) (fault_told fault)) }
+        ensures kept { OnErr result (self.new ≡ self.old) }
     {
-        let mut entries = self.entries;
-        match entries.insert(name, geometry) {
-            Ok(_) => Ok(StreamTable { entries }),
-            Err(_) => Err(AllocError),
+        if self.has(stream.name) {
+            return Err(ScriptFault::BadName);
+        }
+        let spec = settings.spec_of(alloc, stream)?;
+        self.push(stream.name, spec.spec().chain().geometry())?;
+        Ok(spec)
+    }
+
+    /// One stream more, or nothing.
+    fn push(&mut self, name: &'a [u8], geometry: Geometry) -> Result<(), AllocError>
+        requires { is_taken name.now self.old.names ≡ false }
+        ensures ok { OnOk result (self.new ≡ with_named name.now geometry self.old) }
+        ensures err { OnErr result (self.new ≡ self.old) }
+    {
+        let Ok(_) = self.entries.insert(name, geometry) else {
+            return Err(AllocError);
+        };
+        Ok(())
+    }
+
+    /// Behind the machine's answer: keeps so many streams, the first ones, where it has admitted none.
+    pub fn keep_admitted(&mut self, count: usize, reply: &Reply)
+        ensures { self.new ≡ admitted_streams count (heard reply.now) self.old }
+    {
+        match reply {
+            Reply::Admitted(_) => {}
+            _ => self.entries.truncate(count),
         }
     }
 }

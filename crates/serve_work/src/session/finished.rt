@@ -6,19 +6,18 @@ ghost use Rattle.serve_work.specs.SessionInside.{ClientLeft, has_ended};
 use super::Served;
 use super::turn::Turn;
 use crate::clients::ClientEnd;
-use serve_hub::StreamSeat;
+use serve_hub::{Epoch, StreamSeat};
 use std::alloc::{AllocError, Global};
 use std::marker::Model;
-use std::sync::ledger::Ledger;
 use y4m_stream::{Sink, Source};
 
 /// What a client left.
 #[derive(Drop)]
-pub(super) struct Finished<L: Ledger, R: Source, W: Sink> {
+pub(super) struct Finished<L: Epoch, R: Source, W: Sink> {
     end: ClientEnd<L, R, W>,
 }
 
-impl<L: Ledger, R: Source, W: Sink> Model for Finished<L, R, W> {
+impl<L: Epoch, R: Source, W: Sink> Model for Finished<L, R, W> {
     ghost use Rattle.serve_work.specs.SessionInside.{ClientLeft};
 
     ghost Value = { ClientLeft };
@@ -38,7 +37,7 @@ impl<L: Ledger, R: Source, W: Sink> Model for Finished<L, R, W> {
     } };
 }
 
-impl<L: Ledger, R: Source + Drop, W: Sink + Drop> Finished<L, R, W> {
+impl<L: Epoch, R: Source + Drop, W: Sink + Drop> Finished<L, R, W> {
     pub(super) fn new(end: ClientEnd<L, R, W>) -> Finished<L, R, W>
         ensures seat { result.seat ≡ end.seat }
         ensures outcome { result.outcome ≡ record {
@@ -83,12 +82,12 @@ impl<L: Ledger, R: Source + Drop, W: Sink + Drop> Finished<L, R, W> {
 
 /// The places for what the clients of a session leave: the seats, and what is told of the streams.
 #[derive(Drop)]
-pub(super) struct Places<L: Ledger, R: Source, W: Sink> {
+pub(super) struct Places<L: Epoch, R: Source, W: Sink> {
     pub(super) seats: Vec<StreamSeat<L>>,
     pub(super) served: Vec<Served<R, W>>,
 }
 
-impl<L: Ledger, R: Source + Drop, W: Sink + Drop> Places<L, R, W> {
+impl<L: Epoch, R: Source + Drop, W: Sink + Drop> Places<L, R, W> {
     pub(super) fn new(alloc: Global, streams: usize) -> Result<Places<L, R, W>, AllocError>
         ensures none { IfOk result (λ places. (places.seats.items ≡ []) × (places.served.items ≡ [])) }
         ensures room { IfOk result (λ places. (streams ≤ vec_capacity places.seats)

@@ -7,20 +7,17 @@ use super::SessionFault;
 use super::turn::Turn;
 use crate::gate::{Clock, Gate};
 use crate::workers::work;
-use serve_hub::{Hub, WorkSeat};
+use edf_pool::limits::MOST_STREAMS;
+use serve_hub::{Epoch, Hub, WorkSeat};
 use std::alloc::Global;
 use std::sync::Wait;
-use std::sync::ledger::Ledger;
 use std::thread;
 use std::thread::{JoinHandle, Threads};
 use y4m_stream::{Sink, Source};
 
-/// The most streams of a session.
-const MOST_STREAMS: usize = 64;
-
 /// Runs each client that waits, in a thread of its own, or on this one where that is refused.
 pub(super) fn run_clients<
-    L: Ledger + Send + Sync,
+    L: Epoch + Send + Sync,
     R: Source + Drop + Send,
     W: Sink + Drop + Send,
     K: Clock + Sync,
@@ -36,7 +33,7 @@ pub(super) fn run_clients<
 }
 
 /// Closes each stream that waits. No frame of it was offered.
-fn close_all<L: Ledger, R: Source + Drop, W: Sink + Drop, T: Wait>(
+fn close_all<L: Epoch, R: Source + Drop, W: Sink + Drop, T: Wait>(
     rt: &T,
     hub: &Hub<L>,
     turns: Vec<Turn<L, R, W>>,
@@ -47,7 +44,7 @@ fn close_all<L: Ledger, R: Source + Drop, W: Sink + Drop, T: Wait>(
 }
 
 /// Waits for the workers' ends, and keeps their seats.
-fn join_all<L: Ledger, T: Threads>(
+fn join_all<L: Epoch, T: Threads>(
     rt: &T,
     running: Vec<JoinHandle<WorkSeat<L>>>,
     back: &mut Vec<WorkSeat<L>>,
@@ -61,7 +58,7 @@ fn join_all<L: Ledger, T: Threads>(
 ///
 /// Where a worker's thread is refused, all streams are closed, and those workers that run end by that.
 pub(super) fn run_threads<
-    L: Ledger + Send + Sync,
+    L: Epoch + Send + Sync,
     R: Source + Drop + Send,
     W: Sink + Drop + Send,
     G: Gate + Sync,

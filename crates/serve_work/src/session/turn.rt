@@ -7,22 +7,21 @@ ghost use Rattle.serve_work.specs.SessionInside.{IsReady, Leaves, Runs, waits};
 use super::finished::Finished;
 use crate::clients::client;
 use crate::gate::Clock;
-use serve_hub::{Hub, StreamSeat};
+use serve_hub::{Epoch, Hub, StreamSeat};
 use std::alloc::{AllocError, Global};
 use std::marker::Model;
 use std::sync::Wait;
-use std::sync::ledger::Ledger;
 use y4m_stream::{Sink, Source, StreamReader};
 
 /// A stream that nothing was done with.
 #[derive(Drop)]
-pub(super) struct Input<L: Ledger, R: Source, W: Sink> {
+pub(super) struct Input<L: Epoch, R: Source, W: Sink> {
     seat: StreamSeat<L>,
     reader: StreamReader<R>,
     writer: W,
 }
 
-impl<L: Ledger, R: Source, W: Sink> Model for Input<L, R, W> {
+impl<L: Epoch, R: Source, W: Sink> Model for Input<L, R, W> {
     ghost use Rattle.serve_work.specs.Clients.{ClientStart};
     ghost use Rattle.serve_work.specs.Sessions.{start_of};
     ghost use Rattle.serve_work.specs.SessionInside.{IsReady};
@@ -34,7 +33,7 @@ impl<L: Ledger, R: Source, W: Sink> Model for Input<L, R, W> {
     ghost invariant = { λ a. IsReady (start_of W.contents W.failures a.seat (a.reader, a.writer)) };
 }
 
-impl<L: Ledger, R: Source + Drop, W: Sink + Drop> Input<L, R, W> {
+impl<L: Epoch, R: Source + Drop, W: Sink + Drop> Input<L, R, W> {
     fn new(seat: StreamSeat<L>, reader: StreamReader<R>, writer: W) -> Input<L, R, W>
         requires { IsReady (start_of W.contents W.failures seat (reader, writer)) }
         ensures { result ≡ start_of W.contents W.failures seat (reader, writer) }
@@ -71,12 +70,12 @@ impl<L: Ledger, R: Source + Drop, W: Sink + Drop> Input<L, R, W> {
 
 /// A stream that waits for its client, or what its client left.
 #[derive(Drop)]
-pub(super) struct Turn<L: Ledger, R: Source, W: Sink> {
+pub(super) struct Turn<L: Epoch, R: Source, W: Sink> {
     waiting: Option<Input<L, R, W>>,
     ended: Option<Finished<L, R, W>>,
 }
 
-impl<L: Ledger, R: Source, W: Sink> Model for Turn<L, R, W> {
+impl<L: Epoch, R: Source, W: Sink> Model for Turn<L, R, W> {
     ghost use Rattle.serve_work.specs.SessionInside.{TurnValue};
 
     ghost Value = { TurnValue };
@@ -84,7 +83,7 @@ impl<L: Ledger, R: Source, W: Sink> Model for Turn<L, R, W> {
     ghost view = { λ a. record { waiting = a.waiting; ended = a.ended } };
 }
 
-impl<L: Ledger, R: Source + Drop, W: Sink + Drop> Turn<L, R, W> {
+impl<L: Epoch, R: Source + Drop, W: Sink + Drop> Turn<L, R, W> {
     fn new(input: Input<L, R, W>) -> Turn<L, R, W>
         ensures { result ≡ waits input }
     {
@@ -120,7 +119,7 @@ impl<L: Ledger, R: Source + Drop, W: Sink + Drop> Turn<L, R, W> {
 }
 
 /// The streams with their seats, each waiting for its client.
-pub(super) fn seated<L: Ledger, R: Source + Drop, W: Sink + Drop>(
+pub(super) fn seated<L: Epoch, R: Source + Drop, W: Sink + Drop>(
     alloc: Global,
     seats: Vec<StreamSeat<L>>,
     inputs: Vec<(StreamReader<R>, W)>,

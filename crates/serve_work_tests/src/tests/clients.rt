@@ -2,10 +2,8 @@
 use super::{PLAIN, Plan, served};
 use serve_work::{Cause, Stop};
 use std::alloc::Global;
-use std::marker::Brand;
 use std::process::Abort;
 use std::sync::Wait;
-use std::sync::ledger::Blank;
 use std::test::Fail;
 use std::thread::Threads;
 use test_tools::streams::{CUT, HEADER, ONE_INVERTED, THREE, THREE_INVERTED, TWO};
@@ -28,7 +26,7 @@ fn comes_to(
     alloc: Global,
     case: &Case<'_>,
 ) -> Result<(), Fail> {
-    let told = served::<Brand, _>(rt, alloc, Blank::new(80), case.input, case.plan)?;
+    let told = served(rt, alloc, case.input, case.plan)?;
     let name = case.name;
     assert_eq!(rt;
         (told.stop, told.accepted, told.delivered),

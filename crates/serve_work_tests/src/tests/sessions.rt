@@ -1,7 +1,9 @@
 //! One stream, which one worker and one client serve.
-ghost use Rattle.std.specs.Prelude.{◌≡◌, IfOk};
+ghost use Rattle.std.specs.Prelude.{◌≡◌, [], ◌∷◌, IfOk};
 ghost use Rattle.std.specs.Thread.{IsSend, IsSync};
 ghost use Rattle.y4m_stream.specs.Reader.{IsOfHeader};
+ghost use Rattle.serve_core.specs.Schedule.{opened_schedule};
+ghost use Rattle.serve_core.specs.Setup as rules;
 ghost use Rattle.serve_work.specs.Clients.{IsNewSeat};
 
 use filters::{Chain, parse_ops};
@@ -9,10 +11,11 @@ use frame_view::Geometry;
 use lease::JobSpec;
 use row_bands::BandHeight;
 use serve_core::{Refusal as Core, Setup, StreamSpec};
-use serve_hub::{Hub, Refusal, StreamSeat, WorkSeat};
+use serve_hub::{Epoch, Hub, Refusal, StreamSeat, WorkSeat};
 use serve_work::{ClientEnd, Clock, Gate, Stop, client, work};
 use std::alloc::Global;
-use std::sync::ledger::{Blank, Ledger};
+use std::marker::Brand;
+use std::sync::ledger::Blank;
 use std::sync::{Arc, Wait};
 use std::test::Fail;
 use std::thread;
@@ -91,21 +94,26 @@ pub(super) fn stream_of(alloc: Global, header: &Header, plan: Plan<'_>) -> Resul
     Ok(StreamSpec::new(geometry, spec, 1, 2, 4, 4, plan.frames))
 }
 
-fn seated_of<L: Ledger>(
-    alloc: Global,
-    blank: Blank,
-    header: &Header,
-    plan: Plan<'_>,
-) -> Result<Seated<L>, Fail>
-    requires name { blank.name ≡ L.name }
-    requires parts { blank.parts ≡ L.parts }
-    requires enough { blank.parts ≡ 80 }
-    ensures header { IfOk result (λ seated. IsOfHeader header.now seated.1.chain.geometry) }
-    ensures fresh { IfOk result (λ seated. IsNewSeat seated.1) }
+/// A setup of one worker and one stream, whose frames are of this header.
+fn setup_of(alloc: Global, header: &Header, plan: Plan<'_>) -> Result<Setup, Fail>
+    ensures { IfOk result (λ setup. (stream : rules.StreamSpec) × (setup.streams ≡ stream ∷ [])
+        × IsOfHeader header.now stream.chain.geometry) }
 {
     let mut specs = Vec::new(alloc);
     specs.push(stream_of(alloc, header, plan)?)?;
-    let setup = Setup::new(1, 4, specs)?;
+    Ok(Setup::new(1, 4, specs)?)
+}
+
+fn seated_of<L: Epoch>(alloc: Global, blank: Blank, setup: Setup) -> Result<Seated<L>, Fail>
+    requires name { blank.name ≡ L.name }
+    requires parts { blank.parts ≡ L.parts }
+    requires enough { blank.parts ≡ 80 }
+    requires opening { opened_schedule setup ≡ L.opening }
+    requires one { (stream : rules.StreamSpec) × (setup.streams ≡ stream ∷ []) }
+    ensures chain { (stream : rules.StreamSpec) → setup.streams ≡ stream ∷ []
+        → IfOk result (λ seated. seated.1.chain ≡ stream.chain) }
+    ensures fresh { IfOk result (λ seated. IsNewSeat seated.1) }
+{
     let (hub, mut streams, mut workers) = Hub::<L>::new(alloc, blank, setup, 1000)?;
     let seat = streams.pop().ok_or("no seat")?;
     let worker = workers.pop().ok_or("no worker")?;
@@ -113,7 +121,7 @@ fn seated_of<L: Ledger>(
 }
 
 /// A thread works while the client is served here. The worker ends where all is done.
-fn run<L: Ledger + Send + Sync, R: Source + Drop, T: Threads + Wait + Sync>(
+fn run<L: Epoch + Send + Sync, R: Source + Drop, T: Threads + Wait + Sync>(
     rt: &T,
     alloc: Global,
     hub: &Hub<L>,
@@ -148,19 +156,35 @@ fn run<L: Ledger + Send + Sync, R: Source + Drop, T: Threads + Wait + Sync>(
 }
 
 /// Serves the stream of this input by one worker and one client.
-pub(super) fn served<L: Ledger + Send + Sync, T: Threads + Wait + Sync>(
+pub(super) fn served<T: Threads + Wait + Sync>(
+    rt: &T,
+    alloc: Global,
+    input: &[u8],
+    plan: Plan<'_>,
+) -> Result<Told, Fail> {
+    let reader = StreamReader::open(alloc, OverRead::new(input))?;
+    let setup = setup_of(alloc, reader.header(), plan)?;
+    served_by::<Brand, _, _>(rt, alloc, Blank::new(80), setup, reader, plan)
+}
+
+/// The same, with the ledger's name.
+fn served_by<L: Epoch + Send + Sync, R: Source + Drop, T: Threads + Wait + Sync>(
     rt: &T,
     alloc: Global,
     blank: Blank,
-    input: &[u8],
+    setup: Setup,
+    reader: StreamReader<R>,
     plan: Plan<'_>,
 ) -> Result<Told, Fail>
     requires name { blank.name ≡ L.name }
     requires parts { blank.parts ≡ L.parts }
     requires enough { blank.parts ≡ 80 }
+    requires opening { opened_schedule setup ≡ L.opening }
+    requires stream { (stream : rules.StreamSpec) × (setup.streams ≡ stream ∷ [])
+        × IsOfHeader reader.header stream.chain.geometry }
+    requires open { reader.phase ≡ Phase.Open }
 {
-    let reader = StreamReader::open(alloc, OverRead::new(input))?;
-    let (hub, seat, worker) = seated_of::<L>(alloc, blank, reader.header(), plan)?;
+    let (hub, seat, worker) = seated_of::<L>(alloc, blank, setup)?;
     let writer = OverWrite::new(Room::new(alloc, plan.room)?);
     let clock = Still(plan.moment);
     let end = run(rt, alloc, &hub, worker, seat, reader, writer, &clock)?;

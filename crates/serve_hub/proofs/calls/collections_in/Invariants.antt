@@ -1,5 +1,5 @@
 use Rattle.std.proofs.Common.{◌≡◌, ◌≤◌, sum_by, take}
-use Rattle.serve_hub.specs.Ends.{one_collection}
+use Rattle.serve_hub.specs.Seats.{one_collection}
 use Rattle.serve_hub.proofs.calls.collections_in.Given as goal
 
 abbrev pub invariant-loop-call : goal.invariant-loop-call

@@ -8,7 +8,7 @@ use Rattle.serve_work.proofs.session.charge.Goals as goal
 pub loop-n-preserved : goal.loop-n-preserved
 loop-n-preserved g c =
     let told = outcome_of g.R.Source.remaining g.R.Source.failures g.W.Sink.contents g.W.Sink.failures g.W.Sink.is_flushed in
-    let desk = c.args.ended.now.desk in
+    let desk = c.args.ended.now.book.desk in
     let inv = c.loop-n.invariant in
     record {
       outcomes = map_set told c.loop-n.served.items c.loop-n.n c.index_mut.result.now _ (ap told c.index_mut.ensures.value)

@@ -11,5 +11,5 @@ invariant-loop-n g l =
     record {
       outcomes : told l.served.items ≡ told l.initial.served.items;
       len : vec_len l.served ≡ vec_len l.initial.served;
-      told : AreTold l.fn.ended.desk l.n l.served.items;
+      told : AreTold l.fn.ended.book.desk l.n l.served.items;
     }

@@ -71,10 +71,10 @@ charge-requires-clause-lanes g c n less =
     let starts = starts_of contents failures seats.items inputs in
     let ran = c.in_ok-work_seats.ensures.run starts c.in_ok-turns.ensures in
     let told = c.fill.ensures.served ran.0 ran.1 in
-    have_lanes c.in-Ok.ended.desk 0 starts ran.0 ran.2
+    have_lanes c.in-Ok.ended.book.desk 0 starts ran.0 ran.2
     (subst (λ (these : List StreamSeatValue). AreFrom 0 (starts_of contents failures these inputs)) (sym c.in_ok-hub.ensures.streams)
     (are_from contents failures c.args.limit 0 c.args.setup.streams inputs))
-    (subst (AreLanes c.in-Ok.ended.desk) (c.fill.ensures.seats ran.0 ran.1) c.in-Ok.ensures.lanes)
+    (subst (AreLanes c.in-Ok.ended.book.desk) (c.fill.ensures.seats ran.0 ran.1) c.in-Ok.ensures.lanes)
     n n (omega arith)
     (omega (
       arith,
@@ -93,7 +93,7 @@ returns-clause-streams g c =
     let inputs = c.args.inputs.items in
     let starts = starts_of contents failures seats.items inputs in
     let ran = c.in_ok-work_seats.ensures.run starts c.in_ok-turns.ensures in
-    let desk = c.in-Ok.ended.desk in
+    let desk = c.in-Ok.ended.book.desk in
     let told = served_of g.R.Source.remaining g.R.Source.failures contents failures g.W.Sink.is_flushed in
     let served = c.charge.new.served.items in
     subst (λ (these : List StreamSeatValue). AreServed (starts_of contents failures these inputs) (map told served))

@@ -1,5 +1,5 @@
 use Rattle.std.proofs.Common.{subst}
-use Rattle.serve_core.specs.Desk.{Answers, GivesJob, one}
+use Rattle.serve_core.specs.Desk.{Answers, GivesJob, SomeReady, one}
 use Rattle.serve_core.specs.Events.{Lease, Leased}
 use Rattle.serve_core.specs.Schedule.{ScheduleValue}
 use Rattle.serve_core.proofs.Lendings.{Gives, given_away, given_left, lent_job}
@@ -40,3 +40,7 @@ pub returns-clause-job : goal.returns-clause-job
 returns-clause-job c =
     subst (λ (x : ScheduleValue). GivesJob c.args.w c.new.result x c.hand_over-job.new.self) c.self.view_is
     (given c).1
+
+pub returns-clause-ready : goal.returns-clause-ready
+returns-clause-ready c =
+    subst SomeReady c.self.view_is (c.in_ok-held.held.stream, c.in_ok-held.ensures.ok.1.earliest)

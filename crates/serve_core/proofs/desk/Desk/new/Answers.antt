@@ -6,7 +6,7 @@ use Rattle.serve_core.proofs.desk.Desk.new.Goals as goal
 
 pub invariant_of-result : goal.invariant_of-result
 invariant_of-result c =
-    subst IsDesk (sym c.in_ok-schedule.ensures) (is_desk_opened c.args.setup c.limits_law.ensures.0)
+    subst IsDesk (sym c.in_ok-schedule.ensures) (is_desk_opened c.args.setup c.limits_law.ensures)
 
 pub returns-clause-state : goal.returns-clause-state
 returns-clause-state c = ap desk_state c.in_ok-schedule.ensures ∙ desk_opened c.args.setup

@@ -5,7 +5,7 @@ use Rattle.serve_core.proofs.machine.Machine.new.Goals as goal
 
 pub invariant_of-result : goal.invariant_of-result
 invariant_of-result c =
-    subst IsMachine (sym c.in_ok-schedule.ensures) (is_machine_opened c.args.setup c.limits_law.ensures.0)
+    subst IsMachine (sym c.in_ok-schedule.ensures) (is_machine_opened c.args.setup c.limits_law.ensures)
 
 pub returns : goal.returns
 returns c = ap machine c.in_ok-schedule.ensures ∙ machine_opened c.args.setup

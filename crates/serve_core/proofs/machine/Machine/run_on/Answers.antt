@@ -12,10 +12,13 @@ pub loop-event-preserved : goal.loop-event-preserved
 loop-event-preserved c =
     let before = c.loop-event in
     let reply = c.step-reply in
-    let pushed : c.push.new.self.items ≡ before.replies.items ++ reply.result ∷ [] = c.in_ok-push.ensures.items in
+    let steps = c.in-Some.ensures.steps in
+    let pushed : c.push_reserved.new.self.items ≡ before.replies.items ++ reply.result ∷ [] = c.push_reserved.ensures.items in
     record {
       count = rw (pushed, length-append, length-append) (omega (arith, before.invariant.count));
-      leads = turn c.args.self.now before.yielded c.in-Some.event before.replies.items c.push.new.self.items
+      left = omega (arith, before.invariant.left, ap length steps.0, steps.1);
+      room = omega (arith, before.invariant.room, steps.1, c.push_reserved.ensures.len, c.push_reserved.ensures.capacity);
+      leads = turn c.args.self.now before.yielded c.in-Some.event before.replies.items c.push_reserved.new.self.items
           reply.result before.self reply.new.self before.invariant.count pushed before.invariant.leads
           reply.ensures.allowed reply.ensures.state;
     }

@@ -1,4 +1,4 @@
-use Rattle.std.proofs.Common.{◌+◌, ◌++◌, ◌∷◌, [], refl, ◌∙◌, ap, arith}
+use Rattle.std.proofs.Common.{◌++◌, ◌∷◌, [], refl, ◌∙◌, ap, arith}
 use Rattle.std.proofs.lemmas.List.{length-reverse}
 use Rattle.serve_hub.specs.declared.book.Book.TheInside.{Inside}
 use Rattle.serve_hub.specs.declared.entry.Act.TheVariants.{Closed}

@@ -1,9 +1,7 @@
-use Rattle.std.proofs.Common.{◌≤◌, ◌+◌, ◌++◌, ◌∷◌, [], Option, slice_get, refl, sym, ◌∙◌, ap, subst, arith}
+use Rattle.std.proofs.Common.{◌≤◌, ◌+◌, ◌++◌, ◌∷◌, [], slice_get, refl, sym, ◌∙◌, ap, subst, arith}
 use Rattle.serve_core.proofs.Options.{some_and}
 use Rattle.serve_hub.specs.declared.entry.Act.TheVariants.{Collected}
 use Rattle.serve_hub.specs.declared.entry.Seat.TheVariants.{Stream}
-use Rattle.serve_hub.specs.declared.refusal.Refusal.{Refusal}
-use Rattle.serve_hub.specs.Answers.{IsCollectAnswer}
 use Rattle.serve_hub.specs.BookInside.{book}
 use Rattle.serve_hub.specs.Books.{BookValue, room, taken}
 use Rattle.serve_hub.proofs.Entered.{collect_entered, collected_here}
@@ -13,13 +11,12 @@ use Rattle.serve_hub.proofs.book.Book.collect.Goals as goal
 pub invariant_of-self-2 : goal.invariant_of-self-2
 invariant_of-self-2 c =
     let b = book c.self.inside in
-    let n = c.in-Some-counts.counts.collected in
+    let n = c.in-Some.counts.collected in
     let a = some_and (slice_get c.self.inside.desk.lanes c.args.s) _ c.in_ok-pair.ensures.pair in
-    let number = collected_here c.self.inside.desk.lanes c.args.s a.0 c.in-Some-counts.counts a.1
-    c.in-Some-counts.ensures in
-    let answer = subst (λ (x : Option Refusal). IsCollectAnswer c.args.self.now c.args.s x) c.in_default.is
-    c.collect_refusal.ensures in
-    let has_room : 1 ≤ room b = subst (λ (x : BookValue). 1 ≤ room x) (sym c.self.view_is) answer.1 in
+    let number = collected_here c.self.inside.desk.lanes c.args.s a.0 c.in-Some.counts a.1
+    c.in-Some.ensures in
+    let has_room : 1 ≤ room b =
+    subst (λ (x : BookValue). 1 ≤ room x) (sym c.self.view_is) (omega (arith, c.if-room-lt1.false, c.room.ensures)) in
     let fits : taken b + 1 ≤ c.self.inside.limit = omega (arith, has_room) in
     let h = collect_entered b c.args.s n a.0 c.collect.new.self c.self.invariant.is_book
     c.in_ok-pair.ensures.events a.1 number a.2.1 fits in

@@ -1,9 +1,7 @@
-use Rattle.std.proofs.Common.{◌≡◌, ◌≤◌, ◌+◌, ◌++◌, ◌∷◌, [], None, Option, refl, sym, ◌∙◌, ap, subst, arith}
+use Rattle.std.proofs.Common.{◌≡◌, ◌≤◌, ◌+◌, ◌++◌, ◌∷◌, [], refl, sym, ◌∙◌, ap, subst, arith}
 use Rattle.serve_hub.specs.declared.book.Book.TheInside.{Inside}
 use Rattle.serve_hub.specs.declared.entry.Act.TheVariants.{Leased}
 use Rattle.serve_hub.specs.declared.entry.Seat.TheVariants.{Worker}
-use Rattle.serve_hub.specs.declared.refusal.Refusal.{Refusal}
-use Rattle.serve_hub.specs.Answers.{IsLeaseAnswer}
 use Rattle.serve_hub.specs.BookInside.{book}
 use Rattle.serve_hub.specs.Books.{BookValue, room, taken}
 use Rattle.serve_hub.specs.Journal.{entry_of}
@@ -15,12 +13,11 @@ pub invariant_of-self-2 : goal.invariant_of-self-2
 invariant_of-self-2 c =
     let b = book c.self.inside in
     let lease = c.in_ok-lease.lease in
-    let told = subst (λ (x : Option Refusal). IsLeaseAnswer c.args.self.now c.args.w x) c.in_default.is
-    c.lease_refusal.ensures in
-    let answer = subst (λ (x : BookValue). IsLeaseAnswer x c.args.w None) (sym c.self.view_is) told in
-    let fits : taken b + 2 ≤ c.self.inside.limit = (let room = answer.1 in omega (arith, room)) in
+    let has_room : 2 ≤ room b =
+    subst (λ (x : BookValue). 2 ≤ room x) (sym c.self.view_is) (omega (arith, c.if-room-lt2.false, c.room.ensures)) in
+    let fits : taken b + 2 ≤ c.self.inside.limit = omega (arith, has_room) in
     let act = Leased lease.stream lease.seq lease.granted in
-    let h = lease_entered b c.args.w lease c.lease.new.self c.self.invariant.is_book answer.0.0
+    let h = lease_entered b c.args.w lease c.lease.new.self c.self.invariant.is_book c.in_ok-lease.ensures.free
     c.in_ok-lease.ensures.events c.in_ok-lease.ensures.job fits in
     let made : c.new.result ≡ entry_of (Worker c.args.w) act =
     c.new.ensures ∙ rw (c.stream.ensures, c.seq.ensures, c.granted.ensures.value) refl in
@@ -33,9 +30,6 @@ invariant_of-self-2 c =
 
 pub returns-clause-recorded : goal.returns-clause-recorded
 returns-clause-recorded c =
-    let told = subst (λ (x : Option Refusal). IsLeaseAnswer c.args.self.now c.args.w x) c.in_default.is
-    c.lease_refusal.ensures in
-    let answer = subst (λ (x : BookValue). IsLeaseAnswer x c.args.w None) (sym c.self.view_is) told in
     let z : Inside = record {
       opening = c.self.inside.opening;
       desk = c.lease.new.self;
@@ -44,4 +38,4 @@ returns-clause-recorded c =
       taken = c.self.inside.taken + 2;
       units = c.self.inside.units;
     } in
-    given_out (book z) c.self.inside.desk c.args.w c.in_ok-lease.lease answer.0.0 c.in_ok-lease.ensures.job
+    given_out (book z) c.self.inside.desk c.args.w c.in_ok-lease.lease c.in_ok-lease.ensures.free c.in_ok-lease.ensures.job

@@ -1,8 +1,6 @@
-use Rattle.std.proofs.Common.{◌≤◌, ◌+◌, ◌++◌, ◌∷◌, [], Option, sym, ◌∙◌, ap, subst, refl, arith}
+use Rattle.std.proofs.Common.{◌≤◌, ◌+◌, ◌++◌, ◌∷◌, [], sym, ◌∙◌, ap, subst, refl, arith}
 use Rattle.serve_hub.specs.declared.entry.Act.TheVariants.{Offered}
 use Rattle.serve_hub.specs.declared.entry.Seat.TheVariants.{Stream}
-use Rattle.serve_hub.specs.declared.refusal.Refusal.{Refusal}
-use Rattle.serve_hub.specs.Answers.{IsJobAnswer}
 use Rattle.serve_hub.specs.BookInside.{book}
 use Rattle.serve_hub.specs.Books.{BookValue, room, taken}
 use Rattle.serve_hub.specs.Journal.{entry_of, tick_of}
@@ -15,8 +13,8 @@ invariant_of-self c =
     let b = book c.self.inside in
     let n = c.in-Ok.number in
     let act = Offered (tick_of c.self.inside.desk.clock c.args.at) n in
-    let answer = subst (λ (a : Option Refusal). IsJobAnswer c.args.self.now c.args.s c.args.at a) c.in_default.is c.offer_job_refusal.ensures in
-    let has_room : 1 ≤ room b = subst (λ (x : BookValue). 1 ≤ room x) (sym c.self.view_is) answer.1 in
+    let has_room : 1 ≤ room b =
+    subst (λ (x : BookValue). 1 ≤ room x) (sym c.self.view_is) (omega (arith, c.if-room-lt1.false, c.room.ensures)) in
     let fits : taken b + 1 ≤ c.self.inside.limit = omega (arith, has_room) in
     let entered : IsEntered b (Stream c.args.s) act c.offer_job.new.self c.self.inside.units.items 1 =
     offer_entered b c.args.s c.args.at n c.args.job c.offer_job.new.self c.self.invariant.is_book

@@ -1,4 +1,4 @@
-use Rattle.std.proofs.Common.{◌≡◌, ◌≤◌, ◌<◌, ◌+◌, ◌^◌, ◌++◌, ◌∷◌, [], is_some, length, slice_get, slice_index_or, Some}
+use Rattle.std.proofs.Common.{◌≡◌, ◌≤◌, ◌<◌, ◌+◌, ◌^◌, ◌++◌, ◌∷◌, [], is_some, length, slice_index_or, Some}
 use Rattle.std.proofs.Common.{slice_set, refl, sym, ◌∙◌, ap, subst, arith}
 use Rattle.std.proofs.lemmas.List.{get_or_read, length-reverse}
 use Rattle.std.proofs.lemmas.Option.{slice_get-get_or, slice_get_within}
@@ -21,8 +21,8 @@ use Rattle.serve_hub.proofs.book.Book.settle.Goals as goal
 pub push_reserved-requires : goal.push_reserved-requires
 push_reserved-requires c =
     let k = c.self.invariant in
-    let left = desk_settled c.self.inside.desk c.settle.new.self c.args.w c.args.lease c.in-Ok-settle.number
-    c.in-Ok.held c.in-Ok.ensures.ok c.in-Ok-settle.ensures.job in
+    let left = desk_settled c.self.inside.desk c.take_back-number.new.self c.args.w c.args.lease c.take_back-number.result
+    c.in-Ok.held c.in-Ok.ensures.ok c.take_back-number.ensures.job in
     omega (arith, left.places, k.is_book.fits, k.reserved, length-reverse c.self.inside.journal.items)
 
 pub index_mut-requires : goal.index_mut-requires
@@ -59,16 +59,16 @@ overflow_add-index_mut c =
     omega (arith, was, few, fits, k.limit, length-reverse c.self.inside.journal.items)
 
 entered : (c : goal.After-settled) → IsEntered (book c.self.inside) (Worker c.args.w)
-    (Settled c.args.lease.used (is_some c.in-Ok-settle.number)) c.settle.new.self
+    (Settled c.args.lease.used (is_some c.take_back-number.result)) c.take_back-number.new.self
     (with_units c.args.w (spent_of c.args.lease) (book c.self.inside)).units 0
 entered c =
     let recorded : HasLane c.self.inside.desk c.in-Ok.held.stream (IsRecorded c.args.lease c.in-Ok.held) =
     subst (λ (b : BookValue). HasLane b.desk c.in-Ok.held.stream (IsRecorded c.args.lease c.in-Ok.held))
     (sym c.self.view_is) (c.if-not-is_recorded.ensures.0 refl) in
     let within : c.args.lease.used ≤ c.args.lease.granted = omega arith in
-    settle_entered (book c.self.inside) c.args.w c.args.lease c.in-Ok-settle.number c.in-Ok.held c.settle.new.self
+    settle_entered (book c.self.inside) c.args.w c.args.lease c.take_back-number.result c.in-Ok.held c.take_back-number.new.self
     c.self.invariant.is_book c.in-Ok.ensures.ok recorded c.in-Ok.ensures.unused within
-    c.in-Ok-settle.ensures.events c.in-Ok-settle.ensures.job
+    c.take_back-number.ensures.events c.take_back-number.ensures.job
 
 units : (c : goal.After-settled)
     → slice_set c.self.inside.units.items c.args.w (c.index_mut.result.now + c.spent-units.result)
@@ -79,12 +79,12 @@ units c =
     c.index_mut.ensures.value 0 in omega (arith, was, c.spent-units.ensures))
 
 made : (c : goal.After-settled)
-    → c.new.result ≡ entry_of (Worker c.args.w) (Settled c.args.lease.used (is_some c.in-Ok-settle.number))
+    → c.new.result ≡ entry_of (Worker c.args.w) (Settled c.args.lease.used (is_some c.take_back-number.result))
 made c = c.new.ensures ∙ rw (c.used-bands.ensures.value, c.is_some.ensures) refl
 
 pub invariant_of-self : goal.invariant_of-self
 invariant_of-self c =
-    let act = Settled c.args.lease.used (is_some c.in-Ok-settle.number) in
+    let act = Settled c.args.lease.used (is_some c.take_back-number.result) in
     let few : c.spent-units.result ≤ 2 ^ 32 = omega arith in
     let more = few_more c.self.inside.units.items c.args.w (spent_of c.args.lease) (inside c)
     (rw (← c.spent-units.ensures) few) in
@@ -95,12 +95,12 @@ invariant_of-self c =
       capacity = c.push_reserved.ensures.capacity;
     }) (rw (units c) (entered c)) (omega arith) (rw (units c) more)
 
-pub returns-in-Ok-settle-clause-entry : goal.returns-in-Ok-settle-clause-entry
-returns-in-Ok-settle-clause-entry c =
-    let act = Settled c.args.lease.used (is_some c.in-Ok-settle.number) in
+pub returns-clause-entry : goal.returns-clause-entry
+returns-clause-entry c =
+    let act = Settled c.args.lease.used (is_some c.take_back-number.result) in
     let z : Inside = record {
       opening = c.self.inside.opening;
-      desk = c.settle.new.self;
+      desk = c.take_back-number.new.self;
       journal = c.push_reserved.new.self;
       limit = c.self.inside.limit;
       taken = c.self.inside.taken;
@@ -112,8 +112,8 @@ returns-in-Ok-settle-clause-entry c =
       items = c.push_reserved.ensures.items ∙ ap (λ e. c.self.inside.journal.items ++ e ∷ []) (made c);
       capacity = c.push_reserved.ensures.capacity;
     } in
-    let finished : is_some c.in-Ok-settle.number ≡ is_finished c.settled.result =
-    finished_as c.in-Ok-settle.number ∙ ap is_finished (sym c.settled.ensures) in
+    let finished : is_some c.take_back-number.result ≡ is_finished c.settled.result =
+    finished_as c.take_back-number.result ∙ ap is_finished (sym c.settled.ensures) in
     subst (λ f. Appends (Worker c.args.w) (Settled c.args.lease.used f)
     (with_units c.args.w (spent_of c.args.lease) c.args.self.now) (book z)) finished
     (appends_spent c.self.inside z c.args.self.now (Worker c.args.w) act c.args.w (spent_of c.args.lease) 0

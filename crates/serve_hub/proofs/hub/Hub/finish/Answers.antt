@@ -1,35 +1,44 @@
 use Rattle.std.proofs.Common.{◌∙◌, All, ap, sym, subst, length}
 use Rattle.std.specs.Prelude.{reverse}
+use Rattle.serve_core.specs.Schedule.{ScheduleValue}
 use Rattle.serve_hub.specs.Books.{BookValue}
-use Rattle.serve_hub.specs.Ends.{AreLanes, AreStreamCalls, AreWorkCalls, IsCharged, IsHistory, IsOpened}
+use Rattle.serve_hub.specs.Ends.{AreLanes, AreStreamCalls, AreWorkCalls, IsCharged, IsHistory}
 use Rattle.serve_hub.specs.Seats.{HubValue}
 use Rattle.serve_hub.proofs.Histories.{charged_between, history}
+use Rattle.serve_hub.proofs.Opened.{same_workers}
 use Rattle.serve_hub.proofs.hub.Hub.finish.Goals as goal
 
 pub returns-clause-calls : goal.returns-clause-calls
 returns-clause-calls g c =
-    let same = sym (c.new.ensures ∙ c.into_book.ensures.book) in record {
+    let same = sym c.into_ended.ensures.book in record {
       of_streams = subst (λ (b : BookValue). AreStreamCalls (reverse b.past) c.args.streams.items) same
           c.in_default.ensures.of_streams;
       of_workers = subst (λ (b : BookValue). AreWorkCalls (reverse b.past) c.args.workers.items) same
           c.in_default.ensures.of_workers;
-      once = ap (λ (b : BookValue). length b.past) c.new.ensures ∙ c.into_book.ensures.counted;
+      once = c.into_ended.ensures.counted;
     }
 
 pub returns-clause-history : goal.returns-clause-history
 returns-clause-history g c =
-    let same = sym (c.new.ensures ∙ c.into_book.ensures.book) in
     let told = c.in_default.ensures in
-    let opened = subst (λ (h : HubValue). IsOpened c.into_inner-shared.result.book.opening h.streams h.workers)
-    c.self.view_is told.opened in
-    subst (λ (b : BookValue). IsHistory b c.args.self) same (history _ c.args.self told.book opened)
+    subst (λ (b : BookValue). IsHistory g.L.Epoch.opening b) (sym c.into_ended.ensures.book)
+    (history _ _ _ told.book told.opened)
 
 pub returns-clause-lanes : goal.returns-clause-lanes
 returns-clause-lanes g c =
-    let same = sym (c.new.ensures ∙ c.into_book.ensures.book) in
-    subst (λ (b : BookValue). AreLanes b.desk c.args.streams.items) same c.in_default.ensures.lanes
+    subst (λ (b : BookValue). AreLanes b.desk c.args.streams.items) (sym c.into_ended.ensures.book)
+    c.in_default.ensures.lanes
 
 pub returns-clause-charges : goal.returns-clause-charges
 returns-clause-charges g c =
-    let same = sym (c.new.ensures ∙ c.into_book.ensures.book) in
-    subst (λ (b : BookValue). All IsCharged b.desk.lanes) same (charged_between _ c.in_default.ensures.book)
+    subst (λ (b : BookValue). All IsCharged b.desk.lanes) (sym c.into_ended.ensures.book)
+    (charged_between _ c.in_default.ensures.book)
+
+pub returns-clause-all_workers : goal.returns-clause-all_workers
+returns-clause-all_workers g c =
+    let told = c.in_default.ensures in
+    ap (λ (b : BookValue). length b.desk.workers) c.into_ended.ensures.book
+    ∙ same_workers c.into_inner-shared.result.book told.book
+    ∙ ap (λ (x : ScheduleValue). length x.workers) told.opened.same
+    ∙ told.opened.each_worker
+    ∙ ap (λ (h : HubValue). h.workers) c.self.view_is

@@ -20,6 +20,7 @@ returns-clause-given g c =
       is_closed = a.is_closed;
       kept = kept_in a.kept.items;
       places = deque_capacity a.kept;
+      before = a.before;
     } in
     let new : StreamSeatValue = record old { calls = c.count.new.self } in
     let mine = subst (λ (v : StreamSeatValue). HasLane c.args.shared.now.book.desk v.number (λ lane.

@@ -12,6 +12,7 @@ invariant_of-self g c = (
   rw c.pop_front.ensures.rest
       (sized_rest (arc_value c.self.inside.spec).geometry c.self.inside.kept.items c.self.invariant.0),
   c.self.invariant.1,
+  c.self.invariant.2,
 )
 
 pub returns-clause-size : goal.returns-clause-size

@@ -4,4 +4,4 @@ use Rattle.serve_hub_tests.proofs.tests.threads.work_all.Goals as goal
 pub for_each_mut-requires-sync-F : goal.for_each_mut-requires-sync-F
 for_each_mut-requires-sync-F g c κs within =
     let bounds = c.type_bounds in
-    record { shared = (references_sync _ _ g.L.Ledger _ _ bounds.send-L bounds.sync-L bounds.sync-R).shared }
+    record { shared = (references_sync _ _ g.L.Epoch g.L.Ledger _ _ bounds.send-L bounds.sync-L bounds.sync-R).shared }

@@ -1,9 +1,0 @@
-use Rattle.std.proofs.Common.{◌≡◌, ◌+◌, map}
-use Rattle.std.specs.List.{range_with_len}
-use Rattle.serve_hub.specs.Seats.{opened_worker}
-use Rattle.serve_hub.proofs.hub.work_seats.Given as goal
-
-abbrev pub invariant-loop-w : goal.invariant-loop-w
-invariant-loop-w g l =
-    (l.rest.parts + l.w ≡ l.initial.rest.parts) × (l.rest.amount ≡ 0)
-    × (l.seats.items ≡ map (opened_worker l.limit) (range_with_len 0 l.w))

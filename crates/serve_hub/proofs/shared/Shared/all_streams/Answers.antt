@@ -1,0 +1,8 @@
+use Rattle.std.proofs.Common.{length, ap, arith}
+use Rattle.serve_core.specs.Schedule.{ScheduleValue}
+use Rattle.serve_hub.proofs.shared.Shared.all_streams.Goals as goal
+
+pub returns-clause-more : goal.returns-clause-more
+returns-clause-more g c =
+    let same = ap (λ (x : ScheduleValue). length x.lanes) c.self.invariant.4.same in
+    omega (arith, c.streams.ensures.more, same)

@@ -1,0 +1,74 @@
+//! What the seat of a stream leaves.
+ghost use Rattle.std.specs.Prelude.{◌≡◌, IfOk};
+ghost use Rattle.serve_core.specs.Setup.{IsWithinLimits};
+ghost use Rattle.serve_hub.specs.Seats.{opened_rest};
+
+use frame_view::Frame;
+use lease::JobSpec;
+use serve_core::StreamSpec;
+use std::alloc::{AllocError, Global};
+use std::collections::VecDeque;
+use std::marker::Model;
+use std::sync::Arc;
+
+/// What there is of a stream beside the book, from one epoch to the next: the frames that its seat keeps, and
+/// what the seat tells. It has no name of a ledger. Contracts see the `StreamRest` of `specs/Seats.antt`.
+#[derive(Drop)]
+pub(crate) struct SeatRest {
+    pub(crate) number: u32,
+    pub(crate) spec: Arc<JobSpec>,
+    pub(crate) queue: u64,
+    pub(crate) frames: u64,
+    pub(crate) accepted: u64,
+    pub(crate) collected: u64,
+    pub(crate) is_closed: bool,
+    pub(crate) kept: VecDeque<Arc<Frame>>,
+}
+
+impl Model for SeatRest {
+    ghost use Rattle.std.specs.Prelude.{◌≤◌, ◌^◌};
+    ghost use Rattle.std.specs.Arc.{arc_value};
+    ghost use Rattle.std.specs.VecDeque.{deque_capacity};
+    ghost use Rattle.serve_hub.specs.Seats.{AreSized, StreamRest, kept_in};
+
+    ghost Value = { StreamRest };
+
+    ghost view = { λ a. record {
+      number = a.number;
+      chain = arc_value a.spec;
+      queue = a.queue;
+      frames = a.frames;
+      accepted = a.accepted;
+      collected = a.collected;
+      is_closed = a.is_closed;
+      kept = kept_in a.kept.items;
+      places = deque_capacity a.kept;
+    } };
+
+    ghost invariant = { λ a. AreSized (arc_value a.spec).geometry (kept_in a.kept.items)
+        × (a.frames ≤ 2 ^ 24) × (a.collected ≤ 2 ^ 24) };
+}
+
+impl SeatRest {
+    /// What there is of a stream before its first epoch.
+    pub(crate) fn new(
+        alloc: Global,
+        number: u32,
+        stream: &StreamSpec,
+    ) -> Result<SeatRest, AllocError>
+        requires { IsWithinLimits stream.now }
+        ensures { IfOk result (λ rest. rest ≡ opened_rest number stream.now) }
+    {
+        let places = stream.queue() + stream.outbox();
+        Ok(SeatRest {
+            number,
+            spec: Arc::try_clone(stream.spec())?,
+            queue: stream.queue(),
+            frames: stream.frames(),
+            accepted: 0,
+            collected: 0,
+            is_closed: false,
+            kept: VecDeque::with_capacity(alloc, places as usize)?,
+        })
+    }
+}
