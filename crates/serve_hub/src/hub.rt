@@ -30,21 +30,27 @@ use edf_pool::limits::MOST_STREAMS;
 pub use epochs::{ReopenRefused, Reopened};
 use serve_core::{Setup, StreamSpec};
 use std::alloc::{AllocError, Global};
+use std::array;
 use std::marker::Model;
 use std::sync::ledger::Blank;
-use std::sync::{Condvar, Mutex};
+use std::sync::{Condvar, Mutex, Wait};
 use thiserror::Error;
 
 /// A book under one lock, for the seats of its streams and workers, whose calls wait for the lock.
 ///
-/// `L` is the name of the ledger that counts the journal's entries, and tells which hub a seat belongs to. A
-/// call that is accepted wakes those whom it may help: a worker where a stream may be ready, and the streams
-/// where an image may be there. Contracts see how many seats there are.
+/// `L` is the name of the ledger that counts the journal's entries, and tells which hub a seat belongs to.
+/// Contracts see how many streams it opened with, and how many workers it has.
+///
+/// A call wakes those whom it may help. A frame that is accepted and an image that is collected wake a
+/// worker, and a frame that is finished wakes the client of its stream. All workers wake where nothing is
+/// left to lease, and all who wait where the journal is full. A worker that settles is to ask for another
+/// lease, so its settlement wakes no other worker: where it doesn't ask, the stream that it gave back may
+/// stay without one until the next frame or image.
 #[derive(Drop)]
 pub struct Hub<L: Epoch> {
     shared: Mutex<Shared<L>>,
     for_workers: Condvar,
-    for_streams: Condvar,
+    for_streams: [Condvar; MOST_STREAMS],
     streams: usize,
     workers: usize,
     limit: usize,
@@ -122,7 +128,7 @@ impl<L: Epoch> Hub<L> {
         Hub {
             shared: Mutex::new(shared),
             for_workers: Condvar::new(),
-            for_streams: Condvar::new(),
+            for_streams: array::from_fn(|_| Condvar::new()),
             streams,
             workers,
             limit,
@@ -184,12 +190,29 @@ impl<L: Epoch> Hub<L> {
         Ok(shared.into_ended(streams, workers))
     }
 
-    /// Wakes those who wait in vain from now on, where the journal has no place for another lease.
-    fn wake_where(&self, is_full: bool) {
+    /// Whether the journal has no place for another lease and its settlement. Then no frame is leased any
+    /// more, and the epoch comes to its end. It waits for the lock alone.
+    ///
+    /// No contract can name what is under a lock, so none promises anything of the answer.
+    pub fn is_full(&self, rt: &impl Wait) -> bool {
+        self.shared.lock(rt).is_full()
+    }
+
+    /// Wakes a worker where a stream may be ready, and all who wait where the journal is full.
+    fn wake(&self, may_be_ready: bool, is_full: bool) {
         if is_full {
             self.for_workers.notify_all();
-            self.for_streams.notify_all();
+            for stream in &self.for_streams {
+                stream.notify_all();
+            }
+        } else if may_be_ready {
+            self.for_workers.notify_one();
         }
+    }
+
+    /// Where the client of a stream waits.
+    fn for_stream(&self, stream: u32) -> &Condvar {
+        &self.for_streams[stream as usize % MOST_STREAMS]
     }
 }
 

@@ -1,8 +1,8 @@
 //! What stands under the lock of a hub.
 ghost use Rattle.std.specs.Prelude.{◌≡◌, ◌+◌, ◌<◌, ◌≤◌, ◌^◌, ◌↔◌, ◌⊎◌, [], All, IfErr, IfNone, IfOk, IfSome};
-ghost use Rattle.std.specs.Prelude.{IsTrue, length, map, reverse, sum_by, vec_len};
+ghost use Rattle.std.specs.Prelude.{IsFalse, IsTrue, length, map, reverse, sum_by, vec_len};
 ghost use Rattle.std.specs.Vec.{vec_capacity};
-ghost use Rattle.serve_core.specs.declared.refusal.Refusal.TheVariants.{Drained};
+ghost use Rattle.serve_core.specs.declared.refusal.Refusal.TheVariants.{Drained, Empty};
 ghost use Rattle.serve_core.specs.Lanes.{IsOver};
 ghost use Rattle.serve_hub.specs.declared.refusal.Refusal.TheVariants.{Core, HistoryFull};
 ghost use Rattle.serve_hub.specs.declared.entry.Act.TheVariants.{Admitted};
@@ -155,10 +155,41 @@ impl<L: Epoch> Shared<L> {
         None
     }
 
-    /// Whether a stream that has no image need not wait for one: no lease can be given any more, and none of
-    /// it is out.
-    pub(crate) fn is_stuck(&self, stream: u32) -> bool {
+    /// Why a client that finds no image of its stream need not wait for one, or for one that comes soon.
+    pub(crate) fn end_of_wait(&self, stream: u32, only_soon: bool) -> Option<Refusal>
+        ensures long { IsFalse only_soon → IfSome result (λ e. e ≡ HistoryFull) }
+        ensures soon { IsTrue only_soon → IfSome result (λ e. e ≡ Core Empty) }
+    {
+        if only_soon {
+            (!self.comes_soon(stream)).then_some(Refusal::Core(serve_core::Refusal::Empty))
+        } else {
+            self.is_stuck(stream).then_some(Refusal::HistoryFull)
+        }
+    }
+
+    /// Whether no image of a stream can come: no lease can be given any more, and none of it is out.
+    fn is_stuck(&self, stream: u32) -> bool {
         self.is_full() && !self.book.is_out(stream)
+    }
+
+    /// Whether a stream's next image is made without a pause: a lease can be given, the stream has a frame
+    /// for it, and no more streams have frames than there are workers.
+    fn comes_soon(&self, stream: u32) -> bool {
+        !self.is_full() && self.has_work(stream) && self.streams_with_work() <= self.workers
+    }
+
+    /// How many streams have frames that aren't finished.
+    fn streams_with_work(&self) -> usize {
+        (0..self.streams as u32)
+            .filter(|stream| self.has_work(*stream))
+            .count()
+    }
+
+    /// Whether a stream has a frame that isn't finished.
+    fn has_work(&self, stream: u32) -> bool {
+        self.book
+            .counts(stream)
+            .is_some_and(|counts| counts.finished < counts.accepted)
     }
 
     /// Whether the seats are all there, their lists are the journal's, and what they tell of their streams is

@@ -11,6 +11,7 @@ mod leases;
 mod newcomers;
 mod seated;
 mod seats;
+mod soon;
 mod steps;
 mod threads;
 mod twins;

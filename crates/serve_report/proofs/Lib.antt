@@ -1,3 +1,5 @@
 pub mod Asking
 pub mod Inputs
 pub mod Reporting
+pub mod TakenAhead
+pub mod Openings

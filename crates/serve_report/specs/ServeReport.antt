@@ -13,7 +13,6 @@ use Rattle.serve_report.specs.declared.serve.report.StreamStop.TheVariants as st
 abbrev pub cause_word : Cause → List ℕ
 cause_word causes.TooManyFrames = codes "TooManyFrames"
 cause_word causes.ClockEnd = codes "ClockEnd"
-cause_word causes.HistoryFull = codes "HistoryFull"
 cause_word causes.NoMemory = codes "NoMemory"
 
 abbrev pub stop_text : StreamStop → List ℕ

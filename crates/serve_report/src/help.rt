@@ -46,9 +46,11 @@ frame (see below) is less for a higher one";
 pub const THREADS: &str = "Threads, 1 or 2";
 
 /// The same, for the long help.
-pub const THREADS_LONG: &str = "Threads, 1 or 2. With 2, a frame is read while the image of the one
-before it is made and written, and one frame more may have been read where
-a write fails. The images are the same";
+pub const THREADS_LONG: &str =
+    "Threads, 1 or 2. With 2, a frame of 262144 bytes or more is read while
+the image of the one before it is made and written, a smaller one behind
+it; one frame more may have been read where a write fails. The images are
+the same";
 
 /// What `--quiet` of `filter` is.
 pub const QUIET: &str = "Show no progress and no hint on a terminal; faults are told";
@@ -296,6 +298,14 @@ pub const QUANTUM_LONG: &str = "Most bands of a frame that a worker does before 
 stream comes first, 1 to 64. A lower one lets a stream that is behind its
 share come sooner, a higher one costs less";
 
+/// What `--journal` is.
+pub const JOURNAL: &str = "Most entries of a journal, 66 to 1048576";
+
+/// The same, for the long help.
+pub const JOURNAL_LONG: &str = "Most entries of a journal, 66 to 1048576. Each call of a stream or a
+worker is an entry; where the journal is full, all streams stand still until
+each client is back. A longer one is full less often, and takes more memory";
+
 /// What `--quiet` of `serve` is.
 pub const SERVE_QUIET: &str = "Show no progress on a terminal; faults are told";
 
@@ -346,18 +356,13 @@ Stops, the ends of these lines:
   refused TooManyFrames  One more frame follows the last that is read.
   refused ClockEnd       The moment of an offer is too late. No run comes to
                  this: its clock stays at the last moment.
-  refused HistoryFull    The journal of the run is full. It has 1048576 entries
-                 for all streams: a frame takes 2, and 2 for each lease. By
-                 invert with the quantum 8 a frame of 1080 rows takes about 20,
-                 so that some 50000 of these are served. Fewer and longer
-                 leases, by a higher --quantum, --band or Q, make it last.
-  refused NoMemory       There was no memory for a frame or its image.
+  refused NoMemory       There was no memory for a frame or its image, or none
+                 to go on with when the journal was full.
   torn           An answer of the server contradicts the stream's own count.
 
-The files are opened stream by stream: IN, whose header is read, and then OUT.
-What writes to a FIFO that is IN must be started before, or beside, what waits
-for a later one. At most 4 frames of a stream wait to be filtered, and 4 images
-to be written.
+The streams are opened side by side: IN, whose header is read, and then OUT.
+What writes to a FIFO, or reads from one, is to be started before, or beside.
+At most 4 frames of a stream wait to be filtered, and 4 images to be written.
 
 Faults, each one line on standard error behind 'y4mserve: '; status 2:
   bad band              B is odd.

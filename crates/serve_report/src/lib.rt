@@ -1,10 +1,13 @@
 // The program over any readers and writers.
 #![tactic(auto)]
 
+mod ahead;
 pub mod board;
 pub mod files;
 mod frame_count;
 mod help;
+pub mod inlet;
+pub mod lookout;
 pub mod program;
 pub mod progress;
 mod serve;
@@ -14,6 +17,8 @@ mod watched;
 mod words;
 
 pub use files::Files;
+pub use inlet::Inlet;
+pub use lookout::Lookout;
 pub use program::{main_on, run_on};
 pub use serve_script::{ReplayFault, replay};
 pub use watch::{Unwatched, Watch};

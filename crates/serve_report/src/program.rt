@@ -16,6 +16,7 @@ use std::fmt;
 use std::io::{Read, Write};
 use std::sync::Wait;
 use std::thread::Threads;
+use std::time::Clock;
 use y4m_stream::{
     FilterFault, OverRead, OverWrite, Sink, Source, filter_overlapped, filter_stream,
 };
@@ -76,8 +77,8 @@ where
     R: Read + Drop + Send,
     W: Write,
     E: Write,
-    F: Files,
-    T: Threads + Wait + Sync,
+    F: Files + Sync,
+    T: Threads + Wait + Clock + Copy + Drop + Send + Sync + 'static,
     ensures status { result ≤ 2 }
     ensures untouched { result ≡ 2 → Keeps (W.contents output.old) (W.contents output.new) }
 {
@@ -103,9 +104,9 @@ where
     R: Read + Drop + Send,
     W: Write,
     E: Write,
-    F: Files,
+    F: Files + Sync,
     V: Watch + Sync,
-    T: Threads + Wait + Sync,
+    T: Threads + Wait + Clock + Copy + Drop + Send + Sync + 'static,
     ensures status { result ≤ 2 }
     ensures untouched { result ≡ 2 → Keeps (W.contents output.old) (W.contents output.new) }
 {

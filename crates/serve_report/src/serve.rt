@@ -8,7 +8,8 @@ ghost use Rattle.serve_work.specs.Sessions.{AreInputs};
 use self::checks::{Asked, Checked, check};
 use self::clock::Counter;
 use self::gate::PlainGate;
-use self::opening::{Input, Opened, open_all};
+use self::opening::{Opened, open_all};
+use self::ready::Input;
 use self::report::StreamRow;
 use self::rows::{are_whole, rows_of, write_report};
 use crate::files::Files;
@@ -20,27 +21,23 @@ use serve_core::{Setup, StreamSpec};
 use serve_work::{Served, SessionFault, serve_session};
 use std::alloc::{AllocError, Global};
 use std::fmt;
-use std::io::{self, Read, Write};
+use std::io::{self, Write};
 use std::sync::Wait;
 use std::thread::Threads;
-use y4m_stream::{OverRead, OverWrite};
+use std::time::Clock;
+use y4m_stream::{OverWrite, Source};
 
 mod checks;
 mod clock;
 mod gate;
 mod opening;
+mod ready;
 mod report;
 mod rows;
 mod stream_word;
 
-/// The most entries of a session's journal.
-const JOURNAL: usize = 1_048_576;
-
 /// What a session leaves of a stream.
-type Left<'w, R, W, V> = Served<
-    WatchedSource<'w, OverRead<R>, V>,
-    WatchedSink<'w, OverWrite<W>, V>,
->;
+type Left<'w, S, W, V> = Served<WatchedSource<'w, S, V>, WatchedSink<'w, OverWrite<W>, V>>;
 
 /// Why a run isn't reported.
 #[derive(Clone, Copy)]
@@ -89,9 +86,9 @@ pub fn run_serve<W, E, F, V, T>(
 where
     W: Write,
     E: Write,
-    F: Files,
+    F: Files + Sync,
     V: Watch + Sync,
-    T: Threads + Wait + Sync,
+    T: Threads + Wait + Clock + Copy + Drop + Send + Sync + 'static,
     ensures status { result ≤ 2 }
     ensures untouched { result ≡ 2 → Keeps (W.contents output.old) (W.contents output.new) }
     ensures well { result ≡ 0 → ServesAll words.entry (W.contents output.old) (W.contents output.new) }
@@ -125,9 +122,9 @@ fn serve<W, F, V, T>(
 ) -> Result<bool, RunFault>
 where
     W: Write,
-    F: Files,
+    F: Files + Sync,
     V: Watch + Sync,
-    T: Threads + Wait + Sync,
+    T: Threads + Wait + Clock + Copy + Drop + Send + Sync + 'static,
     ensures { IfOk result
         (Reports checked.entry.streams.items (W.contents output.old) (W.contents output.new)) }
 {
@@ -162,15 +159,16 @@ fn serve_files<'a, F, V, T>(
     told: Option<&V>,
 ) -> Result<Vec<StreamRow<'a>>, RunFault>
 where
-    F: Files,
+    F: Files + Sync,
     V: Watch + Sync,
-    T: Threads + Wait + Sync,
+    T: Threads + Wait + Clock + Copy + Drop + Send + Sync + 'static,
     ensures { IfOk result (λ rows. map (λ row. row.name) rows.items
         ≡ map (λ asked. asked.word.name) checked.entry.streams.items) }
 {
     let Checked {
         workers,
         quantum,
+        journal,
         height,
         streams,
     } = checked;
@@ -178,10 +176,10 @@ where
         entrants,
         specs,
         inputs,
-    } = open_all(alloc, streams, height, files, told)?;
+    } = open_all(rt, alloc, streams, height, files, told)?;
     // No memory is taken after the session, so that one that ended is reported.
     let rows = Vec::with_capacity(alloc, entrants.len())?;
-    let left = serve_opened(rt, alloc, workers, quantum, specs, inputs)?;
+    let left = serve_opened(rt, alloc, workers, quantum, journal, specs, inputs)?;
     let Some(rows) = rows_of(rows, &entrants, &left) else {
         return Err(RunFault::Session(SessionFault::Mismatch));
     };
@@ -189,16 +187,17 @@ where
 }
 
 /// Serves the streams that were opened; none where there is none.
-fn serve_opened<'w, R, W, V, T>(
+fn serve_opened<'w, S, W, V, T>(
     rt: &T,
     alloc: Global,
     workers: u64,
     quantum: u64,
+    journal: usize,
     specs: Vec<StreamSpec>,
-    inputs: Vec<Input<'w, R, W, V>>,
-) -> Result<Vec<Left<'w, R, W, V>>, SessionFault>
+    inputs: Vec<Input<'w, S, W, V>>,
+) -> Result<Vec<Left<'w, S, W, V>>, SessionFault>
 where
-    R: Read + Drop + Send,
+    S: Source + Drop + Send,
     W: Write + Drop + Send,
     V: Watch + Sync,
     T: Threads + Wait + Sync,
@@ -211,5 +210,5 @@ where
         return Err(SessionFault::Mismatch);
     };
     let clock = Counter::new(rt);
-    serve_session(rt, alloc, setup, inputs, JOURNAL, &PlainGate, &clock)
+    serve_session(rt, alloc, setup, inputs, journal, &PlainGate, &clock)
 }

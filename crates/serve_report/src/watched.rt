@@ -93,6 +93,10 @@ impl<'w, S: Source, V: Watch> Source for WatchedSource<'w, S, V> {
         }
         answer
     }
+
+    fn is_ready(&self, milliseconds: u64) -> bool {
+        self.source.is_ready(milliseconds)
+    }
 }
 
 impl<'w, S: Sink, V: Watch> Sink for WatchedSink<'w, S, V> {

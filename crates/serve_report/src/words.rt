@@ -38,11 +38,14 @@ pub struct ServeWords<'a> {
     pub band: u32,
     /// The most bands of one lease.
     pub quantum: u32,
+    /// The most entries of a journal.
+    pub journal: u32,
     /// Nothing is shown of the run while it goes on.
     pub is_quiet: bool,
     /// The words that name the streams.
     pub streams: Vec<&'a str>,
-    ghost in_range: { (1 ≤ workers) × (workers ≤ 16) × (1 ≤ quantum) × (quantum ≤ 64) },
+    ghost in_range: { (1 ≤ workers) × (workers ≤ 16) × (1 ≤ quantum) × (quantum ≤ 64)
+        × (66 ≤ journal) × (journal ≤ 1048576) },
 }
 
 /// Why the words ask for nothing that is run.
@@ -104,6 +107,18 @@ fn quantum_option<'a>(alloc: Global) -> Arg<'a> {
         .long_help(help::QUANTUM_LONG)
 }
 
+fn journal_option<'a>(alloc: Global) -> Arg<'a> {
+    number_option(
+        alloc,
+        "journal",
+        "N",
+        value_parser!(u32).range(66..=1_048_576),
+    )
+    .default_value("65536")
+    .help(help::JOURNAL)
+    .long_help(help::JOURNAL_LONG)
+}
+
 fn quiet_flag<'a>(alloc: Global, help: &'a str) -> Arg<'a> {
     Arg::new(alloc, "quiet")
         .short('q')
@@ -155,6 +170,7 @@ fn serve_command<'a>(alloc: Global) -> Result<Command<'a>, AllocError> {
         .arg(workers_option(alloc))?
         .arg(band_option(alloc))?
         .arg(quantum_option(alloc))?
+        .arg(journal_option(alloc))?
         .arg(quiet_flag(alloc, help::SERVE_QUIET))?
         .arg(streams_argument(alloc))
 }
@@ -198,6 +214,7 @@ fn request_of<'a>(alloc: Global, matches: &ArgMatches<'a>) -> Result<Request<'a>
             workers: number_of(inner, "workers", 2).clamp(1, 16),
             band: number_of(inner, "band", 16),
             quantum: number_of(inner, "quantum", 8).clamp(1, 64),
+            journal: number_of(inner, "journal", 65_536).clamp(66, 1_048_576),
             is_quiet: inner.get_flag("quiet"),
             streams: stream_words(alloc, inner)?,
         })),

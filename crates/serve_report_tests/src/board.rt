@@ -6,7 +6,7 @@ use test_tools::Room;
 /// Compares what was written since the last time, and in how many writes.
 fn shows(rt: &impl Abort, screen: &mut Room, text: &str, writes: u64) {
     let shown = (str::from_utf8(&screen.taken).ok(), screen.writes);
-    assert_eq!(rt; shown, (Some(text), writes));
+    assert_eq!(rt; shown, (Some(text), writes), "was memory refused?");
     screen.taken.clear();
     screen.writes = 0;
 }
@@ -41,7 +41,7 @@ fn lines_are_due_five_times_a_second(rt: HostRuntime) -> Result<(), Fail> {
     let mut screen = Room::endless(rt.alloc());
     for (time, writes) in DUE {
         board.draw(&mut screen, *time);
-        assert_eq!(rt; screen.writes, *writes);
+        assert_eq!(rt; screen.writes, *writes, "was memory refused?");
         screen.writes = 0;
     }
     Ok(())

@@ -5,6 +5,8 @@
 #[cfg(test)]
 mod board;
 #[cfg(test)]
+mod lookout;
+#[cfg(test)]
 mod program;
 #[cfg(test)]
 mod progress;

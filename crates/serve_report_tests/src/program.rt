@@ -6,6 +6,7 @@ use std::process::Abort;
 use std::sync::Wait;
 use std::test::Fail;
 use std::thread::Threads;
+use std::time::Clock;
 use test_tools::Tape;
 
 mod command_line;
@@ -32,7 +33,7 @@ type Run<'a> = (&'a str, &'a [u8], &'a [u8], &'a str, u8);
 /// Runs the program with these words, compares what it says of faults and its status, and answers how much is
 /// left of the room for its output.
 fn says<R: Read + Drop + Send>(
-    rt: &(impl Abort + Threads + Wait + Sync),
+    rt: &(impl Abort + Threads + Wait + Clock + Copy + Drop + Send + Sync + 'static),
     alloc: Global,
     line: &str,
     input: R,
@@ -52,7 +53,7 @@ fn says<R: Read + Drop + Send>(
 
 /// Runs the program in each of these ways, and compares what it writes and says, and its status.
 fn all_run(
-    rt: &(impl Abort + Threads + Wait + Sync),
+    rt: &(impl Abort + Threads + Wait + Clock + Copy + Drop + Send + Sync + 'static),
     alloc: Global,
     runs: &[Run<'_>],
 ) -> Result<(), Fail> {

@@ -14,13 +14,16 @@ use Rattle.y4m_stream.specs.Reader.{ReaderState, data_len_of}
 use Rattle.y4m_stream.specs.Served.{IsHeaderOfImages, served_header}
 use Rattle.y4m_stream.specs.Writer.{FlushesOrFails, IsOpenedFor, IsWriterFor, WriterState, write_failures_at, write_failures_told}
 use Rattle.y4m_stream.proofs.Puts.{put_both}
+use Rattle.serve_hub.specs.declared.entry.Act.{Act}
 use Rattle.serve_hub.specs.Seats.{StreamSeatValue}
 use Rattle.serve_work.specs.declared.stop.Cause.TheVariants.{NoMemory}
 use Rattle.serve_work.specs.declared.stop.Stop.{Stop}
 use Rattle.serve_work.specs.declared.stop.Stop.TheVariants.{Whole, Read, Write, Refused, Torn}
-use Rattle.serve_work.specs.Clients.{ClientEnds, ClientOutcome, ClientStart, CutsHeader, IsNewSeat, Progress}
-use Rattle.serve_work.specs.Clients.{StopsAt, WroteImages, WroteNothing, offers_in, collections_in, reads_at}
-use Rattle.serve_work.specs.ClientInside.{BreaksOff, Flushes, IsSent, SendsWhole, Serves, Tallies, TalliesSeat}
+use Rattle.serve_work.specs.Clients.{ClientEnds, ClientOutcome, ClientStart, CutsHeader, Progress}
+use Rattle.serve_work.specs.Clients.{StopsAt, WroteImages, WroteNothing, reads_at}
+use Rattle.serve_work.specs.ClientInside.{BreaksOff, Flushes, IsSent, SendsWhole, Serves, TalliesSeat}
+use Rattle.serve_work.specs.Rests.{IsFresh, IsTallied, IsUnbegun}
+use Rattle.serve_work.proofs.Tallying.{counted_later}
 
 -- what finishing a writer tells
 pub record Finishes {T : Type 0} (writer : WriterState) (flush : Result T WriteFault) (end : ClientOutcome) : Type 0 where
@@ -220,19 +223,20 @@ module _ (start : ClientStart) (end : ClientOutcome) (shown : HeaderValue) (writ
   }
 
   -- the header line was written, and the stream was served
-  pub ClientEnds-served : {T : Type 0} (stop : Stop) (reader' : ReaderState) (seat' : StreamSeatValue) (writer' : WriterState)
-      (flush : Result T WriteFault) → Serves stop start.reader reader' start.seat seat' writer writer'
-      → IsNewSeat start.seat → Tallies start.seat seat' writer writer' → Finishes writer' flush end
+  pub ClientEnds-served : {T : Type 0} (past : List Act) (stop : Stop) (reader' : ReaderState) (seat' : StreamSeatValue)
+      (writer' : WriterState)
+      (flush : Result T WriteFault) → Serves past stop start.reader reader' start.seat seat' writer writer'
+      → IsFresh start.seat → IsTallied past start.seat seat' writer' → Finishes writer' flush end
       → Flushes stop flush end.stop → end.accepted ≡ seat'.accepted → end.delivered ≡ writer'.frames
-      → end.left ≡ reader'.left → end.read_failures ≡ reader'.failures → ClientEnds start seat' end
-  ClientEnds-served stop reader' seat' writer' flush s fresh tally fin flushes accepted delivered left reads =
+      → end.left ≡ reader'.left → end.read_failures ≡ reader'.failures → ClientEnds start past seat' end
+  ClientEnds-served past stop reader' seat' writer' flush s fresh tally fin flushes accepted delivered left reads =
       let at : ℕ → Option (List ℕ) → Progress = λ k l. record {
         len = data_len_of start.reader.header;
         count = k;
         most = start.seat.frames;
         rest = s.read.rest;
         left = l;
-        calls = seat'.calls.list;
+        calls = past ++ seat'.calls.list;
       } in
       let counted : start.seat.accepted + length s.frames ≡ end.accepted = sym s.count ∙ sym accepted in
       record {
@@ -256,11 +260,12 @@ module _ (start : ClientStart) (end : ClientOutcome) (shown : HeaderValue) (writ
               flushed = this.flushed;
             };
         drained = λ is. (s.whole (whole_flush stop flush end.stop flushes is).0).2;
-        number = tally.seat.number;
-        chain = tally.seat.chain;
+        number = tally.number;
+        chain = tally.chain;
         accepted = sym accepted;
-        offers = omega (arith, tally.seat.offers, ap offers_in fresh.calls, fresh.accepted, accepted);
-        collections = omega (arith, tally.images, ap collections_in fresh.calls, opened.frames, delivered);
+        offers = tally.offers ∙ sym accepted;
+        collections = omega (arith, tally.images, delivered);
+        before = tally.before;
       }
 
 -- the header line that is written
@@ -290,10 +295,12 @@ module _ (start : ClientStart) (end : ClientOutcome) where
   delivered_none (inl a) = a.none
   delivered_none (inr a) = a.none
 
-  pub ClientEnds-unopened : (seat' : StreamSeatValue) → IsNewSeat start.seat → TalliesSeat start.seat seat'
-      → seat'.accepted ≡ start.seat.accepted → end.accepted ≡ 0 → end.read_failures ≡ start.reader.failures
-      → WroteNothing start end ⊎ CutsHeader start end → ClientEnds start seat' end
-  ClientEnds-unopened seat' fresh tally same accepted reads out = record {
+  pub ClientEnds-unopened : (past : List Act) (seat seat' : StreamSeatValue) (reader : ReaderState) (contents : Option (List ℕ))
+      (failures : ℕ)
+      → IsUnbegun start past seat reader contents failures → TalliesSeat seat seat'
+      → seat'.accepted ≡ seat.accepted → end.accepted ≡ 0 → end.read_failures ≡ start.reader.failures
+      → WroteNothing start end ⊎ CutsHeader start end → ClientEnds start past seat' end
+  ClientEnds-unopened past seat seat' reader contents failures unbegun tally same accepted reads out = record {
     frames = [];
     rest = start.reader.rest;
     each = All-nil (IsFrameOf (data_len_of start.reader.header));
@@ -304,9 +311,10 @@ module _ (start : ClientStart) (end : ClientOutcome) where
     out = before_or _ out;
     whole = λ is. absurd (not_whole out is);
     drained = λ is. absurd (not_whole out is);
-    number = tally.number;
-    chain = tally.chain;
-    accepted = omega (arith, same, fresh.accepted, accepted);
-    offers = omega (arith, tally.offers, ap offers_in fresh.calls, fresh.accepted, same, accepted);
+    number = tally.number ∙ unbegun.stays.number;
+    chain = tally.chain ∙ unbegun.stays.chain;
+    accepted = omega (arith, same, unbegun.fresh.accepted, accepted);
+    offers = omega (arith, counted_later past seat seat' tally unbegun.offers, same, unbegun.fresh.accepted, accepted);
     collections = omega (arith, delivered_none out);
+    before = tally.before ∙ unbegun.before;
   }

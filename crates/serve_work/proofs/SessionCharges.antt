@@ -1,8 +1,7 @@
 -- What the streams of a session are charged.
-use Rattle.std.specs.Prelude.{All, IsSomeAnd, drop, slice_get, slice_set, sum_by, ⊤}
+use Rattle.std.specs.Prelude.{All, IsSomeAnd, drop, slice_get, slice_set, ⊤}
 use Rattle.std.specs.Option.{option_map}
 use Rattle.std.proofs.Common.{◌≡◌, ℕ, suc, zero, ◌+◌, ◌*◌, ◌≤◌, ◌<◌, List, [], ◌∷◌, length, get_or, map, Option, Some, None, inl, inr, refl, sym, ap, ◌∙◌, subst, arith}
-use Rattle.std.proofs.lemmas.List.Sums.{sum_by-cons}
 use Rattle.std.proofs.lemmas.Nat.{mul-le}
 use Rattle.std.proofs.lemmas.Option.{slice_get_cases}
 use Rattle.filters.specs.Costs.{cost_of}
@@ -12,18 +11,15 @@ use Rattle.serve_core.specs.Lanes.{Lane}
 use Rattle.serve_core.specs.Schedule.{HasLane, ScheduleValue, counts_of}
 use Rattle.serve_core.specs.Setup.{StreamSpec}
 use Rattle.serve_hub.specs.declared.entry.Act.{Act}
-use Rattle.serve_hub.specs.declared.entry.Act.TheVariants.{Admitted, Closed, Collected, Leased, Offered, Settled}
 use Rattle.serve_hub.specs.Ends.{AreLanes, IsCharged, IsLaneOf}
-use Rattle.serve_hub.specs.Seats.{StreamSeatValue, one_collection, opened_streams}
-use Rattle.serve_work.specs.Clients.{ClientEnds, ClientOutcome, ClientStart, collections_in}
+use Rattle.serve_hub.specs.Seats.{StreamSeatValue, collected_by, opened_streams}
+use Rattle.serve_work.specs.Clients.{ClientEnds, ClientOutcome, ClientStart}
+use Rattle.serve_work.specs.Intervals.{AreFrom}
 use Rattle.serve_work.specs.Sessions.{AreServed, IsServed, ServedValue, starts_of}
 use Rattle.serve_work.specs.SessionInside.{AllLeave, ClientLeft}
+use Rattle.serve_work.proofs.Tallying.{collections_both, collections_counted}
 
--- streams whose seats have the numbers from this one on
-abbrev pub AreFrom : ℕ → List ClientStart → Type 0
-AreFrom first [] = ⊤
-AreFrom first (start ∷ starts) = (start.seat.number ≡ first) × AreFrom (suc first) starts
-
+-- the streams are numbered in order
 pub are_from : {W : Type 0} (contents : W → Option (List ℕ)) (failures : W → ℕ) (limit first : ℕ)
     (specs : List StreamSpec) (inputs : List (ReaderState × W))
     → AreFrom first (starts_of contents failures (opened_streams limit first specs) inputs)
@@ -38,27 +34,23 @@ opened_length limit first (spec ∷ specs) = ap suc (opened_length limit (suc fi
 
 -- how much a stream was charged
 
-collections_counted : (calls : List Act) → collections_in calls ≡ sum_by one_collection calls
-collections_counted [] = refl
-collections_counted (Offered tick number ∷ calls) = collections_counted calls
-collections_counted (Closed ∷ calls) = collections_counted calls
-collections_counted (Admitted ∷ calls) = collections_counted calls
-collections_counted (Leased stream number grant ∷ calls) = collections_counted calls
-collections_counted (Settled bands finished ∷ calls) = collections_counted calls
-collections_counted (Collected number ∷ calls) =
-    omega (arith, collections_counted calls, sum_by-cons one_collection (Collected number) calls)
+-- no more images were delivered than were collected, in all epochs
+few_delivered : (start : ClientStart) (past : List Act) (seat : StreamSeatValue) (end : ClientOutcome) → ClientEnds start past seat end
+    → end.delivered ≤ collected_by seat
+few_delivered start past seat end ends =
+    omega (arith, ends.collections, ends.before, collections_both past seat.calls.list, collections_counted seat.calls.list)
 
-cost_between : (start : ClientStart) (seat : StreamSeatValue) (end : ClientOutcome) (charged : ℕ) (lane : Lane)
-    → ClientEnds start seat end → IsLaneOf seat lane → charged ≡ lane.state.charged → IsCharged lane
+cost_between : (start : ClientStart) (past : List Act) (seat : StreamSeatValue) (end : ClientOutcome) (charged : ℕ) (lane : Lane)
+    → ClientEnds start past seat end → IsLaneOf seat lane → charged ≡ lane.state.charged → IsCharged lane
     → IsServed start (record { outcome = end; charged = charged })
-cost_between start seat end charged lane ends of same bounds =
+cost_between start past seat end charged lane ends of same bounds =
     let cost : ℕ = cost_of start.seat.chain in
     let own : cost_of lane.state.spec.chain ≡ cost = ap cost_of (of.chain ∙ ends.chain) in
     let least : end.delivered * cost ≤ charged =
     omega (
       arith,
       mul-le end.delivered cost lane.state.collected cost
-          (omega (arith, ends.collections, of.collected, collections_counted seat.calls.list)) (omega arith),
+          (omega (arith, few_delivered start past seat end ends, of.collected)) (omega arith),
       ap (λ n. lane.state.collected * n) own,
       bounds.least,
       same,
@@ -72,6 +64,7 @@ cost_between start seat end charged lane ends of same bounds =
       ap (λ n. n * cost) (of.accepted ∙ ends.accepted),
     ) in
     record {
+      past = past;
       seat = seat;
       ends = ends;
       least = least;
@@ -115,10 +108,10 @@ module _ {S : Type 0} (told : S → ServedValue) (desk : ScheduleValue) (all : A
   all_served_from first (start ∷ starts) (left ∷ lefts) [] p from lanes e charges = absurd (omega (arith, ap length e))
   all_served_from first (start ∷ starts) (left ∷ lefts) (s ∷ served) p from lanes e charges =
       let outcome : (told s).outcome ≡ left.outcome = ap (λ os. get_or os 0 left.outcome) e in
-      let here = subst (λ n. HasLane desk n (IsLaneOf left.seat)) (p.0.number ∙ from.0) (lanes 0 left.seat (omega arith)) in
+      let here = subst (λ n. HasLane desk n (IsLaneOf left.seat)) (p.0.1.number ∙ from.0) (lanes 0 left.seat (omega arith)) in
       let at = lane_at desk first _ _ here (charges 0 first s (omega arith) (omega arith)) in (
-        cost_between start left.seat (told s).outcome (told s).charged at.lane
-            (subst (ClientEnds start left.seat) (sym outcome) p.0) at.first at.second (at.among all),
+        cost_between start p.0.0 left.seat (told s).outcome (told s).charged at.lane
+            (subst (ClientEnds start p.0.0 left.seat) (sym outcome) p.0.1) at.first at.second (at.among all),
         all_served_from (suc first) starts lefts served p.1 from.1
             (λ k d less. lanes (suc k) d (omega (arith, less)))
             (ap (λ os. drop 1 os) e)
@@ -144,7 +137,7 @@ pub have_lanes : (desk : ScheduleValue) (first : ℕ) (starts : List ClientStart
 have_lanes desk first starts [] p from lanes k n same less = absurd (omega (arith, less))
 have_lanes desk first [] (left ∷ lefts) p from lanes k n same less = absurd p
 have_lanes desk first (start ∷ starts) (left ∷ lefts) p from lanes zero n same less =
-    let here = subst (λ n. HasLane desk n (IsLaneOf left.seat)) (p.0.number ∙ from.0 ∙ (omega (arith, same)))
+    let here = subst (λ n. HasLane desk n (IsLaneOf left.seat)) (p.0.1.number ∙ from.0 ∙ (omega (arith, same)))
     (lanes 0 left.seat (omega arith)) in
     is_there (slice_get desk.lanes n) (IsLaneOf left.seat) here
 have_lanes desk first (start ∷ starts) (left ∷ lefts) p from lanes (suc k) n same less =

@@ -1,101 +1,155 @@
--- From the inputs of a session to what its clients leave.
-use Rattle.std.specs.Prelude.{IsErrAnd, MatchOption, drop, take, unwrap_or, ⊤}
+-- What the streams of a session come to, turn by turn.
+use Rattle.std.specs.Prelude.{IsErrAnd, MatchOption, drop, take, unwrap_or, ⊤, Bool}
 use Rattle.std.specs.List.{AllByRecursion}
-use Rattle.std.proofs.Common.{append_assoc, ◌≡◌, ℕ, suc, ◌≤◌, ◌<◌, List, [], ◌∷◌, ◌++◌, length, get_or, map, Option, Some, None, append-nil, take_all, Result, Ok, Err, inl, inr, ◌⊎◌, refl, sym, ap, ◌∙◌, subst, arith}
+use Rattle.std.proofs.Common.{append_assoc, ◌≡◌, ◌≢◌, IfErr, ℕ, suc, ◌<◌, List, [], ◌∷◌, ◌++◌, length, get_or, map, Option, Some, None, append-nil, take_all, Result, Ok, Err, inl, inr, ◌⊎◌, refl, sym, ap, ◌∙◌, subst, arith}
 use Rattle.std.proofs.lemmas.List.{drop_all}
-use Rattle.y4m_stream.specs.Reader.{ReaderState}
+use Rattle.y4m_stream.specs.Reader.{IsOfHeader, ReaderState}
 use Rattle.serve_core.specs.Setup.{StreamSpec}
-use Rattle.serve_hub.specs.Seats.{StreamSeatValue, opened_streams}
+use Rattle.serve_hub.specs.declared.entry.Act.{Act}
+use Rattle.serve_hub.specs.Seats.{StreamSeatValue}
+use Rattle.serve_work.specs.declared.session.Served.{Served}
 use Rattle.serve_work.specs.declared.session.SessionFault.{SessionFault}
 use Rattle.serve_work.specs.declared.session.SessionFault.TheVariants.{BadLimit, NoMemory}
+use Rattle.serve_work.specs.declared.session.turn.Stream.{Stream}
 use Rattle.serve_work.specs.Clients.{ClientOutcome, ClientStart}
-use Rattle.serve_work.specs.Sessions.{AreInputs, starts_of}
-use Rattle.serve_work.specs.SessionInside.{AllLeave, AllRun, ClientLeft, IsReady, Leaves, Runs, TurnValue, has_ended, waits}
+use Rattle.serve_work.specs.Intervals.{IsSized}
+use Rattle.serve_work.specs.Rests.{Begun, IsRestOf, RestValue, Unbegun, reader_in}
+use Rattle.serve_work.specs.Sessions.{AreInputs, outcome_of}
+use Rattle.serve_work.specs.SessionInside.{AllGoOn, AllLeave, AllRun, AllStand, AreOver, AreUnread, ClientLeft, GoesOn, HeldValue, IsReady, Runs, Stands, StreamValue, held_at, held_with, stream_of}
 
--- new seats and these inputs are ready
-pub are_ready : {W : Type 0} (contents : W → Option (List ℕ)) (failures : W → ℕ) (limit first : ℕ)
-    (specs : List StreamSpec) (inputs : List (ReaderState × W)) → AreInputs specs inputs
-    → AllByRecursion IsReady (starts_of contents failures (opened_streams limit first specs) inputs)
-are_ready contents failures limit first [] [] p = tt
-are_ready contents failures limit first [] (input ∷ inputs) p = absurd p
-are_ready contents failures limit first (spec ∷ specs) [] p = absurd p
-are_ready contents failures limit first (spec ∷ specs) (input ∷ inputs) p = (
-  record {
-    header = p.0.header;
-    fresh = record { calls = refl; accepted = refl; kept = refl; is_open = refl };
-    is_open = p.0.is_open;
-  },
-  are_ready contents failures limit (suc first) specs inputs p.1,
-)
+-- a stream's chain and its reader's header stay
+rest_header : (start : ClientStart) (past : List Act) (seat : StreamSeatValue) (rest : RestValue) → IsRestOf start past seat rest
+    → (reader_in rest).header ≡ start.reader.header
+rest_header start past seat (Unbegun reader contents failures) a = ap (λ (r : ReaderState). r.header) a.same_reader
+rest_header start past seat (Begun begun) a = a.same_header
 
--- no more streams begin than there are seats
-pub few_starts : {W : Type 0} (contents : W → Option (List ℕ)) (failures : W → ℕ) (seats : List StreamSeatValue)
-    (inputs : List (ReaderState × W)) → length (starts_of contents failures seats inputs) ≤ length seats
-few_starts contents failures [] inputs = omega arith
-few_starts contents failures (seat ∷ seats) [] = omega arith
-few_starts contents failures (seat ∷ seats) (input ∷ inputs) = omega (arith, few_starts contents failures seats inputs)
+rest_chain : (start : ClientStart) (past : List Act) (seat : StreamSeatValue) (rest : RestValue) → IsRestOf start past seat rest
+    → seat.chain ≡ start.seat.chain
+rest_chain start past seat (Unbegun reader contents failures) a = a.stays.chain
+rest_chain start past seat (Begun begun) a = a.tally.chain
+
+-- what is left to do of a stream whose frames are those of its chain
+pub rest_sized : (start : ClientStart) (past : List Act) (seat : StreamSeatValue) (rest : RestValue) → IsRestOf start past seat rest
+    → IsSized start → IsOfHeader (reader_in rest).header seat.chain.geometry
+rest_sized start past seat rest a is = rw (rest_header start past seat rest a, rest_chain start past seat rest a) is
+
+pub header_stays : (start : ClientStart) (past past' : List Act) (seat seat' : StreamSeatValue) (rest rest' : RestValue)
+    → IsRestOf start past seat rest
+    → IsRestOf start past' seat' rest' → IsOfHeader (reader_in rest).header seat.chain.geometry
+    → IsOfHeader (reader_in rest').header seat'.chain.geometry
+header_stays start past past' seat seat' rest rest' a b is =
+    rest_sized start past' seat' rest' b
+    (subst (λ h. IsOfHeader h start.seat.chain.geometry) (rest_header start past seat rest a)
+    (subst (λ chain. IsOfHeader (reader_in rest).header chain.geometry) (rest_chain start past seat rest a) is))
+
+pub are_unread : {W : Type 0} (specs : List StreamSpec) (inputs : List (ReaderState × W)) → AreInputs specs inputs → AreUnread inputs
+are_unread [] [] p = tt
+are_unread [] (input ∷ inputs) p = absurd p
+are_unread (spec ∷ specs) [] p = absurd p
+are_unread (spec ∷ specs) (input ∷ inputs) p = (p.0.is_open, are_unread specs inputs p.1)
+
+-- where each stream stood and went on, it stands
+pub stand_on : (starts : List ClientStart) (helds after : List HeldValue) → AllStand starts helds → AllGoOn helds after
+    → AllStand starts after
+stand_on [] [] [] p q = tt
+stand_on [] [] (held ∷ after) p q = absurd q
+stand_on [] (held ∷ helds) after p q = absurd p
+stand_on (start ∷ starts) [] after p q = absurd p
+stand_on (start ∷ starts) (held ∷ helds) [] p q = absurd q
+stand_on (start ∷ starts) (held ∷ helds) (next ∷ after) p q =
+    ((p.0.0, q.0 start p.0.0 p.0.1), stand_on starts helds after p.1 q.1)
 
 pub same_length : {A B : Type 0} (f : A → B) (xs : List A) → length (map f xs) ≡ length xs
 same_length f [] = refl
 same_length f (x ∷ xs) = ap suc (same_length f xs)
 
--- where the client of each stream that waits ran, all did
-all_run_from : (starts : List ClientStart) (new : List TurnValue) → length new ≡ length starts
-    → ((i : ℕ) (d : TurnValue) → i < length starts → Runs (get_or (map waits starts) i d) (get_or new i d))
-    → (lefts : List ClientLeft) × (new ≡ map has_ended lefts) × AllLeave starts lefts
+pub stand_length : (starts : List ClientStart) (helds : List HeldValue) → AllStand starts helds → length helds ≡ length starts
+stand_length [] [] p = refl
+stand_length [] (held ∷ helds) p = absurd p
+stand_length (start ∷ starts) [] p = absurd p
+stand_length (start ∷ starts) (held ∷ helds) p = ap suc (stand_length starts helds p.1)
+
+-- where the stream of each turn went on, all did
+all_run_from : (helds : List HeldValue) (new : List (Option HeldValue)) → length new ≡ length helds
+    → ((i : ℕ) (d : Option HeldValue) → i < length helds → Runs (get_or (map Some helds) i d) (get_or new i d))
+    → (after : List HeldValue) × (new ≡ map Some after) × AllGoOn helds after
 all_run_from [] [] len each = ([], refl, tt)
 all_run_from [] (turn ∷ new) len each = absurd (omega (arith, len))
-all_run_from (start ∷ starts) [] len each = absurd (omega (arith, len))
-all_run_from (start ∷ starts) (turn ∷ new) len each =
-    let here : (left : ClientLeft) × (turn ≡ has_ended left) × Leaves start left = each 0 turn (omega arith) start refl in
-    let rest = all_run_from starts new (omega (arith, len)) (λ i d less. each (suc i) d (omega (arith, less))) in (
-      here.0 ∷ rest.0,
-      ap (λ t. t ∷ new) here.1 ∙ ap (λ ts. has_ended here.0 ∷ ts) rest.1,
-      (here.2, rest.2),
-    )
+all_run_from (held ∷ helds) [] len each = absurd (omega (arith, len))
+all_run_from (held ∷ helds) (None ∷ new) len each = absurd (each 0 None (omega arith) held refl)
+all_run_from (held ∷ helds) (Some next ∷ new) len each =
+    let here : GoesOn held next = each 0 None (omega arith) held refl in
+    let rest = all_run_from helds new (omega (arith, len)) (λ i d less. each (suc i) d (omega (arith, less))) in
+    (next ∷ rest.0, ap (λ ts. Some next ∷ ts) rest.1, (here, rest.2))
 
-pub all_run : (old new : List TurnValue) → length new ≡ length old
-    → ((i : ℕ) (d : TurnValue) → i < length old → Runs (get_or old i d) (get_or new i d)) → AllRun old new
-all_run old new len each starts e = all_run_from starts new
-    (len ∙ ap length e ∙ same_length waits starts)
-    (λ i d less. subst (λ (turns : List TurnValue). Runs (get_or turns i d) (get_or new i d)) e
-    (each i d (omega (arith, less, ap length e, same_length waits starts))))
+pub all_run : (old new : List (Option HeldValue)) → length new ≡ length old
+    → ((i : ℕ) (d : Option HeldValue) → i < length old → Runs (get_or old i d) (get_or new i d)) → AllRun old new
+all_run old new len each helds e = all_run_from helds new
+    (len ∙ ap length e ∙ same_length Some helds)
+    (λ i d less. subst (λ (turns : List (Option HeldValue)). Runs (get_or turns i d) (get_or new i d)) e
+    (each i d (omega (arith, less, ap length e, same_length Some helds))))
 
--- each stream that begins leaves something
-pub all_left : (starts : List ClientStart) (lefts : List ClientLeft) → AllLeave starts lefts → length lefts ≡ length starts
-all_left [] [] p = refl
-all_left [] (left ∷ lefts) p = absurd p
-all_left (start ∷ starts) [] p = absurd p
-all_left (start ∷ starts) (left ∷ lefts) p = ap suc (all_left starts lefts p.1)
+pub all_went : (helds after : List HeldValue) → AllGoOn helds after → length after ≡ length helds
+all_went [] [] p = refl
+all_went [] (held ∷ after) p = absurd p
+all_went (held ∷ helds) [] p = absurd p
+all_went (held ∷ helds) (next ∷ after) p = ap suc (all_went helds after p.1)
+
+-- where none runs, all stay
+go_on_none : (helds : List HeldValue) → AllGoOn helds helds
+go_on_none [] = tt
+go_on_none (held ∷ helds) = ((λ start past at. at), go_on_none helds)
+
+pub all_stay : (items : List (Option HeldValue)) → AllRun items items
+all_stay items helds e = (helds, e, go_on_none helds)
 
 -- turns that ran in the places of a list, which are all of it
-pub all_run_whole : (items new : List TurnValue) (len : ℕ) → len ≡ length items → AllRun items new
+pub all_run_whole : (items new : List (Option HeldValue)) (len : ℕ) → len ≡ length items → AllRun items new
     → AllRun items (take len (new ++ drop (length new) items))
-all_run_whole items new len is ran starts e =
-    let run = ran starts e in
+all_run_whole items new len is ran helds e =
+    let run = ran helds e in
     let same : length new ≡ length items =
-    ap length run.1 ∙ same_length has_ended run.0 ∙ all_left starts run.0 run.2 ∙ sym (ap length e ∙ same_length waits starts) in
+    ap length run.1 ∙ same_length Some run.0 ∙ all_went helds run.0 run.2 ∙ sym (ap length e ∙ same_length Some helds) in
     let whole : take len (new ++ drop (length new) items) ≡ new =
     ap (λ z. take len (new ++ z)) (drop_all (length new) items (omega (arith, same)))
     ∙ ap (take len) (append-nil new) ∙ take_all len new (omega (arith, is, same)) in
     (run.0, whole ∙ run.1, run.2)
 
--- the first of some ends
-pub first_ended : (turn : TurnValue) (turns : List TurnValue) (lefts : List ClientLeft)
-    → turn ∷ turns ≡ map has_ended lefts
-    → (left : ClientLeft) × (rest : List ClientLeft) × (lefts ≡ left ∷ rest) × (turn ≡ has_ended left)
-    × (turns ≡ map has_ended rest)
-first_ended turn turns [] e = absurd (omega (arith, ap length e))
-first_ended turn turns (left ∷ rest) e = (left, rest, refl, cc, cc)
+-- the first of some turns
+pub first_held : (turn : Option HeldValue) (turns : List (Option HeldValue)) (helds : List HeldValue)
+    → turn ∷ turns ≡ map Some helds
+    → (held : HeldValue) × (rest : List HeldValue) × (helds ≡ held ∷ rest) × (turn ≡ Some held) × (turns ≡ map Some rest)
+first_held turn turns [] e = absurd (omega (arith, ap length e))
+first_held turn turns (held ∷ rest) e = (held, rest, refl, cc, cc)
 
--- where no seat or no input is left, all turns are there
-pub all_seated : {W : Type 0} (contents : W → Option (List ℕ)) (failures : W → ℕ) (turns all : List TurnValue)
-    (seats : List StreamSeatValue) (inputs : List (ReaderState × W)) → (length seats ≡ 0) ⊎ (length inputs ≡ 0)
-    → turns ++ map waits (starts_of contents failures seats inputs) ≡ all → turns ≡ all
-all_seated contents failures turns all [] inputs p e = sym (append-nil turns) ∙ e
-all_seated contents failures turns all (seat ∷ seats) [] p e = sym (append-nil turns) ∙ e
-all_seated contents failures turns all (seat ∷ seats) (input ∷ inputs) (inl p) e = absurd (omega (arith, p))
-all_seated contents failures turns all (seat ∷ seats) (input ∷ inputs) (inr p) e = absurd (omega (arith, p))
+-- where no seat or no stream is left, all turns are there
+pub all_seated : {S : Type 0} (value : S
+    → StreamValue) (turns all : List (Option HeldValue)) (seats : List StreamSeatValue) (streams : List S)
+    → (length seats ≡ 0) ⊎ (length streams ≡ 0) → turns ++ map Some (held_with value seats streams) ≡ all → turns ≡ all
+all_seated value turns all [] streams p e = sym (append-nil turns) ∙ e
+all_seated value turns all (seat ∷ seats) [] p e = sym (append-nil turns) ∙ e
+all_seated value turns all (seat ∷ seats) (stream ∷ streams) (inl p) e = absurd (omega (arith, p))
+all_seated value turns all (seat ∷ seats) (stream ∷ streams) (inr p) e = absurd (omega (arith, p))
+
+-- one seat more has its stream
+pub seated_more : {S : Type 0} (value : S → StreamValue) (turns turns' all : List (Option HeldValue)) (seats seats' : List StreamSeatValue)
+    (streams streams' : List S) (seat : StreamSeatValue) (s : S) (turn : Option HeldValue) → seats ≡ seat ∷ seats' → streams ≡ s ∷ streams'
+    → turns ++ map Some (held_with value seats streams) ≡ all → turn ≡ Some (held_at seat (value s)) → turns' ≡ turns ++ turn ∷ []
+    → turns' ++ map Some (held_with value seats' streams') ≡ all
+seated_more value turns turns' all seats seats' streams streams' seat s turn e f told is more =
+    let now : turns ++ map Some (held_with value (seat ∷ seats') (s ∷ streams')) ≡ all =
+    subst (λ (these : List _). turns ++ map Some (held_with value (seat ∷ seats') these) ≡ all) f
+    (subst (λ (these : List StreamSeatValue). turns ++ map Some (held_with value these streams) ≡ all) e told) in
+    ap (λ (ts : List (Option HeldValue)). ts ++ map Some (held_with value seats' streams'))
+    (more ∙ ap (λ (t : Option HeldValue). turns ++ t ∷ []) is)
+    ∙ append_assoc turns (Some (held_at seat (value s)) ∷ []) (map Some (held_with value seats' streams')) ∙ now
+
+pub ready_more : {S : Type 0} (value : S → StreamValue) (seats seats' : List StreamSeatValue) (streams streams' : List S)
+    (seat : StreamSeatValue) (s : S) → seats ≡ seat ∷ seats' → streams ≡ s ∷ streams' → AllByRecursion IsReady (held_with value seats streams)
+    → AllByRecursion IsReady (held_with value seats' streams')
+ready_more value seats seats' streams streams' seat s e f ready =
+    (subst (λ (these : List _). AllByRecursion IsReady (held_with value (seat ∷ seats') these)) f
+    (subst (λ (these : List StreamSeatValue). AllByRecursion IsReady (held_with value these streams)) e ready)).1
 
 pub one_empty : {S T : Type 0} {P : S → Type 0} {Q : T → Type 0} (m n a b : ℕ) → a ≡ m → b ≡ n
     → ((u : S) × ((m ≡ 0) × P u)) ⊎ ((u : T) × ((n ≡ 0) × Q u)) → (a ≡ 0) ⊎ (b ≡ 0)
@@ -106,70 +160,163 @@ map_more : {A B : Type 0} (f : A → B) (xs : List A) (x : A) → map f (xs ++ x
 map_more f [] x = refl
 map_more f (y ∷ xs) x = ap (λ ys. f y ∷ ys) (map_more f xs x)
 
--- all turns are parted but these, into the seats and what is told
-abbrev pub Parted : {S : Type 0} (told : S → ClientOutcome) (all items : List TurnValue)
-    (seats : List StreamSeatValue) (served : List S) → Type 0
-Parted told all items seats served = (lefts : List ClientLeft) → all ≡ map has_ended lefts
-    → (rest : List ClientLeft) × (items ≡ map has_ended rest)
-    × (seats ++ map (λ left. left.seat) rest ≡ map (λ left. left.seat) lefts)
-    × (map told served ++ map (λ left. left.outcome) rest ≡ map (λ left. left.outcome) lefts)
+-- all turns are parted but these, into the seats and the streams
+abbrev pub Parted : {S : Type 0} (value : S → StreamValue) (all items : List (Option HeldValue))
+    (seats : List StreamSeatValue) (streams : List S) → Type 0
+Parted value all items seats streams = (helds : List HeldValue) → all ≡ map Some helds
+    → (rest : List HeldValue) × (items ≡ map Some rest)
+    × (seats ++ map (λ held. held.seat) rest ≡ map (λ held. held.seat) helds)
+    × (map value streams ++ map (λ held. held.stream) rest ≡ map (λ held. held.stream) helds)
 
-pub parted_none : {S : Type 0} (told : S → ClientOutcome) (all items : List TurnValue)
-    (seats : List StreamSeatValue) (served : List S) → seats ≡ [] → served ≡ [] → items ≡ all
-    → Parted told all items seats served
-parted_none told all items seats served e f i lefts p = (
-  lefts,
+pub parted_none : {S : Type 0} (value : S → StreamValue) (all items : List (Option HeldValue))
+    (seats : List StreamSeatValue) (streams : List S) → seats ≡ [] → streams ≡ [] → items ≡ all
+    → Parted value all items seats streams
+parted_none value all items seats streams e f i helds p = (
+  helds,
   i ∙ p,
-  ap (λ (z : List StreamSeatValue). z ++ map (λ (left : ClientLeft). left.seat) lefts) e,
-  ap (λ (z : List _). map told z ++ map (λ (left : ClientLeft). left.outcome) lefts) f,
+  ap (λ (z : List StreamSeatValue). z ++ map (λ (held : HeldValue). held.seat) helds) e,
+  ap (λ (z : List _). map value z ++ map (λ (held : HeldValue). held.stream) helds) f,
 )
 
-pub parted_more : {S : Type 0} (told : S → ClientOutcome) (all items later : List TurnValue) (turn : TurnValue)
-    (seats seats' : List StreamSeatValue) (served served' : List S) (left : ClientLeft) (s : S)
-    → Parted told all items seats served → items ≡ turn ∷ later → turn.ended ≡ Some left
-    → seats' ≡ seats ++ left.seat ∷ [] → served' ≡ served ++ s ∷ [] → left.outcome ≡ told s
-    → Parted told all later seats' served'
-parted_more told all items later turn seats seats' served served' left s parted i e q r o lefts p =
-    let was = parted lefts p in
-    let first = first_ended turn later was.0 (sym i ∙ was.1) in
-    let seat_in : ClientLeft → StreamSeatValue = λ l. l.seat in
-    let outcome_in : ClientLeft → ClientOutcome = λ l. l.outcome in
-    let same : first.0 ≡ left =
-    ap (λ (z : Option ClientLeft). unwrap_or z left) (ap (λ (t : TurnValue). t.ended) (sym first.3) ∙ e) in (
+pub parted_more : {S : Type 0} (value : S → StreamValue) (all items later : List (Option HeldValue)) (turn : Option HeldValue)
+    (seats seats' : List StreamSeatValue) (streams streams' : List S) (held : HeldValue) (seat : StreamSeatValue) (s : S)
+    → Parted value all items seats streams → items ≡ turn ∷ later → turn ≡ Some held
+    → seat ≡ held.seat → seats' ≡ seats ++ seat ∷ [] → streams' ≡ streams ++ s ∷ [] → value s ≡ held.stream
+    → Parted value all later seats' streams'
+parted_more value all items later turn seats seats' streams streams' held seat s parted i e own q r o helds p =
+    let was = parted helds p in
+    let first = first_held turn later was.0 (sym i ∙ was.1) in
+    let seat_in : HeldValue → StreamSeatValue = λ l. l.seat in
+    let stream_in : HeldValue → StreamValue = λ l. l.stream in
+    let same : first.0 ≡ held = ap (λ (z : Option HeldValue). unwrap_or z held) (sym first.3 ∙ e) in (
       first.1,
       first.4,
-      ap (λ z. z ++ map seat_in first.1) q ∙ append_assoc seats (left.seat ∷ []) (map seat_in first.1)
-          ∙ ap (λ (z : ClientLeft). seats ++ z.seat ∷ map seat_in first.1) (sym same)
-          ∙ ap (λ (z : List ClientLeft). seats ++ map seat_in z) (sym first.2) ∙ was.2,
-      ap (λ z. map told z ++ map outcome_in first.1) r ∙ ap (λ z. z ++ map outcome_in first.1) (map_more told served s)
-          ∙ append_assoc (map told served) (told s ∷ []) (map outcome_in first.1)
-          ∙ ap (λ (z : ClientOutcome). map told served ++ z ∷ map outcome_in first.1) (sym o ∙ ap outcome_in (sym same))
-          ∙ ap (λ (z : List ClientLeft). map told served ++ map outcome_in z) (sym first.2) ∙ was.3,
+      ap (λ z. z ++ map seat_in first.1) q ∙ append_assoc seats (seat ∷ []) (map seat_in first.1)
+          ∙ ap (λ z. seats ++ z ∷ map seat_in first.1) (own ∙ ap seat_in (sym same))
+          ∙ ap (λ (z : List HeldValue). seats ++ map seat_in z) (sym first.2) ∙ was.2,
+      ap (λ z. map value z ++ map stream_in first.1) r ∙ ap (λ z. z ++ map stream_in first.1) (map_more value streams s)
+          ∙ append_assoc (map value streams) (value s ∷ []) (map stream_in first.1)
+          ∙ ap (λ (z : StreamValue). map value streams ++ z ∷ map stream_in first.1) (o ∙ ap stream_in (sym same))
+          ∙ ap (λ (z : List HeldValue). map value streams ++ map stream_in z) (sym first.2) ∙ was.3,
     )
 
-no_rest : (items : List TurnValue) (rest : List ClientLeft) → length items ≡ 0 → items ≡ map has_ended rest → rest ≡ []
+no_rest : (items : List (Option HeldValue)) (rest : List HeldValue) → length items ≡ 0 → items ≡ map Some rest → rest ≡ []
 no_rest items [] len e = refl
-no_rest items (left ∷ rest) len e = absurd (omega (arith, len, ap length e))
+no_rest items (held ∷ rest) len e = absurd (omega (arith, len, ap length e))
 
-pub parted_all : {S : Type 0} (told : S → ClientOutcome) (all items : List TurnValue)
-    (seats : List StreamSeatValue) (served : List S) → Parted told all items seats served → length items ≡ 0
-    → (lefts : List ClientLeft) → all ≡ map has_ended lefts
-    → (seats ≡ map (λ left. left.seat) lefts) × (map told served ≡ map (λ left. left.outcome) lefts)
-parted_all told all items seats served parted len lefts p =
-    let was = parted lefts p in
+pub parted_all : {S : Type 0} (value : S → StreamValue) (all items : List (Option HeldValue))
+    (seats : List StreamSeatValue) (streams : List S) → Parted value all items seats streams → length items ≡ 0
+    → (helds : List HeldValue) → all ≡ map Some helds
+    → (seats ≡ map (λ held. held.seat) helds) × (map value streams ≡ map (λ held. held.stream) helds)
+parted_all value all items seats streams parted len helds p =
+    let was = parted helds p in
     let none = no_rest items was.0 len was.1 in (
-      sym (append-nil seats) ∙ ap (λ (z : List ClientLeft). seats ++ map (λ left. left.seat) z) (sym none) ∙ was.2,
-      sym (append-nil (map told served))
-          ∙ ap (λ (z : List ClientLeft). map told served ++ map (λ left. left.outcome) z) (sym none) ∙ was.3,
+      sym (append-nil seats) ∙ ap (λ (z : List HeldValue). seats ++ map (λ held. held.seat) z) (sym none) ∙ was.2,
+      sym (append-nil (map value streams))
+          ∙ ap (λ (z : List HeldValue). map value streams ++ map (λ held. held.stream) z) (sym none) ∙ was.3,
     )
 
--- a turn that has ended has an end
-pub has_end : (turn : TurnValue) (left : ClientLeft) → turn ≡ has_ended left → turn.ended ≡ None → ⊥
-has_end turn left e none =
-    subst (λ (o : Option ClientLeft). MatchOption o ⊥ (λ _. ⊤)) (sym (ap (λ (t : TurnValue). t.ended) e) ∙ none) tt
+-- a turn that has a stream isn't empty
+pub has_held : (turn : Option HeldValue) (held : HeldValue) → turn ≡ Some held → turn ≡ None → ⊥
+has_held turn held e none = subst (λ (o : Option HeldValue). MatchOption o ⊥ (λ _. ⊤)) (sym e ∙ none) tt
 
--- want of memory is no wrong limit
-pub no_bad_limit : {T : Type 0} (r : Result T SessionFault) (e : SessionFault) → IsErrAnd r (λ told. told ≡ e)
-    → e ≡ NoMemory → r ≡ Err BadLimit → ⊥
-no_bad_limit (Ok t) e p memory is = absurd p
-no_bad_limit (Err told) e p memory is = absurd (cc)
+-- faults that aren't a wrong limit
+
+pub no_memory : (e : SessionFault) → e ≡ NoMemory → e ≢ BadLimit
+no_memory e p is = let both : NoMemory ≡ BadLimit = sym p ∙ is in absurd (cc)
+
+pub fault_stays : {T : Type 0} (r : Result T SessionFault) (e : SessionFault) → IsErrAnd r (λ told. told ≡ e) → e ≢ BadLimit
+    → IfErr r (λ told. told ≢ BadLimit)
+fault_stays (Ok t) e p other = absurd p
+fault_stays (Err told) e p other = λ is. other (sym p ∙ is)
+
+pub never_bad_limit : {T : Type 0} (r : Result T SessionFault) → IfErr r (λ e. e ≢ BadLimit) → r ≡ Err BadLimit → ⊥
+never_bad_limit (Ok t) p is = absurd (cc)
+never_bad_limit (Err e) p is = let same : e ≡ BadLimit = cc in p same
+
+pub no_bad_limit : {T : Type 0} (r : Result T SessionFault) (e : SessionFault) → IsErrAnd r (λ told. told ≡ e) → e ≢ BadLimit
+    → r ≡ Err BadLimit → ⊥
+no_bad_limit r e p other is = never_bad_limit r (fault_stays r e p other) is
+
+-- what the streams leave, where no epoch comes any more
+pub all_over : {R W : Type 0} (left : R → Option (List ℕ)) (read_failures : R → ℕ) (after : W → Option (List ℕ)) (failures : W
+    → ℕ) (is_flushed : W → Bool)
+    (starts : List ClientStart) (helds : List HeldValue) (streams : List (Stream R W)) (served : List (Served R W)) → AllStand starts helds
+    → map (stream_of left read_failures after failures is_flushed) streams ≡ map (λ held. held.stream) helds
+    → AreOver left read_failures after failures is_flushed streams served
+    → (lefts : List ClientLeft) × (map (λ l. l.seat) lefts ≡ map (λ held. held.seat) helds)
+    × (map (outcome_of left read_failures after failures is_flushed) served ≡ map (λ l. l.outcome) lefts) × AllLeave starts lefts
+all_over left read_failures after failures is_flushed [] [] [] [] p e q = ([], refl, refl, tt)
+all_over left read_failures after failures is_flushed [] [] [] (s ∷ served) p e q = absurd q
+all_over left read_failures after failures is_flushed [] [] (stream ∷ streams) served p e q = absurd (omega (arith, ap length e))
+all_over left read_failures after failures is_flushed [] (held ∷ helds) streams served p e q = absurd p
+all_over left read_failures after failures is_flushed (start ∷ starts) [] streams served p e q = absurd p
+all_over left read_failures after failures is_flushed (start ∷ starts) (held ∷ helds) [] served p e q = absurd (omega (arith, ap length e))
+all_over left read_failures after failures is_flushed (start ∷ starts) (held ∷ helds) (stream ∷ streams) [] p e q = absurd q
+all_over left read_failures after failures is_flushed (start ∷ starts) (held ∷ helds) (stream ∷ streams) (s ∷ served) p e q =
+    let outcome : ClientOutcome = outcome_of left read_failures after failures is_flushed s in
+    let here : stream_of left read_failures after failures is_flushed stream ≡ held.stream = ap (λ vs. get_or vs 0 held.stream) e in
+    let rest = all_over left read_failures after failures is_flushed starts helds streams served p.1 (ap (λ vs. drop 1 vs) e) q.1 in
+    let stand : Stands start p.0.0 (record { seat = held.seat; stream = stream_of left read_failures after failures is_flushed stream }) =
+    subst (λ (v : StreamValue). Stands start p.0.0 (record { seat = held.seat; stream = v })) (sym here) p.0.1 in (
+      record { seat = held.seat; outcome = outcome } ∷ rest.0,
+      ap (λ seats. held.seat ∷ seats) rest.1,
+      ap (λ outcomes. outcome ∷ outcomes) rest.2,
+      ((p.0.0, q.0 start p.0.0 held.seat stand), rest.3),
+    )
+
+pub over_length : {R W : Type 0} (left : R → Option (List ℕ)) (read_failures : R → ℕ) (after : W → Option (List ℕ)) (failures : W
+    → ℕ) (is_flushed : W → Bool)
+    (streams : List (Stream R W)) (served : List (Served R W)) → AreOver left read_failures after failures is_flushed streams served
+    → length served ≡ length streams
+over_length left read_failures after failures is_flushed [] [] q = refl
+over_length left read_failures after failures is_flushed [] (s ∷ served) q = absurd q
+over_length left read_failures after failures is_flushed (stream ∷ streams) [] q = absurd q
+over_length left read_failures after failures is_flushed (stream ∷ streams) (s ∷ served) q =
+    ap suc (over_length left read_failures after failures is_flushed streams served q.1)
+
+-- the first of all are told, and these are left
+pub record Told {A B : Type 0} (All : List A → List B → Type 0) (all items : List A) (told : List B) : Type 0 where
+  pub done : List A
+  pub parts : done ++ items ≡ all
+  pub each : All done told
+
+pub none_told : {A B : Type 0} (All : List A → List B → Type 0) (all items : List A) (told : List B) → All [] [] → told ≡ [] → items ≡ all
+    → Told All all items told
+none_told All all items told none empty same = record { done = []; parts = same; each = subst (All []) (sym empty) none }
+
+pub all_told : {A B : Type 0} (All : List A → List B → Type 0) (all items : List A) (told : List B) → Told All all items told
+    → length items ≡ 0
+    → All all told
+all_told All all [] told t e = subst (λ done. All done told) (sym (append-nil t.done) ∙ t.parts) t.each
+all_told All all (x ∷ items) told t e = absurd (omega (arith, e))
+
+over_more : {R W : Type 0} (left : R → Option (List ℕ)) (read_failures : R → ℕ) (after : W → Option (List ℕ)) (failures : W
+    → ℕ) (is_flushed : W → Bool)
+    (streams : List (Stream R W)) (served : List (Served R W)) (stream : Stream R W) (s : Served R W)
+    → AreOver left read_failures after failures is_flushed streams served
+    → AreOver left read_failures after failures is_flushed (stream ∷ []) (s ∷ [])
+    → AreOver left read_failures after failures is_flushed (streams ++ stream ∷ []) (served ++ s ∷ [])
+over_more left read_failures after failures is_flushed [] [] stream s p q = q
+over_more left read_failures after failures is_flushed [] (t ∷ served) stream s p q = absurd p
+over_more left read_failures after failures is_flushed (x ∷ streams) [] stream s p q = absurd p
+over_more left read_failures after failures is_flushed (x ∷ streams) (t ∷ served) stream s p q =
+    (p.0, over_more left read_failures after failures is_flushed streams served stream s p.1 q)
+
+pub told_one : {R W : Type 0} (left : R → Option (List ℕ)) (read_failures : R → ℕ) (after : W → Option (List ℕ)) (failures : W
+    → ℕ) (is_flushed : W → Bool)
+    (all items later : List (Stream R W)) (served served' : List (Served R W)) (stream : Stream R W) (s : Served R W)
+    → Told (AreOver left read_failures after failures is_flushed) all items served → items ≡ stream ∷ later → served' ≡ served ++ s ∷ []
+    → AreOver left read_failures after failures is_flushed (stream ∷ []) (s ∷ [])
+    → Told (AreOver left read_failures after failures is_flushed) all later served'
+told_one left read_failures after failures is_flushed all items later served served' stream s t i more one = record {
+  done = t.done ++ stream ∷ [];
+  parts = append_assoc t.done (stream ∷ []) later ∙ ap (λ l. t.done ++ l) (sym i) ∙ t.parts;
+  each = subst (AreOver left read_failures after failures is_flushed (t.done ++ stream ∷ [])) (sym more)
+      (over_more left read_failures after failures is_flushed t.done served stream s t.each one);
+}
+
+-- where nothing is left, all were made
+pub all_made : {A B : Type 0} (f : A → B) (xs all : List B) (items : List A) → length items ≡ 0 → xs ++ map f items ≡ all → xs ≡ all
+all_made f xs all [] e p = sym (append-nil xs) ∙ p
+all_made f xs all (x ∷ items) e p = absurd (omega (arith, e))

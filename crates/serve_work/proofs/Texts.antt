@@ -1,12 +1,14 @@
 -- From a reader's opening to a client's end.
 use Rattle.std.proofs.Common.{◌≡◌, ◌⊎◌, ℕ, List, [], ◌∷◌, ◌++◌, length, Option, Some, None, IfSome, refl, sym, ap, ◌∙◌, append-nil, length-append, arith, subst, inl, inr}
 use Rattle.std.proofs.KnownBytes.{Consumes-trans, Consumes-whole}
+use Rattle.std.proofs.lemmas.List.{nil_from_length}
 use Rattle.std.specs.Io.KnownBytes.{Appends, Consumes, IsAtEnd, Keeps}
-use Rattle.y4m_header.specs.StreamText.{FrameText, frames_text, stream_text}
+use Rattle.y4m_header.specs.StreamText.{frames_text, stream_text}
 use Rattle.filters.specs.Chain.{ChainValue}
 use Rattle.y4m_stream.specs.Reader.{data_len_of}
 use Rattle.y4m_stream.specs.Served.{IsServedText}
 use Rattle.y4m_stream.proofs.Puts.{behind_line}
+use Rattle.serve_hub.specs.declared.entry.Act.{Act}
 use Rattle.serve_hub.specs.Seats.{StreamSeatValue}
 use Rattle.serve_work.specs.declared.stop.Cause.TheVariants.{NoMemory}
 use Rattle.serve_work.specs.declared.stop.Stop.TheVariants.{Whole, Write, Refused}
@@ -22,17 +24,13 @@ all_read (Some xs) None c text p q k = absurd p
 all_read (Some xs) (Some ys) None text p q k = absurd k
 all_read (Some xs) (Some ys) (Some zs) text p q k = ap Some (k ∙ q)
 
-none_left : (xs : List FrameText) → length xs ≡ 0 → xs ≡ []
-none_left [] e = refl
-none_left (x ∷ xs) e = absurd (omega (arith, e))
-
 -- where no image is left, all that was begun was written
 no_part : (chain : ChainValue) (part : List ℕ) (old new : ℕ) → EndsWithin chain [] part old new → part ≡ []
 no_part chain part old new (inl a) = a.0
 no_part chain part old new (inr a) = let both : [] ≡ a.0.next ∷ a.0.later = a.0.first in absurd (cc)
 
-module _ (input : Option (List ℕ)) (text : List ℕ) (start : ClientStart) (seat : StreamSeatValue) (end : ClientOutcome)
-    (e : ClientEnds start seat end) (taken : Consumes input e.rest text) (is : end.stop ≡ Whole) where
+module _ (input : Option (List ℕ)) (text : List ℕ) (start : ClientStart) (past : List Act) (seat : StreamSeatValue) (end : ClientOutcome)
+    (e : ClientEnds start past seat end) (taken : Consumes input e.rest text) (is : end.stop ≡ Whole) where
   abbrev at : Progress
   at = record {
     len = data_len_of start.reader.header;
@@ -40,7 +38,7 @@ module _ (input : Option (List ℕ)) (text : List ℕ) (start : ClientStart) (se
     most = start.seat.frames;
     rest = e.rest;
     left = end.left;
-    calls = seat.calls.list;
+    calls = past ++ seat.calls.list;
   }
 
   whole_at : WroteNothing start end ⊎ CutsHeader start end ⊎ StopsAt end.stop at → IsAtEnd e.rest × Keeps e.rest end.left
@@ -56,7 +54,7 @@ module _ (input : Option (List ℕ)) (text : List ℕ) (start : ClientStart) (se
   serves_all (inl a) = let both : Whole ≡ Refused NoMemory = sym is ∙ a.stop in absurd (cc)
   serves_all (inr (inl a)) = let both : Whole ≡ Write a.fault = sym is ∙ a.stop in absurd (cc)
   serves_all (inr (inr a)) =
-      let later : a.later ≡ [] = none_left a.later
+      let later : a.later ≡ [] = nil_from_length a.later
       (omega (arith, ap length a.first, length-append a.sent a.later, a.count, (e.whole is).all, e.count)) in
       let sent : a.sent ≡ e.frames = sym (a.first ∙ ap (λ l. a.sent ++ l) later ∙ append-nil a.sent) in
       let part : a.part ≡ [] = no_part start.seat.chain a.part start.failures end.failures
@@ -70,7 +68,7 @@ module _ (input : Option (List ℕ)) (text : List ℕ) (start : ClientStart) (se
       }
 
 pub input_is_served : InputIsServed
-input_is_served input failures start seat end opened e =
+input_is_served input failures start past seat end opened e =
     let text : List ℕ = stream_text start.reader.header.line e.frames in
     let taken : Consumes input e.rest text =
     subst (Consumes input e.rest) (behind_line start.reader.header.line (frames_text e.frames))
@@ -92,5 +90,5 @@ input_is_served input failures start seat end opened e =
       taken = taken;
       stops = e.stops;
       out = e.out;
-      whole = λ is. serves_all input text start seat end e taken is e.out;
+      whole = λ is. serves_all input text start past seat end e taken is e.out;
     }

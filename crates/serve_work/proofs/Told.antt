@@ -1,5 +1,5 @@
 -- A fault that stands in the input is told.
-use Rattle.std.proofs.Common.{◌≡◌, ◌⊎◌, ℕ, List, Option, Some, None, Result, Ok, Err, refl, subst, inl, inr}
+use Rattle.std.proofs.Common.{◌≡◌, ◌⊎◌, ◌++◌, ℕ, List, Option, Some, None, Result, Ok, Err, refl, subst, inl, inr}
 use Rattle.std.specs.Io.KnownBytes.{Consumes, IsAtEnd}
 use Rattle.y4m_header.specs.StreamText.{FrameText, IsFrameOf, text_of}
 use Rattle.y4m_stream.specs.declared.fault.ReadFault.{ReadFault}
@@ -9,7 +9,7 @@ use Rattle.y4m_stream.specs.Laws.{IsOfBytes}
 use Rattle.y4m_stream.specs.Reader.{data_len_of}
 use Rattle.y4m_stream.proofs.OneAnswer.{one_answer}
 use Rattle.serve_hub.specs.declared.entry.Act.{Act}
-use Rattle.serve_work.specs.declared.stop.Cause.TheVariants.{TooManyFrames, ClockEnd, HistoryFull, NoMemory}
+use Rattle.serve_work.specs.declared.stop.Cause.TheVariants.{TooManyFrames, ClockEnd, NoMemory}
 use Rattle.serve_work.specs.declared.stop.Stop.{Stop}
 use Rattle.serve_work.specs.declared.stop.Stop.TheVariants.{Whole, Read, Write, Refused, Torn}
 use Rattle.serve_work.specs.Clients.{HasMoreOrEnds, HasOtherNumber}
@@ -46,16 +46,15 @@ module _ (len : ℕ) (bytes : List ℕ) (fault : ReadFault) (left : Option (List
     neither (inl a) = no_next rest after same a
     neither (inr a) = not_at_end rest same a.0
 
-    told_at : (stop : Stop) → StopsAt stop at → TellsFault fault stop ⊎ (stop ≡ Torn) × HasOtherNumber calls
+    told_at : (stop : Stop) → StopsAt stop at → TellsFault fault stop ⊎ (stop ≡ Torn) × HasOtherNumber calls ⊎ (stop ≡ Refused NoMemory)
     told_at Whole a = absurd (not_at_end rest same a.0)
     told_at (Read told) a = inl (told, refl, λ of_told. one_fault told after of_told (subst (λ r. StandsAtFrame len told r after) same a))
     told_at (Refused TooManyFrames) a = absurd (no_next rest after same a.1)
     told_at (Refused ClockEnd) a = absurd (no_next rest after same a)
-    told_at (Refused HistoryFull) a = absurd (neither a)
-    told_at (Refused NoMemory) a = absurd (no_next rest after same a)
+    told_at (Refused NoMemory) a = inr (inr refl)
     told_at (Write f) a = absurd (neither a)
     told_at Torn (inl a) = absurd (neither a)
-    told_at Torn (inr a) = inr (refl, a.0)
+    told_at Torn (inr a) = inr (inl (refl, a.0))
 
 -- a client that was cut off before it read anything, or such a stop
 or_told : (A B P Q : Type 0) → (P → Q) → A ⊎ B ⊎ P → A ⊎ B ⊎ Q
@@ -64,6 +63,6 @@ or_told A B P Q f (inr (inl a)) = inr (inl a)
 or_told A B P Q f (inr (inr a)) = inr (inr (f a))
 
 pub input_fault_is_told : InputFaultIsTold
-input_fault_is_told start seat end e fault bytes left same of_bytes stands =
+input_fault_is_told start past seat end e fault bytes left same of_bytes stands =
     or_told _ _ _ _ (told_at (data_len_of start.reader.header) bytes fault left of_bytes stands end.accepted start.seat.frames e.rest
-    end.left seat.calls.list same end.stop) e.stops
+    end.left (past ++ seat.calls.list) same end.stop) e.stops

@@ -1,7 +1,7 @@
 -- What contracts inside the crate say of a client.
 use Rattle.std.specs.Prelude.{ℕ, ◌+◌, ◌≡◌, ◌≢◌, ◌≤◌, ◌⊎◌, ⊤, false, List, [], ◌∷◌}
 use Rattle.std.specs.Prelude.{◌++◌, All, Result, Ok, Err}
-use Rattle.std.specs.Prelude.{Option, IfSome, length, map}
+use Rattle.std.specs.Prelude.{Option, Some, None, IfSome, length, map}
 use Rattle.std.specs.declared.alloc.Global.{Global}
 use Rattle.std.specs.declared.sync.Arc.{Arc}
 use Rattle.std.specs.Arc.{arc_value}
@@ -11,12 +11,11 @@ use Rattle.frame_view.specs.declared.frame.Frame.{Frame}
 use Rattle.filters.specs.Chain.{ChainValue}
 use Rattle.filters.specs.ChainImage.{FrameValue, value_of}
 use Rattle.y4m_stream.specs.declared.fault.WriteFault.{WriteFault}
-use Rattle.y4m_stream.specs.declared.reader.Phase.TheVariants.{Open}
 use Rattle.y4m_stream.specs.declared.passing.TheConstants.{MOST_FRAMES}
-use Rattle.y4m_stream.specs.Reader.{FailsAtFrame, ReaderState, TakesFrame}
-use Rattle.y4m_stream.specs.Reader.{data_len_of}
+use Rattle.y4m_stream.specs.declared.reader.Phase.TheVariants.{Open}
+use Rattle.y4m_stream.specs.Reader.{FailsAtFrame, ReaderState, TakesFrame, data_len_of, frame_text_of}
 use Rattle.y4m_stream.specs.Served.{AreImages, IsImageText}
-use Rattle.y4m_stream.specs.Writer.{FailsToPut, WriterState}
+use Rattle.y4m_stream.specs.Writer.{FailsToPut, IsWriterFor, WriterState}
 use Rattle.serve_core.specs.declared.refusal.Refusal.TheVariants as cores
 use Rattle.serve_core.specs.Lanes.{IsImageOf}
 use Rattle.serve_hub.specs.declared.entry.Act.{Act}
@@ -25,20 +24,31 @@ use Rattle.serve_hub.specs.declared.refusal.Refusal.TheVariants.{Core, HistoryFu
 use Rattle.serve_hub.specs.Calls.{Accepts}
 use Rattle.serve_hub.specs.Seats.{StreamSeatValue}
 use Rattle.serve_work.specs.declared.buffers.Buffers.{Buffers}
+use Rattle.serve_work.specs.declared.feeding.Fed.{Fed}
+use Rattle.serve_work.specs.declared.feeding.Fed.TheVariants as feds
 use Rattle.serve_work.specs.declared.feeding.Offered.{Offered}
 use Rattle.serve_work.specs.declared.feeding.Offered.TheVariants as offered
+use Rattle.serve_work.specs.declared.holding.Onward.{Onward}
+use Rattle.serve_work.specs.declared.holding.Onward.TheVariants as onward
 use Rattle.serve_work.specs.declared.stop.Cause.TheVariants as causes
+use Rattle.serve_work.specs.declared.stop.Halt.{Halt}
+use Rattle.serve_work.specs.declared.stop.Halt.TheVariants.{Full, Stopped}
 use Rattle.serve_work.specs.declared.stop.Stop.{Stop}
 use Rattle.serve_work.specs.declared.stop.Stop.TheVariants.{Whole, Read, Write, Refused, Torn}
 use Rattle.serve_work.specs.Clients.{HasOtherNumber, IsDrained, StopsAt, collections_in, offers_in, reads_at}
 
+-- a refusal that isn't that of a full journal
 abbrev pub stop_of : Refusal → Stop
-stop_of HistoryFull = Refused causes.HistoryFull
 stop_of (Core cores.TooManyFrames) = Refused causes.TooManyFrames
 stop_of (Core cores.ClockEnd) = Refused causes.ClockEnd
 stop_of (Core cores.NoMemory) = Refused causes.NoMemory
 stop_of (Core cores.Drained) = Whole
 stop_of e = Torn
+
+-- why a client goes no further
+abbrev pub halt_of : Refusal → Halt
+halt_of HistoryFull = Full
+halt_of e = Stopped (stop_of e)
 
 -- after it a client still collects and writes
 abbrev pub IsUseful : Stop → Type 0
@@ -47,6 +57,14 @@ IsUseful (Read fault) = ⊤
 IsUseful (Refused cause) = ⊤
 IsUseful (Write fault) = ⊥
 IsUseful Torn = ⊥
+
+-- a stop that isn't a fault of the writer
+abbrev pub IsNoWrite : Stop → Type 0
+IsNoWrite Whole = ⊤
+IsNoWrite (Read fault) = ⊤
+IsNoWrite (Refused cause) = ⊤
+IsNoWrite (Write fault) = ⊥
+IsNoWrite Torn = ⊤
 
 -- the first of two stops that is a fault
 abbrev pub IsFirst : Stop → Stop → Stop → Type 0
@@ -61,14 +79,21 @@ IsOfSeat (Refused cause) = ⊤
 IsOfSeat (Write fault) = ⊤
 IsOfSeat Torn = ⊤
 
--- a stop by a seat, or by the writer, while images are collected; whole where none is left
-abbrev pub IsOfCollection : Stop → Type 0
-IsOfCollection Whole = ⊤
-IsOfCollection (Read fault) = ⊥
-IsOfCollection (Refused causes.HistoryFull) = ⊤
-IsOfCollection (Refused cause) = ⊥
-IsOfCollection (Write fault) = ⊤
-IsOfCollection Torn = ⊤
+-- why no image was collected and written: the journal is full, none is left, or a stop by a seat or the
+-- writer
+abbrev pub IsOfCollection : Halt → Type 0
+IsOfCollection Full = ⊤
+IsOfCollection (Stopped Whole) = ⊤
+IsOfCollection (Stopped (Read fault)) = ⊥
+IsOfCollection (Stopped (Refused cause)) = ⊥
+IsOfCollection (Stopped (Write fault)) = ⊤
+IsOfCollection (Stopped Torn) = ⊤
+
+-- why an image of an open stream isn't collected and written: the journal is full, or a stop by a seat or the
+-- writer, behind which nothing more is written
+abbrev pub IsOfDelivery : Halt → Type 0
+IsOfDelivery Full = ⊤
+IsOfDelivery (Stopped stop) = IsUseful stop → ⊥
 
 -- the frames that a seat keeps, as a stream has them
 abbrev pub texts_of : List FrameValue → List FrameText
@@ -78,6 +103,17 @@ texts_of frames = map (λ f. record { line = f.line; samples = f.samples }) fram
 pub record AreBuffersFor (chain : ChainValue) (buffers : Buffers) : Type 0 where
   pub sources : All (λ (f : Arc Frame Global). (arc_value f).geometry ≡ chain.geometry) buffers.sources.items
   pub images : All (IsImageOf chain) buffers.images.items
+
+-- as many offers were accepted as frames, these calls of earlier epochs included
+abbrev pub IsCounted : List Act → StreamSeatValue → Type 0
+IsCounted past seat = offers_in (past ++ seat.calls.list) ≡ seat.accepted
+
+-- what stays of a stream's seat while its frames move
+pub record Stays (old new : StreamSeatValue) : Type 0 where
+  pub number : new.number ≡ old.number
+  pub chain : new.chain ≡ old.chain
+  pub frames : new.frames ≡ old.frames
+  pub is_closed : new.is_closed ≡ old.is_closed
 
 -- the frames that were accepted are those whose images went out and those that the seat keeps
 pub record Accounted (seat : StreamSeatValue) (writer : WriterState) : Type 0 where
@@ -91,6 +127,7 @@ pub record Accounted (seat : StreamSeatValue) (writer : WriterState) : Type 0 wh
 pub record TalliesSeat (old new : StreamSeatValue) : Type 0 where
   pub number : new.number ≡ old.number
   pub chain : new.chain ≡ old.chain
+  pub before : new.before ≡ old.before
   pub added : List Act
   pub calls : new.calls.list ≡ old.calls.list ++ added
   pub offers : offers_in new.calls.list + old.accepted ≡ offers_in old.calls.list + new.accepted
@@ -118,7 +155,7 @@ pub record Moves (seat seat' : StreamSeatValue) (writer writer' : WriterState)
   pub frames : writer'.frames ≡ writer.frames + length sent
   pub count : seat'.accepted ≡ seat.accepted + length accepted
   pub within : seat.accepted ≤ seat.frames → seat'.accepted ≤ seat'.frames
-  pub seat_stays : seat' ≡ record seat { calls = seat'.calls; accepted = seat'.accepted; kept = seat'.kept }
+  pub seat_stays : Stays seat seat'
   pub writer_stays : writer' ≡ record writer {
     contents = writer'.contents;
     frames = writer'.frames;
@@ -149,17 +186,30 @@ StopsWith (Write fault) seat seat' writer writer' accepted = Cuts seat writer wr
 StopsWith Torn seat seat' writer writer' accepted =
     (mid : StreamSeatValue) × Moves seat mid writer writer' accepted
 
--- the frames were accepted, or none was and the client stops
-abbrev pub Answers : {T : Type 0} → Result T Stop → StreamSeatValue → StreamSeatValue → WriterState
+-- what has moved where a client goes no further
+abbrev pub HaltsWith : Halt → StreamSeatValue → StreamSeatValue → WriterState → WriterState
+    → List FrameText → Type 0
+HaltsWith Full seat seat' writer writer' accepted = Moves seat seat' writer writer' accepted
+HaltsWith (Stopped stop) seat seat' writer writer' accepted =
+    StopsWith stop seat seat' writer writer' accepted
+
+-- the frames were accepted, or none was and the client goes no further
+abbrev pub Answers : {T : Type 0} → Result T Halt → StreamSeatValue → StreamSeatValue → WriterState
     → WriterState → List FrameText → Type 0
 Answers (Ok t) seat seat' writer writer' frames = Moves seat seat' writer writer' frames
-Answers (Err stop) seat seat' writer writer' frames = StopsWith stop seat seat' writer writer' []
+Answers (Err halt) seat seat' writer writer' frames = HaltsWith halt seat seat' writer writer' []
 
--- one offer of a frame: it was accepted; or it comes back, the queue being full; or the client stops
+-- a frame comes back, with the memory of an image if one was at hand
+abbrev pub ComesBack : Arc Frame Global → Option Frame → Frame → StreamSeatValue → StreamSeatValue → Type 0
+ComesBack back image frame old new =
+    (arc_value back ≡ frame) × IfSome image (IsImageOf old.chain) × (new ≡ old)
+
+-- one offer of a frame: it was accepted; or it comes back, the queue or the journal being full; or the client
+-- stops
 abbrev pub IsOffered : Offered → Frame → StreamSeatValue → StreamSeatValue → Type 0
 IsOffered offered.Accepted frame old new = (n : ℕ) × Accepts (value_of frame) n old new
-IsOffered (offered.Full back image) frame old new =
-    (arc_value back ≡ frame) × IfSome image (IsImageOf old.chain) × (new ≡ old)
+IsOffered (offered.QueueFull back image) frame old new = ComesBack back image frame old new
+IsOffered (offered.JournalFull back image) frame old new = ComesBack back image frame old new
 IsOffered (offered.Stopped (Refused cause)) frame old new =
     (cause ≡ causes.TooManyFrames → old.accepted ≡ old.frames) × (new ≡ old)
 IsOffered (offered.Stopped Torn) frame old new =
@@ -177,15 +227,50 @@ pub record Refuses (stop : Stop) (seat seat' : StreamSeatValue) (writer writer' 
 pub record AcceptsTorn (stop : Stop) (frame : FrameText) (seat seat' : StreamSeatValue)
     (writer writer' : WriterState) : Type 0 where
   pub torn : stop ≡ Torn
-  pub other : HasOtherNumber seat'.calls.list
+  pub other : (past : List Act) → IsCounted past seat → HasOtherNumber (past ++ seat'.calls.list)
   pub moved : Moves seat seat' writer writer' (frame ∷ [])
 
--- the frame was accepted, or the client stops
-abbrev pub Offers : {T : Type 0} → Result T Stop → FrameText → StreamSeatValue → StreamSeatValue → WriterState
+-- the frame comes back, since the journal is full
+pub record KeepsFrame (back : Arc Frame Global) (frame : Frame) (seat seat' : StreamSeatValue)
+    (writer writer' : WriterState) : Type 0 where
+  pub same : arc_value back ≡ frame
+  pub moved : Moves seat seat' writer writer' []
+  pub stays : GivesUp seat seat'
+
+-- what a frame comes to that isn't accepted as it should be
+abbrev pub Unfed : Fed → Frame → StreamSeatValue → StreamSeatValue → WriterState → WriterState → Type 0
+Unfed (feds.Paused None) frame seat seat' writer writer' = ⊥
+Unfed (feds.Paused (Some back)) frame seat seat' writer writer' =
+    KeepsFrame back frame seat seat' writer writer'
+Unfed (feds.Held stop) frame seat seat' writer writer' = ⊥
+Unfed (feds.Stopped stop) frame seat seat' writer writer' =
+    Refuses stop seat seat' writer writer' ⊎ AcceptsTorn stop (frame_text_of frame) seat seat' writer writer'
+
+-- why no more frames are offered, where no place was made for the one in hand
+abbrev pub fed_of : Halt → Arc Frame Global → Fed
+fed_of Full back = feds.Paused (Some back)
+fed_of (Stopped stop) back = feds.Stopped stop
+
+-- why no frame is read, where an image wasn't collected and written
+abbrev pub fed_before : Halt → Fed
+fed_before Full = feds.Paused None
+fed_before (Stopped stop) = feds.Held stop
+
+-- the frame was accepted, or it wasn't as it should be
+abbrev pub Offers : {T : Type 0} → Result T Fed → Frame → StreamSeatValue → StreamSeatValue → WriterState
     → WriterState → Type 0
-Offers (Ok t) frame seat seat' writer writer' = Moves seat seat' writer writer' (frame ∷ [])
-Offers (Err stop) frame seat seat' writer writer' =
-    Refuses stop seat seat' writer writer' ⊎ AcceptsTorn stop frame seat seat' writer writer'
+Offers (Ok t) frame seat seat' writer writer' = Moves seat seat' writer writer' (frame_text_of frame ∷ [])
+Offers (Err fed) frame seat seat' writer writer' = Unfed fed frame seat seat' writer writer'
+
+-- the text of the frame in hand, if there is one
+abbrev pub text_in : Option (Arc Frame Global) → Option FrameText
+text_in None = None
+text_in (Some frame) = Some (frame_text_of (arc_value frame))
+
+-- the frame in hand, if there is one, was taken off the front of this reader
+abbrev pub Holds : ReaderState → ReaderState → Option FrameText → Type 0
+Holds before reader None = reader ≡ before
+Holds before reader (Some frame) = TakesFrame before reader frame × (reader.header ≡ before.header)
 
 -- no frame was read, or no memory was granted for one that was
 abbrev pub IsUnread : ReaderState → ReaderState → Stop → Type 0
@@ -196,19 +281,53 @@ IsUnread old new (Refused cause) = ⊥
 IsUnread old new (Write fault) = ⊥
 IsUnread old new Torn = ⊥
 
+-- these frames were taken off the front of the reader
+pub record Takes (reader reader' : ReaderState) (frames : List FrameText) : Type 0 where
+  pub each : All (IsFrameOf (data_len_of reader.header)) frames
+  pub taken : Consumes reader.rest reader'.rest (frames_text frames)
+  pub header : reader'.header ≡ reader.header
+  pub no_failure : reader'.failures ≡ reader.failures
+
 -- these frames were taken off the front of the reader, and each was accepted
 pub record Passes (reader reader' : ReaderState) (seat seat' : StreamSeatValue) (writer writer' : WriterState)
     (frames : List FrameText) : Type 0 where
   pub each : All (IsFrameOf (data_len_of reader.header)) frames
   pub taken : Consumes reader.rest reader'.rest (frames_text frames)
   pub moved : Moves seat seat' writer writer' frames
-  pub is_open : reader'.phase ≡ Open
   pub header : reader'.header ≡ reader.header
   pub no_failure : reader'.failures ≡ reader.failures
 
+-- some frames passed, and the reader is open
+pub record HasPassed (reader reader' : ReaderState) (seat seat' : StreamSeatValue)
+    (writer writer' : WriterState) : Type 0 where
+  pub frames : List FrameText
+  pub passed : Passes reader reader' seat seat' writer writer' frames
+  pub is_open : reader'.phase ≡ Open
+
+-- some frames passed, and the one behind them is in hand, if there is one
+pub record HasInHand (reader reader' : ReaderState) (seat seat' : StreamSeatValue)
+    (writer writer' : WriterState) (in_hand : Option FrameText) : Type 0 where
+  pub before : ReaderState
+  pub frames : List FrameText
+  pub passed : Passes reader before seat seat' writer writer' frames
+  pub holds : Holds before reader' in_hand
+  pub is_open : reader'.phase ≡ Open
+
+-- some frames passed, and then an image wasn't collected and written
+pub record Breaks (stop : Stop) (reader reader' : ReaderState) (seat seat' : StreamSeatValue)
+    (writer writer' : WriterState) : Type 0 where
+  pub frames : List FrameText
+  pub mid : StreamSeatValue
+  pub between : WriterState
+  pub passed : Passes reader reader' seat mid writer between frames
+  pub is_open : reader'.phase ≡ Open
+  pub moved : StopsWith stop mid seat' between writer' []
+  pub stays : GivesUp mid seat'
+  pub spoilt : IsUseful stop → ⊥
+
 -- why a client reads no more, and how far it came
-pub record StopsReading (stop : Stop) (reader reader' : ReaderState) (seat seat' : StreamSeatValue)
-    (frames : List FrameText) : Type 0 where
+pub record StopsReading (past : List Act) (stop : Stop) (reader reader' : ReaderState)
+    (seat seat' : StreamSeatValue) (frames : List FrameText) : Type 0 where
   pub rest : Option (List ℕ)
   pub each : All (IsFrameOf (data_len_of reader.header)) frames
   pub taken : Consumes reader.rest rest (frames_text frames)
@@ -218,19 +337,59 @@ pub record StopsReading (stop : Stop) (reader reader' : ReaderState) (seat seat'
     most = seat.frames;
     rest = rest;
     left = reader'.left;
-    calls = seat'.calls.list;
+    calls = past ++ seat'.calls.list;
   })
   pub reads : reader'.failures ≡ reads_at stop reader.failures
 
 -- some frames were taken and accepted, and then the client stopped
-pub record Feeds (stop : Stop) (reader reader' : ReaderState) (seat seat' : StreamSeatValue)
+pub record Feeds (past : List Act) (stop : Stop) (reader reader' : ReaderState) (seat seat' : StreamSeatValue)
     (writer writer' : WriterState) : Type 0 where
   pub frames : List FrameText
-  pub read : StopsReading stop reader reader' seat seat' frames
+  pub read : StopsReading past stop reader reader' seat seat' frames
   pub moved : StopsWith stop seat seat' writer writer' frames
   pub count : seat'.accepted ≡ seat.accepted + length frames
-  -- but for an answer that contradicts it, the seat stays as it is
-  pub seat_stays : seat' ≡ record seat { calls = seat'.calls; accepted = seat'.accepted; kept = seat'.kept }
+
+-- the client stopped feeding, or the journal is full, or it holds a fault of a delivery
+abbrev pub FeedsOn : Fed → List Act → ReaderState → ReaderState → StreamSeatValue → StreamSeatValue
+    → WriterState → WriterState → Type 0
+FeedsOn (feds.Paused in_hand) past reader reader' seat seat' writer writer' =
+    HasInHand reader reader' seat seat' writer writer' (text_in in_hand)
+FeedsOn (feds.Held stop) past reader reader' seat seat' writer writer' =
+    Breaks stop reader reader' seat seat' writer writer'
+FeedsOn (feds.Stopped stop) past reader reader' seat seat' writer writer' =
+    Feeds past stop reader reader' seat seat' writer writer'
+
+-- the frame in hand, if there is one, is of this chain's size
+abbrev pub IsSized : ChainValue → Option (Arc Frame Global) → Type 0
+IsSized chain in_hand = IfSome in_hand (λ f. (arc_value f).geometry ≡ chain.geometry)
+
+-- the frame that is left in hand, and the writer, are for this chain
+abbrev pub IsSizedFed : ChainValue → WriterState → Fed → Type 0
+IsSizedFed chain writer (feds.Paused in_hand) = IsSized chain in_hand × IsWriterFor chain writer
+IsSizedFed chain writer (feds.Held stop) = ⊤
+IsSizedFed chain writer (feds.Stopped stop) = ⊤
+
+-- where no image is written any more: the journal or the queue is full, or the client stops
+abbrev pub OffersOn : Onward → List Act → ReaderState → ReaderState → StreamSeatValue → StreamSeatValue
+    → WriterState → Type 0
+OffersOn (onward.Paused in_hand) past reader reader' seat seat' writer =
+    HasInHand reader reader' seat seat' writer writer (text_in in_hand)
+OffersOn onward.QueueFull past reader reader' seat seat' writer =
+    (frame : FrameText) × HasInHand reader reader' seat seat' writer writer (Some frame)
+OffersOn (onward.Stopped stop) past reader reader' seat seat' writer =
+    IsNoWrite stop × Feeds past stop reader reader' seat seat' writer writer
+
+abbrev pub OffersOnce : {T : Type 0} → Result T Onward → List Act → ReaderState → ReaderState
+    → StreamSeatValue → StreamSeatValue → WriterState → Type 0
+OffersOnce (Ok t) past reader reader' seat seat' writer = HasPassed reader reader' seat seat' writer writer
+OffersOnce (Err stopped) past reader reader' seat seat' writer =
+    OffersOn stopped past reader reader' seat seat' writer
+
+-- the frame that is left in hand is for this chain
+abbrev pub IsSizedOnward : ChainValue → Onward → Type 0
+IsSizedOnward chain (onward.Paused in_hand) = IsSized chain in_hand
+IsSizedOnward chain onward.QueueFull = ⊤
+IsSizedOnward chain (onward.Stopped stop) = ⊤
 
 -- the images of the first of these frames went out, whole
 pub record GoesOut (chain : ChainValue) (frames : List FrameText) (writer writer' : WriterState)
@@ -271,10 +430,10 @@ IsSent stop chain frames writer writer' =
     × ((f : WriteFault) → stop ≡ Write f → f ≡ fault))
 
 -- a client's frames, why there are no more, and what went out
-pub record Serves (stop : Stop) (reader reader' : ReaderState) (seat seat' : StreamSeatValue)
-    (writer writer' : WriterState) : Type 0 where
+pub record Serves (past : List Act) (stop : Stop) (reader reader' : ReaderState)
+    (seat seat' : StreamSeatValue) (writer writer' : WriterState) : Type 0 where
   pub frames : List FrameText
-  pub read : StopsReading stop reader reader' seat seat' frames
+  pub read : StopsReading past stop reader reader' seat seat' frames
   pub count : seat'.accepted ≡ seat.accepted + length frames
   pub sent : IsSent stop seat.chain frames writer writer'
   pub whole : stop ≡ Whole

@@ -1,5 +1,5 @@
 -- What a client comes to.
-use Rattle.std.specs.Prelude.{ℕ, ◌≡◌, ◌≢◌, ◌≤◌, ◌<◌, ◌⊎◌, Bool, IsTrue, true, false, List, [], ◌∷◌, ◌++◌}
+use Rattle.std.specs.Prelude.{ℕ, ◌+◌, ◌≡◌, ◌≢◌, ◌≤◌, ◌<◌, ◌⊎◌, Bool, IsTrue, true, false, List, [], ◌∷◌, ◌++◌}
 use Rattle.std.specs.Prelude.{All, Option, filter, length, take}
 use Rattle.std.specs.Io.KnownBytes.{Appends, Consumes, IsAtEnd, Keeps}
 use Rattle.y4m_header.specs.StreamText.{FrameText, IsFrameOf, frames_text, text_of}
@@ -15,7 +15,7 @@ use Rattle.y4m_stream.specs.Writer.{CutsShort, FlushesOrFails}
 use Rattle.serve_hub.specs.declared.entry.Act.{Act}
 use Rattle.serve_hub.specs.declared.entry.Act.TheVariants.{Collected, Offered}
 use Rattle.serve_hub.specs.Seats.{StreamSeatValue}
-use Rattle.serve_work.specs.declared.stop.Cause.TheVariants.{HistoryFull, NoMemory, TooManyFrames}
+use Rattle.serve_work.specs.declared.stop.Cause.TheVariants.{NoMemory, TooManyFrames}
 use Rattle.serve_work.specs.declared.stop.Stop.{Stop}
 use Rattle.serve_work.specs.declared.stop.Stop.TheVariants.{Whole, Read, Write, Refused, Torn}
 
@@ -93,12 +93,13 @@ HasEnded at = IsAtEnd at.rest × Keeps at.rest at.left
 abbrev pub HasMoreOrEnds : Progress → Type 0
 HasMoreOrEnds at = HasNext at.len at.rest at.left ⊎ HasEnded at
 
--- why no more frames were accepted; where one was accepted with another number, no frame behind it was read
+-- why no more frames were accepted; where one was accepted with another number, and where a stream was given
+-- up for want of memory, no frame behind them need have been read
 abbrev pub StopsAt : Stop → Progress → Type 0
 StopsAt Whole at = HasEnded at
 StopsAt (Read fault) at = StandsAtFrame at.len fault at.rest at.left
 StopsAt (Refused TooManyFrames) at = (at.count ≡ at.most) × HasNext at.len at.rest at.left
-StopsAt (Refused HistoryFull) at = HasMoreOrEnds at
+StopsAt (Refused NoMemory) at = HasMoreOrEnds at ⊎ IsReadAhead at.rest at.left
 StopsAt (Refused cause) at = HasNext at.len at.rest at.left
 StopsAt (Write fault) at = HasMoreOrEnds at
 StopsAt Torn at = HasMoreOrEnds at ⊎ HasOtherNumber at.calls × IsReadAhead at.rest at.left
@@ -168,8 +169,9 @@ pub record IsWhole (start : ClientStart) (end : ClientOutcome) : Type 0 where
 
 -- what a client comes to: the frames that it took off the front of its reader and that were accepted, why
 -- there are no more, and what went out. Where nothing was written, or not all of the header line, no frame
--- was read
-pub record ClientEnds (start : ClientStart) (seat : StreamSeatValue) (end : ClientOutcome) : Type 0 where
+-- was read. The seat is that of the last epoch, and its stream's seats made these calls in the epochs before
+pub record ClientEnds (start : ClientStart) (past : List Act) (seat : StreamSeatValue)
+    (end : ClientOutcome) : Type 0 where
   pub frames : List FrameText
   pub rest : Option (List ℕ)
   pub each : All (IsFrameOf (data_len_of start.reader.header)) frames
@@ -181,15 +183,16 @@ pub record ClientEnds (start : ClientStart) (seat : StreamSeatValue) (end : Clie
     most = start.seat.frames;
     rest = rest;
     left = end.left;
-    calls = seat.calls.list;
+    calls = past ++ seat.calls.list;
   })
   pub reads : end.read_failures ≡ reads_at end.stop start.reader.failures
   pub out : WroteNothing start end ⊎ CutsHeader start end ⊎ WroteImages frames start end
   pub whole : end.stop ≡ Whole → IsWhole start end
   pub drained : end.stop ≡ Whole → IsDrained seat
-  -- the seat, and its calls
+  -- the seat, and its stream's calls
   pub number : seat.number ≡ start.seat.number
   pub chain : seat.chain ≡ start.seat.chain
   pub accepted : seat.accepted ≡ end.accepted
-  pub offers : offers_in seat.calls.list ≡ end.accepted
-  pub collections : end.delivered ≤ collections_in seat.calls.list
+  pub offers : offers_in (past ++ seat.calls.list) ≡ end.accepted
+  pub collections : end.delivered ≤ collections_in (past ++ seat.calls.list)
+  pub before : seat.before ≡ start.seat.before + collections_in past

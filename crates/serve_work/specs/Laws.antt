@@ -1,5 +1,5 @@
 -- What follows from the definitions alone.
-use Rattle.std.specs.Prelude.{ℕ, ◌≡◌, ◌≤◌, ◌⊎◌, List, [], length, take, Option, Some, IfSome}
+use Rattle.std.specs.Prelude.{ℕ, ◌≡◌, ◌≤◌, ◌⊎◌, ◌++◌, List, [], length, take, Option, Some, IfSome}
 use Rattle.std.specs.Io.KnownBytes.{Appends, Consumes}
 use Rattle.y4m_header.specs.StreamText.{FrameText, IsStreamText}
 use Rattle.y4m_stream.specs.declared.fault.ReadFault.{ReadFault}
@@ -7,9 +7,11 @@ use Rattle.y4m_stream.specs.Front.{StandsAtFrame}
 use Rattle.y4m_stream.specs.Laws.{IsOfBytes}
 use Rattle.y4m_stream.specs.Reader.{IsOpened, data_len_of}
 use Rattle.y4m_stream.specs.Served.{IsServedText}
+use Rattle.serve_hub.specs.declared.entry.Act.{Act}
 use Rattle.serve_hub.specs.Seats.{StreamSeatValue}
 use Rattle.serve_work.specs.declared.stop.Stop.{Stop}
-use Rattle.serve_work.specs.declared.stop.Stop.TheVariants.{Read, Torn, Whole}
+use Rattle.serve_work.specs.declared.stop.Cause.TheVariants.{NoMemory}
+use Rattle.serve_work.specs.declared.stop.Stop.TheVariants.{Read, Refused, Torn, Whole}
 use Rattle.serve_work.specs.Clients.{ClientEnds, ClientOutcome, ClientStart, CutsHeader, HasOtherNumber}
 use Rattle.serve_work.specs.Clients.{StopsAt, WroteImages, WroteNothing}
 
@@ -24,8 +26,8 @@ pub record ServesAll (input : Option (List ℕ)) (text : List ℕ) (frames : Lis
 
 -- a stream text of the frames that were accepted stands at the front of the input, and behind it what stopped
 -- the client; what went out is what they are served as, or a front of it
-pub record ServesInput (input : Option (List ℕ)) (start : ClientStart) (seat : StreamSeatValue)
-    (end : ClientOutcome) : Type 0 where
+pub record ServesInput (input : Option (List ℕ)) (start : ClientStart) (past : List Act)
+    (seat : StreamSeatValue) (end : ClientOutcome) : Type 0 where
   pub text : List ℕ
   pub frames : List FrameText
   pub rest : Option (List ℕ)
@@ -38,7 +40,7 @@ pub record ServesInput (input : Option (List ℕ)) (start : ClientStart) (seat :
     most = start.seat.frames;
     rest = rest;
     left = end.left;
-    calls = seat.calls.list;
+    calls = past ++ seat.calls.list;
   })
   pub out : WroteNothing start end ⊎ CutsHeader start end ⊎ WroteImages frames start end
   pub whole : end.stop ≡ Whole → ServesAll input text frames start end
@@ -46,24 +48,25 @@ pub record ServesInput (input : Option (List ℕ)) (start : ClientStart) (seat :
 -- where a reader was opened on an input, and a client has ended, the input was served
 abbrev pub InputIsServed : Type 0
 InputIsServed =
-    (input : Option (List ℕ)) (failures : ℕ) (start : ClientStart) (seat : StreamSeatValue)
-    (end : ClientOutcome)
-    → IsOpened input failures start.reader → ClientEnds start seat end → ServesInput input start seat end
+    (input : Option (List ℕ)) (failures : ℕ) (start : ClientStart) (past : List Act) (seat : StreamSeatValue)
+    (end : ClientOutcome) → IsOpened input failures start.reader → ClientEnds start past seat end
+    → ServesInput input start past seat end
 
 -- the stop is a fault of the reader, and this one if it lies in the bytes
 abbrev pub TellsFault : ReadFault → Stop → Type 0
 TellsFault fault stop = (told : ReadFault) × (stop ≡ Read told) × (IsOfBytes told → told ≡ fault)
 
 -- where a fault lies in the bytes behind the frames that were accepted, a client tells it, unless it read
--- nothing, or an offer was answered with another number
+-- nothing, or an offer was answered with another number, or it was given up for want of memory
 abbrev pub InputFaultIsTold : Type 0
 InputFaultIsTold =
-    (start : ClientStart) (seat : StreamSeatValue) (end : ClientOutcome) (e : ClientEnds start seat end)
-    (fault : ReadFault) (bytes : List ℕ) (left : Option (List ℕ))
+    (start : ClientStart) (past : List Act) (seat : StreamSeatValue) (end : ClientOutcome)
+    (e : ClientEnds start past seat end) (fault : ReadFault) (bytes : List ℕ) (left : Option (List ℕ))
     → e.rest ≡ Some bytes → IsOfBytes fault
     → StandsAtFrame (data_len_of start.reader.header) fault (Some bytes) left
     → WroteNothing start end ⊎ CutsHeader start end
-    ⊎ TellsFault fault end.stop ⊎ (end.stop ≡ Torn) × HasOtherNumber seat.calls.list
+    ⊎ TellsFault fault end.stop ⊎ (end.stop ≡ Torn) × HasOtherNumber (past ++ seat.calls.list)
+    ⊎ (end.stop ≡ Refused NoMemory)
 
 -- a front of the text was written
 pub record WroteFront (served : List ℕ) (start : ClientStart) (end : ClientOutcome) : Type 0 where

@@ -1,6 +1,11 @@
 pub mod Clients
 pub mod ClientInside
+pub mod Epochs
+pub mod Intervals
 pub mod Laws
+pub mod RestInside
+pub mod Rests
 pub mod SessionInside
 pub mod Sessions
+pub mod Turns
 pub mod Workers

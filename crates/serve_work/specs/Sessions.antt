@@ -5,6 +5,7 @@ use Rattle.filters.specs.Costs.{cost_of}
 use Rattle.y4m_stream.specs.declared.reader.Phase.TheVariants.{Open}
 use Rattle.y4m_stream.specs.Reader.{IsOfHeader, ReaderState}
 use Rattle.serve_core.specs.Setup.{StreamSpec}
+use Rattle.serve_hub.specs.declared.entry.Act.{Act}
 use Rattle.serve_hub.specs.Seats.{StreamSeatValue}
 use Rattle.serve_work.specs.declared.session.Served.{Served}
 use Rattle.serve_work.specs.declared.stop.Stop.TheVariants.{Whole}
@@ -64,8 +65,9 @@ served_of left read_failures after failures is_flushed served = record {
 -- a client came from this beginning to what is told, and the stream was charged for all images that were
 -- delivered, and for no more than the frames that were accepted
 pub record IsServed (start : ClientStart) (served : ServedValue) : Type 0 where
+  pub past : List Act
   pub seat : StreamSeatValue
-  pub ends : ClientEnds start seat served.outcome
+  pub ends : ClientEnds start past seat served.outcome
   pub least : served.outcome.delivered * cost_of start.seat.chain ≤ served.charged
   pub most : served.charged ≤ served.outcome.accepted * cost_of start.seat.chain
   pub whole : served.outcome.stop ≡ Whole

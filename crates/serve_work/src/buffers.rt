@@ -39,12 +39,14 @@ impl Buffers {
         let _ = self.images.push(pair.image);
     }
 
-    /// Keeps the memory of an image that wasn't needed after all.
-    pub(crate) fn keep_image(&mut self, image: Frame)
-        ensures { (chain : ChainValue) → AreBuffersFor chain self.old → IsImageOf chain image
+    /// Keeps the memory of an image that wasn't needed after all, if one was at hand.
+    pub(crate) fn keep_image(&mut self, image: Option<Frame>)
+        ensures { (chain : ChainValue) → AreBuffersFor chain self.old → IfSome image (IsImageOf chain)
             → AreBuffersFor chain self.new }
     {
-        let _ = self.images.push(image);
+        if let Some(image) = image {
+            let _ = self.images.push(image);
+        }
     }
 
     pub(crate) fn take_source(&mut self) -> Option<Arc<Frame>>

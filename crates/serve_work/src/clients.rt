@@ -1,17 +1,24 @@
 //! A client: one stream, from its reader through its seat to its writer.
-ghost use Rattle.std.specs.Prelude.{◌≡◌, ℕ, List, [], IfOk, Option, false, unwrap_or};
+ghost use Rattle.std.specs.Prelude.{◌≡◌, ◌≤◌, ℕ, List, IfOk, Option, unwrap_or};
+ghost use Rattle.serve_hub.specs.declared.entry.Act.{Act};
+ghost use Rattle.serve_hub.specs.Seats.{StreamSeatValue};
 ghost use Rattle.y4m_header.specs.Header.{HeaderValue};
+ghost use Rattle.y4m_stream.specs.declared.passing.TheConstants.{MOST_FRAMES};
 ghost use Rattle.y4m_stream.specs.Reader.{IsOfHeader};
 ghost use Rattle.y4m_stream.specs.Served.{IsHeaderOfImages};
-ghost use Rattle.y4m_stream.specs.Writer.{IsOpenedFor, IsWriterFor};
-ghost use Rattle.serve_work.specs.ClientInside.{Accounted, AreBuffersFor, Flushes, Serves, Tallies};
-ghost use Rattle.serve_work.specs.ClientInside.{TalliesSeat};
-ghost use Rattle.serve_work.specs.Clients.{ClientEnds, IsNewSeat, offers_in};
+ghost use Rattle.y4m_stream.specs.Writer.{IsOpenedFor, WriterState};
+ghost use Rattle.serve_work.specs.ClientInside.{AreBuffersFor, Flushes, IsCounted, Serves, TalliesSeat};
+ghost use Rattle.serve_work.specs.Clients.{ClientEnds, ClientStart};
+ghost use Rattle.serve_work.specs.Rests.{CanGoOn, IsFresh, IsRest, IsRestOf, IsRunning, IsTallied, IsUnbegun};
+ghost use Rattle.serve_work.specs.Rests.{reader_in};
+ghost use Rattle.serve_work.specs.Turns.{Turns, end_of};
 
+use crate::begun::{Begun, State};
 use crate::buffers::Buffers;
-use crate::delivery::{discard, drain};
-use crate::feeding::feed;
+use crate::course::Course;
 use crate::gate::Clock;
+use crate::rest::ClientRest;
+use crate::serving::{Step, serve};
 use crate::stop::{Cause, Stop};
 use filters::FilterError;
 use serve_hub::{Epoch, Hub, StreamSeat};
@@ -38,42 +45,17 @@ pub struct ClientEnd<L: Epoch, R: Source, W: Sink> {
     pub stop: Stop,
 }
 
-/// Feeds the seat and drains it, and answers the first fault.
-fn serve<L: Epoch, R: Source + Drop, W: Sink, K: Clock, T: Wait>(
-    rt: &T,
-    alloc: Global,
-    hub: &Hub<L>,
-    seat: &mut StreamSeat<L>,
-    reader: &mut StreamReader<R>,
-    writer: &mut StreamWriter<W>,
-    buffers: &mut Buffers,
-    clock: &K,
-) -> Stop
-    requires header { IsOfHeader reader.old.header seat.old.chain.geometry }
-    requires size { IsWriterFor seat.old.chain writer.old }
-    requires accounted { Accounted seat.old writer.old }
-    requires counted { offers_in seat.old.calls.list ≡ seat.old.accepted }
-    requires fresh { seat.old.kept ≡ [] }
-    requires open { reader.old.phase ≡ Phase.Open }
-    requires buffers { AreBuffersFor seat.old.chain buffers.old }
-    ensures answer { Serves result reader.old reader.new seat.old seat.new writer.old writer.new }
-    ensures tally { Tallies seat.old seat.new writer.old writer.new }
-{
-    let stop = feed(rt, alloc, hub, seat, reader, writer, buffers, clock);
-    let _ = hub.close(rt, seat);
-    if stop.is_spoilt() {
-        discard(rt, hub, seat);
-        return stop;
-    }
-    let last = drain(rt, hub, seat, writer);
-    if last.is_spoilt() {
-        discard(rt, hub, seat);
-    }
-    stop.or(last)
+/// What a client comes to in an epoch.
+#[derive(Drop)]
+pub enum ClientTurn<L: Epoch, R: Source, W: Sink> {
+    /// It is done.
+    Ended(ClientEnd<L, R, W>),
+    /// The journal is full: this is left to do in the next epoch.
+    Paused(StreamSeat<L>, ClientRest<R, W>),
 }
 
 /// The stop, or the fault of the flush where all went well before.
-fn flushed(stop: Stop, flush: Result<(), WriteFault>) -> Stop
+pub(crate) fn flushed(stop: Stop, flush: Result<(), WriteFault>) -> Stop
     ensures { Flushes stop flush result }
 {
     match (stop, flush) {
@@ -127,54 +109,24 @@ fn prepare<L: Epoch>(
     Ok((resized, buffers))
 }
 
-/// Serves a stream whose header line was written.
-fn run<L: Epoch, R: Source + Drop, W: Sink, K: Clock, T: Wait>(
-    rt: &T,
-    alloc: Global,
-    hub: &Hub<L>,
-    mut seat: StreamSeat<L>,
-    mut reader: StreamReader<R>,
-    mut output: StreamWriter<W>,
-    mut buffers: Buffers,
-    clock: &K,
+/// Flushes what was written of a stream that is done.
+fn end<L: Epoch, R: Source + Drop, W: Sink>(
+    seat: StreamSeat<L>,
+    reader: StreamReader<R>,
+    writer: StreamWriter<W>,
+    stop: Stop,
 ) -> ClientEnd<L, R, W>
-    requires header { IsOfHeader reader.header seat.chain.geometry }
-    requires fresh { IsNewSeat seat }
-    requires open { reader.phase ≡ Phase.Open }
-    requires size { IsWriterFor seat.chain output }
-    requires none { output.frames ≡ 0 }
-    requires writing { output.failed ≡ false }
-    requires buffers { AreBuffersFor seat.chain buffers }
-    ensures { (shown : HeaderValue) (before : Option (List ℕ)) (failures : ℕ)
-        → IsHeaderOfImages seat.chain reader.header shown → IsOpenedFor shown before failures output
-        → ClientEnds
-        (record { seat = seat; reader = reader; before = before; failures = failures })
-        result.seat
-        (record {
-          stop = result.stop;
-          accepted = result.accepted;
-          delivered = result.delivered;
-          left = R.remaining result.source;
-          read_failures = R.failures result.source;
-          after = W.contents result.writer;
-          failures = W.failures result.writer;
-          is_flushed = W.is_flushed result.writer;
-        }) }
+    ensures { (start : ClientStart) (past : List Act) (shown : HeaderValue) (opened : WriterState)
+        → IsHeaderOfImages start.seat.chain start.reader.header shown
+        → IsOpenedFor shown start.before start.failures opened → IsFresh start.seat
+        → Serves past stop start.reader reader start.seat seat opened writer
+        → IsTallied past start.seat seat writer
+        → ClientEnds start past result.seat
+        (end_of R.remaining R.failures W.contents W.failures W.is_flushed result) }
 {
-    let _most = seat.frames();
-    let stop = serve(
-        rt,
-        alloc,
-        hub,
-        &mut seat,
-        &mut reader,
-        &mut output,
-        &mut buffers,
-        clock,
-    );
     let accepted = seat.accepted();
-    let delivered = output.frames();
-    let (writer, flush) = output.finish();
+    let delivered = writer.frames();
+    let (writer, flush) = writer.finish();
     ClientEnd {
         seat,
         source: reader.into_source(),
@@ -185,14 +137,57 @@ fn run<L: Epoch, R: Source + Drop, W: Sink, K: Clock, T: Wait>(
     }
 }
 
-/// Serves one stream: it offers the frames that it reads, and writes the images that it collects.
-///
-/// The header line is written first, with the size of the images. While its queue is full it collects an
-/// image and writes it; at the end of the input, and at any fault, it closes the stream and collects the
-/// images that are left. After a fault of the writer, or an answer that contradicts the seat, these are
-/// thrown away, and nothing more is written. Once a stream runs, frames and images have the memory of those
-/// before them.
-pub fn client<L: Epoch, R: Source + Drop, W: Sink, K: Clock, T: Wait>(
+/// Goes on with a stream whose header line was written.
+fn run<L: Epoch, R: Source + Drop, W: Sink, K: Clock, T: Wait>(
+    rt: &T,
+    alloc: Global,
+    hub: &Hub<L>,
+    mut seat: StreamSeat<L>,
+    mut reader: StreamReader<R>,
+    mut writer: StreamWriter<W>,
+    mut buffers: Buffers,
+    clock: &K,
+    course: Option<Course>,
+) -> ClientTurn<L, R, W>
+    requires header { IsOfHeader reader.header seat.chain.geometry }
+    requires can { CanGoOn course reader seat writer buffers }
+    ensures { (start : ClientStart) (past : List Act) → IsRunning course start past reader seat writer
+        → Turns R.remaining R.failures W.contents W.failures W.is_flushed start past result }
+{
+    match serve(
+        rt,
+        alloc,
+        hub,
+        &mut seat,
+        &mut reader,
+        &mut writer,
+        &mut buffers,
+        clock,
+        course,
+    ) {
+        Step::Done(stop) => ClientTurn::Ended(end(seat, reader, writer, stop)),
+        Step::Paused(course) => {
+            let accepted = seat.accepted();
+            let begun = Begun {
+                reader,
+                writer,
+                buffers,
+                course,
+                accepted,
+                collected: accepted.saturating_sub(seat.kept() as u64),
+            };
+            ClientTurn::Paused(
+                seat,
+                ClientRest {
+                    state: State::Begun(begun),
+                },
+            )
+        }
+    }
+}
+
+/// Writes the header line, and then serves the stream.
+fn begin<L: Epoch, R: Source + Drop, W: Sink, K: Clock, T: Wait>(
     rt: &T,
     alloc: Global,
     hub: &Hub<L>,
@@ -200,35 +195,76 @@ pub fn client<L: Epoch, R: Source + Drop, W: Sink, K: Clock, T: Wait>(
     reader: StreamReader<R>,
     writer: W,
     clock: &K,
-) -> ClientEnd<L, R, W>
+) -> ClientTurn<L, R, W>
     requires header { IsOfHeader reader.header seat.chain.geometry }
-    requires fresh { IsNewSeat seat }
+    requires fresh { IsFresh seat }
+    requires counted { (past : List Act) × IsCounted past seat }
     requires open { reader.phase ≡ Phase.Open }
-    ensures { ClientEnds
-        (record {
-          seat = seat;
-          reader = reader;
-          before = W.contents writer;
-          failures = W.failures writer;
-        })
-        result.seat
-        (record {
-          stop = result.stop;
-          accepted = result.accepted;
-          delivered = result.delivered;
-          left = R.remaining result.source;
-          read_failures = R.failures result.source;
-          after = W.contents result.writer;
-          failures = W.failures result.writer;
-          is_flushed = W.is_flushed result.writer;
-        }) }
+    requires most { seat.frames ≤ MOST_FRAMES }
+    ensures { (start : ClientStart) (past : List Act)
+        → IsUnbegun start past seat reader (W.contents writer) (W.failures writer)
+        → Turns R.remaining R.failures W.contents W.failures W.is_flushed start past result }
 {
     let Ok((resized, buffers)) = prepare(alloc, &seat, reader.header()) else {
         let stop = Stop::Refused(Cause::NoMemory);
-        return unopened(rt, hub, seat, reader, writer, stop);
+        return ClientTurn::Ended(unopened(rt, hub, seat, reader, writer, stop));
     };
     match StreamWriter::open(writer, shown_header(&resized, reader.header())) {
-        Err((writer, fault)) => unopened(rt, hub, seat, reader, writer, Stop::Write(fault)),
-        Ok(output) => run(rt, alloc, hub, seat, reader, output, buffers, clock),
+        Err((writer, fault)) => {
+            ClientTurn::Ended(unopened(rt, hub, seat, reader, writer, Stop::Write(fault)))
+        }
+        Ok(output) => run(rt, alloc, hub, seat, reader, output, buffers, clock, None),
+    }
+}
+
+/// Serves one stream: it offers the frames that it reads, and writes the images that it collects.
+///
+/// The header line is written first, with the size of the images. Before each frame it writes the images
+/// that are there or come soon. While its queue is full it collects an image and writes it; at the end of
+/// the input, and at any fault, it closes the stream and collects the images that are left. After a fault of
+/// the writer, or an answer that contradicts the seat, these are thrown away, and nothing more is written;
+/// where that came before a frame was read, frames are read and offered on until the queue is full or the
+/// input ends, and it is told then. Once a stream runs, frames and images have the memory of those before
+/// them.
+///
+/// Where the journal is full it pauses, also while its input is silent, and tells what is left to do: in the
+/// next epoch a call with the stream's seat of that epoch goes on from there, with the frame first that it
+/// read and couldn't offer, if there is one.
+pub fn client<L: Epoch, R: Source + Drop, W: Sink, K: Clock, T: Wait>(
+    rt: &T,
+    alloc: Global,
+    hub: &Hub<L>,
+    seat: StreamSeat<L>,
+    rest: ClientRest<R, W>,
+    clock: &K,
+) -> ClientTurn<L, R, W>
+    requires header { IsOfHeader (reader_in rest).header seat.chain.geometry }
+    requires rest { IsRest seat rest }
+    ensures { (start : ClientStart) (past : List Act) → IsRestOf start past seat rest
+        → Turns R.remaining R.failures W.contents W.failures W.is_flushed start past result }
+{
+    let _most = seat.frames();
+    match rest.state {
+        State::Unbegun(reader, writer) => begin(rt, alloc, hub, seat, reader, writer, clock),
+        State::Begun(begun) => {
+            let Begun {
+                reader,
+                writer,
+                buffers,
+                course,
+                ..
+            } = begun;
+            run(
+                rt,
+                alloc,
+                hub,
+                seat,
+                reader,
+                writer,
+                buffers,
+                clock,
+                Some(course),
+            )
+        }
     }
 }

@@ -1,34 +1,37 @@
 //! Images on their way from a seat to a writer.
-ghost use Rattle.std.specs.Prelude.{◌≡◌, ◌+◌, ◌≤◌, [], IfErr, IfOk, length, false};
+ghost use Rattle.std.specs.Prelude.{◌≡◌, ◌+◌, ◌≤◌, [], IfErr, IfOk, IfSome, IsFalse, length, false};
 ghost use Rattle.serve_core.specs.Lanes.{IsImageOf, source_in};
 ghost use Rattle.y4m_stream.specs.Writer.{IsWriterFor};
 ghost use Rattle.y4m_stream.specs.declared.passing.TheConstants.{MOST_FRAMES};
-ghost use Rattle.serve_work.specs.declared.stop.Cause.TheVariants as causes;
+ghost use Rattle.serve_work.specs.declared.stop.Halt.TheVariants as halts;
 ghost use Rattle.serve_work.specs.declared.stop.Stop.TheVariants as stops;
 ghost use Rattle.serve_work.specs.Clients.{IsDrained};
-ghost use Rattle.serve_work.specs.ClientInside.{Answers, GivesUp, IsOfCollection, StopsWith, Tallies};
-ghost use Rattle.serve_work.specs.ClientInside.{TalliesSeat};
+ghost use Rattle.serve_hub.specs.Calls.{Gives, IsCollectRefused};
+ghost use Rattle.serve_work.specs.ClientInside.{Answers, AreBuffersFor, GivesUp, HaltsWith, IsOfCollection};
+ghost use Rattle.serve_work.specs.ClientInside.{IsOfDelivery, Tallies, TalliesSeat};
 
-use crate::stop::Stop;
-use serve_core::Collected;
-use serve_hub::{Epoch, Hub, Refusal, StreamSeat};
+use crate::buffers::Buffers;
+use crate::stop::{Halt, Stop};
+use serve_core::{Collected, Refusal as Core};
+use serve_hub::{CollectRefused, Epoch, Hub, Refusal, StreamSeat};
 use std::sync::Wait;
 use y4m_stream::{Sink, StreamWriter};
 
-/// Collects an image and writes it. It answers `Whole` where nothing is left to collect.
+/// Collects an image and writes it. It stops at `Whole` where nothing is left to collect.
 pub(crate) fn deliver<L: Epoch, W: Sink, T: Wait>(
     rt: &T,
     hub: &Hub<L>,
     seat: &mut StreamSeat<L>,
     writer: &mut StreamWriter<W>,
-) -> Result<Collected, Stop>
+) -> Result<Collected, Halt>
     requires size { IsWriterFor seat.old.chain writer.old }
     requires few { writer.old.frames + length seat.old.kept ≤ MOST_FRAMES }
     requires writing { writer.old.failed ≡ false }
     ensures answer { Answers result seat.old seat.new writer.old writer.new [] }
     ensures source { IfOk result (λ pair. (source_in pair).geometry ≡ seat.old.chain.geometry) }
     ensures image { IfOk result (λ pair. IsImageOf seat.old.chain pair.image) }
-    ensures drained { IfErr result (λ stop. stop ≡ stops.Whole → IsDrained seat.old × (seat.new ≡ seat.old)) }
+    ensures drained { IfErr result (λ halt. halt ≡ halts.Stopped stops.Whole
+        → IsDrained seat.old × (seat.new ≡ seat.old)) }
     ensures own { IfErr result IsOfCollection }
     ensures tally { Tallies seat.old seat.new writer.old writer.new }
     ensures kept { GivesUp seat.old seat.new }
@@ -36,10 +39,90 @@ pub(crate) fn deliver<L: Epoch, W: Sink, T: Wait>(
     match hub.collect(rt, seat) {
         Ok(pair) => match writer.put(&pair.image) {
             Ok(()) => Ok(pair),
-            Err(fault) => Err(Stop::Write(fault)),
+            Err(fault) => Err(Halt::Stopped(Stop::Write(fault))),
         },
-        Err(refused) => Err(Stop::of(refused.refusal)),
+        Err(refused) => Err(Halt::of(refused.refusal)),
     }
+}
+
+/// Collects an image that is there, or also one that comes soon. Where the client reads ahead, it doesn't
+/// wait for the last one.
+fn collect_early<L: Epoch, T: Wait>(
+    rt: &T,
+    hub: &Hub<L>,
+    seat: &mut StreamSeat<L>,
+    ahead: bool,
+) -> Result<Collected, CollectRefused>
+    ensures given { IfOk result (λ pair. Gives pair seat.old seat.new) }
+    ensures refused { IfErr result (λ e. IsCollectRefused e seat.old seat.new) }
+{
+    if ahead && seat.kept() < 2 {
+        hub.try_collect(rt, seat)
+    } else {
+        hub.collect_soon(rt, seat)
+    }
+}
+
+/// Collects such an image and writes it, where there is one.
+fn deliver_early<L: Epoch, W: Sink, T: Wait>(
+    rt: &T,
+    hub: &Hub<L>,
+    seat: &mut StreamSeat<L>,
+    writer: &mut StreamWriter<W>,
+    ahead: bool,
+) -> Result<Option<Collected>, Halt>
+    requires size { IsWriterFor seat.old.chain writer.old }
+    requires few { writer.old.frames + length seat.old.kept ≤ MOST_FRAMES }
+    requires writing { writer.old.failed ≡ false }
+    requires open { seat.old.is_closed ≡ false }
+    ensures answer { Answers result seat.old seat.new writer.old writer.new [] }
+    ensures source { IfOk result (λ next. IfSome next (λ pair.
+        (source_in pair).geometry ≡ seat.old.chain.geometry)) }
+    ensures image { IfOk result (λ next. IfSome next (λ pair. IsImageOf seat.old.chain pair.image)) }
+    ensures own { IfErr result IsOfDelivery }
+    ensures tally { Tallies seat.old seat.new writer.old writer.new }
+    ensures kept { GivesUp seat.old seat.new }
+{
+    match collect_early(rt, hub, seat, ahead) {
+        Ok(pair) => match writer.put(&pair.image) {
+            Ok(()) => Ok(Some(pair)),
+            Err(fault) => Err(Halt::Stopped(Stop::Write(fault))),
+        },
+        Err(refused) => match refused.refusal {
+            Refusal::Core(Core::Empty) => Ok(None),
+            refusal => Err(Halt::of(refusal)),
+        },
+    }
+}
+
+/// Collects and writes the images that are there or come soon, and keeps their memory.
+pub(crate) fn deliver_ready<L: Epoch, W: Sink, T: Wait>(
+    rt: &T,
+    hub: &Hub<L>,
+    seat: &mut StreamSeat<L>,
+    writer: &mut StreamWriter<W>,
+    buffers: &mut Buffers,
+    ahead: bool,
+) -> Result<(), Halt>
+    requires size { IsWriterFor seat.old.chain writer.old }
+    requires few { writer.old.frames + length seat.old.kept ≤ MOST_FRAMES }
+    requires writing { writer.old.failed ≡ false }
+    requires open { seat.old.is_closed ≡ false }
+    requires buffers { AreBuffersFor seat.old.chain buffers.old }
+    ensures answer { Answers result seat.old seat.new writer.old writer.new [] }
+    ensures own { IfErr result IsOfDelivery }
+    ensures tally { Tallies seat.old seat.new writer.old writer.new }
+    ensures kept { GivesUp seat.old seat.new }
+    ensures buffers { AreBuffersFor seat.old.chain buffers.new }
+{
+    for _ in 0..seat.kept() {
+        match deliver_early(rt, hub, seat, writer, ahead) {
+            Ok(Some(pair)) => buffers.keep(pair),
+            Ok(None) => return Ok(()),
+            Err(halt) => return Err(halt),
+        }
+    }
+    Ok(())
 }
 
 /// Collects and writes until nothing is left, or that fails.
@@ -48,12 +131,12 @@ pub(crate) fn drain<L: Epoch, W: Sink, T: Wait>(
     hub: &Hub<L>,
     seat: &mut StreamSeat<L>,
     writer: &mut StreamWriter<W>,
-) -> Stop
+) -> Halt
     requires size { IsWriterFor seat.old.chain writer.old }
     requires few { writer.old.frames + length seat.old.kept ≤ MOST_FRAMES }
     requires writing { writer.old.failed ≡ false }
-    ensures answer { StopsWith result seat.old seat.new writer.old writer.new [] }
-    ensures drained { result ≡ stops.Whole → IsDrained seat.new }
+    ensures answer { HaltsWith result seat.old seat.new writer.old writer.new [] }
+    ensures drained { result ≡ halts.Stopped stops.Whole → IsDrained seat.new }
     ensures own { IsOfCollection result }
     ensures tally { Tallies seat.old seat.new writer.old writer.new }
     ensures kept { GivesUp seat.old seat.new }
@@ -61,14 +144,16 @@ pub(crate) fn drain<L: Epoch, W: Sink, T: Wait>(
     for _ in rt.forever() {
         match deliver(rt, hub, seat, writer) {
             Ok(_) => {}
-            Err(stop) => return stop,
+            Err(halt) => return halt,
         }
     }
     unreachable!()
 }
 
-/// Collects and throws away until that is refused, where no image is to be written any more.
-pub(crate) fn discard<L: Epoch, T: Wait>(rt: &T, hub: &Hub<L>, seat: &mut StreamSeat<L>)
+/// Collects and throws away where no image is to be written any more, until the journal is full, or nothing
+/// is left. It answers whether the journal is full.
+pub(crate) fn discard<L: Epoch, T: Wait>(rt: &T, hub: &Hub<L>, seat: &mut StreamSeat<L>) -> bool
+    ensures none { IsFalse result → seat.new.kept ≡ [] }
     ensures tally { TalliesSeat seat.old seat.new }
     ensures kept { GivesUp seat.old seat.new }
 {
@@ -76,11 +161,14 @@ pub(crate) fn discard<L: Epoch, T: Wait>(rt: &T, hub: &Hub<L>, seat: &mut Stream
         match hub.collect(rt, seat) {
             Ok(_) => {}
             Err(refused) => {
-                let is_torn = matches!(refused.refusal, Refusal::Torn(_));
-                if !is_torn || seat.kept() == 0 {
-                    return;
+                if refused.refusal == Refusal::HistoryFull {
+                    return true;
+                }
+                if seat.kept() == 0 {
+                    return false;
                 }
             }
         }
     }
+    unreachable!()
 }

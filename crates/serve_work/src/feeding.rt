@@ -1,19 +1,21 @@
 //! Frames on their way from a reader to a seat.
-ghost use Rattle.std.specs.Prelude.{◌≡◌, ℕ, None, Ok, IfErr, IfOk, IfSome};
+ghost use Rattle.std.specs.Prelude.{◌≡◌, ℕ, List, None, Ok, IfErr, IfOk, IfSome, OnOk};
 ghost use Rattle.std.specs.Arc.{arc_value};
 ghost use Rattle.serve_core.specs.Lanes.{IsImageOf};
+ghost use Rattle.serve_hub.specs.declared.entry.Act.{Act};
 ghost use Rattle.serve_hub.specs.Calls.{AllowsOffer, IsTold};
 ghost use Rattle.serve_hub.specs.Seats.{StreamSeatValue};
-ghost use Rattle.y4m_stream.specs.Reader.{IsOfHeader, MeetsEnd, TakesFrame, frame_text_of};
+ghost use Rattle.y4m_stream.specs.Reader.{IsOfHeader, MeetsEnd, ReaderState, TakesFrame, frame_text_of};
 ghost use Rattle.y4m_stream.specs.Writer.{IsWriterFor};
-ghost use Rattle.serve_work.specs.Clients.{offers_in};
-ghost use Rattle.serve_work.specs.ClientInside.{AreBuffersFor, Accounted, Feeds, IsOffered, IsUnread, Offers};
-ghost use Rattle.serve_work.specs.ClientInside.{Tallies};
+ghost use Rattle.serve_work.specs.ClientInside.{AreBuffersFor, Accounted, FeedsOn, HasPassed, Holds};
+ghost use Rattle.serve_work.specs.ClientInside.{IsCounted, IsOffered, IsSized, IsSizedFed, IsUnread, Offers};
+ghost use Rattle.serve_work.specs.ClientInside.{Tallies, fed_before, fed_of, text_in};
 
 use crate::buffers::Buffers;
-use crate::delivery::deliver;
+use crate::delivery::{deliver, deliver_ready};
 use crate::gate::Clock;
-use crate::stop::{Cause, Stop};
+use crate::input::{Input, await_input, reads_ahead};
+use crate::stop::{Cause, Halt, Stop};
 use frame_view::Frame;
 use serve_core::Refusal as Core;
 use serve_hub::{Epoch, Hub, OfferRefused, OverRefused, Refusal, StreamSeat};
@@ -26,13 +28,47 @@ use y4m_stream::{Sink, Source, StreamReader, StreamWriter};
 #[derive(Drop)]
 pub(crate) enum Offered {
     Accepted,
-    /// It comes back, with the memory of an image if one was at hand.
-    Full(Arc<Frame>, Option<Frame>),
+    /// The queue is full. It comes back, with the memory of an image if one was at hand.
+    QueueFull(Arc<Frame>, Option<Frame>),
+    /// The same, the journal being full.
+    JournalFull(Arc<Frame>, Option<Frame>),
     Stopped(Stop),
 }
 
+/// Why no more frames are read and offered.
+#[derive(Drop)]
+pub(crate) enum Fed {
+    /// The journal is full. The frame in hand, if there is one, is still to be offered.
+    Paused(Option<Arc<Frame>>),
+    /// An image couldn't be delivered, for this reason. No frame is in hand.
+    Held(Stop),
+    Stopped(Stop),
+}
+
+impl Fed {
+    /// Why no more frames are offered, where no place was made for the one in hand.
+    fn of(halt: Halt, in_hand: Arc<Frame>) -> Fed
+        ensures { result ≡ fed_of halt in_hand }
+    {
+        match halt {
+            Halt::Full => Fed::Paused(Some(in_hand)),
+            Halt::Stopped(stop) => Fed::Stopped(stop),
+        }
+    }
+
+    /// Why no frame is read, where an image couldn't be delivered.
+    fn halted(halt: Halt) -> Fed
+        ensures { result ≡ fed_before halt }
+    {
+        match halt {
+            Halt::Full => Fed::Paused(None),
+            Halt::Stopped(stop) => Fed::Held(stop),
+        }
+    }
+}
+
 /// Reads the next frame into new memory.
-fn read_new<R: Source + Drop>(
+pub(crate) fn read_new<R: Source + Drop>(
     alloc: Global,
     reader: &mut StreamReader<R>,
 ) -> Result<Option<Arc<Frame>>, Stop>
@@ -95,7 +131,7 @@ fn new_image<L: Epoch>(alloc: Global, seat: &StreamSeat<L>, frame: &Frame) -> Op
 
 /// Offers a frame once, over the memory of an image if one is at hand, else over new memory, so that none is
 /// lost where the queue is full.
-fn offer_once<L: Epoch, T: Wait>(
+pub(crate) fn offer_once<L: Epoch, T: Wait>(
     rt: &T,
     alloc: Global,
     hub: &Hub<L>,
@@ -139,7 +175,8 @@ fn refused(refusal: Refusal, frame: Arc<Frame>, image: Option<Frame>) -> Offered
         → IfSome image (IsImageOf seat.chain) → IsOffered result (arc_value frame) seat seat }
 {
     match refusal {
-        Refusal::Core(Core::Full) => Offered::Full(frame, image),
+        Refusal::Core(Core::Full) => Offered::QueueFull(frame, image),
+        Refusal::HistoryFull => Offered::JournalFull(frame, image),
         refusal => Offered::Stopped(Stop::of(refusal)),
     }
 }
@@ -154,13 +191,13 @@ fn accept<L: Epoch, W: Sink, K: Clock, T: Wait>(
     buffers: &mut Buffers,
     clock: &K,
     frame: Arc<Frame>,
-) -> Result<(), Stop>
+) -> Result<(), Fed>
     requires size { IsWriterFor seat.old.chain writer.old }
     requires accounted { Accounted seat.old writer.old }
-    requires counted { offers_in seat.old.calls.list ≡ seat.old.accepted }
     requires frame { (arc_value frame).geometry ≡ seat.old.chain.geometry }
     requires buffers { AreBuffersFor seat.old.chain buffers.old }
-    ensures answer { Offers result (frame_text_of (arc_value frame)) seat.old seat.new writer.old writer.new }
+    ensures answer { Offers result (arc_value frame) seat.old seat.new writer.old writer.new }
+    ensures back { IfErr result (IsSizedFed seat.old.chain writer.new) }
     ensures buffers { AreBuffersFor seat.old.chain buffers.new }
     ensures tally { Tallies seat.old seat.new writer.old writer.new }
 {
@@ -169,23 +206,100 @@ fn accept<L: Epoch, W: Sink, K: Clock, T: Wait>(
         let image = buffers.take_image();
         match offer_once(rt, alloc, hub, seat, clock.moment(), frame, image) {
             Offered::Accepted => return Ok(()),
-            Offered::Stopped(stop) => return Err(stop),
-            Offered::Full(back, image) => {
+            Offered::Stopped(stop) => return Err(Fed::Stopped(stop)),
+            Offered::JournalFull(back, image) => {
+                buffers.keep_image(image);
+                return Err(Fed::Paused(Some(back)));
+            }
+            Offered::QueueFull(back, image) => {
                 frame = back;
-                if let Some(image) = image {
-                    buffers.keep_image(image);
-                }
+                buffers.keep_image(image);
             }
         }
         match deliver(rt, hub, seat, writer) {
             Ok(pair) => buffers.keep(pair),
-            Err(stop) => return Err(stop),
+            Err(halt) => return Err(Fed::of(halt, frame)),
         }
     }
     unreachable!()
 }
 
-/// Reads and offers frames until that fails, or the input ends.
+/// Delivers the images that are there or come soon, and reads and offers a frame where one is there.
+fn feed_once<L: Epoch, R: Source + Drop, W: Sink, K: Clock, T: Wait>(
+    rt: &T,
+    alloc: Global,
+    hub: &Hub<L>,
+    seat: &mut StreamSeat<L>,
+    reader: &mut StreamReader<R>,
+    writer: &mut StreamWriter<W>,
+    buffers: &mut Buffers,
+    clock: &K,
+) -> Result<(), Fed>
+    requires header { IsOfHeader reader.old.header seat.old.chain.geometry }
+    requires size { IsWriterFor seat.old.chain writer.old }
+    requires accounted { Accounted seat.old writer.old }
+    requires open { reader.old.phase ≡ Phase.Open }
+    requires buffers { AreBuffersFor seat.old.chain buffers.old }
+    ensures passed { OnOk result (HasPassed reader.old reader.new seat.old seat.new writer.old writer.new) }
+    ensures answer { IfErr result (λ fed. (past : List Act) → IsCounted past seat.old
+        → FeedsOn fed past reader.old reader.new seat.old seat.new writer.old writer.new) }
+    ensures tally { Tallies seat.old seat.new writer.old writer.new }
+    ensures buffers { AreBuffersFor seat.old.chain buffers.new }
+    ensures frame { IfErr result (IsSizedFed seat.old.chain writer.new) }
+    ensures header { reader.new.header ≡ reader.old.header }
+{
+    let ahead = reads_ahead(seat, reader);
+    match deliver_ready(rt, hub, seat, writer, buffers, ahead) {
+        Ok(()) => {}
+        Err(halt) => return Err(Fed::halted(halt)),
+    }
+    match await_input(rt, hub, reader) {
+        Input::Ready => {}
+        Input::Silent => return Ok(()),
+        Input::JournalFull => return Err(Fed::Paused(None)),
+    }
+    let memory = buffers.take_source();
+    match read_into(alloc, reader, memory) {
+        Ok(Some(frame)) => accept(rt, alloc, hub, seat, writer, buffers, clock, frame),
+        Ok(None) => Err(Fed::Stopped(Stop::Whole)),
+        Err(stop) => Err(Fed::Stopped(stop)),
+    }
+}
+
+/// Reads and offers frames until that fails, the input ends, the journal is full, or an image can't be
+/// delivered.
+fn feed_on<L: Epoch, R: Source + Drop, W: Sink, K: Clock, T: Wait>(
+    rt: &T,
+    alloc: Global,
+    hub: &Hub<L>,
+    seat: &mut StreamSeat<L>,
+    reader: &mut StreamReader<R>,
+    writer: &mut StreamWriter<W>,
+    buffers: &mut Buffers,
+    clock: &K,
+) -> Fed
+    requires header { IsOfHeader reader.old.header seat.old.chain.geometry }
+    requires size { IsWriterFor seat.old.chain writer.old }
+    requires accounted { Accounted seat.old writer.old }
+    requires open { reader.old.phase ≡ Phase.Open }
+    requires buffers { AreBuffersFor seat.old.chain buffers.old }
+    ensures answer { (past : List Act) → IsCounted past seat.old
+        → FeedsOn result past reader.old reader.new seat.old seat.new writer.old writer.new }
+    ensures tally { Tallies seat.old seat.new writer.old writer.new }
+    ensures buffers { AreBuffersFor seat.old.chain buffers.new }
+    ensures frame { IsSizedFed seat.old.chain writer.new result }
+    ensures header { reader.new.header ≡ reader.old.header }
+{
+    for _ in rt.forever() {
+        match feed_once(rt, alloc, hub, seat, reader, writer, buffers, clock) {
+            Ok(()) => {}
+            Err(fed) => return fed,
+        }
+    }
+    unreachable!()
+}
+
+/// The same. The frame in hand, if there is one, is offered first.
 pub(crate) fn feed<L: Epoch, R: Source + Drop, W: Sink, K: Clock, T: Wait>(
     rt: &T,
     alloc: Global,
@@ -195,27 +309,27 @@ pub(crate) fn feed<L: Epoch, R: Source + Drop, W: Sink, K: Clock, T: Wait>(
     writer: &mut StreamWriter<W>,
     buffers: &mut Buffers,
     clock: &K,
-) -> Stop
+    in_hand: Option<Arc<Frame>>,
+) -> Fed
     requires header { IsOfHeader reader.old.header seat.old.chain.geometry }
     requires size { IsWriterFor seat.old.chain writer.old }
     requires accounted { Accounted seat.old writer.old }
-    requires counted { offers_in seat.old.calls.list ≡ seat.old.accepted }
     requires open { reader.old.phase ≡ Phase.Open }
+    requires frame { IsSized seat.old.chain in_hand }
     requires buffers { AreBuffersFor seat.old.chain buffers.old }
-    ensures answer { Feeds result reader.old reader.new seat.old seat.new writer.old writer.new }
+    ensures answer { (past : List Act) (before : ReaderState) → IsCounted past seat.old
+        → Holds before reader.old (text_in in_hand)
+        → FeedsOn result past before reader.new seat.old seat.new writer.old writer.new }
     ensures tally { Tallies seat.old seat.new writer.old writer.new }
+    ensures buffers { AreBuffersFor seat.old.chain buffers.new }
+    ensures frame { IsSizedFed seat.old.chain writer.new result }
+    ensures header { reader.new.header ≡ reader.old.header }
 {
-    for _ in rt.forever() {
-        let memory = buffers.take_source();
-        let frame = match read_into(alloc, reader, memory) {
-            Ok(Some(frame)) => frame,
-            Ok(None) => return Stop::Whole,
-            Err(stop) => return stop,
-        };
-        match accept(rt, alloc, hub, seat, writer, buffers, clock, frame) {
-            Ok(()) => {}
-            Err(stop) => return stop,
-        }
+    match in_hand {
+        None => feed_on(rt, alloc, hub, seat, reader, writer, buffers, clock),
+        Some(frame) => match accept(rt, alloc, hub, seat, writer, buffers, clock, frame) {
+            Ok(()) => feed_on(rt, alloc, hub, seat, reader, writer, buffers, clock),
+            Err(fed) => fed,
+        },
     }
-    unreachable!()
 }

@@ -1,4 +1,5 @@
 //! What follows from the definitions alone.
+ghost use Rattle.serve_work.specs.Epochs.{NewStreamIsUnbegun, StreamsCross};
 ghost use Rattle.serve_work.specs.Laws.{AFrontWentOut, InputFaultIsTold, InputIsServed};
 
 /// Where a reader was opened on an input and a client has ended, a stream text of the accepted frames stands
@@ -10,7 +11,7 @@ pub fn the_input_is_served()
 
 /// Where a fault lies in the bytes behind the accepted frames, a client that began to read tells it, or a
 /// fault of the reader that isn't in the bytes; or its stop is `Torn`, and an offer was answered with another
-/// number than its own.
+/// number than its own; or it stopped for want of memory.
 pub fn an_input_fault_is_told()
     ensures { InputFaultIsTold }
 {}
@@ -18,4 +19,14 @@ pub fn an_input_fault_is_told()
 /// What a client wrote is a front of what the accepted frames are served as.
 pub fn a_front_went_out()
     ensures { AFrontWentOut }
+{}
+
+/// Of the stream of a new seat all is left to do.
+pub fn a_new_stream_is_unbegun()
+    ensures { NewStreamIsUnbegun }
+{}
+
+/// What is left to do of a stream is left to do by its seat of the next epoch, and what it came to stays.
+pub fn streams_cross()
+    ensures { StreamsCross }
 {}

@@ -5,18 +5,25 @@
 //! calls, `specs/Sessions.antt` what the streams of a session come to.
 #![tactic(auto)]
 
+mod begun;
 mod buffers;
 pub mod clients;
+mod course;
 mod delivery;
 mod feeding;
 pub mod gate;
+mod holding;
+mod input;
 pub mod laws;
+pub mod rest;
+mod serving;
 pub mod session;
 pub mod stop;
 pub mod workers;
 
-pub use clients::{ClientEnd, client};
+pub use clients::{ClientEnd, ClientTurn, client};
 pub use gate::{Clock, Gate};
+pub use rest::ClientRest;
 pub use session::{Served, SessionFault, serve_session};
 pub use stop::{Cause, Stop};
 pub use workers::work;

@@ -1,28 +1,29 @@
 //! A session: streams that clients serve, each by a thread, and workers beside them.
-ghost use Rattle.std.specs.Prelude.{◌≡◌, ◌<◌, ◌^◌, ◌↔◌, ℕ, ⊤, IfOk, IsErrOf, length, map, vec_len};
-ghost use Rattle.serve_core.specs.Schedule.{HasLane, opened_schedule};
+ghost use Rattle.std.specs.Prelude.{◌≡◌, ◌↔◌, IfOk, IsErrOf, length, map};
 ghost use Rattle.serve_hub.specs.Books.{IsLimit};
 ghost use Rattle.serve_hub.specs.Seats.{opened_streams};
-ghost use Rattle.serve_work.specs.SessionInside.{AreTold};
-ghost use Rattle.serve_work.specs.Sessions.{AreInputs, AreServed, outcome_of, served_of, starts_of};
+ghost use Rattle.serve_work.specs.Sessions.{AreInputs, AreServed, served_of, starts_of};
 
-mod finished;
+mod epochs;
+mod interval;
+mod opening;
+mod places;
+mod room;
 mod threads;
-mod turn;
+pub(crate) mod turn;
 
 use crate::gate::{Clock, Gate};
 use crate::stop::Stop;
-use finished::Places;
+use epochs::{first, go_on};
+use interval::report;
 use serve_core::Setup;
-use serve_hub::{Ended, Epoch, Hub, HubError};
+use serve_hub::HubError;
 use std::alloc::{AllocError, Global};
 use std::marker::Brand;
 use std::sync::Wait;
 use std::sync::ledger::Blank;
 use std::thread::Threads;
 use thiserror::Error;
-use threads::run_threads;
-use turn::seated;
 use y4m_stream::{Sink, Source, StreamReader};
 
 /// What became of a stream, with its source and its writer.
@@ -47,7 +48,7 @@ pub enum SessionFault {
     /// offered.
     #[error("BadLimit")]
     BadLimit,
-    /// Memory was refused, or a worker's thread. No frame was offered.
+    /// Memory was refused, or a worker's thread, in the first epoch. No frame was offered.
     #[error("NoMemory")]
     NoMemory,
     /// The journal and the seats differ.
@@ -81,8 +82,12 @@ impl From<HubError> for SessionFault {
 
 /// Serves each stream of the setup from its reader to its writer, and tells what became of each, in order.
 ///
-/// The workers start first. Each client has a thread, or runs on this one where its thread is refused. All
-/// that may be refused is taken before a frame is offered, but for what the clients take themselves.
+/// The session goes from epoch to epoch, each with a journal of at most `limit` entries; an epoch ends where
+/// all streams are over, or where its journal is full. The workers start first. Each client has a thread, or
+/// runs on this one where its thread is refused. In the first epoch all that may be refused is taken before a
+/// frame is offered, but for what the clients take themselves. In a later one a worker whose thread is
+/// refused doesn't work. Where there is no memory for a further epoch, or no worker starts in it, each stream
+/// that isn't over stops for want of memory, unless it has a stop.
 pub fn serve_session<
     R: Source + Drop + Send,
     W: Sink + Drop + Send,
@@ -105,62 +110,9 @@ pub fn serve_session<
     ensures bad_limit { IsErrOf result SessionFault.BadLimit ↔ ¬ IsLimit (length setup.streams) limit }
 {
     let blank = Blank::new(80);
-    serve_named::<Brand, R, W, G, K, T>(rt, alloc, blank, setup, inputs, limit, gate, clock)
-}
-
-/// The same, with the ledger's name.
-fn serve_named<
-    L: Epoch + Send + Sync,
-    R: Source + Drop + Send,
-    W: Sink + Drop + Send,
-    G: Gate + Sync,
-    K: Clock + Sync,
-    T: Threads + Wait + Sync,
->(
-    rt: &T,
-    alloc: Global,
-    blank: Blank,
-    setup: Setup,
-    inputs: Vec<(StreamReader<R>, W)>,
-    limit: usize,
-    gate: &G,
-    clock: &K,
-) -> Result<Vec<Served<R, W>>, SessionFault>
-    requires name { blank.name ≡ L.name }
-    requires parts { blank.parts ≡ L.parts }
-    requires enough { blank.parts ≡ 80 }
-    requires opening { opened_schedule setup ≡ L.opening }
-    requires inputs { AreInputs setup.streams inputs.items }
-    ensures streams { IfOk result (λ served. AreServed
-        (starts_of W.contents W.failures (opened_streams limit 0 setup.streams) inputs.items)
-        (map (served_of R.remaining R.failures W.contents W.failures W.is_flushed) served.items)) }
-    ensures bad_limit { IsErrOf result SessionFault.BadLimit ↔ ¬ IsLimit (length setup.streams) limit }
-{
-    let (hub, seats, work_seats) = Hub::<L>::new(alloc, blank, setup, limit)?;
-    let mut places = Places::new(alloc, seats.len())?;
-    let turns = seated(alloc, seats, inputs)?;
-    let (work_seats, turns) = run_threads(rt, alloc, &hub, work_seats, turns, gate, clock)?;
-    places.fill(turns);
-    let Places { seats, mut served } = places;
-    let Ok(ended) = hub.finish(seats, work_seats) else {
-        return Err(SessionFault::Mismatch);
-    };
-    charge(&ended, &mut served);
-    Ok(served)
-}
-
-/// Tells what each stream was charged.
-fn charge<R: Source, W: Sink>(ended: &Ended, served: &mut Vec<Served<R, W>>)
-    requires few { vec_len served.old < 2 ^ 32 }
-    requires lanes { (n : ℕ) → n < vec_len served.old → HasLane ended.now.book.desk n (λ _. ⊤) }
-    ensures outcomes { map (outcome_of R.remaining R.failures W.contents W.failures W.is_flushed) served.new.items
-        ≡ map (outcome_of R.remaining R.failures W.contents W.failures W.is_flushed) served.old.items }
-    ensures told { AreTold ended.now.book.desk (vec_len served.new) served.new.items }
-{
-    for n in 0..served.len() {
-        let Some(counts) = ended.counts(n as u32) else {
-            unreachable!()
-        };
-        served[n].charged = counts.charged;
-    }
+    let opened = first::<Brand, R, W, G, K, T>(
+        rt, alloc, blank, setup, inputs, limit, gate, clock,
+    )?;
+    let ended = go_on(rt, alloc, opened, limit, gate, clock)?;
+    Ok(report(ended))
 }

@@ -1,6 +1,6 @@
 //! Why a client stops.
 ghost use Rattle.std.specs.Prelude.{◌≡◌, ◌↔◌, IsFalse};
-ghost use Rattle.serve_work.specs.ClientInside.{IsFirst, IsUseful, stop_of};
+ghost use Rattle.serve_work.specs.ClientInside.{IsFirst, IsUseful, halt_of, stop_of};
 
 use serve_core::Refusal as Core;
 use serve_hub::Refusal;
@@ -16,10 +16,7 @@ pub enum Cause {
     /// The moment of the offer was past 2^60.
     #[error("ClockEnd")]
     ClockEnd,
-    /// The journal is full.
-    #[error("HistoryFull")]
-    HistoryFull,
-    /// Memory was refused for the frame, for its job, or for the header of the images.
+    /// Memory was refused for the frame, for its job, for the header of the images, or for the next epoch.
     #[error("NoMemory")]
     NoMemory,
 }
@@ -40,13 +37,12 @@ pub enum Stop {
 }
 
 impl Stop {
-    /// What a refusal of the hub is to a client: it has collected all, or it stops. A refusal that
-    /// contradicts its seat is `Torn`.
+    /// What a refusal of the hub is to a client whose journal isn't full: it has collected all, or it stops.
+    /// A refusal that contradicts its seat is `Torn`.
     pub(crate) fn of(refusal: Refusal) -> Stop
         ensures { result ≡ stop_of refusal }
     {
         match refusal {
-            Refusal::HistoryFull => Stop::Refused(Cause::HistoryFull),
             Refusal::Core(Core::TooManyFrames) => Stop::Refused(Cause::TooManyFrames),
             Refusal::Core(Core::ClockEnd) => Stop::Refused(Cause::ClockEnd),
             Refusal::Core(Core::NoMemory) => Stop::Refused(Cause::NoMemory),
@@ -67,5 +63,25 @@ impl Stop {
         ensures { IsFirst self later result }
     {
         if self == Stop::Whole { later } else { self }
+    }
+}
+
+/// Why a client goes no further.
+#[derive(Clone, Copy, Debug, PartialEq, Eq)]
+pub(crate) enum Halt {
+    /// The journal is full.
+    Full,
+    Stopped(Stop),
+}
+
+impl Halt {
+    /// What a refusal of the hub is to a client.
+    pub(crate) fn of(refusal: Refusal) -> Halt
+        ensures { result ≡ halt_of refusal }
+    {
+        match refusal {
+            Refusal::HistoryFull => Halt::Full,
+            refusal => Halt::Stopped(Stop::of(refusal)),
+        }
     }
 }

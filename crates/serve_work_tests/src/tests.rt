@@ -1,7 +1,10 @@
 //! Streams of two by two samples that a worker and a client serve, with bytes that were worked out by hand.
 mod clients;
+mod epochs;
 mod gates;
+mod late;
 mod many;
+mod pauses;
 mod sessions;
 mod stops;
 

@@ -10,7 +10,7 @@ use Rattle.y4m_stream.specs.declared.fault.ReadFault.TheVariants.{Device, LineTo
 use Rattle.y4m_stream.specs.declared.lookahead.TheConstants.{LINE_LIMIT}
 use Rattle.y4m_stream.specs.declared.reader.Phase.{Phase}
 use Rattle.y4m_stream.specs.declared.reader.Phase.TheVariants.{Open}
-use Rattle.y4m_stream.specs.Front.{HasGiven, IsCutFrame, IsFrameAhead, StandsAtFrame}
+use Rattle.y4m_stream.specs.Front.{HasGiven, IsCutFrame, IsFrameAhead, IsReadAhead, StandsAtFrame}
 use Rattle.y4m_stream.specs.Inside.{BeginsWithLine, FindsFrame, LacksBytes, LookaheadState, rest_of, state_of}
 use Rattle.y4m_stream.specs.Reader.{Answers, data_len_of}
 use Rattle.y4m_stream.proofs.Known.{Consumes-behind, Consumes-held, Consumes-later}
@@ -73,6 +73,10 @@ Answers-taken header old found new phase phase' n frame finds is_frame taken few
   has_ended = λ e. absurd (let was = finds.was_open in cc);
   has_failed = λ e. absurd (let was = finds.was_open in cc);
 }
+
+-- what is held was read ahead
+pub IsReadAhead-held : (at : LookaheadState) → length at.held ≤ LINE_LIMIT → IsReadAhead (rest_of at) at.left
+IsReadAhead-held at few = (at.held, Consumes-held (rest_of at) at.left at.held (Keeps-refl (rest_of at)), few)
 
 -- what is held was read ahead, and nothing else
 pub IsFrameAhead-held : (old new : LookaheadState) (len : ℕ) → Keeps (rest_of old) (rest_of new) → length new.held ≤ LINE_LIMIT → IsFrameAhead len (rest_of old) new.left

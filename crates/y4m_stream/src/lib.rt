@@ -18,7 +18,7 @@ pub mod writer;
 pub use device::{OverRead, OverWrite, Sink, Source};
 pub use fault::{FilterFault, ReadFault, WriteFault};
 pub use filter::{filter_between, filter_bytes, filter_stream, resized_header, shown_header};
-pub use overlapped::filter_overlapped;
+pub use overlapped::{LEAST_OVERLAPPED, filter_overlapped};
 pub use passing::MOST_FRAMES;
 pub use put::put_all;
 pub use reader::StreamReader;

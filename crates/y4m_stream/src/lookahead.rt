@@ -62,6 +62,11 @@ impl<R: Source> Lookahead<R> {
         &self.bytes[..self.len]
     }
 
+    /// Whether there are bytes, or an end or a fault, without a wait beyond so many milliseconds.
+    pub fn is_ready(&self, milliseconds: u64) -> bool {
+        self.len > 0 || self.source.is_ready(milliseconds)
+    }
+
     /// Reads once, behind the bytes that are held.
     pub fn fill(&mut self) -> io::Result<usize>
         requires { length self.old.held < LINE_LIMIT }
@@ -115,6 +120,7 @@ impl<R: Source> Lookahead<R> {
     pub fn into_source(self) -> R
         ensures remaining { R.remaining result ≡ self.left }
         ensures failures { R.failures result ≡ self.failures }
+        ensures few { length self.held ≤ LINE_LIMIT }
     {
         self.source
     }

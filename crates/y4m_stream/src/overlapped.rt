@@ -21,6 +21,14 @@ use std::alloc::Global;
 use std::mem::swap;
 use std::thread::{Threads, join_mut};
 
+/// The fewest bytes of a frame's data for which a thread is started.
+///
+/// `bench/invert sizes` measures two threads beside one. On four busy processors a thread cost 35
+/// microseconds for each frame. Frames of 150,000 bytes just made good for that, and took half as much time
+/// of the processors again; from 295,000 bytes on two threads took 0.6 to 0.9 of the time of one, by pipes
+/// and from file to file.
+pub const LEAST_OVERLAPPED: usize = 262_144;
+
 /// Makes the image of a frame whose line was taken, and writes it.
 fn paint_and_put<W: Sink>(
     writer: &mut StreamWriter<W>,
@@ -41,7 +49,8 @@ fn paint_and_put<W: Sink>(
     writer.put(images.image(frame))
 }
 
-/// Reads the next frame while the image of the one before it is made and written, each as alone.
+/// Reads the next frame while the image of the one before it is made and written, each as alone. Where frames
+/// are small the image goes out first, on this thread.
 fn read_and_put<T: Threads, R: Source + Drop + Send, W: Sink>(
     rt: &T,
     alloc: Global,
@@ -66,6 +75,10 @@ fn read_and_put<T: Threads, R: Source + Drop + Send, W: Sink>(
     ensures put { HasImage images.old.chain (frame_text_of frame.old)
         (λ image. PutsOpen writer.old writer.new image result.1) }
 {
+    if next.data().len() < LEAST_OVERLAPPED {
+        let put = paint_and_put(writer, frame, images);
+        return (reader.read_frame(alloc, next), put);
+    }
     join_mut(
         rt,
         &mut || reader.read_frame(alloc, next),
@@ -194,8 +207,9 @@ fn filter_images<T: Threads, R: Source + Drop + Send, W: Sink>(
 }
 
 /// As `filter_stream`, but that each frame is read on a thread of its own while the image of the one before
-/// it is made and written, on the caller's; where no thread is granted, the two come one after the other. It
-/// takes memory for a second frame; where that is refused, frames are read as `filter_stream` reads them.
+/// it is made and written, on the caller's. Where frames have fewer bytes than `LEAST_OVERLAPPED`, or no
+/// thread is granted, the two come one after the other. It takes memory for a second frame; where that is
+/// refused, frames are read as `filter_stream` reads them.
 ///
 /// A fault that is met in reading is answered once the image before it is written. Where a write and the read
 /// beside it both fail, the write's fault is answered. So where it is, one frame more may have been read than

@@ -3,7 +3,7 @@ ghost use Rattle.std.specs.Prelude.{◌≡◌, ◌≤◌, ◌∷◌, ◌++◌, [
 ghost use Rattle.std.specs.Prelude.{IfSome, OnOk};
 ghost use Rattle.std.specs.Io.KnownBytes.{Consumes, Keeps};
 ghost use Rattle.y4m_header.specs.HeaderLine.{IsHeaderLine};
-ghost use Rattle.y4m_stream.specs.Front.{IsFrameAhead, StandsAtHeader};
+ghost use Rattle.y4m_stream.specs.Front.{IsFrameAhead, IsReadAhead, StandsAtHeader};
 ghost use Rattle.y4m_stream.specs.Inside.{BeginsFrame, rest_of};
 ghost use Rattle.y4m_stream.specs.Reader.{Answers, FailsToOpen, IsOfHeader, IsOpened, Opens, answer_into};
 ghost use Rattle.y4m_stream.specs.Reader.{answer_of, data_len_of, failures_told};
@@ -131,6 +131,7 @@ impl<R: Source + Drop> StreamReader<R> {
     pub fn into_source(self) -> R
         ensures remaining { R.remaining result ≡ self.left }
         ensures failures { R.failures result ≡ self.failures }
+        ensures ahead { IsReadAhead self.rest self.left }
     {
         self.input.into_source()
     }
@@ -140,6 +141,13 @@ impl<R: Source + Drop> StreamReader<R> {
         ensures { result.now ≡ self.now.header }
     {
         &self.header
+    }
+
+    /// Whether the next frame has begun to come, or the end or a fault is there. It waits for that at most so
+    /// many milliseconds, as the source does, and takes no byte. A frame of which a part has come may still
+    /// be waited for when it is read.
+    pub fn is_ready(&self, milliseconds: u64) -> bool {
+        self.input.is_ready(milliseconds)
     }
 
     /// Reads the next frame, or answers none at the end.

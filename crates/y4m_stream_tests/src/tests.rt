@@ -18,6 +18,8 @@ mod operations;
 mod overlapped;
 mod prefixes;
 mod reader;
+mod readiness;
+mod sizes;
 mod writing;
 
 /// Compares what a call gave with what is wanted.

@@ -1,8 +1,9 @@
 // The files of the system.
-use serve_report::Files;
+use serve_report::{Files, Inlet};
 use std::fs::{self, File};
 use std::io;
 use std::os::fd::AsRawFd;
+use std::os::unix::fs::FileTypeExt;
 
 /// The number of the last standard descriptor.
 const LAST_STANDARD: i32 = 2;
@@ -36,13 +37,31 @@ fn keep(rt: &HostRuntime) -> Option<File> {
     Some(folder)
 }
 
+/// Whether a read of the file may wait for what isn't there yet: of a FIFO, a socket or a terminal.
+fn may_wait(file: &File) -> bool {
+    match file.metadata() {
+        Ok(metadata) => {
+            let kind = metadata.file_type();
+            kind.is_fifo() || kind.is_socket() || kind.is_char_device()
+        }
+        Err(_) => true,
+    }
+}
+
 impl Files for HostFiles<'_> {
     type Reader = File;
 
+    type Slow = File;
+
     type Writer = File;
 
-    fn open(&self, name: &str) -> io::Result<File> {
-        fs::open(self.rt, name)
+    fn open(&self, name: &str) -> io::Result<Inlet<File, File>> {
+        let file = fs::open(self.rt, name)?;
+        if may_wait(&file) {
+            Ok(Inlet::Slow(file))
+        } else {
+            Ok(Inlet::Prompt(file))
+        }
     }
 
     fn create(&self, name: &str) -> io::Result<File> {

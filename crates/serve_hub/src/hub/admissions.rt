@@ -43,7 +43,7 @@ impl<L: Epoch> Hub<L> {
         let is_full = shared.is_full();
         drop(shared);
         self.for_workers.notify_all();
-        self.wake_where(is_full);
+        self.wake(false, is_full);
         answer
     }
 

@@ -1,5 +1,5 @@
 //! Streams that threads close, and images that they collect.
-ghost use Rattle.std.specs.Prelude.{◌≡◌, ◌≢◌, IfErr, IfOk, OnOk};
+ghost use Rattle.std.specs.Prelude.{◌≡◌, ◌≢◌, IfErr, IfOk, IsFalse, OnOk};
 ghost use Rattle.serve_core.specs.declared.refusal.Refusal.TheVariants.{Empty};
 ghost use Rattle.serve_hub.specs.declared.refusal.Refusal.TheVariants.{Core, HistoryFull};
 ghost use Rattle.serve_hub.specs.Calls.{AllowsClose, Closes, Gives, IsCollectRefused, IsTold};
@@ -23,7 +23,6 @@ impl<L: Epoch> Hub<L> {
         let answer = seat.close(&mut shared);
         drop(shared);
         self.for_workers.notify_all();
-        self.for_streams.notify_all();
         answer
     }
 
@@ -41,14 +40,12 @@ impl<L: Epoch> Hub<L> {
         let answer = seat.collect(&mut shared);
         let is_full = shared.is_full();
         drop(shared);
-        self.for_workers.notify_one();
-        self.wake_where(is_full);
+        self.wake(answer.is_ok(), is_full);
         seat.compare(answer)
     }
 
     /// The oldest image of the seat's stream, with its source. It waits for one while the stream isn't
     /// drained and one can come.
-    #[tactic(auto, using(crate::proofs::Giving::gives))]
     pub fn collect<R: Wait>(
         &self,
         rt: &R,
@@ -58,6 +55,39 @@ impl<L: Epoch> Hub<L> {
         ensures refused { IfErr result (λ e. IsCollectRefused e seat.old seat.new) }
         ensures waited { IfErr result (λ e. e.refusal ≢ Core Empty) }
     {
+        self.collect_or_wait(rt, seat, false)
+    }
+
+    /// The oldest image of the seat's stream, with its source. It waits for one that comes soon, and answers
+    /// `Empty` where none does.
+    ///
+    /// One comes soon where the stream has a frame that isn't finished, the journal has a place for a lease,
+    /// and no more streams have such frames than there are workers. A wait goes on where more streams get
+    /// frames meanwhile.
+    pub fn collect_soon<R: Wait>(
+        &self,
+        rt: &R,
+        seat: &mut StreamSeat<L>,
+    ) -> Result<Collected, CollectRefused>
+        ensures given { IfOk result (λ pair. Gives pair seat.old seat.new) }
+        ensures refused { IfErr result (λ e. IsCollectRefused e seat.old seat.new) }
+    {
+        self.collect_or_wait(rt, seat, true)
+    }
+
+    /// The oldest image of the seat's stream, with its source. It waits for one that can come, or only for
+    /// one that comes soon.
+    #[tactic(auto, using(crate::proofs::Giving::gives))]
+    fn collect_or_wait<R: Wait>(
+        &self,
+        rt: &R,
+        seat: &mut StreamSeat<L>,
+        only_soon: bool,
+    ) -> Result<Collected, CollectRefused>
+        ensures given { IfOk result (λ pair. Gives pair seat.old seat.new) }
+        ensures refused { IfErr result (λ e. IsCollectRefused e seat.old seat.new) }
+        ensures waited { IsFalse only_soon → IfErr result (λ e. e.refusal ≢ Core Empty) }
+    {
         let mut shared = self.shared.lock(rt);
         for _ in rt.forever() {
             match seat.collect(&mut shared) {
@@ -65,15 +95,14 @@ impl<L: Epoch> Hub<L> {
                 answer => {
                     let is_full = shared.is_full();
                     drop(shared);
-                    self.for_workers.notify_one();
-                    self.wake_where(is_full);
+                    self.wake(answer.is_ok(), is_full);
                     return seat.compare(answer);
                 }
             }
-            if shared.is_stuck(seat.number()) {
-                return seat.compare(Err(Refusal::HistoryFull));
+            if let Some(end) = shared.end_of_wait(seat.number(), only_soon) {
+                return seat.compare(Err(end));
             }
-            shared = self.for_streams.wait(rt, shared);
+            shared = self.for_stream(seat.number()).wait(rt, shared);
         }
         unreachable!()
     }

@@ -26,7 +26,7 @@ impl<L: Epoch> Hub<L> {
         let answer = seat.lease(&mut shared);
         let is_full = shared.is_full();
         drop(shared);
-        self.wake_where(is_full);
+        self.wake(false, is_full);
         answer
     }
 
@@ -45,13 +45,11 @@ impl<L: Epoch> Hub<L> {
                 answer => {
                     let is_full = shared.is_full();
                     drop(shared);
-                    self.wake_where(is_full);
+                    self.wake(false, is_full);
                     return answer;
                 }
             }
             if let Some(end) = shared.end_of_work() {
-                // the others that wait find the same
-                self.for_workers.notify_all();
                 return Err(end);
             }
             shared = self.for_workers.wait(rt, shared);
@@ -60,6 +58,8 @@ impl<L: Epoch> Hub<L> {
     }
 
     /// The worker gives its lease back, with its job and all bands that were done.
+    ///
+    /// The worker is to ask for another lease then: no other is woken for the stream that it gives back.
     pub fn settle(
         &self,
         rt: &impl Wait,
@@ -70,15 +70,18 @@ impl<L: Epoch> Hub<L> {
         ensures outcome { IfOk result (λ done. IsOutcome lease done × HasNumber lease done) }
         ensures refused { IfErr result (λ e. IsSettleRefused lease e seat.old seat.new) }
     {
+        let stream = lease.stream();
         let mut shared = self.shared.lock(rt);
         let answer = seat.settle(&mut shared, lease);
-        let is_full = shared.is_full();
+        let (is_full, is_over) = (shared.is_full(), shared.book.is_over());
         drop(shared);
-        self.for_workers.notify_one();
-        if is_full || matches!(answer, Ok(Settled::Finished(_))) {
-            self.for_streams.notify_all();
+        if !matches!(answer, Ok(Settled::Returned)) {
+            self.for_stream(stream).notify_all();
         }
-        self.wake_where(is_full);
+        if is_over {
+            self.for_workers.notify_all();
+        }
+        self.wake(answer.is_err(), is_full);
         answer
     }
 }

@@ -119,7 +119,7 @@ impl<L: Epoch> Hub<L> {
         }
     }
 
-    /// Offers a job, and wakes a worker for it.
+    /// Offers a job, and wakes a worker for it where it doesn't come back.
     fn enter(
         &self,
         rt: &impl Wait,
@@ -143,8 +143,7 @@ impl<L: Epoch> Hub<L> {
         let answer = seat.offer(&mut shared, at, job, kept);
         let is_full = shared.is_full();
         drop(shared);
-        self.for_workers.notify_one();
-        self.wake_where(is_full);
+        self.wake(!matches!(answer, Err((_, Some(_)))), is_full);
         answer
     }
 

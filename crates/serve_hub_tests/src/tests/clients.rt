@@ -1,23 +1,27 @@
 //! Those who offer the frames of one stream, and check its images.
-ghost use Rattle.std.specs.Prelude.{IfOk};
+ghost use Rattle.std.specs.Prelude.{◌≡◌, IfOk};
 ghost use Rattle.serve_core.specs.Lanes.{IsImageOf};
 
 use super::{Core, frame_of};
 use frame_view::Frame;
+use serve_core::Collected;
 use serve_hub::{Came, Epoch, Hub, Refusal, StreamSeat};
 use std::alloc::Global;
 use std::sync::{Arc, Wait};
 use std::test::Fail;
 
-/// The seat of a stream with the frames to offer, how many right images came in order, and what went wrong
-/// first.
+/// The seat of a stream with the frames to offer, how many right images came in order, how many frames were
+/// under way at most, and what went wrong first.
 #[derive(Drop)]
 pub(super) struct Client<L: Epoch> {
     pub(super) seat: StreamSeat<L>,
     alloc: Global,
     first: u32,
     frames: Vec<Arc<Frame>>,
+    /// Whether it collects what comes soon before it offers a frame.
+    pub(super) is_soon: bool,
     pub(super) delivered: u64,
+    pub(super) most: usize,
     pub(super) outcome: Result<(), Refusal>,
 }
 
@@ -57,7 +61,9 @@ impl<L: Epoch> Client<L> {
             alloc,
             first,
             frames,
+            is_soon: false,
             delivered: 0,
+            most: 0,
             outcome: Ok(()),
         }
     }
@@ -92,14 +98,30 @@ impl<L: Epoch> Client<L> {
 
     fn offer_all<R: Wait>(&mut self, rt: &R, hub: &Hub<L>, count: u64) -> Result<(), Refusal> {
         for n in 0..count {
+            if self.is_soon {
+                self.collect_soon(rt, hub)?;
+            }
             let frame = self.frame(n)?;
             if self.seat.kept() < 4 {
                 self.offer(rt, hub, n, frame)?;
             } else {
                 self.offer_over(rt, hub, n, frame)?;
             }
+            self.most = self.most.max(self.seat.kept());
         }
         Ok(())
+    }
+
+    /// Collects the images that come soon.
+    fn collect_soon<R: Wait>(&mut self, rt: &R, hub: &Hub<L>) -> Result<(), Refusal> {
+        for _ in 0..self.seat.kept().saturating_add(1) {
+            match hub.collect_soon(rt, &mut self.seat) {
+                Ok(pair) => self.count(&pair)?,
+                Err(refused) if refused.refusal == Refusal::Core(Core::Empty) => return Ok(()),
+                Err(refused) => return Err(refused.refusal),
+            }
+        }
+        Err(Refusal::Torn(Came::Other))
     }
 
     fn offer<R: Wait>(
@@ -129,20 +151,28 @@ impl<L: Epoch> Client<L> {
         }
     }
 
-    /// The next image. One with other samples than it should have is told as torn.
+    /// The next image.
     fn collect<R: Wait>(&mut self, rt: &R, hub: &Hub<L>) -> Result<Frame, Refusal>
         ensures { IfOk result (λ image. IsImageOf self.new.seat.chain image) }
     {
-        let sample = sample_of(self.first, self.delivered);
         let pair = match hub.collect(rt, &mut self.seat) {
             Ok(pair) => pair,
             Err(refused) => return Err(refused.refusal),
         };
+        self.count(&pair)?;
+        Ok(pair.image)
+    }
+
+    /// Counts the next image. One with other samples than it should have is told as torn.
+    fn count(&mut self, pair: &Collected) -> Result<(), Refusal>
+        ensures { self.new.seat ≡ self.old.seat }
+    {
+        let sample = sample_of(self.first, self.delivered);
         if pair.source.data() != [sample].as_slice() || pair.image.data() != [!sample].as_slice() {
             return Err(Refusal::Torn(Came::Source));
         }
         self.delivered = self.delivered.saturating_add(1);
-        Ok(pair.image)
+        Ok(())
     }
 
     /// Frame `n` of the seat's stream.

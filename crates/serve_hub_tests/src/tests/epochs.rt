@@ -34,7 +34,9 @@ fn next_epoch<L: Epoch, R: Wait + Abort>(
         Ok(reopened) => {
             let entries = reopened.journal.len();
             let mut seated = Seated::again(reopened);
+            same(rt, seated.hub.is_full(rt), false);
             seated.follow(rt, alloc, steps)?;
+            same(rt, seated.hub.is_full(rt), true);
             Ok((seated.ended(rt), entries))
         }
     }

@@ -121,6 +121,7 @@ fn fill_beside_a_lease<L: Epoch, R: Wait + Abort>(
 /// Nothing but the close is left.
 const BEHIND_THE_LEASE: &[Step] = &[
     (Call::Collect(0), Answer::Refused(Refusal::HistoryFull)),
+    (Call::CollectSoon(0), Answer::Refused(Refusal::HistoryFull)),
     (Call::Close(0), Answer::Closed),
 ];
 

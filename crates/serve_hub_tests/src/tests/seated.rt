@@ -101,7 +101,8 @@ impl<L: Epoch> Seated<L> {
             Call::OfferTall(s) => self.offered(rt, alloc, s, &[1, 2, 3, 4]),
             Call::OfferOver(s, sample) => hub_offered_over(rt, alloc, self, s, &[sample]),
             Call::Work(w, bands) => Ok(self.worked(rt, w, bands)),
-            Call::Collect(s) => Ok(self.collected(rt, s)),
+            Call::Collect(s) => Ok(given(self.try_collect(rt, s))),
+            Call::CollectSoon(s) => Ok(given(self.collect_soon(rt, s))),
             Call::Close(s) => Ok(closed(self.close(rt, s))),
         }
     }
@@ -181,15 +182,20 @@ impl<L: Epoch> Seated<L> {
         }
     }
 
+    fn collect_soon(&mut self, rt: &impl Wait, s: u32) -> Result<Collected, CollectRefused> {
+        let Seated { hub, streams, .. } = self;
+        match streams.get_mut(s as usize) {
+            Some(seat) => hub.collect_soon(rt, seat),
+            None => Err(CollectRefused {
+                refusal: NO_STREAM,
+                pair: None,
+            }),
+        }
+    }
+
     /// The first sample of the source and of the image that stream `s` gives.
     pub(super) fn collected(&mut self, rt: &impl Wait, s: u32) -> Answer {
-        match self.try_collect(rt, s) {
-            Ok(pair) => {
-                let source = pair.source.data().first().copied();
-                Answer::Given(source, pair.image.data().first().copied())
-            }
-            Err(refused) => Answer::Refused(refused.refusal),
-        }
+        given(self.try_collect(rt, s))
     }
 
     pub(super) fn lease<R: Wait>(&mut self, rt: &R, w: u32) -> Result<Lease, Refusal> {
@@ -273,5 +279,16 @@ impl<L: Epoch> Seated<L> {
             Ok(ended) => ended,
             Err(mismatch) => panic!(rt; "not ended for {:?}", mismatch.fault),
         }
+    }
+}
+
+/// The first sample of the source and of the image that a stream gave.
+fn given(answer: Result<Collected, CollectRefused>) -> Answer {
+    match answer {
+        Ok(pair) => {
+            let source = pair.source.data().first().copied();
+            Answer::Given(source, pair.image.data().first().copied())
+        }
+        Err(refused) => Answer::Refused(refused.refusal),
     }
 }

@@ -20,6 +20,8 @@ pub(super) enum Call {
     Work(u32, u32),
     /// The stream collects an image.
     Collect(u32),
+    /// The stream of a hub collects an image that comes soon.
+    CollectSoon(u32),
     /// The stream is closed.
     Close(u32),
 }
@@ -148,6 +150,7 @@ fn answer_to(alloc: Global, book: &mut Book, call: Call) -> Result<Answer, Fail>
         Offer(s, sample) => offered(alloc, book, s, 0, &[sample]),
         Call::OfferTall(s) => offered(alloc, book, s, 0, &[1, 2, 3, 4]),
         Call::OfferOver(..) => Err("a book takes no image".into()),
+        Call::CollectSoon(_) => Err("a book doesn't wait".into()),
         Work(w, bands) => Ok(worked(book, w, bands)),
         Collect(s) => Ok(collected(book, s)),
         Close(s) => Ok(closed(book.close(s))),

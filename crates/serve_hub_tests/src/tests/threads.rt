@@ -19,11 +19,11 @@ use std::thread::Threads;
 /// How many streams and workers there are, how many frames each stream has, and after how many settlements
 /// the first worker stops.
 #[derive(Clone, Copy)]
-struct Plan {
-    streams: usize,
-    workers: u64,
-    frames: u64,
-    stop: u64,
+pub(super) struct Plan {
+    pub(super) streams: usize,
+    pub(super) workers: u64,
+    pub(super) frames: u64,
+    pub(super) stop: u64,
 }
 
 /// A sixteenth of a worker.
@@ -33,7 +33,7 @@ const LIGHT: Served<'static> = Served {
 };
 
 impl Plan {
-    fn setup(self, alloc: Global) -> Result<Setup, Fail> {
+    pub(super) fn setup(self, alloc: Global) -> Result<Setup, Fail> {
         setup_of(alloc, self.workers, &vec![in alloc; LIGHT; self.streams]?)
     }
 }
@@ -200,7 +200,7 @@ pub(super) fn clients_of<L: Epoch>(
 }
 
 /// The seats of clients who ended so, with so many images each.
-fn seats_of<L: Epoch>(
+pub(super) fn seats_of<L: Epoch>(
     rt: &impl Abort,
     alloc: Global,
     clients: Vec<Client<L>>,
@@ -215,7 +215,7 @@ fn seats_of<L: Epoch>(
 }
 
 /// What the end of a session tells: each frame is four calls, and one band.
-fn check(rt: &impl Abort, ended: &Ended, plan: Plan) {
+pub(super) fn check(rt: &impl Abort, ended: &Ended, plan: Plan) {
     let streams = plan.streams as u64;
     let calls = streams.saturating_mul(plan.frames.saturating_mul(4).saturating_add(1));
     same(rt, ended.journal().len() as u64, calls);
@@ -248,7 +248,7 @@ fn bands(rt: &impl Abort, ended: &Ended, workers: u64) -> u64 {
 
 /// The workers work in a thread of their own while the clients are served. Where it isn't granted, all that
 /// the clients can offer is worked before they collect.
-fn run<L: Epoch + Send + Sync, R: Threads + Wait + Sync>(
+pub(super) fn run<L: Epoch + Send + Sync, R: Threads + Wait + Sync>(
     rt: &R,
     hub: &Hub<L>,
     workers: Vec<WorkSeat<L>>,

@@ -28,6 +28,7 @@ pub struct Asked<'a> {
 pub struct Checked<'a> {
     pub workers: u64,
     pub quantum: u64,
+    pub journal: usize,
     pub height: BandHeight,
     pub streams: Vec<Asked<'a>>,
 }
@@ -91,7 +92,8 @@ impl<'a, T: Drop> From<AllocFailed<T>> for WordFault<'a> {
 pub fn check<'a>(alloc: Global, words: &ServeWords<'a>) -> Result<Checked<'a>, WordFault<'a>>
     ensures passed { IfOk result (λ checked. ChecksGive words.now (Ok (all_told checked.streams.items))) }
     ensures kept { IfOk result (λ checked. (checked.workers ≡ words.now.workers)
-        × (checked.quantum ≡ words.now.quantum) × (checked.height.rows ≡ words.now.band)) }
+        × (checked.quantum ≡ words.now.quantum) × (checked.journal ≡ words.now.journal)
+        × (checked.height.rows ≡ words.now.band)) }
     ensures ops { IfOk result (λ checked. AreSaid checked.streams.items) }
     ensures fault { IfErr result (λ fault. MayTell fault (λ told. ChecksGive words.now (Err told))) }
 {
@@ -107,6 +109,7 @@ pub fn check<'a>(alloc: Global, words: &ServeWords<'a>) -> Result<Checked<'a>, W
     Ok(Checked {
         workers,
         quantum: u64::from(words.quantum),
+        journal: words.journal as usize,
         height,
         streams,
     })

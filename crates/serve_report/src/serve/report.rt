@@ -74,7 +74,6 @@ fn cause_word(cause: Cause) -> &'static str
     match cause {
         Cause::TooManyFrames => "TooManyFrames",
         Cause::ClockEnd => "ClockEnd",
-        Cause::HistoryFull => "HistoryFull",
         Cause::NoMemory => "NoMemory",
     }
 }

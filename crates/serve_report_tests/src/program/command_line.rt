@@ -6,6 +6,7 @@ use std::process::Abort;
 use std::sync::Wait;
 use std::test::Fail;
 use std::thread::Threads;
+use std::time::Clock;
 use test_tools::Narrow;
 
 /// Words, and what is said of them.
@@ -127,7 +128,7 @@ fn words_that_are_right_are_followed(rt: HostRuntime) -> Result<(), Fail> {
 
 /// Asks for help, and compares the front of what comes.
 fn helps(
-    rt: &(impl Abort + Threads + Wait + Sync),
+    rt: &(impl Abort + Threads + Wait + Clock + Copy + Drop + Send + Sync + 'static),
     alloc: Global,
     line: &str,
     front: &str,
@@ -209,6 +210,9 @@ const SERVE_WORDS: &[&str] = &[
     "--quantum <K>",
     "1 to 64",
     "[default: 8]",
+    "--journal <N>",
+    "66 to 1048576",
+    "[default: 65536]",
     "--band <B>",
     "blur:R",
     "deadline",
@@ -219,7 +223,6 @@ const SERVE_WORDS: &[&str] = &[
     "write N",
     "TooManyFrames",
     "ClockEnd",
-    "HistoryFull",
     "torn",
     "bad stream WORD",
     "repeated name NAME",

@@ -1,5 +1,5 @@
 //! Files in memory, which a run opens and makes by name.
-use serve_report::Files;
+use serve_report::{Files, Inlet};
 use std::alloc::Global;
 use std::io::{self, ErrorKind, Write};
 use std::sync::{Mutex, Wait};
@@ -40,15 +40,19 @@ impl<'a> Made<'a> {
 pub struct Memory<'a, T: Wait + Sync> {
     pub rt: &'a T,
     pub given: &'a [Given<'a>],
+    /// Those whose reads may wait.
+    pub slow: &'a [Given<'static>],
     pub made: &'a [Made<'a>],
     pub asked: Mutex<u64>,
 }
 
 impl<'a, T: Wait + Sync> Memory<'a, T> {
+    /// No read waits.
     pub fn new(rt: &'a T, given: &'a [Given<'a>], made: &'a [Made<'a>]) -> Memory<'a, T> {
         Memory {
             rt,
             given,
+            slow: &[],
             made,
             asked: Mutex::new(0),
         }
@@ -90,13 +94,20 @@ impl<T: Wait + Sync> Write for Output<'_, T> {
 impl<'a, T: Wait + Sync> Files for Memory<'a, T> {
     type Reader = Tape<'a>;
 
+    type Slow = Tape<'static>;
+
     type Writer = Output<'a, T>;
 
-    fn open(&self, name: &str) -> io::Result<Tape<'a>> {
+    fn open(&self, name: &str) -> io::Result<Inlet<Tape<'a>, Tape<'static>>> {
         count(self.rt, &self.asked);
         for file in self.given {
             if file.name == name {
-                return Ok(Tape::new(file.text, file.fails));
+                return Ok(Inlet::Prompt(Tape::new(file.text, file.fails)));
+            }
+        }
+        for file in self.slow {
+            if file.name == name {
+                return Ok(Inlet::Slow(Tape::new(file.text, file.fails)));
             }
         }
         Err(io::Error::from(ErrorKind::NotFound))
@@ -119,11 +130,13 @@ impl<'a, T: Wait + Sync> Files for Memory<'a, T> {
 pub struct NoFiles;
 
 impl Files for NoFiles {
-    type Reader = &'static [u8];
+    type Reader = io::Empty;
+
+    type Slow = io::Empty;
 
     type Writer = io::Sink;
 
-    fn open(&self, _name: &str) -> io::Result<&'static [u8]> {
+    fn open(&self, _name: &str) -> io::Result<Inlet<io::Empty, io::Empty>> {
         Err(io::Error::from(ErrorKind::NotFound))
     }
 

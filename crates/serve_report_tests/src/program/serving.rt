@@ -7,11 +7,14 @@ use std::process::Abort;
 use std::sync::Wait;
 use std::test::Fail;
 use std::thread::Threads;
+use std::time::Clock;
 
 mod checks;
 mod faults;
 mod growths;
 mod many;
+mod openings;
+mod slow;
 mod watched;
 
 /// Three frames of four samples, behind a header of 22 bytes.
@@ -50,7 +53,10 @@ pub struct Expected<'a> {
 
 /// Runs the program with these words and files under a watch, and answers its status and how much is left of
 /// the rooms for what it reports and says.
-fn runs_in<R: Abort + Threads + Wait + Sync, V: Watch + Sync>(
+fn runs_in<
+    R: Abort + Threads + Wait + Clock + Copy + Drop + Send + Sync + 'static,
+    V: Watch + Sync,
+>(
     rt: &R,
     alloc: Global,
     line: &str,
@@ -76,7 +82,7 @@ fn runs_in<R: Abort + Threads + Wait + Sync, V: Watch + Sync>(
 }
 
 /// Runs the program with these words and files, and compares what it reports and says, and its status.
-pub fn serves<R: Abort + Threads + Wait + Sync>(
+pub fn serves<R: Abort + Threads + Wait + Clock + Copy + Drop + Send + Sync + 'static>(
     rt: &R,
     alloc: Global,
     line: &str,
@@ -87,7 +93,10 @@ pub fn serves<R: Abort + Threads + Wait + Sync>(
 }
 
 /// The same, under a watch.
-pub fn serves_under<R: Abort + Threads + Wait + Sync, V: Watch + Sync>(
+pub fn serves_under<
+    R: Abort + Threads + Wait + Clock + Copy + Drop + Send + Sync + 'static,
+    V: Watch + Sync,
+>(
     rt: &R,
     alloc: Global,
     line: &str,
@@ -117,7 +126,7 @@ pub fn holds<R: Abort + Wait>(rt: &R, file: &Made<'_>, text: &[u8]) {
 }
 
 /// Runs the two streams from these inputs; the writer of the first takes so many bytes.
-pub fn serves_two<R: Abort + Threads + Wait + Sync>(
+pub fn serves_two<R: Abort + Threads + Wait + Clock + Copy + Drop + Send + Sync + 'static>(
     rt: &R,
     alloc: Global,
     a: Given<'_>,

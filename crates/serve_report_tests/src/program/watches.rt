@@ -9,6 +9,7 @@ use std::sync::atomic::AtomicU64;
 use std::sync::atomic::Ordering::SeqCst;
 use std::test::Fail;
 use std::thread::Threads;
+use std::time::Clock;
 use test_tools::Tape;
 
 /// What a watch was told of a stream.
@@ -140,7 +141,7 @@ impl Watch for Told<'_> {
 
 /// Runs the program under a watch, compares what it says, and answers how much it wrote.
 fn watched<R: Read + Drop + Send>(
-    rt: &(impl Abort + Threads + Wait + Sync),
+    rt: &(impl Abort + Threads + Wait + Clock + Copy + Drop + Send + Sync + 'static),
     alloc: Global,
     line: &str,
     input: R,

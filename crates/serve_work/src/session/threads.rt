@@ -1,18 +1,19 @@
-//! The threads of a session: one for each worker, and one for each client where it is granted.
+//! The threads of an epoch: one for each worker, and one for each client where it is granted.
 ghost use Rattle.std.specs.Prelude.{◌≡◌, IfErr, IfOk, vec_len};
 ghost use Rattle.std.specs.Thread.{IsSend, IsSync};
 ghost use Rattle.serve_work.specs.SessionInside.{AllRun, Runs};
 
 use super::SessionFault;
+use super::room::Slot;
 use super::turn::Turn;
 use crate::gate::{Clock, Gate};
 use crate::workers::work;
 use edf_pool::limits::MOST_STREAMS;
-use serve_hub::{Epoch, Hub, WorkSeat};
+use serve_hub::{Epoch, Hub};
 use std::alloc::Global;
 use std::sync::Wait;
 use std::thread;
-use std::thread::{JoinHandle, Threads};
+use std::thread::Threads;
 use y4m_stream::{Sink, Source};
 
 /// Runs each client that waits, in a thread of its own, or on this one where that is refused.
@@ -32,7 +33,34 @@ pub(super) fn run_clients<
     thread::for_each_mut(rt, turns, MOST_STREAMS, &serve);
 }
 
-/// Closes each stream that waits. No frame of it was offered.
+/// Runs the clients, where a worker runs beside them.
+fn run_beside<
+    L: Epoch + Send + Sync,
+    R: Source + Drop + Send,
+    W: Sink + Drop + Send,
+    K: Clock + Sync,
+    T: Threads + Wait + Sync,
+>(
+    rt: &T,
+    alloc: Global,
+    hub: &Hub<L>,
+    turns: Vec<Turn<L, R, W>>,
+    clock: &K,
+    any_works: bool,
+) -> Vec<Turn<L, R, W>>
+    requires sharing { IsSync T.row × IsSync K.row × IsSync L.row × IsSend L.row }
+    ensures count { vec_len result ≡ vec_len turns }
+    ensures run { AllRun turns.items result.items }
+{
+    if !any_works {
+        return turns;
+    }
+    let mut turns = turns;
+    run_clients(rt, alloc, hub, &mut turns, clock);
+    turns
+}
+
+/// Closes each stream. No frame of it was offered.
 fn close_all<L: Epoch, R: Source + Drop, W: Sink + Drop, T: Wait>(
     rt: &T,
     hub: &Hub<L>,
@@ -43,20 +71,24 @@ fn close_all<L: Epoch, R: Source + Drop, W: Sink + Drop, T: Wait>(
     }
 }
 
-/// Waits for the workers' ends, and keeps their seats.
-fn join_all<L: Epoch, T: Threads>(
+/// A worker takes its seat from its slot, and leaves it there at its end.
+fn work_in<L: Epoch, G: Gate + Sync, T: Threads + Wait>(
     rt: &T,
-    running: Vec<JoinHandle<WorkSeat<L>>>,
-    back: &mut Vec<WorkSeat<L>>,
+    hub: &Hub<L>,
+    slot: &Slot<L>,
+    gate: &G,
 ) {
-    for handle in running {
-        let _ = back.push(handle.join(rt));
+    let seat = slot.lock(rt).take();
+    if let Some(seat) = seat {
+        let (seat, _) = work(rt, hub, seat, gate);
+        let _none = slot.lock(rt).replace(seat);
     }
 }
 
-/// Starts the workers, runs the clients, and waits for the workers' ends.
+/// Starts the workers, runs the clients, and waits until the workers are back. It answers whether any worked.
 ///
-/// Where a worker's thread is refused, all streams are closed, and those workers that run end by that.
+/// The seat of a worker whose thread is refused stays in its slot. Where all are needed, all streams are
+/// closed then, and those workers that run end by that.
 pub(super) fn run_threads<
     L: Epoch + Send + Sync,
     R: Source + Drop + Send,
@@ -68,11 +100,12 @@ pub(super) fn run_threads<
     rt: &T,
     alloc: Global,
     hub: &Hub<L>,
-    seats: Vec<WorkSeat<L>>,
+    slots: &[Slot<L>],
     turns: Vec<Turn<L, R, W>>,
+    needs_all: bool,
     gate: &G,
     clock: &K,
-) -> Result<(Vec<WorkSeat<L>>, Vec<Turn<L, R, W>>), SessionFault>
+) -> Result<(bool, Vec<Turn<L, R, W>>), SessionFault>
     ensures count { IfOk result (λ r. vec_len r.1 ≡ vec_len turns) }
     ensures run { IfOk result (λ r. AllRun turns.items r.1.items) }
     ensures refused { IfErr result (λ e. e ≡ SessionFault.NoMemory) }
@@ -80,29 +113,30 @@ pub(super) fn run_threads<
     thread::scope(
         thread::scope_env(),
         rt,
-        |scope| -> Result<(Vec<WorkSeat<L>>, Vec<Turn<L, R, W>>), SessionFault>
+        |scope| -> Result<(bool, Vec<Turn<L, R, W>>), SessionFault>
             requires { IsSync T.row × IsSync G.row × IsSync K.row × IsSync L.row × IsSend L.row
                 × IsSend R.row × IsSend W.row }
             ensures count { IfOk result (λ r. vec_len r.1 ≡ vec_len turns) }
             ensures run { IfOk result (λ r. AllRun turns.items r.1.items) }
             ensures refused { IfErr result (λ e. e ≡ SessionFault.NoMemory) }
         {
-            let workers = seats.len();
-            let mut running = Vec::with_capacity(alloc, workers)?;
-            let mut back = Vec::with_capacity(alloc, workers)?;
-            for seat in seats {
-                if let Ok(handle) = scope.spawn(move || work(rt, hub, seat, gate).0) {
-                    let _ = running.push(handle);
+            let mut any_works = false;
+            let mut all_work = true;
+            for slot in slots {
+                if scope.spawn(move || work_in(rt, hub, slot, gate)).is_ok() {
+                    any_works = true;
+                } else {
+                    all_work = false;
                 }
             }
-            if running.len() < workers {
+            if needs_all && !all_work {
                 close_all(rt, hub, turns);
                 return Err(SessionFault::NoMemory);
             }
-            let mut turns = turns;
-            run_clients(rt, alloc, hub, &mut turns, clock);
-            join_all(rt, running, &mut back);
-            Ok((back, turns))
+            Ok((
+                any_works,
+                run_beside(rt, alloc, hub, turns, clock, any_works),
+            ))
         },
     )
 }

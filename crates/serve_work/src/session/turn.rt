@@ -1,136 +1,246 @@
-//! The turns of streams: each waits for its client, which then runs to its end.
-ghost use Rattle.std.specs.Prelude.{◌≡◌, IfOk, map};
+//! The streams of a session: each waits for its client, which goes on with it in each epoch, until it is
+//! over.
+ghost use Rattle.std.specs.Prelude.{◌≡◌, ◌≤◌, List, [], IfOk, Option, Some, map, vec_capacity, vec_len};
 ghost use Rattle.std.specs.List.{AllByRecursion};
-ghost use Rattle.serve_work.specs.Sessions.{start_of, starts_of};
-ghost use Rattle.serve_work.specs.SessionInside.{IsReady, Leaves, Runs, waits};
+ghost use Rattle.serve_hub.specs.declared.entry.Act.{Act};
+ghost use Rattle.serve_hub.specs.Seats.{StreamSeatValue};
+ghost use Rattle.serve_work.specs.Clients.{ClientEnds, ClientStart};
+ghost use Rattle.serve_work.specs.Turns.{end_of};
+ghost use Rattle.serve_work.specs.Sessions.{outcome_of};
+ghost use Rattle.serve_work.specs.SessionInside.{AreUnread, GoesOn, IsReady, Runs, StandsAt, held_with};
+ghost use Rattle.serve_work.specs.SessionInside.{stream_of, unread};
 
-use super::finished::Finished;
-use crate::clients::client;
+use super::Served;
+use crate::clients::{ClientEnd, ClientTurn, client};
 use crate::gate::Clock;
+use crate::rest::ClientRest;
 use serve_hub::{Epoch, Hub, StreamSeat};
 use std::alloc::{AllocError, Global};
 use std::marker::Model;
 use std::sync::Wait;
 use y4m_stream::{Sink, Source, StreamReader};
 
-/// A stream that nothing was done with.
+/// A stream of a session, whatever the epoch.
 #[derive(Drop)]
-pub(super) struct Input<L: Epoch, R: Source, W: Sink> {
+pub(crate) enum Stream<R: Source, W: Sink> {
+    /// This is left to do of it.
+    Waiting(ClientRest<R, W>),
+    /// It came to this. What it was charged isn't told yet.
+    Over(Served<R, W>),
+}
+
+impl<R: Source, W: Sink> Stream<R, W> {
+    pub(super) fn is_waiting(&self) -> bool {
+        matches!(self, Stream::Waiting(_))
+    }
+}
+
+/// What is told of a stream, when no epoch comes any more.
+pub(super) fn told<R: Source + Drop, W: Sink + Drop>(stream: Stream<R, W>) -> Served<R, W>
+    ensures { (start : ClientStart) (past : List Act) (seat : StreamSeatValue)
+        → StandsAt (stream_of R.remaining R.failures W.contents W.failures W.is_flushed stream)
+        start past seat → ClientEnds start past seat
+        (outcome_of R.remaining R.failures W.contents W.failures W.is_flushed result) }
+{
+    match stream {
+        Stream::Over(served) => served,
+        Stream::Waiting(rest) => rest.give_up(),
+    }
+}
+
+/// A stream with its seat of this epoch.
+#[derive(Drop)]
+pub(super) struct Held<L: Epoch, R: Source, W: Sink> {
     seat: StreamSeat<L>,
-    reader: StreamReader<R>,
-    writer: W,
+    stream: Stream<R, W>,
 }
 
-impl<L: Epoch, R: Source, W: Sink> Model for Input<L, R, W> {
-    ghost use Rattle.serve_work.specs.Clients.{ClientStart};
-    ghost use Rattle.serve_work.specs.Sessions.{start_of};
-    ghost use Rattle.serve_work.specs.SessionInside.{IsReady};
+impl<L: Epoch, R: Source, W: Sink> Model for Held<L, R, W> {
+    ghost use Rattle.serve_work.specs.SessionInside.{HeldValue, IsReady, stream_of};
 
-    ghost Value = { ClientStart };
+    ghost Value = { HeldValue };
 
-    ghost view = { λ a. start_of W.contents W.failures a.seat (a.reader, a.writer) };
+    ghost view = { λ a. record {
+      seat = a.seat;
+      stream = stream_of R.remaining R.failures W.contents W.failures W.is_flushed a.stream;
+    } };
 
-    ghost invariant = { λ a. IsReady (start_of W.contents W.failures a.seat (a.reader, a.writer)) };
+    ghost invariant = { λ a. IsReady (record {
+      seat = a.seat;
+      stream = stream_of R.remaining R.failures W.contents W.failures W.is_flushed a.stream;
+    }) };
 }
 
-impl<L: Epoch, R: Source + Drop, W: Sink + Drop> Input<L, R, W> {
-    fn new(seat: StreamSeat<L>, reader: StreamReader<R>, writer: W) -> Input<L, R, W>
-        requires { IsReady (start_of W.contents W.failures seat (reader, writer)) }
-        ensures { result ≡ start_of W.contents W.failures seat (reader, writer) }
+impl<L: Epoch, R: Source + Drop, W: Sink + Drop> Held<L, R, W> {
+    fn new(seat: StreamSeat<L>, stream: Stream<R, W>) -> Held<L, R, W>
+        requires ready { IsReady (record {
+          seat = seat;
+          stream = stream_of R.remaining R.failures W.contents W.failures W.is_flushed stream;
+        }) }
+        ensures { result ≡ record {
+          seat = seat;
+          stream = stream_of R.remaining R.failures W.contents W.failures W.is_flushed stream;
+        } }
     {
-        Input {
-            seat,
-            reader,
-            writer,
-        }
+        Held { seat, stream }
     }
 
-    fn serve<K: Clock, T: Wait>(
+    /// Its client goes on, if it waits.
+    fn go_on<K: Clock, T: Wait>(
         self,
         rt: &T,
         alloc: Global,
         hub: &Hub<L>,
         clock: &K,
-    ) -> Finished<L, R, W>
-        ensures { Leaves self result }
+    ) -> Held<L, R, W>
+        ensures { GoesOn self result }
     {
-        let Input {
-            seat,
-            reader,
-            writer,
-        } = self;
-        Finished::new(client(rt, alloc, hub, seat, reader, writer, clock))
+        let Held { seat, stream } = self;
+        match stream {
+            Stream::Over(served) => Held::new(seat, Stream::Over(served)),
+            Stream::Waiting(rest) => match client(rt, alloc, hub, seat, rest, clock) {
+                ClientTurn::Paused(seat, rest) => Held::new(seat, Stream::Waiting(rest)),
+                ClientTurn::Ended(end) => {
+                    let (seat, served) = part(end);
+                    Held::new(seat, Stream::Over(served))
+                }
+            },
+        }
+    }
+
+    /// The seat, and the stream.
+    pub(super) fn part(self) -> (StreamSeat<L>, Stream<R, W>)
+        ensures seat { result.0 ≡ self.seat }
+        ensures stream { stream_of R.remaining R.failures W.contents W.failures W.is_flushed result.1
+            ≡ self.stream }
+    {
+        (self.seat, self.stream)
     }
 
     fn close<T: Wait>(self, rt: &T, hub: &Hub<L>) {
-        let Input { mut seat, .. } = self;
+        let Held { mut seat, .. } = self;
         let _ = hub.close(rt, &mut seat);
     }
 }
 
-/// A stream that waits for its client, or what its client left.
+/// The seat of a client that is done, and what is told of its stream, before it is known what it was charged.
+fn part<L: Epoch, R: Source + Drop, W: Sink + Drop>(
+    end: ClientEnd<L, R, W>,
+) -> (StreamSeat<L>, Served<R, W>)
+    ensures seat { result.0 ≡ end.seat }
+    ensures outcome { outcome_of R.remaining R.failures W.contents W.failures W.is_flushed result.1
+        ≡ end_of R.remaining R.failures W.contents W.failures W.is_flushed end }
+{
+    let ClientEnd {
+        seat,
+        source,
+        writer,
+        accepted,
+        delivered,
+        stop,
+    } = end;
+    let served = Served {
+        accepted,
+        delivered,
+        charged: 0,
+        stop,
+        source,
+        writer,
+    };
+    (seat, served)
+}
+
+/// The turn of a stream in an epoch. It is empty only while its client runs.
 #[derive(Drop)]
 pub(super) struct Turn<L: Epoch, R: Source, W: Sink> {
-    waiting: Option<Input<L, R, W>>,
-    ended: Option<Finished<L, R, W>>,
+    held: Option<Held<L, R, W>>,
 }
 
 impl<L: Epoch, R: Source, W: Sink> Model for Turn<L, R, W> {
-    ghost use Rattle.serve_work.specs.SessionInside.{TurnValue};
+    ghost use Rattle.std.specs.Prelude.{Option};
+    ghost use Rattle.serve_work.specs.SessionInside.{HeldValue};
 
-    ghost Value = { TurnValue };
+    ghost Value = { Option HeldValue };
 
-    ghost view = { λ a. record { waiting = a.waiting; ended = a.ended } };
+    ghost view = { λ a. a.held };
 }
 
 impl<L: Epoch, R: Source + Drop, W: Sink + Drop> Turn<L, R, W> {
-    fn new(input: Input<L, R, W>) -> Turn<L, R, W>
-        ensures { result ≡ waits input }
+    /// A stream with its seat.
+    pub(super) fn new(seat: StreamSeat<L>, stream: Stream<R, W>) -> Turn<L, R, W>
+        requires ready { IsReady (record {
+          seat = seat;
+          stream = stream_of R.remaining R.failures W.contents W.failures W.is_flushed stream;
+        }) }
+        ensures { result ≡ Some (record {
+          seat = seat;
+          stream = stream_of R.remaining R.failures W.contents W.failures W.is_flushed stream;
+        }) }
     {
         Turn {
-            waiting: Some(input),
-            ended: None,
+            held: Some(Held::new(seat, stream)),
         }
     }
 
-    /// Serves the stream, if it waits.
+    /// The stream's client goes on, if it waits.
     pub(super) fn run<K: Clock, T: Wait>(&mut self, rt: &T, alloc: Global, hub: &Hub<L>, clock: &K)
         ensures { Runs self.old self.new }
     {
-        if let Some(input) = self.waiting.take() {
-            let _none = self.ended.replace(input.serve(rt, alloc, hub, clock));
+        if let Some(held) = self.held.take() {
+            self.held.insert(held.go_on(rt, alloc, hub, clock));
         }
     }
 
-    /// Closes the stream, if it waits, and gives it up.
+    /// Closes the stream, and gives it up.
     pub(super) fn close<T: Wait>(self, rt: &T, hub: &Hub<L>) {
-        let Turn { waiting, .. } = self;
-        if let Some(input) = waiting {
-            input.close(rt, hub);
+        if let Some(held) = self.held {
+            held.close(rt, hub);
         }
     }
 
-    /// What its client left.
-    pub(super) fn into_ended(self) -> Option<Finished<L, R, W>>
-        ensures { result ≡ self.ended }
+    /// The stream with its seat.
+    pub(super) fn into_held(self) -> Option<Held<L, R, W>>
+        ensures { result ≡ self }
     {
-        self.ended
+        self.held
     }
 }
 
-/// The streams with their seats, each waiting for its client.
-pub(super) fn seated<L: Epoch, R: Source + Drop, W: Sink + Drop>(
+/// The streams of these inputs, with nothing done of them.
+pub(super) fn waiting<R: Source + Drop, W: Sink + Drop>(
     alloc: Global,
-    seats: Vec<StreamSeat<L>>,
     inputs: Vec<(StreamReader<R>, W)>,
-) -> Result<Vec<Turn<L, R, W>>, AllocError>
-    requires ready { AllByRecursion IsReady (starts_of W.contents W.failures seats.items inputs.items) }
-    ensures { IfOk result (λ turns.
-        turns.items ≡ map waits (starts_of W.contents W.failures seats.items inputs.items)) }
+) -> Result<Vec<Stream<R, W>>, AllocError>
+    requires unread { AreUnread inputs.items }
+    ensures { IfOk result (λ streams.
+        map (stream_of R.remaining R.failures W.contents W.failures W.is_flushed) streams.items
+        ≡ map (unread W.contents W.failures) inputs.items) }
 {
-    let mut turns = Vec::with_capacity(alloc, seats.len())?;
-    for (seat, (reader, writer)) in seats.into_iter().zip(inputs) {
-        turns.push(Turn::new(Input::new(seat, reader, writer)))?;
+    let mut streams = Vec::with_capacity(alloc, inputs.len())?;
+    for (reader, writer) in inputs {
+        streams.push(Stream::Waiting(ClientRest::new(reader, writer)))?;
     }
-    Ok(turns)
+    Ok(streams)
+}
+
+/// The streams with their seats of this epoch, in a list that has the places for them.
+pub(super) fn seated<L: Epoch, R: Source + Drop, W: Sink + Drop>(
+    turns: Vec<Turn<L, R, W>>,
+    seats: Vec<StreamSeat<L>>,
+    streams: Vec<Stream<R, W>>,
+) -> Vec<Turn<L, R, W>>
+    requires none { turns.items ≡ [] }
+    requires room { vec_len streams ≤ vec_capacity turns }
+    requires ready { AllByRecursion IsReady
+        (held_with (stream_of R.remaining R.failures W.contents W.failures W.is_flushed) seats.items
+        streams.items) }
+    ensures { result.items ≡ map Some
+        (held_with (stream_of R.remaining R.failures W.contents W.failures W.is_flushed) seats.items
+        streams.items) }
+{
+    let mut turns = turns;
+    for (seat, stream) in seats.into_iter().zip(streams) {
+        turns.push_reserved(Turn::new(seat, stream));
+    }
+    turns
 }

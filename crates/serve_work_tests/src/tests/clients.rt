@@ -6,7 +6,7 @@ use std::process::Abort;
 use std::sync::Wait;
 use std::test::Fail;
 use std::thread::Threads;
-use test_tools::streams::{CUT, HEADER, ONE_INVERTED, THREE, THREE_INVERTED, TWO};
+use test_tools::streams::{CUT, HEADER, ONE_INVERTED, THREE, THREE_INVERTED, TWO, numbered};
 use y4m_stream::{ReadFault, WriteFault};
 
 /// A stream, and what it comes to: why the client stops, how many frames were accepted and how many images
@@ -74,17 +74,7 @@ fn streams_are_served_to_their_ends(rt: HostRuntime) -> Result<(), Fail> {
 
 #[test]
 fn twenty_frames_pass_a_queue_of_four(rt: HostRuntime) -> Result<(), Fail> {
-    let mut input = HEADER.to_vec(rt.alloc())?;
-    let mut images = HEADER.to_vec(rt.alloc())?;
-    for n in 0..20u8 {
-        input.extend_from_slice(b"FRAME\n")?;
-        images.extend_from_slice(b"FRAME\n")?;
-        for place in 0..4u8 {
-            let sample = n.wrapping_mul(4).wrapping_add(place);
-            input.push(sample)?;
-            images.push(255 - sample)?;
-        }
-    }
+    let (input, images) = numbered(rt.alloc(), 20)?;
     let case = Case {
         name: "twenty frames",
         input: &input,
@@ -134,6 +124,24 @@ const FAULTS: &[Case<'_>] = &[
         plan: Plan { frames: 1, ..PLAIN },
         end: (Stop::Refused(Cause::TooManyFrames), 1, 1),
         written: ONE_INVERTED,
+    },
+    Case {
+        name: "a writer fails after the header, and the input is cut behind the frame",
+        input: CUT,
+        plan: Plan { room: 22, ..PLAIN },
+        end: (Stop::Read(ReadFault::Truncated), 1, 0),
+        written: HEADER,
+    },
+    Case {
+        name: "a writer fails after the header, and a second frame is one too many",
+        input: TWO,
+        plan: Plan {
+            room: 22,
+            frames: 1,
+            ..PLAIN
+        },
+        end: (Stop::Refused(Cause::TooManyFrames), 1, 0),
+        written: HEADER,
     },
     Case {
         name: "the clock is past its end",

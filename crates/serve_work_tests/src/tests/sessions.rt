@@ -12,7 +12,7 @@ use lease::JobSpec;
 use row_bands::BandHeight;
 use serve_core::{Refusal as Core, Setup, StreamSpec};
 use serve_hub::{Epoch, Hub, Refusal, StreamSeat, WorkSeat};
-use serve_work::{ClientEnd, Clock, Gate, Stop, client, work};
+use serve_work::{ClientEnd, ClientRest, ClientTurn, Clock, Gate, Stop, client, work};
 use std::alloc::Global;
 use std::marker::Brand;
 use std::sync::ledger::Blank;
@@ -146,10 +146,12 @@ fn run<L: Epoch + Send + Sync, R: Source + Drop, T: Threads + Wait + Sync>(
             let Ok(working) = scope.spawn(move || work(rt, hub, worker, &Open).1) else {
                 return Err("was a thread or its memory refused?".into());
             };
-            let end = client(rt, alloc, hub, seat, reader, writer, clock);
-            match working.join(rt) {
-                Refusal::Core(Core::Drained) => Ok(end),
-                refusal => Err(refusal.into()),
+            let rest = ClientRest::new(reader, writer);
+            let turn = client(rt, alloc, hub, seat, rest, clock);
+            let refusal = working.join(rt);
+            match (turn, refusal) {
+                (ClientTurn::Ended(end), Refusal::Core(Core::Drained)) => Ok(end),
+                (_, refusal) => Err(refusal.into()),
             }
         },
     )

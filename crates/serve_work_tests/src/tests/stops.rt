@@ -7,14 +7,12 @@ use std::process::Abort;
 use std::sync::Wait;
 use std::test::Fail;
 use std::thread::Threads;
-use test_tools::streams::{CUT, HEADER, ONE, ONE_INVERTED, THREE, THREE_INVERTED, TWO, WIDER};
+use test_tools::streams::{CUT, HEADER, ONE_INVERTED, THREE, THREE_INVERTED, TWO, WIDER};
 use y4m_stream::{ReadFault, WriteFault};
 
-/// The three frames, each turned by half a turn, and the first two of those.
+/// The three frames, each turned by half a turn.
 const TURNED: &[u8] =
     b"YUV4MPEG2 W2 H2 Cmono\nFRAME\n\xff\xfe\x01\x00FRAME\n\x40\x30\x20\x10FRAME\nMARF";
-
-const TURNED_TWO: &[u8] = b"YUV4MPEG2 W2 H2 Cmono\nFRAME\n\xff\xfe\x01\x00FRAME\n\x40\x30\x20\x10";
 
 /// The first two images by `invert`.
 const TWO_INVERTED: &[u8] =
@@ -24,13 +22,13 @@ const TWO_INVERTED: &[u8] =
 const BROKEN: &[u8] = b"YUV4MPEG2 W2 H2 Cmono\nFRAME\n\xff\xfe\x01\x00FRAME\n\xef";
 
 /// Three frames that are inverted, and three that are turned.
-const PLAIN_THREE: Stream<'_> = Stream {
+pub(super) const PLAIN_THREE: Stream<'_> = Stream {
     input: THREE,
     breaks: false,
     plan: PLAIN,
 };
 
-const TURNED_THREE: Stream<'_> = Stream {
+pub(super) const TURNED_THREE: Stream<'_> = Stream {
     plan: Plan {
         ops: "hflip+vflip",
         ..PLAIN
@@ -41,23 +39,23 @@ const TURNED_THREE: Stream<'_> = Stream {
 /// What is told of a stream: why it stopped, how many frames were accepted, delivered and charged, and what
 /// was written.
 #[derive(Drop)]
-struct Told<'a> {
-    end: (Stop, u64, u64, u64),
-    written: &'a [u8],
+pub(super) struct Told<'a> {
+    pub(super) end: (Stop, u64, u64, u64),
+    pub(super) written: &'a [u8],
 }
 
-const WHOLE: Told<'_> = Told {
+pub(super) const WHOLE: Told<'_> = Told {
     end: (Stop::Whole, 3, 3, 3),
     written: THREE_INVERTED,
 };
 
-const WHOLE_TURNED: Told<'_> = Told {
+pub(super) const WHOLE_TURNED: Told<'_> = Told {
     end: (Stop::Whole, 3, 3, 6),
     written: TURNED,
 };
 
 /// The stream was served so.
-fn was_served(rt: &impl Abort, served: OneServed<'_>, told: &Told<'_>, name: &str) {
+pub(super) fn was_served(rt: &impl Abort, served: OneServed<'_>, told: &Told<'_>, name: &str) {
     let end = (
         served.stop,
         served.accepted,
@@ -79,15 +77,15 @@ fn were_served(rt: &impl Abort, all: AllServed<'_>, wanted: &[Told<'_>], name: &
 
 /// A session's streams, and what comes of them.
 #[derive(Drop)]
-struct Session<'a> {
-    name: &'a str,
-    hall: Hall,
-    streams: &'a [Stream<'a>],
-    told: &'a [Told<'a>],
+pub(super) struct Session<'a> {
+    pub(super) name: &'a str,
+    pub(super) hall: Hall,
+    pub(super) streams: &'a [Stream<'a>],
+    pub(super) told: &'a [Told<'a>],
 }
 
 /// Serves a session, and compares what comes of it.
-fn goes(
+pub(super) fn goes(
     rt: &(impl Abort + Threads + Wait + Sync),
     alloc: Global,
     session: &Session<'_>,
@@ -165,17 +163,7 @@ const SESSIONS: &[Session<'_>] = &[
             },
         ],
     },
-    Session {
-        name: "a journal may be filled to its last entry",
-        hall: Hall { limit: 32, ..WIDE },
-        streams: TWO_STREAMS,
-        told: &[WHOLE, WHOLE_TURNED],
-    },
 ];
-
-/// Two streams whose history has 32 entries: six offers, two closes and six collections, and nine leases with
-/// as many settlements.
-const TWO_STREAMS: &[Stream<'_>] = &[PLAIN_THREE, TURNED_THREE];
 
 #[test]
 fn each_session_comes_to_what_is_told(rt: HostRuntime) -> Result<(), Fail> {
@@ -328,97 +316,6 @@ fn a_journal_has_limits(rt: HostRuntime) -> Result<(), Fail> {
             wanted,
             "{limit}"
         );
-    }
-    Ok(())
-}
-
-/// What comes of the two streams where the last collection has no place, whichever stream's it is.
-const LACKS_ONE: &[[Told<'_>; 2]; 2] = &[
-    [
-        WHOLE,
-        Told {
-            end: (Stop::Refused(Cause::HistoryFull), 3, 2, 6),
-            written: TURNED_TWO,
-        },
-    ],
-    [
-        Told {
-            end: (Stop::Refused(Cause::HistoryFull), 3, 2, 3),
-            written: TWO_INVERTED,
-        },
-        WHOLE_TURNED,
-    ],
-];
-
-#[test]
-fn a_journal_that_lacks_an_entry_lacks_an_image(rt: HostRuntime) -> Result<(), Fail> {
-    let hall = Hall { limit: 31, ..WIDE };
-    let all = serve_all(&rt, rt.alloc(), TWO_STREAMS, hall)??;
-    let is_first_whole = all.first().is_some_and(|first| first.stop == Stop::Whole);
-    let wanted = &LACKS_ONE[if is_first_whole { 0 } else { 1 }];
-    were_served(&rt, all, wanted, "31 entries");
-    Ok(())
-}
-
-/// Where fourteen of sixteen entries are kept for closes, two frames are offered, and none can be leased.
-#[test]
-fn offers_meet_a_full_journal(rt: HostRuntime) -> Result<(), Fail> {
-    let one = Stream {
-        input: ONE,
-        ..PLAIN_THREE
-    };
-    let hall = Hall {
-        workers: 8,
-        limit: 16,
-        ..WIDE
-    };
-    let mut accepted = 0u64;
-    for served in serve_all(&rt, rt.alloc(), &[one; 14], hall)?? {
-        accepted = accepted.saturating_add(served.accepted);
-        let told = Told {
-            end: (Stop::Refused(Cause::HistoryFull), served.accepted, 0, 0),
-            written: HEADER,
-        };
-        was_served(&rt, served, &told, "16 entries");
-    }
-    assert_eq!(rt; accepted, 2);
-    Ok(())
-}
-
-/// Where the header line and each of three images end.
-const ENDS: [usize; 4] = [22, 32, 42, 52];
-
-/// Whether the stream stopped whole; else the journal was full. Its images were written up to the end of one,
-/// as many as are told, and it was charged for at least those and at most the frames that were accepted.
-fn is_whole(rt: &impl Abort, served: OneServed<'_>, images: &[u8], units: [u64; 4]) -> bool {
-    let is_whole = served.stop == Stop::Whole;
-    if !is_whole {
-        assert_eq!(rt; served.stop, Stop::Refused(Cause::HistoryFull));
-    }
-    let (accepted, delivered) = (served.accepted, served.delivered);
-    let are_counts = delivered <= accepted && accepted <= 3 && (!is_whole || delivered == 3);
-    assert!(rt; are_counts, "{delivered} of {accepted}");
-    let (accepted, delivered) = (accepted as usize, delivered as usize);
-    let charged = served.charged;
-    let is_charged = units[delivered] <= charged && charged <= units[accepted];
-    assert!(rt; is_charged, "{charged} units");
-    let written = served.writer.into_inner().taken;
-    let is_written = images.starts_with(written.as_slice()) && written.len() == ENDS[delivered];
-    assert!(rt; is_written, "{delivered} of {accepted}");
-    is_whole
-}
-
-#[test]
-fn a_short_journal_ends_streams_behind_whole_images(rt: HostRuntime) -> Result<(), Fail> {
-    for limit in 16..31 {
-        let hall = Hall { limit, ..WIDE };
-        let mut all = serve_all(&rt, rt.alloc(), TWO_STREAMS, hall)??;
-        let (Some(turned), Some(inverted), None) = (all.pop(), all.pop(), all.pop()) else {
-            return Err("there are two streams".into());
-        };
-        let is_inverted = is_whole(&rt, inverted, THREE_INVERTED, [0, 1, 2, 3]);
-        let is_turned = is_whole(&rt, turned, TURNED, [0, 2, 4, 6]);
-        assert!(rt; !is_inverted || !is_turned, "{limit} entries");
     }
     Ok(())
 }

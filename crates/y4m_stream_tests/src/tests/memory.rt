@@ -59,7 +59,7 @@ fn want_of_memory_is_told_behind_whole_images(rt: HostRuntime) -> Result<(), Fai
 }
 
 #[test]
-fn two_threads_tell_it_behind_whole_images(rt: HostRuntime) -> Result<(), Fail> {
+fn filter_overlapped_tells_it_behind_whole_images(rt: HostRuntime) -> Result<(), Fail> {
     let height = BandHeight::new(2).ok_or("height")?;
     let Some(ops) = inverting(&rt, rt.alloc()) else {
         return Ok(());

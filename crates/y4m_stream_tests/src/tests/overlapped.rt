@@ -1,4 +1,4 @@
-// Frames that are read while the images before them are written.
+// Streams by `filter_overlapped`. Their frames are small, so that no thread is started.
 use super::devices::{DEVICE, GIVEN, failing};
 use super::{
     INVERTED, Pieces, Room, STREAM, answer_of_part, filter, same, same_part, same_unless_refused,
@@ -12,8 +12,8 @@ use std::test::Fail;
 use std::thread::Threads;
 use y4m_stream::{FilterFault, OverRead, OverWrite, WriteFault, filter_overlapped};
 
-/// Filters a stream by the operations of a text, in bands of 16 rows, by two threads.
-fn overlap<T: Threads, R: Read + Drop + Send, W: Write + Drop>(
+/// Filters a stream by the operations of a text, in bands of 16 rows; by two threads where frames are large.
+pub(super) fn overlap<T: Threads, R: Read + Drop + Send, W: Write + Drop>(
     rt: &T,
     alloc: Global,
     ops: &str,
@@ -70,8 +70,8 @@ fn append_frame(text: &mut Vec<u8>, n: u8, is_image: bool) -> Result<(), AllocEr
     Ok(())
 }
 
-/// Two threads filter a stream of so many frames into the image.
-fn two_write<T: Threads + Abort>(
+/// `filter_overlapped` makes the image of a stream of so many frames.
+fn overlapped_writes<T: Threads + Abort>(
     rt: &T,
     alloc: Global,
     count: u8,
@@ -92,7 +92,7 @@ fn two_write<T: Threads + Abort>(
     Ok(())
 }
 
-/// One thread filters a stream of so many frames into the image.
+/// `filter_stream` makes the image of a stream of so many frames.
 fn one_writes(
     rt: &impl Abort,
     alloc: Global,
@@ -113,11 +113,11 @@ fn one_writes(
 const COUNTS: &[u8] = &[0, 1, 2, 5];
 
 #[test]
-fn two_threads_write_what_one_writes(rt: HostRuntime) -> Result<(), Fail> {
+fn frames_in_turn_are_written_as_by_filter_stream(rt: HostRuntime) -> Result<(), Fail> {
     for count in COUNTS {
         let input = frames(rt.alloc(), *count, false)?;
         let image = frames(rt.alloc(), *count, true)?;
-        two_write(&rt, rt.alloc(), *count, &input, &image)?;
+        overlapped_writes(&rt, rt.alloc(), *count, &input, &image)?;
         one_writes(&rt, rt.alloc(), *count, &input, &image)?;
     }
     Ok(())
@@ -163,25 +163,25 @@ impl Read for Broken<'_> {
 
 /// The reader fails at the end of a frame, and the writer after `len` bytes, which are fewer. Where memory
 /// is refused, the reader doesn't come to fail.
-fn fail_both<T: Threads + Abort>(
+pub(super) fn fail_both<T: Threads + Abort>(
     rt: &T,
     alloc: Global,
+    ops: &str,
+    left: &[u8],
+    image: &[u8],
     len: usize,
-    end: usize,
 ) -> Result<(), Fail> {
-    let left = STREAM.get(..end).ok_or("frames")?;
     let mut input = Broken { left, failed: 0 };
-    let mut text = [0; 64];
-    let room = text.get_mut(..len).ok_or("room")?;
+    let mut text = vec![in alloc; 0; len]?;
     let output = Room {
-        left: room,
+        left: text.as_mut_slice(),
         step: 5,
         calls: 0,
     };
-    let (_, result) = overlap(rt, alloc, "invert", &mut input, output)?;
+    let (_, result) = overlap(rt, alloc, ops, &mut input, output)?;
     let device = Err(FilterFault::Write(WriteFault::Device(len as u64)));
     same_unless_refused(rt, (len, result, input.failed), (len, device, 1));
-    same(rt, text.get(..len), INVERTED.get(..len));
+    same(rt, (len, image.starts_with(&text)), (len, true));
     Ok(())
 }
 
@@ -193,7 +193,8 @@ fn the_writes_fault_is_answered_where_both_fail(rt: HostRuntime) -> Result<(), F
             38..=50 => 51,
             _ => 61,
         };
-        fail_both(&rt, rt.alloc(), len, end)?;
+        let left = STREAM.get(..end).ok_or("frames")?;
+        fail_both(&rt, rt.alloc(), "invert", left, INVERTED, len)?;
     }
     Ok(())
 }

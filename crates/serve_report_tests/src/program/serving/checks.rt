@@ -6,9 +6,10 @@ use std::process::Abort;
 use std::sync::Wait;
 use std::test::Fail;
 use std::thread::Threads;
+use std::time::Clock;
 
 /// Runs the program with words that are refused, and sees that no file was asked for.
-fn refuses<R: Abort + Threads + Wait + Sync>(
+fn refuses<R: Abort + Threads + Wait + Clock + Copy + Drop + Send + Sync + 'static>(
     rt: &R,
     alloc: Global,
     line: &str,
@@ -122,7 +123,7 @@ const BAD_WORDS: &[&str] = &[
 ];
 
 /// A word that is no stream is told whole.
-fn refuses_word<R: Abort + Threads + Wait + Sync>(
+fn refuses_word<R: Abort + Threads + Wait + Clock + Copy + Drop + Send + Sync + 'static>(
     rt: &R,
     alloc: Global,
     word: &str,

@@ -6,6 +6,7 @@ use std::process::Abort;
 use std::sync::Wait;
 use std::test::Fail;
 use std::thread::Threads;
+use std::time::Clock;
 use test_tools::streams::{CUT, ONE, WIDER};
 
 /// What is reported of the second stream.
@@ -75,7 +76,7 @@ fn a_fault_stops_its_own_stream(rt: HostRuntime) -> Result<(), Fail> {
 }
 
 /// Runs two streams of which the first stops before the session; its output is not made.
-fn stops_early<R: Abort + Threads + Wait + Sync>(
+fn stops_early<R: Abort + Threads + Wait + Clock + Copy + Drop + Send + Sync + 'static>(
     rt: &R,
     alloc: Global,
     word: &str,

@@ -7,6 +7,7 @@ use std::process::Abort;
 use std::sync::Wait;
 use std::test::Fail;
 use std::thread::Threads;
+use std::time::Clock;
 
 /// One frame of four samples, behind a header of 22 bytes.
 const ONE: &[u8] = b"YUV4MPEG2 W2 H2 Cmono\nFRAME\n1234";
@@ -29,7 +30,7 @@ fn said_to(watch: &Told<'_>) -> Said {
 
 /// Serves two streams under a watch, the first from this file.
 fn serves_two_under(
-    rt: &(impl Abort + Threads + Wait + Sync),
+    rt: &(impl Abort + Threads + Wait + Clock + Copy + Drop + Send + Sync + 'static),
     alloc: Global,
     line: &str,
     first: &str,

@@ -1,45 +1,35 @@
-use Rattle.std.proofs.Common.{◌∙◌, ◌++◌, ◌∷◌, [], ap, inl, inr, subst, sym}
-use Rattle.std.proofs.KnownBytes.{Keeps-refl}
-use Rattle.std.specs.Io.KnownBytes.{Keeps}
-use Rattle.y4m_stream.specs.Writer.{CutsShort}
-use Rattle.serve_work.proofs.Ending.{ClientEnds-unopened, shown_for}
+use Rattle.std.proofs.Common.{◌≡◌, ◌∙◌, ◌≤◌, ap, arith, subst, sym}
+use Rattle.y4m_stream.specs.declared.passing.TheConstants.{MOST_FRAMES}
+use Rattle.y4m_stream.specs.Reader.{IsOfHeader}
+use Rattle.serve_work.specs.Rests.{Begun, IsRestOf, IsUnbegun, RestValue, reader_in}
+use Rattle.serve_work.specs.RestInside.{rest_of}
+use Rattle.serve_work.proofs.Resting.{begun_with, can_resume, resumed}
 use Rattle.serve_work.proofs.clients.client.Goals as goal
 
-pub returns-in_default : goal.returns-in_default
-returns-in_default g c =
-    let u = c.unopened.ensures in
-    ClientEnds-unopened _ _ _ c.requires.fresh u.tally u.accepted u.none.0 u.failures (inl (record {
-      stop = u.stop;
-      unread = u.remaining;
-      unaccepted = u.none.0;
-      none = u.none.1;
-      kept = subst (λ w. Keeps (g.W.Sink.contents c.args.writer) (g.W.Sink.contents w)) (sym u.writer)
-          (Keeps-refl (g.W.Sink.contents c.args.writer));
-      no_failure = ap (g.W.Sink.failures) u.writer;
-    }))
+pub run-requires-clause-can : goal.run-requires-clause-can
+run-requires-clause-can g c =
+    let inside = c.begun.inside in
+    let same : c.args.rest ≡ Begun (begun_with inside.course inside.reader inside.writer inside.accepted inside.collected) =
+    sym c.rest.view_is ∙ ap (rest_of g.W.Sink.contents g.W.Sink.failures) c.in-Begun.is ∙ ap Begun
+    (sym c.in-Begun.begun-is ∙ sym c.begun.view_is) in
+    let most : c.args.seat.frames ≤ MOST_FRAMES = omega (arith, c.frames-most.ensures.value, c.frames-most.ensures.most) in
+    can_resume inside.course inside.reader c.args.seat inside.writer inside.buffers inside.accepted inside.collected most
+    (subst (λ (r : RestValue). IsOfHeader (reader_in r).header c.args.seat.chain.geometry) same c.requires.header) c.begun.invariant
+    c.requires.rest.0 c.requires.rest.1 (subst (IsRestOf c.requires.rest.0 c.requires.rest.1 c.args.seat) same c.requires.rest.2)
 
-pub returns-in-Err : goal.returns-in-Err
-returns-in-Err g c =
-    let u = c.unopened-in-Err.ensures in
-    let before = g.W.Sink.contents c.args.writer in
-    let shown = shown_for c.args.seat.chain c.args.reader.header _ _ _ c.in-Ok.resized c.header.ensures c.header-2.ensures
-    c.shown_header.ensures c.in-Ok.ensures.shown in
-    ClientEnds-unopened _ _ _ c.requires.fresh u.tally u.accepted u.none.0 u.failures (inr (record {
-      fault = c.in-Err.fault;
-      stop = u.stop;
-      unread = u.remaining;
-      unaccepted = u.none.0;
-      none = u.none.1;
-      cut = subst (λ l. CutsShort before (g.W.Sink.contents c.unopened-in-Err.result.writer) (l ++ 10 ∷ []) 0 c.in-Err.fault)
-          shown.line
-          (subst (λ w. CutsShort before (g.W.Sink.contents w) (c.shown_header.result.now.line ++ 10 ∷ []) 0 c.in-Err.fault)
-          (sym u.writer) c.in-Err.ensures.cut);
-      failure = ap (g.W.Sink.failures) u.writer ∙ c.in-Err.ensures.told;
-    }))
+pub returns-in-Unbegun : goal.returns-in-Unbegun
+returns-in-Unbegun g c = λ start past at.
+    let unbegun : IsUnbegun start past c.args.seat c.in-Unbegun.reader (g.W.Sink.contents c.in-Unbegun.writer)
+    (g.W.Sink.failures c.in-Unbegun.writer) =
+    subst (IsRestOf start past c.args.seat) (sym c.rest.view_is ∙ ap (rest_of g.W.Sink.contents g.W.Sink.failures) c.in-Unbegun.is) at in
+    c.begin.ensures start past
+    (rw (c.in-Unbegun.reader-is, c.in-Unbegun.writer-is) unbegun)
 
-pub returns : goal.returns
-returns g c =
-    c.run.ensures c.shown_header.result.now (g.W.Sink.contents c.args.writer) (g.W.Sink.failures c.args.writer)
-    (shown_for c.args.seat.chain c.args.reader.header _ _ _ c.in-Ok.resized c.header.ensures c.header-2.ensures
-    c.shown_header.ensures c.in-Ok.ensures.shown)
-    c.in-Ok-open.ensures.opened
+pub returns-in-Begun : goal.returns-in-Begun
+returns-in-Begun g c = λ start past at.
+    let inside = c.begun.inside in
+    let same : c.args.rest ≡ Begun (begun_with inside.course inside.reader inside.writer inside.accepted inside.collected) =
+    sym c.rest.view_is ∙ ap (rest_of g.W.Sink.contents g.W.Sink.failures) c.in-Begun.is ∙ ap Begun
+    (sym c.in-Begun.begun-is ∙ sym c.begun.view_is) in
+    c.run.ensures start past (resumed inside.course inside.reader c.args.seat inside.writer inside.accepted inside.collected start past
+    (subst (IsRestOf start past c.args.seat) same at))

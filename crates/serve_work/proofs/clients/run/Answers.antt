@@ -1,17 +1,29 @@
-use Rattle.serve_work.proofs.Ending.{ClientEnds-served}
+use Rattle.std.proofs.Common.{◌∙◌, arith}
+use Rattle.serve_work.proofs.Resting.{outset_of, tallied_later}
 use Rattle.serve_work.proofs.clients.run.Goals as goal
 
-pub returns : goal.returns
-returns g c = λ shown before failures header opened.
-    let finish = c.finish-writer.ensures in
-    ClientEnds-served _ _ _ _ header opened _ _ _ _ _ c.serve-stop.ensures.answer c.requires.fresh c.serve-stop.ensures.tally
-    (record {
-      kept = finish.kept;
-      flushed = finish.flushed;
-      closed = finish.closed;
-      fault = finish.fault;
-      failed = finish.failed;
-      told = finish.told;
-    })
-    c.flushed.ensures c.accepted-accepted.ensures c.frames-delivered.ensures c.into_source.ensures.remaining
-    c.into_source.ensures.failures
+pub returns-in-Done : goal.returns-in-Done
+returns-in-Done g c = λ start past running.
+    let o = outset_of start running.shown running.opened running.first running.is_opened in
+    let serves = c.in-Done.ensures.answer past (record { reader = start.reader; seat = start.seat; writer = running.opened }) o
+    running.tally.offers running.before in
+    c.end.ensures start past running.shown running.opened running.header running.is_opened running.first serves
+    (tallied_later past start.seat c.args.seat c.serve.new.seat c.args.writer c.serve.new.writer running.tally c.serve.ensures.tally)
+
+pub returns-in-Paused : goal.returns-in-Paused
+returns-in-Paused g c = λ start past running.
+    let o = outset_of start running.shown running.opened running.first running.is_opened in
+    record {
+      shown = running.shown;
+      opened = running.opened;
+      header = running.header;
+      is_opened = running.is_opened;
+      first = running.first;
+      at = c.in-Paused.ensures.answer past (record { reader = start.reader; seat = start.seat; writer = running.opened }) o
+          running.tally.offers running.before;
+      same_header = c.serve.ensures.header ∙ running.same_header;
+      tally = tallied_later past start.seat c.args.seat c.serve.new.seat c.args.writer c.serve.new.writer running.tally
+          c.serve.ensures.tally;
+      accepted = c.accepted-accepted.ensures;
+      collected = omega (arith, c.saturating_sub.ensures, c.accepted-accepted.ensures, c.kept.ensures);
+    }

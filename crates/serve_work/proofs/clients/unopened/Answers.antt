@@ -1,4 +1,4 @@
-use Rattle.serve_work.proofs.Serving.{close_tally}
+use Rattle.serve_work.proofs.Stopping.{close_tally}
 use Rattle.serve_work.proofs.clients.unopened.Goals as goal
 
 pub returns-clause-tally : goal.returns-clause-tally

@@ -1,5 +1,7 @@
 use Rattle.std.proofs.Common.{refl}
-use Rattle.serve_work.proofs.Moving.{Cuts-give, Moves-give, Tallies-seat, collect_refused, collected}
+use Rattle.serve_work.proofs.Tallying.{Tallies-seat}
+use Rattle.serve_work.proofs.Moving.{Cuts-give, Moves-give}
+use Rattle.serve_work.proofs.Refusing.{collect_refused, collected}
 use Rattle.serve_work.proofs.delivery.deliver.Goals as goal
 
 pub returns-in-Ok-put-clause-answer : goal.returns-in-Ok-put-clause-answer

@@ -1,6 +1,7 @@
 use Rattle.std.proofs.Common.{[], refl}
-use Rattle.serve_work.proofs.Moving.{GivesUp-trans, Moves-none, Moves-trans, StopsWith-later, Tallies-none, Tallies-trans}
-use Rattle.serve_work.proofs.Moving.{few_later, size_later, writing_later}
+use Rattle.serve_work.proofs.Staying.{GivesUp-trans}
+use Rattle.serve_work.proofs.Tallying.{Tallies-none, Tallies-trans}
+use Rattle.serve_work.proofs.Moving.{HaltsWith-later, Moves-none, Moves-trans, few_later, size_later, writing_later}
 use Rattle.serve_work.proofs.delivery.drain.Goals as goal
 
 pub loop-init : goal.loop-init
@@ -34,7 +35,7 @@ loop-preserved-in-Ok g c =
     }
 
 pub returns-in-Err-clause-answer : goal.returns-in-Err-clause-answer
-returns-in-Err-clause-answer g c = StopsWith-later _ _ _ _ _ _ _ [] [] c.loop.invariant.moved c.in-Err.ensures.answer
+returns-in-Err-clause-answer g c = HaltsWith-later _ _ _ _ _ _ _ [] [] c.loop.invariant.moved c.in-Err.ensures.answer
 
 pub returns-in-Err-clause-drained : goal.returns-in-Err-clause-drained
 returns-in-Err-clause-drained g c = λ is. let left = c.in-Err.ensures.drained is in rw left.1 left.0

@@ -1,57 +1,71 @@
-use Rattle.std.proofs.Common.{[], ◌∷◌, ◌++◌, ap, sym, ◌∙◌}
+use Rattle.std.proofs.Common.{[], Ok, Option, Result, Some, None, subst}
+use Rattle.std.specs.Bool.{⊤}
+use Rattle.std.specs.declared.alloc.Global.{Global}
+use Rattle.std.specs.declared.sync.Arc.{Arc}
 use Rattle.std.specs.Arc.{arc_value}
-use Rattle.filters.specs.Chain.{ChainValue}
-use Rattle.y4m_stream.specs.Reader.{IsOfHeader, TakesFrame, frame_text_of}
-use Rattle.serve_work.proofs.Moving.{Accounted-later, Feeds-stopped, Passes-none, Passes-push, Tallies-none, Tallies-trans}
-use Rattle.serve_work.proofs.Moving.{counted_later, one_size, sized_memory, stays_chain}
+use Rattle.frame_view.specs.declared.frame.Frame.{Frame}
+use Rattle.y4m_stream.specs.Reader.{ReaderState}
+use Rattle.serve_work.specs.declared.feeding.Fed.{Fed}
+use Rattle.serve_work.specs.ClientInside.{FeedsOn, Holds, text_in}
+use Rattle.serve_work.proofs.Staying.{stays_chain}
+use Rattle.serve_work.proofs.Tallying.{Tallies-trans, counted_later}
+use Rattle.serve_work.proofs.Moving.{Accounted-later, size_later}
+use Rattle.serve_work.proofs.Passing.{FeedsOn-behind, Feeds-unfed, Passes-none, passed_once}
 use Rattle.serve_work.proofs.feeding.feed.Goals as goal
 
-pub loop-init : goal.loop-init
-loop-init g c = record {
-  frames = [];
-  passed = Passes-none _ _ _ c.requires.open;
-  tally = Tallies-none _ _;
-  buffers = c.requires.buffers;
-}
-
-pub read_into-requires-clause-size : goal.read_into-requires-clause-size
-read_into-requires-clause-size g c =
-    sized_memory c.args.reader.now.header c.loop.reader.header c.args.seat.now.chain.geometry _ c.loop.invariant.passed.header c.requires.header
-    (c.take_source-memory.ensures.size _ c.loop.invariant.buffers)
-
-pub accept-requires-clause-accounted : goal.accept-requires-clause-accounted
-accept-requires-clause-accounted g c = Accounted-later _ _ _ _ _ c.loop.invariant.passed.moved c.requires.accounted
-
-pub accept-requires-clause-counted : goal.accept-requires-clause-counted
-accept-requires-clause-counted g c = counted_later _ _ c.loop.invariant.tally.seat c.requires.counted
+pub returns-in-None-clause-answer : goal.returns-in-None-clause-answer
+returns-in-None-clause-answer g c = λ past before counted h.
+    let none : Holds before c.args.reader.now None = subst (λ (o : Option (Arc Frame Global)). Holds before c.args.reader.now (text_in o))
+    c.in-None.is h in
+    subst (λ (r : ReaderState). FeedsOn c.feed_on.result past r c.feed_on.new.reader c.args.seat.now c.feed_on.new.seat c.args.writer.now
+    c.feed_on.new.writer) none (c.feed_on.ensures.answer past counted)
 
 pub accept-requires-clause-frame : goal.accept-requires-clause-frame
-accept-requires-clause-frame g c =
-    let so_far = c.loop.invariant.passed in
-    let sized : IsOfHeader c.loop.reader.header (arc_value c.in-Ok-Some.frame).geometry = rw c.in-Ok-Some.field-0-is at c.in-Ok-Some.ensures.size in
-    one_size c.args.reader.now.header _ _ (rw so_far.header at sized) c.requires.header
-    ∙ sym (ap (λ (h : ChainValue). h.geometry) (stays_chain c.args.seat.now c.loop.seat so_far.moved.seat_stays))
+accept-requires-clause-frame g c = rw c.in-Some.is at c.requires.frame
 
-pub accept-requires-clause-buffers : goal.accept-requires-clause-buffers
-accept-requires-clause-buffers g c =
-    rw (stays_chain c.args.seat.now c.loop.seat c.loop.invariant.passed.moved.seat_stays)
-    (c.take_source-memory.ensures.kept _ c.loop.invariant.buffers)
-
-pub loop-preserved : goal.loop-preserved
-loop-preserved g c =
-    let so_far = c.loop.invariant in
-    let frame = frame_text_of (arc_value c.in-Ok-Some.frame) in
-    let taken : TakesFrame c.loop.reader c.read_into.new.reader (frame_text_of (arc_value c.in-Ok-Some.frame)) =
-    rw c.in-Ok-Some.field-0-is at c.in-Ok-Some.ensures.frame in
+pub feed_on-requires-in-Ok : goal.feed_on-requires-in-Ok
+feed_on-requires-in-Ok g c =
+    let moved = c.in-Ok.ensures.answer in
+    let chain = stays_chain c.args.seat.now c.accept.new.seat moved.seat_stays in
     record {
-      frames = so_far.frames ++ frame ∷ [];
-      passed = Passes-push _ _ _ _ _ _ _ so_far.passed _ _ _ frame taken c.read_into.ensures.header c.in-Ok.ensures.answer;
-      tally = Tallies-trans _ _ _ _ _ _ so_far.tally c.accept.ensures.tally;
-      buffers = rw (stays_chain c.args.seat.now c.loop.seat so_far.passed.moved.seat_stays) at c.accept.ensures.buffers;
+      header = rw chain c.requires.header;
+      size = size_later _ _ _ _ _ moved c.requires.size;
+      accounted = Accounted-later _ _ _ _ _ moved c.requires.accounted;
+      «open» = c.requires.open;
+      buffers = rw chain c.accept.ensures.buffers;
     }
 
-pub returns-in-Err-accept-clause-answer : goal.returns-in-Err-accept-clause-answer
-returns-in-Err-accept-clause-answer g c =
-    let taken : TakesFrame c.loop.reader c.read_into.new.reader (frame_text_of (arc_value c.in-Ok-Some.frame)) =
-    rw c.in-Ok-Some.field-0-is at c.in-Ok-Some.ensures.frame in
-    Feeds-stopped _ _ _ _ _ _ _ c.loop.invariant.passed c.in-Err-accept.stop _ _ _ _ taken c.in-Err-accept.ensures.answer
+pub returns-in-Ok-clause-answer : goal.returns-in-Ok-clause-answer
+returns-in-Ok-clause-answer g c = λ past before counted h.
+    let reader = c.args.reader.now in
+    let seat = c.args.seat.now in
+    let writer = c.args.writer.now in
+    let some : Holds before reader (text_in (Some c.in-Some.frame)) = subst (λ (o : Option (Arc Frame Global)). Holds before reader
+    (text_in o)) c.in-Some.is h in
+    let done : Result ⊤ Fed = Ok tt in
+    let first = passed_once before before seat seat writer writer [] (Passes-none before seat writer) done reader c.accept.new.seat
+    c.accept.new.writer (arc_value c.in-Some.frame) some.0 some.1 c.in-Ok.ensures.answer in
+    FeedsOn-behind before reader seat c.accept.new.seat writer c.accept.new.writer first.frames first.passed past
+    c.feed_on-in-Ok.result c.feed_on-in-Ok.new.reader c.feed_on-in-Ok.new.seat c.feed_on-in-Ok.new.writer
+    (c.feed_on-in-Ok.ensures.answer past (counted_later past seat c.accept.new.seat c.accept.ensures.tally.seat counted))
+
+pub returns-in-Ok-clause-tally : goal.returns-in-Ok-clause-tally
+returns-in-Ok-clause-tally g c = Tallies-trans _ _ _ _ _ _ c.accept.ensures.tally c.feed_on-in-Ok.ensures.tally
+
+pub returns-in-Ok-clause-buffers : goal.returns-in-Ok-clause-buffers
+returns-in-Ok-clause-buffers g c =
+    rw (stays_chain c.args.seat.now c.accept.new.seat c.in-Ok.ensures.answer.seat_stays) at c.feed_on-in-Ok.ensures.buffers
+
+pub returns-in-Ok-clause-frame : goal.returns-in-Ok-clause-frame
+returns-in-Ok-clause-frame g c =
+    rw (stays_chain c.args.seat.now c.accept.new.seat c.in-Ok.ensures.answer.seat_stays) at c.feed_on-in-Ok.ensures.frame
+
+pub returns-in-Err-clause-answer : goal.returns-in-Err-clause-answer
+returns-in-Err-clause-answer g c = λ past before counted h.
+    let reader = c.args.reader.now in
+    let seat = c.args.seat.now in
+    let writer = c.args.writer.now in
+    let some : Holds before reader (text_in (Some c.in-Some.frame)) = subst (λ (o : Option (Arc Frame Global)). Holds before reader
+    (text_in o)) c.in-Some.is h in
+    Feeds-unfed before before seat seat writer writer [] (Passes-none before seat writer) past c.in-Err.fed reader c.accept.new.seat
+    c.accept.new.writer (arc_value c.in-Some.frame) counted some.0 some.1 c.in-Err.ensures.answer

@@ -1,18 +1,17 @@
-use Rattle.std.proofs.Common.{◌∙◌, refl, sym}
-use Rattle.std.proofs.lemmas.List.{nil_from_length}
-use Rattle.serve_report.proofs.Inputs.{inputs_more, names_all, names_more}
+use Rattle.std.proofs.Common.{◌≡◌, ◌∙◌, ap, map, sym}
+use Rattle.std.proofs.lemmas.Simd.{map-map}
+use Rattle.serve_report.proofs.Openings.{map_zipped, zipped}
 use Rattle.serve_report.proofs.serve.opening.open_all.Goals as goal
 
-pub loop-asked-preserved-in-Continue-1 : goal.loop-asked-preserved-in-Continue-1
-loop-asked-preserved-in-Continue-1 g c =
-    let added = c.in_ok-add_open-in-Ok.ensures in
-    let inv = c.loop-asked.invariant in
+pub returns : goal.returns
+returns g c =
+    let jobs = c.in_ok-placed.placed in
+    let tried = c.in_ok-tried.tried in
     record {
-      inputs = rw (added.specs, added.inputs) (inputs_more _ _ c.in-Ok.spec c.in-Ok.input inv.inputs c.in-Ok.ensures.input);
-      names = rw added.entrants (names_more _ _ c.loop-asked.opened.entrants.items _ _ _ c.in-Some.asked c.in-Some.ensures.steps.0 refl ∙ inv.names);
+      inputs = c.in_ok-opened.ensures.inputs;
+      names = c.in_ok-opened.ensures.names
+          ∙ map_zipped (λ job result. result.name ≡ job.asked.word.name) (λ result. result.name) (λ job. job.asked.word.name) (λ job result comes. comes) _ _
+          (zipped (λ job result. result.name ≡ job.asked.word.name) jobs.items tried.items (sym tried.ok.0 ∙ c.in_ok-tried.ensures.count ∙ jobs.ok.0) c.in_ok-tried.ensures.each)
+          ∙ sym (map-map (λ asked. asked.word.name) (λ job. job.asked) jobs.items)
+          ∙ ap (map (λ asked. asked.word.name)) c.in_ok-placed.ensures;
     }
-
-pub returns-clause-names : goal.returns-clause-names
-returns-clause-names g c =
-    let left = c.loop-asked.asked-iterator.rest in
-    names_all _ _ _ left.items _ (nil_from_length left.items (sym left.ok.0 ∙ c.in-None.ensures.steps.0)) c.loop-asked.invariant.names

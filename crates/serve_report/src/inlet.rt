@@ -1,0 +1,95 @@
+//! What the streams of a run are read from.
+ghost use Rattle.std.specs.Prelude.{◌≡◌};
+ghost use Rattle.serve_report.specs.Inlets.{inflow_remaining};
+
+use crate::lookout::Lookout;
+use std::alloc::Global;
+use std::io::{self, Read};
+use std::sync::Wait;
+use std::thread::Threads;
+use std::time::Clock;
+use y4m_stream::Source;
+
+/// A file that was opened for reading.
+#[derive(Drop)]
+pub enum Inlet<R, S> {
+    /// Its reads are answered at once.
+    Prompt(R),
+    /// A read may wait for what isn't there yet, as of a FIFO or of a terminal.
+    Slow(S),
+}
+
+/// An inlet that can be asked whether a read would wait, where that can be told.
+#[derive(Drop)]
+pub enum Inflow<R: Read, S: Read + Drop, T: Wait + Drop> {
+    Prompt(R),
+    /// There was no thread, or no memory, to look out with.
+    Slow(S),
+    Watched(Lookout<S, T>),
+}
+
+impl<R: Read, S: Read + Drop, T: Wait + Drop> Read for Inflow<R, S, T> {
+    ghost remaining = { λ inflow. inflow_remaining R.remaining S.remaining inflow };
+
+    fn read(&mut self, buf: &mut [u8]) -> io::Result<usize> {
+        match self {
+            Inflow::Prompt(reader) => reader.read(buf),
+            Inflow::Slow(reader) => reader.read(buf),
+            Inflow::Watched(lookout) => lookout.read(buf),
+        }
+    }
+}
+
+/// Looks out at an inlet that may wait.
+pub fn inflow_of<R, S, T>(rt: &T, alloc: Global, inlet: Inlet<R, S>) -> Inflow<R, S, T>
+where
+    R: Read,
+    S: Read + Drop + Send + 'static,
+    T: Threads + Wait + Clock + Copy + Drop + Send + 'static,
+{
+    match inlet {
+        Inlet::Prompt(reader) => Inflow::Prompt(reader),
+        Inlet::Slow(reader) => match Lookout::start(rt, alloc, reader) {
+            Ok(lookout) => Inflow::Watched(lookout),
+            Err(reader) => Inflow::Slow(reader),
+        },
+    }
+}
+
+/// A source over an inflow: its reads, and a count of those that failed.
+#[derive(Drop)]
+pub struct OverInflow<R: Read, S: Read + Drop, T: Wait + Drop> {
+    inflow: Inflow<R, S, T>,
+    failures: u64,
+}
+
+impl<R: Read, S: Read + Drop, T: Wait + Drop> OverInflow<R, S, T> {
+    /// No read has failed yet.
+    pub fn new(inflow: Inflow<R, S, T>) -> OverInflow<R, S, T> {
+        OverInflow {
+            inflow,
+            failures: 0,
+        }
+    }
+}
+
+impl<R: Read, S: Read + Drop, T: Wait + Clock + Drop> Source for OverInflow<R, S, T> {
+    ghost remaining = { λ s. inflow_remaining R.remaining S.remaining s.inflow };
+
+    ghost failures = { λ s. s.failures };
+
+    fn read(&mut self, buf: &mut [u8]) -> io::Result<usize> {
+        let answer = self.inflow.read(buf);
+        if answer.is_err() {
+            self.failures = self.failures.saturating_add(1);
+        }
+        answer
+    }
+
+    fn is_ready(&self, milliseconds: u64) -> bool {
+        match &self.inflow {
+            Inflow::Watched(lookout) => lookout.is_ready(milliseconds),
+            _ => true,
+        }
+    }
+}

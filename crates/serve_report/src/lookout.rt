@@ -1,0 +1,192 @@
+//! A reader that can be asked whether a read would wait.
+ghost use Rattle.std.specs.Io.{ReadsAtMost};
+
+use crate::ahead::Ahead;
+use std::alloc::Global;
+use std::io::{self, ErrorKind, Read};
+use std::mem;
+use std::sync::{Arc, Condvar, CondvarTimeouts, Mutex, Wait};
+use std::thread::{self, Threads};
+use std::time::{Clock, Duration};
+
+/// Who has the reader, and what is asked of the looker.
+#[derive(Drop)]
+enum State<R: Read> {
+    /// The looker rests. What it found is held, until it is taken.
+    Resting(Ahead<R>),
+    /// The looker is to read.
+    Wanted(Ahead<R>),
+    /// The looker reads.
+    Looking,
+    /// The client is gone, and the looker is to end.
+    Over,
+}
+
+impl<R: Read + Drop> State<R> {
+    /// Whether it isn't known yet if a read would wait.
+    fn is_unknown(&self) -> bool {
+        matches!(self, State::Wanted(_) | State::Looking)
+    }
+
+    fn is_looking(&self) -> bool {
+        matches!(self, State::Looking)
+    }
+
+    /// Whether the looker has something to do.
+    fn calls(&self) -> bool {
+        matches!(self, State::Wanted(_) | State::Over)
+    }
+
+    /// The looker is to read, where nothing is held. It answers whether that is new.
+    fn ask(&mut self) -> bool {
+        match mem::replace(self, State::Looking) {
+            State::Resting(ahead) => {
+                *self = State::asked(ahead);
+                matches!(self, State::Wanted(_))
+            }
+            other => {
+                *self = other;
+                false
+            }
+        }
+    }
+
+    fn asked(ahead: Ahead<R>) -> State<R> {
+        if ahead.has_news() {
+            State::Resting(ahead)
+        } else {
+            State::Wanted(ahead)
+        }
+    }
+
+    /// The reader for the looker, where it is to read.
+    fn lend(&mut self) -> Option<Ahead<R>> {
+        match mem::replace(self, State::Looking) {
+            State::Wanted(ahead) => Some(ahead),
+            other => {
+                *self = other;
+                None
+            }
+        }
+    }
+
+    /// The looker has read. Where the client is gone the reader is given up.
+    fn settle(&mut self, ahead: Ahead<R>) {
+        if self.is_looking() {
+            *self = State::Resting(ahead);
+        }
+    }
+
+    /// Reads for the client. What was wanted isn't any more. It fails where the reader isn't here.
+    fn read(&mut self, buf: &mut [u8]) -> io::Result<usize>
+        ensures { ReadsAtMost result buf.new }
+    {
+        match mem::replace(self, State::Looking) {
+            State::Wanted(ahead) => *self = State::Resting(ahead),
+            other => *self = other,
+        }
+        match self {
+            State::Resting(ahead) => ahead.read(buf),
+            _ => Err(io::Error::from(ErrorKind::Other)),
+        }
+    }
+}
+
+/// What a client and its looker share.
+#[derive(Drop)]
+struct Post<R: Read> {
+    state: Mutex<State<R>>,
+    changed: Condvar,
+}
+
+/// Reads once whenever the client wants to know, until the client is gone.
+fn look_out<R: Read + Drop, T: Wait>(rt: &T, post: &Post<R>) {
+    for _ in rt.forever() {
+        let mut state = post
+            .changed
+            .wait_while(rt, post.state.lock(rt), |state| !state.calls());
+        let Some(mut ahead) = state.lend() else {
+            return;
+        };
+        drop(state);
+        ahead.look();
+        post.state.lock(rt).settle(ahead);
+        post.changed.notify_all();
+    }
+}
+
+/// A reader that can be asked whether a read would wait.
+///
+/// A thread, the looker, reads ahead of the client, once for a question, and only where nothing is held. It
+/// ends once the client is gone; where it is in a read then, that read is the last.
+pub struct Lookout<R: Read + Drop, T: Wait + Drop> {
+    rt: T,
+    post: Arc<Post<R>>,
+}
+
+impl<R: Read + Drop, T: Wait + Drop> Drop for Lookout<R, T> {
+    fn drop(self) {
+        let Self { rt, post } = self;
+        *post.state.lock(&rt) = State::Over;
+        post.changed.notify_all();
+    }
+}
+
+impl<R: Read + Drop, T: Wait + Drop> Lookout<R, T> {
+    /// Nothing is read yet. Where there is no thread or no memory the reader comes back.
+    pub fn start(rt: &T, alloc: Global, reader: R) -> Result<Lookout<R, T>, R>
+    where
+        R: Send + 'static,
+        T: Threads + Copy + Send + 'static,
+    {
+        let rt = *rt;
+        let ahead = Ahead::new(alloc, reader)?;
+        let post = Post {
+            state: Mutex::new(State::Over),
+            changed: Condvar::new(),
+        };
+        let Ok(post) = Arc::new(alloc, post) else {
+            return Err(ahead.into_reader());
+        };
+        let Ok(theirs) = Arc::try_clone(&post) else {
+            return Err(ahead.into_reader());
+        };
+        // Held until the looker is there, so that it doesn't find the state that it ends at.
+        let mut state = post.state.lock(&rt);
+        if thread::spawn(&rt, move || look_out(&rt, &theirs)).is_err() {
+            return Err(ahead.into_reader());
+        }
+        *state = State::Resting(ahead);
+        drop(state);
+        Ok(Lookout { rt, post })
+    }
+
+    /// Whether a read would be answered at once: with bytes, with the end, or with a fault. It waits for that
+    /// at most so many milliseconds.
+    pub fn is_ready(&self, milliseconds: u64) -> bool
+    where
+        T: Clock,
+    {
+        let mut state = self.post.state.lock(&self.rt);
+        if state.ask() {
+            self.post.changed.notify_all();
+        }
+        let patience = Duration::from_millis(milliseconds);
+        let (state, _) = self
+            .post
+            .changed
+            .wait_timeout_while(&self.rt, state, patience, |state| state.is_unknown());
+        !state.is_unknown()
+    }
+}
+
+impl<R: Read + Drop, T: Wait + Drop> Read for Lookout<R, T> {
+    fn read(&mut self, buf: &mut [u8]) -> io::Result<usize> {
+        let mut state = self.post.changed.wait_while(
+            &self.rt,
+            self.post.state.lock(&self.rt),
+            |state| state.is_looking(),
+        );
+        state.read(buf)
+    }
+}

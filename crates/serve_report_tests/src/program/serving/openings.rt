@@ -1,0 +1,73 @@
+//! Streams that are opened side by side.
+use super::{A, A_INVERTED, B, B_TURNED, TWO, given, holds};
+use crate::program::memory::{Made, Memory, Output};
+use crate::program::{words_of, written};
+use serve_report::{Files, Inlet, main_on};
+use std::io;
+use std::sync::Wait;
+use std::test::Fail;
+use test_tools::{Parts, Tape};
+
+/// Files of which each input is opened once the other's opening has begun.
+#[derive(Drop)]
+struct Meeting<'a, T: Wait + Sync> {
+    files: Memory<'a, T>,
+    parts: Parts,
+}
+
+impl<'a, T: Wait + Sync> Files for Meeting<'a, T> {
+    type Reader = Tape<'a>;
+
+    type Slow = Tape<'static>;
+
+    type Writer = Output<'a, T>;
+
+    fn open(&self, name: &str) -> io::Result<Inlet<Tape<'a>, Tape<'static>>> {
+        self.parts.meet(if name == "a.y4m" { 0 } else { 1 });
+        self.files.open(name)
+    }
+
+    fn create(&self, name: &str) -> io::Result<Output<'a, T>> {
+        self.files.create(name)
+    }
+}
+
+#[test]
+fn streams_are_opened_side_by_side(rt: HostRuntime) -> Result<(), Fail> {
+    let inputs = [given("a.y4m", A), given("b.y4m", B)];
+    let outputs = [
+        Made::new(rt.alloc(), "a.out", 4096),
+        Made::new(rt.alloc(), "b.out", 4096),
+    ];
+    let files = Meeting {
+        files: Memory::new(&rt, &inputs, &outputs),
+        parts: Parts::new(),
+    };
+    let words = words_of(rt.alloc(), TWO)?;
+    let (mut room, mut faults) = ([0; 256], [0; 64]);
+    let (mut report, mut errors) = (room.as_mut_slice(), faults.as_mut_slice());
+    let input = b"".as_slice();
+    let status = main_on(
+        &rt,
+        rt.alloc(),
+        &words,
+        input,
+        &mut report,
+        &mut errors,
+        &files,
+    );
+    let left = report.len();
+    assert_eq!(rt; status, 0, "was a thread or its memory refused?");
+    // The report has the words' order.
+    assert_eq!(rt;
+        str::from_utf8(written(&room, left)).ok(),
+        Some(
+            "a accepted 3 delivered 3 charged 3 stop whole\n\
+             b accepted 3 delivered 3 charged 6 stop whole\nunits 9\n"
+        )
+    );
+    holds(&rt, &outputs[0], A_INVERTED);
+    holds(&rt, &outputs[1], B_TURNED);
+    assert_eq!(rt; files.parts.met(), 2, "was a thread or its memory refused?");
+    Ok(())
+}

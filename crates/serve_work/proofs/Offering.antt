@@ -1,0 +1,187 @@
+-- What an offer is to a client.
+use Rattle.std.proofs.Common.{◌≡◌, ℕ, [], ◌∷◌, false, refl, ap, ◌∙◌, subst}
+use Rattle.std.proofs.Common.{IsTrue, ◌≢◌, ◌⊎◌, None, Some, inl, inr}
+use Rattle.std.specs.declared.alloc.Global.{Global}
+use Rattle.std.specs.declared.sync.Arc.{Arc}
+use Rattle.std.specs.Arc.{arc_value}
+use Rattle.frame_view.specs.declared.frame.Frame.{Frame}
+use Rattle.filters.specs.Chain.{ChainValue}
+use Rattle.filters.specs.ChainImage.{value_of}
+use Rattle.y4m_stream.specs.Reader.{frame_text_of}
+use Rattle.y4m_stream.specs.Writer.{IsWriterFor, WriterState}
+use Rattle.serve_core.specs.declared.refusal.Refusal as core
+use Rattle.serve_core.specs.declared.refusal.Refusal.TheVariants as cores
+use Rattle.serve_hub.specs.declared.refusal.Refusal.{Refusal}
+use Rattle.serve_hub.specs.declared.refusal.Refusal.TheVariants as hub
+use Rattle.serve_hub.specs.Calls.{Accepts, AllowsOffer, IsTold}
+use Rattle.serve_hub.specs.Seats.{StreamSeatValue}
+use Rattle.serve_work.specs.declared.stop.Cause.TheVariants.{TooManyFrames}
+use Rattle.serve_work.specs.declared.feeding.Fed.{Fed}
+use Rattle.serve_work.specs.declared.feeding.Fed.TheVariants as feds
+use Rattle.serve_work.specs.declared.feeding.Offered.{Offered}
+use Rattle.serve_work.specs.declared.feeding.Offered.TheVariants as offered
+use Rattle.serve_work.specs.declared.stop.Cause.{Cause}
+use Rattle.serve_work.specs.declared.stop.Halt.{Halt}
+use Rattle.serve_work.specs.declared.stop.Halt.TheVariants.{Full, Stopped}
+use Rattle.serve_work.specs.declared.stop.Stop.{Stop}
+use Rattle.serve_work.specs.declared.stop.Stop.TheVariants.{Whole, Read, Write, Refused, Torn}
+use Rattle.serve_work.specs.Clients.{IsDrained}
+use Rattle.serve_work.specs.ClientInside.{AcceptsTorn, GivesUp, HaltsWith, IsOfCollection, IsOffered}
+use Rattle.serve_work.specs.ClientInside.{IsSizedFed, KeepsFrame, Moves, Refuses, StopsWith, TalliesSeat, Unfed, fed_of, stop_of}
+use Rattle.serve_work.proofs.Staying.{GivesUp-trans, stays_chain, stays_closed, stays_frames}
+use Rattle.serve_work.proofs.Tallying.{TalliesSeat-accept, counted_later, other_number, seat_same}
+use Rattle.serve_work.proofs.Moving.{Moves-accept, Moves-none, Moves-trans, StopsWith-later, size_later}
+use Rattle.serve_work.proofs.Refusing.{seat_stop}
+
+same_cause : (a b : Cause) → Refused a ≡ Refused b → a ≡ b
+same_cause a b e = cc
+
+-- a frame that the seat doesn't take leaves what moved before
+pub Refuses-later : (stop : Stop) (seat mid seat' : StreamSeatValue) (writer between writer' : WriterState)
+    → Moves seat mid writer between []
+    → GivesUp seat mid → Refuses stop mid seat' between writer' → Refuses stop seat seat' writer writer'
+Refuses-later stop seat mid seat' writer between writer' a up r = record {
+  of_seat = r.of_seat;
+  moved = StopsWith-later stop seat mid seat' writer between writer' [] [] a r.moved;
+  stays = GivesUp-trans seat mid seat' up r.stays;
+  limit = λ is. r.limit is ∙ stays_frames seat mid a.seat_stays;
+}
+
+-- what a refused offer is to a client, where neither the queue nor the journal is full
+offer_core : (e : core.Refusal) (frame : Frame) (at : ℕ) (seat : StreamSeatValue) → AllowsOffer seat at frame.geometry e → e ≢ cores.Full
+    → IsOffered (offered.Stopped (stop_of (hub.Core e))) frame seat seat
+offer_core cores.NoStream frame at seat p not = absurd p
+offer_core cores.Closed frame at seat p not = inl refl
+offer_core cores.WrongSize frame at seat p not = inl refl
+offer_core cores.TooManyFrames frame at seat p not = (λ _. p, refl)
+offer_core cores.Full frame at seat p not = absurd (not refl)
+offer_core cores.NoMemory frame at seat p not = (λ is. absurd (cc), refl)
+offer_core cores.NoWorker frame at seat p not = absurd p
+offer_core cores.Busy frame at seat p not = absurd p
+offer_core cores.NoneReady frame at seat p not = absurd p
+offer_core cores.NoLease frame at seat p not = absurd p
+offer_core cores.GrantSpent frame at seat p not = absurd p
+offer_core cores.Past frame at seat p not = absurd p
+offer_core cores.ClockEnd frame at seat p not = (λ is. absurd (cc), refl)
+offer_core cores.AlreadyClosed frame at seat p not = absurd p
+offer_core cores.Empty frame at seat p not = absurd p
+offer_core cores.Drained frame at seat p not = absurd p
+offer_core cores.TooManyStreams frame at seat p not = absurd p
+offer_core cores.BadLimits frame at seat p not = absurd p
+offer_core cores.BadBandwidth frame at seat p not = absurd p
+offer_core cores.Overload frame at seat p not = absurd p
+
+pub offer_refused : (e : Refusal) (frame : Frame) (at : ℕ) (seat : StreamSeatValue) → IsTold (AllowsOffer seat at frame.geometry) e
+    → e ≢ hub.Core cores.Full → e ≢ hub.HistoryFull → IsOffered (offered.Stopped (stop_of e)) frame seat seat
+offer_refused (hub.Core e) frame at seat p not other = offer_core e frame at seat p (λ is. not (ap hub.Core is))
+offer_refused hub.HistoryFull frame at seat p not other = absurd (other refl)
+offer_refused hub.StrayLease frame at seat p not other = absurd p
+offer_refused (hub.Torn c) frame at seat p not other = inl refl
+
+-- an offer of the same frame, where a refusal leaves the seat
+pub offered_back : (o : Offered) (frame frame' : Frame) (old new : StreamSeatValue) → frame' ≡ frame → new ≡ old
+    → IsOffered o frame' old old → IsOffered o frame old new
+offered_back o frame frame' old new same stays p = rw (stays, ← same) p
+
+pub offered_tally : (o : Offered) (frame : Frame) (old new : StreamSeatValue) → IsOffered o frame old new → TalliesSeat old new
+offered_tally offered.Accepted frame old new p = TalliesSeat-accept (value_of frame) p.0 old new p.1
+offered_tally (offered.QueueFull back image) frame old new p = seat_same old new p.2
+offered_tally (offered.JournalFull back image) frame old new p = seat_same old new p.2
+offered_tally (offered.Stopped Whole) frame old new p = absurd p
+offered_tally (offered.Stopped (Read fault)) frame old new p = absurd p
+offered_tally (offered.Stopped (Write fault)) frame old new p = absurd p
+offered_tally (offered.Stopped (Refused cause)) frame old new p = seat_same old new p.1
+offered_tally (offered.Stopped Torn) frame old new p = elim p [
+  | inl same ↦ seat_same old new same
+  | inr taken ↦ TalliesSeat-accept (value_of frame) taken.0 old new taken.2
+]
+
+-- a frame that is accepted after others moved
+pub offer_taken : (frame frame' : Frame) (n : ℕ) (seat mid seat' : StreamSeatValue) (writer between : WriterState)
+    → Moves seat mid writer between []
+    → frame' ≡ frame → Accepts (value_of frame') n mid seat' → Moves seat seat' writer between (frame_text_of frame ∷ [])
+offer_taken frame frame' n seat mid seat' writer between a same taken =
+    Moves-trans seat mid seat' writer between between [] (frame_text_of frame ∷ []) a
+    (rw same at (Moves-accept mid seat' between frame' n taken))
+
+-- the stop of an offer
+pub offer_stopped : (stop : Stop) (frame : Frame) (seat mid seat' : StreamSeatValue) (writer between : WriterState)
+    → Moves seat mid writer between []
+    → GivesUp seat mid → TalliesSeat seat mid → IsOffered (offered.Stopped stop) frame mid seat'
+    → Refuses stop seat seat' writer between ⊎ AcceptsTorn stop (frame_text_of frame) seat seat' writer between
+offer_stopped Whole frame seat mid seat' writer between a up tally p = absurd p
+offer_stopped (Read fault) frame seat mid seat' writer between a up tally p = absurd p
+offer_stopped (Write fault) frame seat mid seat' writer between a up tally p = absurd p
+offer_stopped (Refused cause) frame seat mid seat' writer between a up tally p =
+    inl (Refuses-later (Refused cause) seat mid seat' writer between between a up (record {
+      of_seat = tt;
+      moved = Moves-none mid seat' between between p.1 refl;
+      stays = rw p.1 refl;
+      limit = λ is. ap (λ (s : StreamSeatValue). s.accepted) p.1 ∙ p.0 (same_cause cause TooManyFrames is);
+    }))
+offer_stopped Torn frame seat mid seat' writer between a up tally p = elim p [
+  | inl stays ↦ inl (Refuses-later Torn seat mid seat' writer between between a up (record {
+    of_seat = tt;
+    moved = (mid, Moves-none mid mid between between refl refl);
+    stays = rw stays refl;
+    limit = λ is. absurd (cc);
+  }))
+  | inr taken ↦ inr (record {
+    torn = refl;
+    other = λ past same. other_number past (value_of frame) taken.0 mid seat' (counted_later past seat mid tally same) taken.1 taken.2;
+    moved = Moves-trans seat mid seat' writer between between [] (frame_text_of frame ∷ []) a
+        (Moves-accept mid seat' between frame taken.0 taken.2);
+  })
+]
+
+clash : IsTrue false → ⊥
+clash e = cc
+
+-- the stop of a collection from an open seat
+pub collection_stopped : (stop : Stop) (seat mid seat' : StreamSeatValue) (writer between writer' : WriterState)
+    → Moves seat mid writer between []
+    → GivesUp seat mid → IsOfCollection (Stopped stop) → (Stopped stop ≡ Stopped Whole → IsDrained mid × (seat' ≡ mid))
+    → seat.is_closed ≡ false
+    → StopsWith stop mid seat' between writer' [] → GivesUp mid seat' → Refuses stop seat seat' writer writer'
+collection_stopped stop seat mid seat' writer between writer' a up own drained is_open moved stays =
+    Refuses-later stop seat mid seat' writer between writer' a up (record {
+      of_seat = seat_stop stop own (λ is. clash (subst IsTrue (stays_closed seat mid a.seat_stays ∙ is_open)
+          (drained (ap Stopped is)).0.closed));
+      moved = moved;
+      stays = stays;
+      limit = λ is. absurd (subst (λ s. IsOfCollection (Stopped s)) is own);
+    })
+
+-- a frame that comes back, the journal being full
+pub kept_frame : (back : Arc Frame Global) (frame : Frame) (seat mid seat' : StreamSeatValue) (writer between writer' : WriterState)
+    → arc_value back ≡ frame → Moves seat mid writer between [] → GivesUp seat mid → Moves mid seat' between writer' [] → GivesUp mid seat'
+    → KeepsFrame back frame seat seat' writer writer'
+kept_frame back frame seat mid seat' writer between writer' same a up b stays = record {
+  same = same;
+  moved = Moves-trans seat mid seat' writer between writer' [] [] a b;
+  stays = GivesUp-trans seat mid seat' up stays;
+}
+
+-- no image was collected and written, and a frame is in hand
+pub collection_halted : (halt : Halt) (back : Arc Frame Global) (frame : Frame) (seat mid seat' : StreamSeatValue)
+    (writer between writer' : WriterState)
+    → arc_value back ≡ frame → Moves seat mid writer between [] → GivesUp seat mid → IsOfCollection halt
+    → (halt ≡ Stopped Whole → IsDrained mid × (seat' ≡ mid)) → seat.is_closed ≡ false → HaltsWith halt mid seat' between writer' []
+    → GivesUp mid seat' → Unfed (fed_of halt back) frame seat seat' writer writer'
+collection_halted Full back frame seat mid seat' writer between writer' same a up own drained is_open moved stays =
+    kept_frame back frame seat mid seat' writer between writer' same a up moved stays
+collection_halted (Stopped stop) back frame seat mid seat' writer between writer' same a up own drained is_open moved stays =
+    inl (collection_stopped stop seat mid seat' writer between writer' a up own drained is_open moved stays)
+
+-- what is in hand is of the seat's chain
+pub sized_fed : (fed : Fed) (frame : Frame) (seat seat' : StreamSeatValue) (writer writer' : WriterState)
+    → frame.geometry ≡ seat.chain.geometry
+    → IsWriterFor seat.chain writer → Unfed fed frame seat seat' writer writer' → IsSizedFed seat.chain writer' fed
+sized_fed (feds.Stopped stop) frame seat seat' writer writer' sized size k = tt
+sized_fed (feds.Held stop) frame seat seat' writer writer' sized size k = tt
+sized_fed (feds.Paused None) frame seat seat' writer writer' sized size k = absurd k
+sized_fed (feds.Paused (Some back)) frame seat seat' writer writer' sized size k = (
+  ap (λ (f : Frame). f.geometry) k.same ∙ sized,
+  subst (λ (c : ChainValue). IsWriterFor c writer') (stays_chain seat seat' k.moved.seat_stays)
+      (size_later seat seat' writer writer' [] k.moved size),
+)

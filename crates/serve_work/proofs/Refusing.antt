@@ -1,0 +1,159 @@
+-- What a refused collection is to a client.
+use Rattle.std.proofs.Common.{◌≡◌, List, [], refl, sym, ap, ◌∙◌}
+use Rattle.std.proofs.Common.{Option, None, Some, MatchOption, ◌≢◌, IsTrue, false, subst}
+use Rattle.std.proofs.Common.{IfOk, IfErr, Ok, Err, Result}
+use Rattle.filters.specs.ChainImage.{FrameValue}
+use Rattle.y4m_stream.specs.Writer.{WriterState}
+use Rattle.serve_core.specs.declared.collected.Collected.{Collected}
+use Rattle.serve_core.specs.declared.refusal.Refusal as core
+use Rattle.serve_core.specs.declared.refusal.Refusal.TheVariants as cores
+use Rattle.serve_hub.specs.declared.refusal.Refusal.{Refusal}
+use Rattle.serve_hub.specs.declared.refusal.Came.TheVariants as came
+use Rattle.serve_hub.specs.declared.refusal.Refusal.TheVariants as hub
+use Rattle.serve_hub.specs.declared.refused.CollectRefused.{CollectRefused}
+use Rattle.serve_hub.specs.Calls.{AllowsCollect, Collects, Gives, GivesOther, IsCollectRefused, IsTold, after_refusal}
+use Rattle.serve_hub.specs.Seats.{CallsValue, StreamSeatValue}
+use Rattle.serve_work.specs.declared.stop.Halt.{Halt}
+use Rattle.serve_work.specs.declared.stop.Halt.TheVariants.{Full, Stopped}
+use Rattle.serve_work.specs.declared.stop.Stop.{Stop}
+use Rattle.serve_work.specs.declared.stop.Stop.TheVariants.{Whole, Read, Write, Refused, Torn}
+use Rattle.serve_work.specs.Clients.{IsDrained}
+use Rattle.serve_work.specs.ClientInside.{GivesUp, HaltsWith, IsOfCollection, IsOfDelivery, IsOfSeat, IsUseful}
+use Rattle.serve_work.specs.ClientInside.{TalliesSeat, halt_of, stop_of}
+use Rattle.serve_work.proofs.Tallying.{Collects-up, TalliesSeat-collect, TalliesSeat-same}
+use Rattle.serve_work.proofs.Moving.{Moves-none}
+
+-- what a refused collection is to a client
+pub record IsRefusedAs (halt : Halt) (old new : StreamSeatValue) (writer : WriterState) : Type 0 where
+  pub moved : HaltsWith halt old new writer writer []
+  pub drained : halt ≡ Stopped Whole → IsDrained old × (new ≡ old)
+  pub own : IsOfCollection halt
+
+nothing_torn : (old new : StreamSeatValue) (writer : WriterState) → IsRefusedAs (Stopped Torn) old new writer
+nothing_torn old new writer = record {
+  moved = (old, Moves-none old old writer writer refl refl);
+  drained = λ is. absurd (cc);
+  own = tt;
+}
+
+refused_core : (e : core.Refusal) (old new : StreamSeatValue) (writer : WriterState) → AllowsCollect old e → new ≡ old
+    → IsRefusedAs (Stopped (stop_of (hub.Core e))) old new writer
+refused_core cores.NoStream old new writer p same = absurd p
+refused_core cores.Closed old new writer p same = absurd p
+refused_core cores.WrongSize old new writer p same = absurd p
+refused_core cores.TooManyFrames old new writer p same = absurd p
+refused_core cores.Full old new writer p same = absurd p
+refused_core cores.NoMemory old new writer p same = absurd p
+refused_core cores.NoWorker old new writer p same = absurd p
+refused_core cores.Busy old new writer p same = absurd p
+refused_core cores.NoneReady old new writer p same = absurd p
+refused_core cores.NoLease old new writer p same = absurd p
+refused_core cores.GrantSpent old new writer p same = absurd p
+refused_core cores.Past old new writer p same = absurd p
+refused_core cores.ClockEnd old new writer p same = absurd p
+refused_core cores.AlreadyClosed old new writer p same = absurd p
+refused_core cores.TooManyStreams old new writer p same = absurd p
+refused_core cores.BadLimits old new writer p same = absurd p
+refused_core cores.BadBandwidth old new writer p same = absurd p
+refused_core cores.Overload old new writer p same = absurd p
+refused_core cores.Empty old new writer p same = nothing_torn old new writer
+refused_core cores.Drained old new writer p same = record {
+  moved = Moves-none old new writer writer same refl;
+  drained = λ _. (record { closed = p.0; none = p.1 }, same);
+  own = tt;
+}
+
+refused_as : (e : Refusal) (old new : StreamSeatValue) (writer : WriterState) → IsTold (AllowsCollect old) e
+    → new ≡ after_refusal e old → IsRefusedAs (halt_of e) old new writer
+refused_as (hub.Core e) old new writer p same = refused_core e old new writer p same
+refused_as hub.HistoryFull old new writer p same = record {
+  moved = Moves-none old new writer writer same refl;
+  drained = λ is. absurd (cc);
+  own = tt;
+}
+refused_as hub.StrayLease old new writer p same = absurd p
+refused_as (hub.Torn c) old new writer p same = nothing_torn old new writer
+
+refused_pair : (o : Option Collected) (e : CollectRefused) (old new : StreamSeatValue) (writer : WriterState)
+    → MatchOption o (IsTold (AllowsCollect old) e.refusal × (new ≡ after_refusal e.refusal old)) (λ pair. GivesOther pair e old new)
+    → IsRefusedAs (halt_of e.refusal) old new writer
+refused_pair None e old new writer m = refused_as e.refusal old new writer m.0 m.1
+refused_pair (Some pair) e old new writer m = rw m.other.2 (nothing_torn old new writer)
+
+pub collect_refused : (e : CollectRefused) (old new : StreamSeatValue) (writer : WriterState) → IsCollectRefused e old new
+    → IsRefusedAs (halt_of e.refusal) old new writer
+collect_refused e old new writer m = refused_pair e.pair e old new writer m
+
+-- a refusal leaves all but what the seat keeps
+kept_alone : (e : Refusal) (old new : StreamSeatValue) → new ≡ after_refusal e old → new ≡ record old { kept = new.kept }
+kept_alone (hub.Core e) old new same =
+    same ∙ ap (λ (k : List FrameValue). record old { kept = k }) (sym (ap (λ (v : StreamSeatValue). v.kept) same))
+kept_alone hub.HistoryFull old new same =
+    same ∙ ap (λ (k : List FrameValue). record old { kept = k }) (sym (ap (λ (v : StreamSeatValue). v.kept) same))
+kept_alone hub.StrayLease old new same =
+    same ∙ ap (λ (k : List FrameValue). record old { kept = k }) (sym (ap (λ (v : StreamSeatValue). v.kept) same))
+kept_alone (hub.Torn c) old new same =
+    same ∙ ap (λ (k : List FrameValue). record old { kept = k }) (sym (ap (λ (v : StreamSeatValue). v.kept) same))
+
+-- what a collection leaves of a seat, whatever its answer
+pub record IsCollected (old new : StreamSeatValue) : Type 0 where
+  pub up : GivesUp old new
+  pub tally : TalliesSeat old new
+
+collected_pair : (pair : Collected) (old new : StreamSeatValue) → Collects pair old new → IsCollected old new
+collected_pair pair old new c = record { up = Collects-up pair old new c; tally = TalliesSeat-collect pair old new c }
+
+collected_none : (o : Option Collected) (e : CollectRefused) (old new : StreamSeatValue)
+    → MatchOption o (IsTold (AllowsCollect old) e.refusal × (new ≡ after_refusal e.refusal old)) (λ pair. GivesOther pair e old new)
+    → IsCollected old new
+collected_none None e old new m =
+    let same = kept_alone e.refusal old new m.1 in
+    record {
+      up = same ∙ ap (λ (k : CallsValue). record old { calls = k; kept = new.kept }) (sym (ap (λ (v : StreamSeatValue). v.calls) same));
+      tally = TalliesSeat-same old new (ap (λ (v : StreamSeatValue). v.number) same)
+          (ap (λ (v : StreamSeatValue). v.chain) same) (ap (λ (v : StreamSeatValue). v.before) same)
+          (ap (λ (v : StreamSeatValue). v.calls) same) (ap (λ (v : StreamSeatValue). v.accepted) same);
+    }
+collected_none (Some pair) e old new m = collected_pair pair old new m.collects
+
+pub collected : (answer : Result Collected CollectRefused) (old new : StreamSeatValue) → IfOk answer (λ pair. Gives pair old new)
+    → IfErr answer (λ e. IsCollectRefused e old new) → IsCollected old new
+collected (Ok pair) old new given refused = collected_pair pair old new given.collects
+collected (Err e) old new given refused = collected_none e.pair e old new refused
+
+-- a stop of a collection that isn't whole
+pub seat_stop : (stop : Stop) → IsOfCollection (Stopped stop) → stop ≢ Whole → IsOfSeat stop
+seat_stop Whole own not = absurd (not refl)
+seat_stop (Read fault) own not = absurd own
+seat_stop (Refused cause) own not = absurd own
+seat_stop (Write fault) own not = tt
+seat_stop Torn own not = tt
+
+-- a stop of a collection from an open seat
+spoilt_by : (stop : Stop) → IsOfCollection (Stopped stop) → stop ≢ Whole → IsUseful stop → ⊥
+spoilt_by Whole own not useful = not refl
+spoilt_by (Read fault) own not useful = own
+spoilt_by (Refused cause) own not useful = own
+spoilt_by (Write fault) own not useful = useful
+spoilt_by Torn own not useful = useful
+
+not_closed : IsTrue false → ⊥
+not_closed e = cc
+
+pub of_delivery : (halt : Halt) (old new : StreamSeatValue) (writer : WriterState) → IsRefusedAs halt old new writer
+    → old.is_closed ≡ false → IsOfDelivery halt
+of_delivery Full old new writer r is_open = tt
+of_delivery (Stopped stop) old new writer r is_open =
+    spoilt_by stop r.own (λ is. not_closed (subst IsTrue is_open (r.drained (ap Stopped is)).0.closed))
+
+-- no image is there, and the seat stays as it was
+none_of : (o : Option Collected) (e : CollectRefused) (old new : StreamSeatValue) → e.refusal ≡ hub.Core cores.Empty
+    → MatchOption o (IsTold (AllowsCollect old) e.refusal × (new ≡ after_refusal e.refusal old)) (λ pair. GivesOther pair e old new)
+    → new ≡ old
+none_of None e old new is m = m.1 ∙ ap (λ (r : Refusal). after_refusal r old) is
+none_of (Some pair) e old new is m =
+    let both : hub.Torn came.Source ≡ hub.Core cores.Empty = sym m.other.2 ∙ is in absurd (cc)
+
+pub none_there : (e : CollectRefused) (old new : StreamSeatValue) → e.refusal ≡ hub.Core cores.Empty → IsCollectRefused e old new
+    → new ≡ old
+none_there e old new is m = none_of e.pair e old new is m

@@ -1,0 +1,294 @@
+-- How a client goes on from where it paused.
+use Rattle.std.proofs.Common.{All, ◌≡◌, ℕ, ◌≤◌, List, [], length, Option, IfSome, None, Some, refl, sym, ap, ◌∙◌, append-nil, arith, subst, inl, inr, false}
+use Rattle.std.proofs.KnownBytes.{Appends-nil, Consumes-nil}
+use Rattle.std.proofs.lemmas.List.Elements.{All-nil}
+use Rattle.std.specs.declared.alloc.Global.{Global}
+use Rattle.std.specs.declared.sync.Arc.{Arc}
+use Rattle.std.specs.Arc.{arc_value}
+use Rattle.frame_view.specs.declared.frame.Frame.{Frame}
+use Rattle.frame_view.specs.declared.geometry.Geometry.{Geometry}
+use Rattle.filters.specs.Chain.{ChainValue, Format, format_of, last_format}
+use Rattle.y4m_header.specs.Header.{HeaderValue}
+use Rattle.y4m_header.specs.StreamText.{FrameText, IsFrameOf}
+use Rattle.y4m_stream.specs.declared.passing.TheConstants.{MOST_FRAMES}
+use Rattle.y4m_stream.specs.declared.reader.Phase.TheVariants.{Open}
+use Rattle.y4m_stream.specs.Front.{IsReadAhead}
+use Rattle.y4m_stream.specs.Reader.{IsOfHeader, ReaderState, data_len_of}
+use Rattle.y4m_stream.specs.Served.{IsHeaderOfImages}
+use Rattle.y4m_stream.specs.Writer.{IsOpenedFor, IsWriterFor, WriterState}
+use Rattle.serve_hub.specs.declared.entry.Act.{Act}
+use Rattle.serve_hub.specs.Seats.{StreamSeatValue}
+use Rattle.serve_work.specs.declared.buffers.Buffers.{Buffers}
+use Rattle.serve_work.specs.declared.feeding.Fed.{Fed}
+use Rattle.serve_work.specs.declared.course.Course as code
+use Rattle.serve_work.specs.declared.course.Course.TheVariants as courses
+use Rattle.serve_work.specs.declared.stop.Cause.TheVariants.{NoMemory}
+use Rattle.serve_work.specs.declared.stop.Stop.TheVariants.{Whole, Read, Write, Refused, Torn}
+use Rattle.serve_work.specs.Clients.{ClientStart}
+use Rattle.serve_work.specs.ClientInside.{Accounted, AreBuffersFor, FeedsOn, HasInHand, Holds, IsCounted, IsSized, Moves}
+use Rattle.serve_work.specs.ClientInside.{Serves, Stays, Tallies, texts_of}
+use Rattle.serve_work.specs.Rests.{BegunValue, CanFeed, CanGoOn, CourseValue, Feeding, Draining, Discarding, HasMemoryFor, Holding}
+use Rattle.serve_work.specs.Rests.{IsAt, IsBegun, IsFresh, IsOutset, IsRunning, IsTallied, IsUnbegun, Outset, as_open, course_of}
+use Rattle.serve_work.specs.Rests.{stop_given_up}
+use Rattle.serve_work.proofs.Tallying.{collections_both, counted_later}
+use Rattle.serve_work.proofs.Moving.{Accounted-later, few_of, one_size, size_later}
+use Rattle.serve_work.proofs.Passing.{FeedsOn-behind, takes_of}
+use Rattle.serve_work.proofs.Spoiling.{held_told, read_in_hand, sent_told}
+use Rattle.serve_work.proofs.Stopping.{moves_until, sends_whole}
+
+-- what is tallied over the epochs
+pub tallied_later : (past : List Act) (first seat seat' : StreamSeatValue) (writer writer' : WriterState) → IsTallied past first seat writer
+    → Tallies seat seat' writer writer' → IsTallied past first seat' writer'
+tallied_later past first seat seat' writer writer' a t = record {
+  number = t.seat.number ∙ a.number;
+  chain = t.seat.chain ∙ a.chain;
+  offers = counted_later past seat seat' t.seat a.offers;
+  images = omega (arith, a.images, t.images, collections_both past seat.calls.list, collections_both past seat'.calls.list);
+  before = t.seat.before ∙ a.before;
+}
+
+-- memory for one chain is memory for another whose frames and images have the same sizes
+abbrev AreSources : Geometry → Buffers → Type 0
+AreSources g buffers = All (λ (f : Arc Frame Global). (arc_value f).geometry ≡ g) buffers.sources.items
+
+abbrev AreImagesOf : Format → Buffers → Type 0
+AreImagesOf format buffers = All (λ (i : Frame). format_of i.geometry ≡ format) buffers.images.items
+
+same_format : (writer : WriterState) (a b : ChainValue) → IsWriterFor a writer → IsWriterFor b writer
+    → last_format a.ops (format_of a.geometry) ≡ last_format b.ops (format_of b.geometry)
+same_format writer a b p q =
+    let of : (f : Format) → writer.width ≡ f.width → writer.height ≡ f.height → writer.chroma ≡ f.chroma
+    → f ≡ record { width = writer.width; height = writer.height; chroma = writer.chroma } =
+    λ f w h c. rw (w, h, c) refl in
+    of _ p.width p.height p.chroma ∙ sym (of _ q.width q.height q.chroma)
+
+pub same_memory : (a b : ChainValue) (header : HeaderValue) (writer : WriterState) (buffers : Buffers) → IsOfHeader header a.geometry
+    → IsOfHeader header b.geometry → IsWriterFor a writer → IsWriterFor b writer → AreBuffersFor a buffers → AreBuffersFor b buffers
+same_memory a b header writer buffers h k p q m = record {
+  sources = subst (λ (g : Geometry). AreSources g buffers) (one_size header a.geometry b.geometry h k) m.sources;
+  images = subst (λ (f : Format). AreImagesOf f buffers) (same_format writer a b p q) m.images;
+}
+
+-- a stream whose frames were counted from its beginning
+first_accounted : (o : Outset) (seat : StreamSeatValue) → IsOutset o → seat.frames ≤ MOST_FRAMES → seat.frames ≡ o.seat.frames
+    → Accounted o.seat o.writer
+first_accounted o seat is most same = record {
+  balanced = omega (arith, is.none, ap length is.fresh.kept, is.fresh.accepted);
+  within = omega (arith, is.fresh.accepted);
+  most = omega (arith, most, same);
+  is_open = is.fresh.is_open;
+  writing = is.writing;
+}
+
+-- frames of the same stream in a later epoch
+pub Moves-fresh : (seat seat' : StreamSeatValue) (writer : WriterState) → IsFresh seat → IsFresh seat' → Stays seat seat'
+    → Moves seat seat' writer writer []
+Moves-fresh seat seat' writer a b stays = record {
+  sent = [];
+  images = [];
+  order = append-nil (texts_of seat.kept) ∙ ap texts_of (a.kept ∙ sym b.kept);
+  made = tt;
+  wrote = Appends-nil writer.contents;
+  bytes = omega arith;
+  frames = omega arith;
+  count = omega (arith, a.accepted, b.accepted);
+  within = λ _. omega (arith, b.accepted);
+  seat_stays = stays;
+  writer_stays = refl;
+}
+
+-- the frame in hand is of the seat's chain
+sized_now : (in_hand : Option (Arc Frame Global)) (reader : ReaderState) (a b : ChainValue) → IsOfHeader reader.header a.geometry
+    → IsOfHeader reader.header b.geometry → IsSized a in_hand → IsSized b in_hand
+sized_now in_hand reader a b h k sized =
+    subst (λ (g : Geometry). IfSome in_hand (λ (f : Arc Frame Global). (arc_value f).geometry ≡ g))
+    (one_size reader.header a.geometry b.geometry h k) sized
+
+-- where a client was, it can go on
+pub can_go_on : (course : code.Course) (past : List Act) (o : Outset) (reader : ReaderState) (seat : StreamSeatValue) (writer : WriterState)
+    (buffers : Buffers)
+    → IsOutset o → seat.frames ≤ MOST_FRAMES → IsTallied past o.seat seat writer → IsWriterFor o.seat.chain o.writer
+    → IsOfHeader reader.header seat.chain.geometry
+    → IsAt (course_of course) past o reader seat writer → HasMemoryFor reader writer buffers course
+    → CanGoOn (Some course) reader seat writer buffers
+can_go_on (courses.Feeding in_hand) past o reader seat writer buffers is most tally size header at memory =
+    let moved = at.passed.moved in
+    let now : IsWriterFor seat.chain writer = size_later o.seat seat o.writer writer at.frames moved size in
+    record {
+      is_open = at.is_open;
+      accounted = Accounted-later o.seat seat o.writer writer at.frames moved (first_accounted o seat is most moved.seat_stays.frames);
+      size = now;
+      memory = same_memory memory.chain seat.chain reader.header writer buffers memory.header header memory.size now memory.memory;
+      frame = sized_now in_hand reader memory.chain seat.chain memory.header header memory.sized;
+      past = past;
+      counted = tally.offers;
+      before = at.before;
+      holds = at.holds;
+    }
+can_go_on (courses.Holding in_hand held) past o reader seat writer buffers is most tally size header at memory = record {
+  is_open = at.is_open;
+  frame = sized_now in_hand reader memory.chain seat.chain memory.header header memory.sized;
+  spoilt = at.spoilt;
+}
+can_go_on (courses.Draining stop) past o reader seat writer buffers is most tally size header at memory =
+    let moved : Moves o.seat (as_open seat) o.writer writer at.1.frames = moves_until stop o.seat (as_open seat) o.writer writer at.1.frames
+    at.0 at.1.moved in
+    let now : Accounted (as_open seat) writer = Accounted-later o.seat (as_open seat) o.writer writer at.1.frames moved
+    (first_accounted o seat is most moved.seat_stays.frames) in
+    record {
+      few = few_of (as_open seat) writer now;
+      writing = now.writing;
+      size = size_later o.seat (as_open seat) o.writer writer at.1.frames moved size;
+    }
+can_go_on (courses.Discarding stop) past o reader seat writer buffers is most tally size header at memory = at.0
+
+-- where nothing was done yet, it can begin
+pub can_begin : (past : List Act) (reader : ReaderState) (seat : StreamSeatValue) (writer : WriterState) (buffers : Buffers) → IsFresh seat
+    → seat.frames ≤ MOST_FRAMES → reader.phase ≡ Open → writer.failed ≡ false → writer.frames ≡ 0 → IsCounted past seat
+    → IsWriterFor seat.chain writer → AreBuffersFor seat.chain buffers → CanFeed None reader seat writer buffers
+can_begin past reader seat writer buffers fresh most is_open writing none counted size memory = record {
+  is_open = is_open;
+  accounted = record {
+    balanced = omega (arith, none, ap length fresh.kept, fresh.accepted);
+    within = omega (arith, fresh.accepted);
+    most = most;
+    is_open = fresh.is_open;
+    writing = writing;
+  };
+  size = size;
+  memory = memory;
+  frame = tt;
+  past = past;
+  counted = counted;
+  before = reader;
+  holds = refl;
+}
+
+-- the outset of a stream whose header line was written
+pub outset_of : (start : ClientStart) (shown : HeaderValue) (opened : WriterState) → IsFresh start.seat
+    → IsOpenedFor shown start.before start.failures opened
+    → IsOutset (record { reader = start.reader; seat = start.seat; writer = opened })
+outset_of start shown opened first is = record { fresh = first; writing = is.writing; none = is.frames }
+
+-- the writer is for the images of the stream
+pub opened_size : (chain : ChainValue) (header shown : HeaderValue) (contents : Option (List ℕ)) (failures : ℕ) (writer : WriterState)
+    → IsHeaderOfImages chain header shown → IsOpenedFor shown contents failures writer → IsWriterFor chain writer
+opened_size chain header shown contents failures writer h opened = record {
+  width = opened.width ∙ h.width;
+  height = opened.height ∙ h.height;
+  chroma = opened.chroma ∙ h.chroma;
+}
+
+-- what is left to do of a stream whose header line was written
+abbrev pub begun_with : code.Course → ReaderState → WriterState → (accepted collected : ℕ) → BegunValue
+begun_with course reader writer accepted collected = record {
+  reader = reader;
+  writer = writer;
+  course = course_of course;
+  accepted = accepted;
+  collected = collected;
+}
+
+pub can_resume : (course : code.Course) (reader : ReaderState) (seat : StreamSeatValue) (writer : WriterState) (buffers : Buffers)
+    (accepted collected : ℕ)
+    → seat.frames ≤ MOST_FRAMES → IsOfHeader reader.header seat.chain.geometry → HasMemoryFor reader writer buffers course
+    → (start : ClientStart) (past : List Act) → IsBegun start past seat (begun_with course reader writer accepted collected)
+    → CanGoOn (Some course) reader seat writer buffers
+can_resume course reader seat writer buffers accepted collected most header memory start past b =
+    can_go_on course past (record { reader = start.reader; seat = start.seat; writer = b.opened }) reader seat writer buffers
+    (outset_of start b.shown b.opened b.first b.is_opened) most b.tally
+    (opened_size start.seat.chain start.reader.header b.shown start.before start.failures b.opened b.header b.is_opened) header b.at memory
+
+pub resumed : (course : code.Course) (reader : ReaderState) (seat : StreamSeatValue) (writer : WriterState) (accepted collected : ℕ)
+    (start : ClientStart) (past : List Act)
+    → IsBegun start past seat (begun_with course reader writer accepted collected) → IsRunning (Some course) start past reader seat writer
+resumed course reader seat writer accepted collected start past b = record {
+  shown = b.shown;
+  opened = b.opened;
+  header = b.header;
+  is_opened = b.is_opened;
+  first = b.first;
+  before = b.at;
+  same_header = b.same_header;
+  tally = b.tally;
+}
+
+-- feeding goes on from the outset
+pub fed_from : (fed : Fed) (in_hand : Option FrameText) (past : List Act) (o : Outset) (reader reader' : ReaderState)
+    (seat seat' : StreamSeatValue) (writer writer' : WriterState)
+    → HasInHand o.reader reader o.seat seat o.writer writer in_hand
+    → ((before : ReaderState) → Holds before reader in_hand → FeedsOn fed past before reader' seat seat' writer writer')
+    → FeedsOn fed past o.reader reader' o.seat seat' o.writer writer'
+fed_from fed in_hand past o reader reader' seat seat' writer writer' at fed_on =
+    FeedsOn-behind o.reader at.before o.seat seat o.writer writer at.frames at.passed past fed reader' seat' writer'
+    (fed_on at.before at.holds)
+
+-- a stream of which nothing was done, behind its header line
+pub feeding_first : (start : ClientStart) (past : List Act) (seat : StreamSeatValue) (reader : ReaderState) (contents : Option (List ℕ))
+    (failures : ℕ)
+    (opened : WriterState) → IsUnbegun start past seat reader contents failures
+    → HasInHand start.reader reader start.seat seat opened opened None
+feeding_first start past seat reader contents failures opened is = record {
+  before = reader;
+  frames = [];
+  passed = record {
+    each = All-nil (IsFrameOf (data_len_of start.reader.header));
+    taken = rw is.same_reader (Consumes-nil start.reader.rest);
+    moved = Moves-fresh start.seat seat opened is.first is.fresh is.stays;
+    header = ap (λ (r : ReaderState). r.header) is.same_reader;
+    no_failure = ap (λ (r : ReaderState). r.failures) is.same_reader;
+  };
+  holds = refl;
+  is_open = ap (λ (r : ReaderState). r.phase) is.same_reader ∙ is.is_open;
+}
+
+-- a client that gives up was served that far
+pub given_up : (course : CourseValue) (past : List Act) (o : Outset) (reader : ReaderState) (seat : StreamSeatValue) (writer : WriterState)
+    → IsOutset o → IsReadAhead reader.rest reader.left
+    → IsAt course past o reader seat writer → Serves past (stop_given_up course) o.reader reader o.seat seat o.writer writer
+given_up (Feeding in_hand) past o reader seat writer is ahead at = record {
+  frames = at.frames;
+  read = read_in_hand in_hand past o.reader at.before reader o.seat seat at.frames
+      (takes_of o.reader at.before o.seat seat o.writer writer at.frames at.passed) at.holds ahead;
+  count = at.passed.moved.count;
+  sent = inl (sends_whole o.seat o.writer at.frames is.fresh.kept is.writing seat writer at.passed.moved, λ f same. absurd (cc));
+  whole = λ same. absurd (cc);
+}
+given_up (Holding None held) past o reader seat writer is ahead at = record {
+  frames = at.frames;
+  read = read_in_hand None past o.reader at.before reader o.seat seat at.frames at.read at.holds ahead;
+  count = at.count;
+  sent = sent_told o.seat.chain at.frames o.writer writer held (Refused NoMemory) (λ f same. absurd (cc)) at.sent;
+  whole = λ same. absurd (cc);
+}
+given_up (Holding (Some frame) held) past o reader seat writer is ahead at = held_told held o reader seat writer frame past at
+given_up (Draining Whole) past o reader seat writer is ahead at =
+    let a = at.1 in
+    record {
+      frames = a.frames;
+      read = record { rest = a.read.rest; each = a.read.each; taken = a.read.taken; stops = inl (inr a.read.stops); reads = a.read.reads };
+      count = a.count;
+      sent = inl (sends_whole o.seat o.writer a.frames is.fresh.kept is.writing (as_open seat) writer a.moved, λ f same. absurd (cc));
+      whole = λ same. absurd (cc);
+    }
+given_up (Draining (Read fault)) past o reader seat writer is ahead at =
+    let a = at.1 in
+    record {
+      frames = a.frames;
+      read = record { rest = a.read.rest; each = a.read.each; taken = a.read.taken; stops = a.read.stops; reads = a.read.reads };
+      count = a.count;
+      sent = inl (sends_whole o.seat o.writer a.frames is.fresh.kept is.writing (as_open seat) writer a.moved, λ f same. absurd (cc));
+      whole = λ same. absurd (cc);
+    }
+given_up (Draining (Refused cause)) past o reader seat writer is ahead at =
+    let a = at.1 in
+    record {
+      frames = a.frames;
+      read = record { rest = a.read.rest; each = a.read.each; taken = a.read.taken; stops = a.read.stops; reads = a.read.reads };
+      count = a.count;
+      sent = inl (sends_whole o.seat o.writer a.frames is.fresh.kept is.writing (as_open seat) writer a.moved, λ f same. absurd (cc));
+      whole = λ same. absurd (cc);
+    }
+given_up (Draining (Write fault)) past o reader seat writer is ahead at = absurd at.0
+given_up (Draining Torn) past o reader seat writer is ahead at = absurd at.0
+given_up (Discarding stop) past o reader seat writer is ahead at = at.1

@@ -1,0 +1,59 @@
+-- What stays of a seat and of a writer.
+use Rattle.std.proofs.Common.{◌≡◌, ℕ, refl, sym, ap, ◌∙◌}
+use Rattle.y4m_header.specs.StreamText.{FrameText}
+use Rattle.filters.specs.ChainImage.{FrameValue}
+use Rattle.y4m_stream.specs.Writer.{PutsFrame, WriterState}
+use Rattle.serve_hub.specs.Seats.{StreamSeatValue}
+use Rattle.serve_work.specs.ClientInside.{GivesUp}
+use Rattle.serve_work.specs.ClientInside.{Stays}
+
+pub Stays-same : (seat : StreamSeatValue) → Stays seat seat
+Stays-same seat = record { number = refl; chain = refl; frames = refl; is_closed = refl }
+
+pub Stays-trans : (a b c : StreamSeatValue) → Stays a b → Stays b c → Stays a c
+Stays-trans a b c p q = record {
+  number = q.number ∙ p.number;
+  chain = q.chain ∙ p.chain;
+  frames = q.frames ∙ p.frames;
+  is_closed = q.is_closed ∙ p.is_closed;
+}
+
+pub GivesUp-trans : (a b c : StreamSeatValue) → GivesUp a b → GivesUp b c → GivesUp a c
+GivesUp-trans a b c p q = q ∙ ap (λ (v : StreamSeatValue). record v { calls = c.calls; kept = c.kept }) p
+
+pub GivesUp-stays : (a b : StreamSeatValue) → GivesUp a b → Stays a b
+GivesUp-stays a b p = record {
+  number = ap (λ (v : StreamSeatValue). v.number) p;
+  chain = ap (λ (v : StreamSeatValue). v.chain) p;
+  frames = ap (λ (v : StreamSeatValue). v.frames) p;
+  is_closed = ap (λ (v : StreamSeatValue). v.is_closed) p;
+}
+
+pub stays_chain : (a b : StreamSeatValue) → Stays a b → b.chain ≡ a.chain
+stays_chain a b p = p.chain
+
+pub stays_frames : (a b : StreamSeatValue) → Stays a b → b.frames ≡ a.frames
+stays_frames a b p = p.frames
+
+pub stays_closed : (a b : StreamSeatValue) → Stays a b → b.is_closed ≡ a.is_closed
+stays_closed a b p = p.is_closed
+
+-- a frame as a stream has it
+abbrev pub text_of_value : FrameValue → FrameText
+text_of_value frame = record { line = frame.line; samples = frame.samples }
+
+-- nothing of the writer may have changed but what went out
+abbrev pub Writes : WriterState → WriterState → Type 0
+Writes old new = new ≡ record old { contents = new.contents; frames = new.frames; bytes = new.bytes }
+
+pub Writes-trans : (a b c : WriterState) → Writes a b → Writes b c → Writes a c
+Writes-trans a b c p q =
+    q ∙ ap (λ (v : WriterState). record v { contents = c.contents; frames = c.frames; bytes = c.bytes }) p
+
+pub Puts-writes : (old new : WriterState) (image : FrameText) → PutsFrame old new image → Writes old new
+Puts-writes old new image put =
+    put.counted ∙ ap (λ (p : ℕ × ℕ). record old { contents = new.contents; frames = p.0; bytes = p.1 })
+    (sym (ap (λ (w : WriterState). (w.frames, w.bytes)) put.counted))
+
+pub GivesUp-at : (seat mid at : StreamSeatValue) → at ≡ mid → GivesUp seat mid → GivesUp seat at
+GivesUp-at seat mid at same up = rw same up

@@ -1,0 +1,138 @@
+-- How the calls of a seat add up.
+use Rattle.std.proofs.Common.{◌≡◌, ◌≢◌, ℕ, ◌+◌, List, [], ◌∷◌, ◌++◌, length, filter, sum_by, Bool, refl, sym, ap, ◌∙◌, append_assoc, append-nil, length-append, arith}
+use Rattle.std.proofs.lemmas.List.Elements.{filter-append}
+use Rattle.std.proofs.lemmas.List.Sums.{sum_by-cons}
+use Rattle.filters.specs.ChainImage.{FrameValue}
+use Rattle.y4m_stream.specs.Writer.{WriterState}
+use Rattle.serve_core.specs.declared.collected.Collected.{Collected}
+use Rattle.serve_hub.specs.declared.entry.Act.{Act}
+use Rattle.serve_hub.specs.declared.entry.Act.TheVariants as acts
+use Rattle.serve_hub.specs.Calls.{Accepts, Collects}
+use Rattle.serve_hub.specs.Seats.{CallsValue, StreamSeatValue, one_collection}
+use Rattle.serve_work.specs.Clients.{HasOtherNumber, collections_in, is_collection, is_offer, offers_in}
+use Rattle.serve_work.specs.ClientInside.{GivesUp, IsCounted, Tallies, TalliesSeat}
+
+-- so many of the calls are such
+such_among : (is : Act → Bool) (calls more : List Act)
+    → length (filter is (calls ++ more)) ≡ length (filter is calls) + length (filter is more)
+such_among is calls more = ap length (filter-append is calls more) ∙ length-append (filter is calls) (filter is more)
+
+pub offers_both : (past calls : List Act) → offers_in (past ++ calls) ≡ offers_in past + offers_in calls
+offers_both past calls = such_among is_offer past calls
+
+pub collections_both : (past calls : List Act) → collections_in (past ++ calls) ≡ collections_in past + collections_in calls
+collections_both past calls = such_among is_collection past calls
+
+-- as seats count their collections
+pub collections_counted : (calls : List Act) → collections_in calls ≡ sum_by one_collection calls
+collections_counted [] = refl
+collections_counted (acts.Offered tick number ∷ calls) = collections_counted calls
+collections_counted (acts.Closed ∷ calls) = collections_counted calls
+collections_counted (acts.Admitted ∷ calls) = collections_counted calls
+collections_counted (acts.Leased stream number grant ∷ calls) = collections_counted calls
+collections_counted (acts.Settled bands finished ∷ calls) = collections_counted calls
+collections_counted (acts.Collected number ∷ calls) =
+    omega (arith, collections_counted calls, sum_by-cons one_collection (acts.Collected number) calls)
+
+pub Collects-up : (pair : Collected) (old new : StreamSeatValue) → Collects pair old new → GivesUp old new
+Collects-up pair old new c =
+    c.seat ∙ ap (λ (k : CallsValue). record old { calls = k; kept = new.kept }) (sym (ap (λ (v : StreamSeatValue). v.calls) c.seat))
+
+pub one_collected : (pair : Collected) (old new : StreamSeatValue) → Collects pair old new
+    → collections_in new.calls.list ≡ collections_in old.calls.list + 1
+one_collected pair old new c =
+    ap (λ (v : StreamSeatValue). collections_in v.calls.list) c.seat ∙ collections_both old.calls.list (acts.Collected c.number ∷ [])
+
+none_offered : (pair : Collected) (old new : StreamSeatValue) → Collects pair old new
+    → offers_in new.calls.list ≡ offers_in old.calls.list + 0
+none_offered pair old new c =
+    ap (λ (v : StreamSeatValue). offers_in v.calls.list) c.seat ∙ offers_both old.calls.list (acts.Collected c.number ∷ [])
+
+pub TalliesSeat-same : (old new : StreamSeatValue) → new.number ≡ old.number → new.chain ≡ old.chain → new.before ≡ old.before
+    → new.calls ≡ old.calls → new.accepted ≡ old.accepted → TalliesSeat old new
+TalliesSeat-same old new number chain before calls accepted = record {
+  number = number;
+  chain = chain;
+  before = before;
+  added = [];
+  calls = ap (λ (c : CallsValue). c.list) calls ∙ sym (append-nil old.calls.list);
+  offers = omega (arith, ap (λ (c : CallsValue). offers_in c.list) calls, accepted);
+  collections = omega (arith, ap (λ (c : CallsValue). collections_in c.list) calls);
+}
+
+pub TalliesSeat-trans : (a b c : StreamSeatValue) → TalliesSeat a b → TalliesSeat b c → TalliesSeat a c
+TalliesSeat-trans a b c p q = record {
+  number = q.number ∙ p.number;
+  chain = q.chain ∙ p.chain;
+  before = q.before ∙ p.before;
+  added = p.added ++ q.added;
+  calls = q.calls ∙ ap (λ l. l ++ q.added) p.calls ∙ append_assoc a.calls.list p.added q.added;
+  offers = omega (arith, p.offers, q.offers);
+  collections = omega (arith, p.collections, q.collections);
+}
+
+pub TalliesSeat-accept : (frame : FrameValue) (n : ℕ) (old new : StreamSeatValue) → Accepts frame n old new → TalliesSeat old new
+TalliesSeat-accept frame n old new a = rw a.seat (record {
+  number = refl;
+  chain = refl;
+  before = refl;
+  added = acts.Offered a.tick n ∷ [];
+  calls = refl;
+  offers = omega (arith, offers_both old.calls.list (acts.Offered a.tick n ∷ []));
+  collections = omega (arith, collections_both old.calls.list (acts.Offered a.tick n ∷ []));
+})
+
+pub TalliesSeat-collect : (pair : Collected) (old new : StreamSeatValue) → Collects pair old new → TalliesSeat old new
+TalliesSeat-collect pair old new c = record {
+  number = ap (λ (v : StreamSeatValue). v.number) c.seat;
+  chain = ap (λ (v : StreamSeatValue). v.chain) c.seat;
+  before = ap (λ (v : StreamSeatValue). v.before) c.seat;
+  added = acts.Collected c.number ∷ [];
+  calls = ap (λ (v : StreamSeatValue). v.calls.list) c.seat;
+  offers = omega (arith, none_offered pair old new c, ap (λ (v : StreamSeatValue). v.accepted) c.seat);
+  collections = omega (arith, one_collected pair old new c);
+}
+
+-- the writer put no image
+pub Tallies-seat : (old new : StreamSeatValue) (writer writer' : WriterState) → TalliesSeat old new → writer'.frames ≡ writer.frames
+    → Tallies old new writer writer'
+Tallies-seat old new writer writer' t same = record { seat = t; images = omega (arith, t.collections, same) }
+
+pub Tallies-none : (seat : StreamSeatValue) (writer : WriterState) → Tallies seat seat writer writer
+Tallies-none seat writer = Tallies-seat seat seat writer writer (TalliesSeat-same seat seat refl refl refl refl refl) refl
+
+pub Tallies-trans : (a b c : StreamSeatValue) (writer between writer' : WriterState) → Tallies a b writer between
+    → Tallies b c between writer' → Tallies a c writer writer'
+Tallies-trans a b c writer between writer' p q = record {
+  seat = TalliesSeat-trans a b c p.seat q.seat;
+  images = omega (arith, p.images, q.images);
+}
+
+-- an image was collected, and put
+pub Tallies-give : (old new : StreamSeatValue) (writer writer' : WriterState) (pair : Collected) → Collects pair old new
+    → writer'.frames ≡ writer.frames + 1 → Tallies old new writer writer'
+Tallies-give old new writer writer' pair c more = record {
+  seat = TalliesSeat-collect pair old new c;
+  images = omega (arith, one_collected pair old new c, more);
+}
+
+pub seat_same : (old new : StreamSeatValue) → new ≡ old → TalliesSeat old new
+seat_same old new same = TalliesSeat-same old new (ap (λ (v : StreamSeatValue). v.number) same)
+    (ap (λ (v : StreamSeatValue). v.chain) same) (ap (λ (v : StreamSeatValue). v.before) same)
+    (ap (λ (v : StreamSeatValue). v.calls) same) (ap (λ (v : StreamSeatValue). v.accepted) same)
+
+pub counted_later : (past : List Act) (old new : StreamSeatValue) → TalliesSeat old new → IsCounted past old → IsCounted past new
+counted_later past old new t e =
+    omega (arith, t.offers, e, offers_both past old.calls.list, offers_both past new.calls.list)
+
+pub other_number : (past : List Act) (frame : FrameValue) (n : ℕ) (old new : StreamSeatValue) → IsCounted past old → n ≢ old.accepted
+    → Accepts frame n old new → HasOtherNumber (past ++ new.calls.list)
+other_number past frame n old new same other taken = record {
+  before = past ++ old.calls.list;
+  tick = taken.tick;
+  number = n;
+  later = [];
+  other = λ is. other (is ∙ same);
+  whole = ap (λ (v : StreamSeatValue). past ++ v.calls.list) taken.seat
+      ∙ sym (append_assoc past old.calls.list (acts.Offered taken.tick n ∷ []));
+}

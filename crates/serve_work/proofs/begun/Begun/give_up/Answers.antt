@@ -1,0 +1,30 @@
+use Rattle.std.proofs.Common.{subst, sym}
+use Rattle.serve_work.specs.declared.stop.Stop.{Stop}
+use Rattle.serve_work.specs.ClientInside.{Serves}
+use Rattle.serve_work.specs.Rests.{IsBegun, Outset, course_of}
+use Rattle.serve_work.proofs.Ending.{ClientEnds-served}
+use Rattle.serve_work.proofs.Resting.{given_up, outset_of}
+use Rattle.serve_work.proofs.begun.Begun.give_up.Goals as goal
+
+pub returns : goal.returns
+returns g c = λ start past seat at.
+    let inside = c.self.inside in
+    let b = subst (IsBegun start past seat) (sym c.self.view_is) at in
+    let o : Outset = record { reader = start.reader; seat = start.seat; writer = b.opened } in
+    let serves = subst (λ (stop : Stop). Serves past stop start.reader inside.reader start.seat seat b.opened inside.writer)
+    (sym c.given_up-stop.ensures)
+    (given_up (course_of inside.course) past o inside.reader seat inside.writer (outset_of start b.shown b.opened b.first b.is_opened)
+    c.into_source.ensures.ahead b.at)
+    in
+    let finish = c.finish-writer.ensures in
+    ClientEnds-served start _ b.shown b.opened b.header b.is_opened past c.given_up-stop.result inside.reader seat inside.writer _ serves
+    b.first b.tally
+    (record {
+      kept = finish.kept;
+      flushed = finish.flushed;
+      closed = finish.closed;
+      fault = finish.fault;
+      failed = finish.failed;
+      told = finish.told;
+    })
+    c.flushed.ensures b.accepted c.frames-delivered.ensures c.into_source.ensures.remaining c.into_source.ensures.failures

@@ -1,0 +1,90 @@
+use Rattle.std.proofs.Common.{◌∙◌, ◌++◌, ◌∷◌, [], ap, arith, inl, inr, subst, sym}
+use Rattle.std.proofs.KnownBytes.{Keeps-refl}
+use Rattle.std.specs.Io.KnownBytes.{Keeps}
+use Rattle.filters.specs.Chain.{ChainValue}
+use Rattle.y4m_stream.specs.Failures.{one_more}
+use Rattle.y4m_stream.specs.Reader.{ReaderState}
+use Rattle.y4m_stream.specs.Served.{IsHeaderOfImages}
+use Rattle.y4m_stream.specs.Writer.{CutsShort, IsOpenedFor}
+use Rattle.serve_work.proofs.Ending.{ClientEnds-unopened, shown_for}
+use Rattle.serve_work.proofs.Resting.{can_begin, feeding_first, opened_size}
+use Rattle.serve_work.proofs.clients.begin.Goals as goal
+
+pub returns-in_default : goal.returns-in_default
+returns-in_default g c = λ start past is.
+    let u = c.unopened.ensures in
+    ClientEnds-unopened start _ past c.args.seat _ _ _ _ is u.tally u.accepted u.none.0
+    (u.failures ∙ ap (λ (r : ReaderState). r.failures) is.same_reader) (inl (record {
+      stop = u.stop;
+      unread = u.remaining ∙ ap (λ (r : ReaderState). r.left) is.same_reader;
+      unaccepted = u.none.0;
+      none = u.none.1;
+      kept = rw (sym is.same_contents) (subst (λ w. Keeps (g.W.Sink.contents c.args.writer) (g.W.Sink.contents w)) (sym u.writer)
+          (Keeps-refl (g.W.Sink.contents c.args.writer)));
+      no_failure = ap (g.W.Sink.failures) u.writer ∙ is.same_failures;
+    }))
+
+pub returns-in-Err : goal.returns-in-Err
+returns-in-Err g c = λ start past is.
+    let u = c.unopened-in-Err.ensures in
+    let before = g.W.Sink.contents c.args.writer in
+    let h = c.shown_header.result.now in
+    let own : IsHeaderOfImages c.args.seat.chain c.args.reader.header h = shown_for c.args.seat.chain c.args.reader.header _ _ _
+    c.in-Ok.resized
+    c.header.ensures c.header-2.ensures c.shown_header.ensures c.in-Ok.ensures.shown in
+    let shown : IsHeaderOfImages start.seat.chain start.reader.header h =
+    subst (λ (r : ReaderState). IsHeaderOfImages start.seat.chain r.header h) is.same_reader
+    (subst (λ (chain : ChainValue). IsHeaderOfImages chain c.args.reader.header h) is.stays.chain own) in
+    ClientEnds-unopened start _ past c.args.seat _ _ _ _ is u.tally u.accepted u.none.0
+    (u.failures ∙ ap (λ (r : ReaderState). r.failures) is.same_reader) (inr (record {
+      fault = c.in-Err.fault;
+      stop = u.stop;
+      unread = u.remaining ∙ ap (λ (r : ReaderState). r.left) is.same_reader;
+      unaccepted = u.none.0;
+      none = u.none.1;
+      cut = subst (λ l. CutsShort start.before (g.W.Sink.contents c.unopened-in-Err.result.writer) (l ++ 10 ∷ []) 0 c.in-Err.fault)
+          shown.line
+          (subst (λ b. CutsShort b (g.W.Sink.contents c.unopened-in-Err.result.writer) (h.line ++ 10 ∷ []) 0 c.in-Err.fault)
+          is.same_contents
+          (subst (λ w. CutsShort before (g.W.Sink.contents w) (h.line ++ 10 ∷ []) 0 c.in-Err.fault)
+          (sym u.writer) c.in-Err.ensures.cut));
+      failure = ap (g.W.Sink.failures) u.writer ∙ c.in-Err.ensures.told ∙ ap one_more is.same_failures;
+    }))
+
+pub run-requires-clause-can : goal.run-requires-clause-can
+run-requires-clause-can g c =
+    let own = shown_for c.args.seat.chain c.args.reader.header _ _ _ c.in-Ok.resized c.header.ensures c.header-2.ensures
+    c.shown_header.ensures
+    c.in-Ok.ensures.shown in
+    let opened = c.in-Ok-open.ensures.opened in
+    can_begin c.requires.counted.0 c.args.reader c.args.seat c.in-Ok-open.output c.in-Ok.buffers c.requires.fresh c.requires.most
+    c.requires.open
+    opened.writing opened.frames c.requires.counted.1
+    (opened_size c.args.seat.chain c.args.reader.header _ _ _ c.in-Ok-open.output own opened) c.in-Ok.ensures.buffers
+
+pub returns : goal.returns
+returns g c = λ start past is.
+    let h = c.shown_header.result.now in
+    let own : IsHeaderOfImages c.args.seat.chain c.args.reader.header h = shown_for c.args.seat.chain c.args.reader.header _ _ _
+    c.in-Ok.resized
+    c.header.ensures c.header-2.ensures c.shown_header.ensures c.in-Ok.ensures.shown in
+    let opened = c.in-Ok-open.ensures.opened in
+    c.run.ensures start past (record {
+      shown = h;
+      opened = c.in-Ok-open.output;
+      header = subst (λ (r : ReaderState). IsHeaderOfImages start.seat.chain r.header h) is.same_reader
+          (subst (λ (chain : ChainValue). IsHeaderOfImages chain c.args.reader.header h) is.stays.chain own);
+      is_opened = subst (λ n. IsOpenedFor h start.before n c.in-Ok-open.output) is.same_failures
+          (subst (λ b. IsOpenedFor h b (g.W.Sink.failures c.args.writer) c.in-Ok-open.output) is.same_contents opened);
+      first = is.first;
+      before = feeding_first start past c.args.seat c.args.reader (g.W.Sink.contents c.args.writer) (g.W.Sink.failures c.args.writer)
+          c.in-Ok-open.output is;
+      same_header = ap (λ (r : ReaderState). r.header) is.same_reader;
+      tally = record {
+        number = is.stays.number;
+        chain = is.stays.chain;
+        offers = is.offers;
+        images = omega (arith, opened.frames);
+        before = is.before;
+      };
+    })

@@ -1,0 +1,17 @@
+use Rattle.serve_work.proofs.Ending.{ClientEnds-served}
+use Rattle.serve_work.proofs.clients.end.Goals as goal
+
+pub returns : goal.returns
+returns g c = λ start past shown opened header is_opened fresh serves tally.
+    let finish = c.finish-writer.ensures in
+    ClientEnds-served start _ shown opened header is_opened past c.args.stop c.args.reader c.args.seat c.args.writer _ serves fresh tally
+    (record {
+      kept = finish.kept;
+      flushed = finish.flushed;
+      closed = finish.closed;
+      fault = finish.fault;
+      failed = finish.failed;
+      told = finish.told;
+    })
+    c.flushed.ensures c.accepted-accepted.ensures c.frames-delivered.ensures c.into_source.ensures.remaining
+    c.into_source.ensures.failures

@@ -1,0 +1,44 @@
+use Rattle.std.proofs.Common.{◌≡◌, ◌∙◌, [], refl}
+use Rattle.serve_core.specs.Lanes.{IsImageOf, source_in}
+use Rattle.serve_work.proofs.Staying.{GivesUp-trans, stays_chain, stays_closed}
+use Rattle.serve_work.proofs.Tallying.{Tallies-none, Tallies-trans}
+use Rattle.serve_work.proofs.Moving.{HaltsWith-later, Moves-none, Moves-trans, few_later, size_later, writing_later}
+use Rattle.serve_work.proofs.delivery.deliver_ready.Goals as goal
+
+pub loop-init : goal.loop-init
+loop-init g c = record {
+  moved = Moves-none _ _ _ _ refl refl;
+  up = refl;
+  tally = Tallies-none _ _;
+  buffers = c.requires.buffers;
+}
+
+pub deliver_early-requires : goal.deliver_early-requires
+deliver_early-requires g c =
+    let moved = c.loop.invariant.moved in
+    record {
+      size = size_later _ _ _ _ [] moved c.requires.size;
+      few = few_later _ _ _ _ moved c.requires.few;
+      writing = writing_later _ _ _ _ [] moved c.requires.writing;
+      «open» = stays_closed c.args.seat.now c.loop.seat moved.seat_stays ∙ c.requires.open;
+    }
+
+pub returns-in-Ok-None-clause-answer : goal.returns-in-Ok-None-clause-answer
+returns-in-Ok-None-clause-answer g c = Moves-trans _ _ _ _ _ _ [] [] c.loop.invariant.moved c.in-Ok-None.ensures.answer
+
+pub returns-in-Err-clause-answer : goal.returns-in-Err-clause-answer
+returns-in-Err-clause-answer g c = HaltsWith-later _ _ _ _ _ _ _ [] [] c.loop.invariant.moved c.in-Err.ensures.answer
+
+pub loop-preserved : goal.loop-preserved
+loop-preserved g c =
+    let so_far = c.loop.invariant in
+    let next = c.in-Ok-Some in
+    let chain : c.loop.seat.chain ≡ c.args.seat.now.chain = stays_chain c.args.seat.now c.loop.seat so_far.moved.seat_stays in
+    let source : (source_in next.pair).geometry ≡ c.loop.seat.chain.geometry = rw next.field-0-is at next.ensures.source in
+    let image : IsImageOf c.loop.seat.chain next.pair.image = rw next.field-0-is at next.ensures.image in
+    record {
+      moved = Moves-trans _ _ _ _ _ _ [] [] so_far.moved next.ensures.answer;
+      up = GivesUp-trans c.args.seat.now c.loop.seat c.deliver_early.new.seat so_far.up c.deliver_early.ensures.kept;
+      tally = Tallies-trans _ _ _ _ _ _ so_far.tally c.deliver_early.ensures.tally;
+      buffers = c.keep.ensures c.args.seat.now.chain so_far.buffers (rw chain at source) (rw chain at image);
+    }

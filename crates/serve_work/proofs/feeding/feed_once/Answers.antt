@@ -1,0 +1,113 @@
+use Rattle.std.proofs.Common.{◌∙◌, [], Ok, ap, refl, sym}
+use Rattle.std.specs.Arc.{arc_value}
+use Rattle.filters.specs.Chain.{ChainValue}
+use Rattle.y4m_stream.specs.Reader.{IsOfHeader, TakesFrame, frame_text_of}
+use Rattle.serve_work.proofs.Staying.{stays_chain}
+use Rattle.serve_work.proofs.Moving.{Accounted-later, few_of, one_size, size_later}
+use Rattle.serve_work.proofs.Passing.{Feeds-end, Feeds-unread, Passes-none, Passes-still, fed_broken, fed_once, passed_once, sized_before}
+use Rattle.serve_work.proofs.Passing.{sized_memory, sized_still}
+use Rattle.serve_work.proofs.feeding.feed_once.Goals as goal
+
+pub deliver_ready-requires-clause-few : goal.deliver_ready-requires-clause-few
+deliver_ready-requires-clause-few g c = few_of _ _ c.requires.accounted
+
+pub returns-in-Err-clause-answer : goal.returns-in-Err-clause-answer
+returns-in-Err-clause-answer g c = λ past counted.
+    let reader = c.args.reader.now in
+    let seat = c.args.seat.now in
+    let writer = c.args.writer.now in
+    rw c.halted.ensures (fed_broken reader reader seat seat writer writer [] (Passes-none reader seat writer) past c.in-Err.halt
+    c.deliver_ready.new.seat c.deliver_ready.new.writer c.requires.open c.in-Err.ensures.own c.deliver_ready.ensures.kept
+    c.in-Err.ensures.answer)
+
+pub returns-in-Err-clause-frame : goal.returns-in-Err-clause-frame
+returns-in-Err-clause-frame g c =
+    rw c.halted.ensures (sized_before c.in-Err.halt c.args.seat.now c.deliver_ready.new.seat c.args.writer.now c.deliver_ready.new.writer
+    c.in-Err.ensures.answer c.requires.size)
+
+pub returns-in-Silent-clause-passed : goal.returns-in-Silent-clause-passed
+returns-in-Silent-clause-passed g c = record {
+  frames = [];
+  passed = Passes-still c.args.reader.now c.args.seat.now c.deliver_ready.new.seat c.args.writer.now c.deliver_ready.new.writer
+      c.in-Ok.ensures.answer;
+  is_open = c.requires.open;
+}
+
+pub returns-in-JournalFull-clause-answer : goal.returns-in-JournalFull-clause-answer
+returns-in-JournalFull-clause-answer g c = λ past counted. record {
+  before = c.args.reader.now;
+  frames = [];
+  passed = Passes-still c.args.reader.now c.args.seat.now c.deliver_ready.new.seat c.args.writer.now c.deliver_ready.new.writer
+      c.in-Ok.ensures.answer;
+  holds = refl;
+  is_open = c.requires.open;
+}
+
+pub returns-in-JournalFull-clause-frame : goal.returns-in-JournalFull-clause-frame
+returns-in-JournalFull-clause-frame g c = (tt, sized_still _ _ _ _ c.in-Ok.ensures.answer c.requires.size)
+
+pub read_into-requires-clause-size : goal.read_into-requires-clause-size
+read_into-requires-clause-size g c =
+    sized_memory c.args.reader.now.header _ c.args.seat.now.chain.geometry _ refl c.requires.header
+    (c.take_source-memory.ensures.size _ c.deliver_ready.ensures.buffers)
+
+pub returns-in-Ok-None-clause-answer : goal.returns-in-Ok-None-clause-answer
+returns-in-Ok-None-clause-answer g c = λ past counted.
+    let reader = c.args.reader.now in
+    let seat = c.args.seat.now in
+    let writer = c.args.writer.now in
+    let at = c.deliver_ready.new in
+    Feeds-end reader reader seat at.seat writer at.writer [] (Passes-still reader seat at.seat writer at.writer c.in-Ok.ensures.answer) past
+    c.read_into.new.reader (c.in-Ok-None.ensures.end (ap Ok c.in-Ok-None.field-0-is))
+
+pub returns-in-Err-read_into-clause-answer : goal.returns-in-Err-read_into-clause-answer
+returns-in-Err-read_into-clause-answer g c = λ past counted.
+    let reader = c.args.reader.now in
+    let seat = c.args.seat.now in
+    let writer = c.args.writer.now in
+    let at = c.deliver_ready.new in
+    Feeds-unread reader reader seat at.seat writer at.writer [] (Passes-still reader seat at.seat writer at.writer c.in-Ok.ensures.answer)
+    past c.in-Err-read_into.stop c.read_into.new.reader c.in-Err-read_into.ensures.fault
+
+pub accept-requires : goal.accept-requires
+accept-requires g c =
+    let moved = c.in-Ok.ensures.answer in
+    let chain = stays_chain c.args.seat.now c.deliver_ready.new.seat moved.seat_stays in
+    let sized : IsOfHeader c.args.reader.now.header (arc_value c.in-Ok-Some.frame).geometry = rw c.in-Ok-Some.field-0-is at
+    c.in-Ok-Some.ensures.size in
+    record {
+      size = size_later _ _ _ _ _ moved c.requires.size;
+      accounted = Accounted-later _ _ _ _ _ moved c.requires.accounted;
+      frame = one_size c.args.reader.now.header _ _ sized c.requires.header ∙ sym (ap (λ (h : ChainValue). h.geometry) chain);
+      buffers = rw chain (c.take_source-memory.ensures.kept _ c.deliver_ready.ensures.buffers);
+    }
+
+pub returns-in-Ok-Some-clause-passed : goal.returns-in-Ok-Some-clause-passed
+returns-in-Ok-Some-clause-passed g c =
+    let reader = c.args.reader.now in
+    let seat = c.args.seat.now in
+    let writer = c.args.writer.now in
+    let at = c.deliver_ready.new in
+    let taken : TakesFrame reader c.read_into.new.reader (frame_text_of (arc_value c.in-Ok-Some.frame)) = rw c.in-Ok-Some.field-0-is at
+    c.in-Ok-Some.ensures.frame in
+    passed_once reader reader seat at.seat writer at.writer [] (Passes-still reader seat at.seat writer at.writer c.in-Ok.ensures.answer)
+    c.accept.result c.read_into.new.reader c.accept.new.seat c.accept.new.writer (arc_value c.in-Ok-Some.frame) taken
+    c.read_into.ensures.header c.accept.ensures.answer
+
+pub returns-in-Ok-Some-clause-answer : goal.returns-in-Ok-Some-clause-answer
+returns-in-Ok-Some-clause-answer g c =
+    let reader = c.args.reader.now in
+    let seat = c.args.seat.now in
+    let writer = c.args.writer.now in
+    let at = c.deliver_ready.new in
+    let taken : TakesFrame reader c.read_into.new.reader (frame_text_of (arc_value c.in-Ok-Some.frame)) = rw c.in-Ok-Some.field-0-is at
+    c.in-Ok-Some.ensures.frame in
+    fed_once reader reader seat at.seat writer at.writer [] (Passes-still reader seat at.seat writer at.writer c.in-Ok.ensures.answer)
+    c.accept.result c.read_into.new.reader c.accept.new.seat c.accept.new.writer (arc_value c.in-Ok-Some.frame)
+    c.deliver_ready.ensures.tally.seat taken c.read_into.ensures.header c.accept.ensures.answer
+
+pub returns-in-Ok-None-clause-buffers : goal.returns-in-Ok-None-clause-buffers
+returns-in-Ok-None-clause-buffers g c = c.take_source-memory.ensures.kept _ c.deliver_ready.ensures.buffers
+
+pub returns-in-Err-read_into-clause-buffers : goal.returns-in-Err-read_into-clause-buffers
+returns-in-Err-read_into-clause-buffers g c = c.take_source-memory.ensures.kept _ c.deliver_ready.ensures.buffers

@@ -1,0 +1,44 @@
+use Rattle.std.proofs.Common.{Option, Some, None, subst}
+use Rattle.std.specs.declared.alloc.Global.{Global}
+use Rattle.std.specs.declared.sync.Arc.{Arc}
+use Rattle.frame_view.specs.declared.frame.Frame.{Frame}
+use Rattle.y4m_stream.specs.Reader.{ReaderState}
+use Rattle.serve_work.specs.ClientInside.{Holds, OffersOn, text_in}
+use Rattle.serve_work.proofs.Tallying.{TalliesSeat-trans, counted_later}
+use Rattle.serve_work.proofs.OfferingOn.{OffersOn-behind}
+use Rattle.serve_work.proofs.holding.hold.Goals as goal
+
+pub returns-in-None-clause-answer : goal.returns-in-None-clause-answer
+returns-in-None-clause-answer g c = λ past before writer counted h.
+    let none : Holds before c.args.reader.now None = subst (λ (o : Option (Arc Frame Global)). Holds before c.args.reader.now (text_in o))
+    c.in-None.is h in
+    subst (λ (r : ReaderState). OffersOn c.hold_on.result past r c.hold_on.new.reader c.args.seat.now c.hold_on.new.seat writer) none
+    (c.hold_on.ensures.answer past writer counted)
+
+pub offer_on-requires : goal.offer_on-requires
+offer_on-requires g c = record { size = rw c.in-Some.is at c.requires.frame }
+
+pub hold_on-requires-in-Ok-clause-header : goal.hold_on-requires-in-Ok-clause-header
+hold_on-requires-in-Ok-clause-header g c = rw c.offer_on.ensures.tally.chain c.requires.header
+
+pub returns-in-Ok-clause-answer : goal.returns-in-Ok-clause-answer
+returns-in-Ok-clause-answer g c = λ past before writer counted h.
+    let reader = c.args.reader.now in
+    let some : Holds before reader (text_in (Some c.in-Some.frame)) = subst (λ (o : Option (Arc Frame Global)). Holds before reader
+    (text_in o)) c.in-Some.is h in
+    let first = c.in-Ok.ensures.answer past before reader writer counted some in
+    OffersOn-behind before reader c.hold_on-in-Ok.new.reader c.args.seat.now c.offer_on.new.seat c.hold_on-in-Ok.new.seat writer
+    first.frames first.passed past c.hold_on-in-Ok.result
+    (c.hold_on-in-Ok.ensures.answer past writer (counted_later past c.args.seat.now c.offer_on.new.seat c.offer_on.ensures.tally counted))
+
+pub returns-in-Ok-clause-tally : goal.returns-in-Ok-clause-tally
+returns-in-Ok-clause-tally g c = TalliesSeat-trans _ _ _ c.offer_on.ensures.tally c.hold_on-in-Ok.ensures.tally
+
+pub returns-in-Ok-clause-frame : goal.returns-in-Ok-clause-frame
+returns-in-Ok-clause-frame g c = rw c.offer_on.ensures.tally.chain at c.hold_on-in-Ok.ensures.frame
+
+pub returns-in-Err-clause-answer : goal.returns-in-Err-clause-answer
+returns-in-Err-clause-answer g c = λ past before writer counted h.
+    let reader = c.args.reader.now in
+    c.in-Err.ensures.answer past before reader writer counted
+    (subst (λ (o : Option (Arc Frame Global)). Holds before reader (text_in o)) c.in-Some.is h)

@@ -1,0 +1,48 @@
+use Rattle.std.proofs.Common.{◌∙◌, [], refl}
+use Rattle.serve_work.proofs.Tallying.{TalliesSeat-trans, counted_later, seat_same}
+use Rattle.serve_work.proofs.OfferingOn.{OffersOn-behind}
+use Rattle.serve_work.proofs.Passing.{HasPassed-behind, Passes-none}
+use Rattle.serve_work.proofs.holding.hold_on.Goals as goal
+
+pub loop-init : goal.loop-init
+loop-init g c = record {
+  passed = λ past writer counted. record {
+    frames = [];
+    passed = Passes-none c.args.reader.now c.args.seat.now writer;
+    is_open = c.requires.open;
+  };
+  header = refl;
+  is_open = c.requires.open;
+  tally = seat_same _ _ refl;
+}
+
+pub hold_once-requires-clause-header : goal.hold_once-requires-clause-header
+hold_once-requires-clause-header g c = rw (c.loop.invariant.header, c.loop.invariant.tally.chain) c.requires.header
+
+pub loop-preserved : goal.loop-preserved
+loop-preserved g c =
+    let inv = c.loop.invariant in
+    record {
+      passed = λ past writer counted.
+          let so_far = inv.passed past writer counted in
+          HasPassed-behind c.args.reader.now c.loop.reader c.args.seat.now c.loop.seat writer writer so_far.frames so_far.passed
+          c.hold_once.new.reader c.hold_once.new.seat writer
+          (c.in-Ok.ensures.answer past writer (counted_later past c.args.seat.now c.loop.seat inv.tally counted));
+      header = c.hold_once.ensures.header ∙ inv.header;
+      is_open = c.in-Ok.ensures.open;
+      tally = TalliesSeat-trans _ _ _ inv.tally c.hold_once.ensures.tally;
+    }
+
+pub returns-in-Err : goal.returns-in-Err
+returns-in-Err g c =
+    let inv = c.loop.invariant in
+    record {
+      answer = λ past writer counted.
+          let so_far = inv.passed past writer counted in
+          OffersOn-behind c.args.reader.now c.loop.reader c.hold_once.new.reader c.args.seat.now c.loop.seat c.hold_once.new.seat writer
+          so_far.frames so_far.passed past c.in-Err.onward
+          (c.in-Err.ensures.answer past writer (counted_later past c.args.seat.now c.loop.seat inv.tally counted));
+      tally = TalliesSeat-trans _ _ _ inv.tally c.hold_once.ensures.tally;
+      frame = rw inv.tally.chain at c.in-Err.ensures.frame;
+      header = c.hold_once.ensures.header ∙ inv.header;
+    }

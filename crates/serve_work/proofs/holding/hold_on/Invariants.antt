@@ -1,0 +1,15 @@
+use Rattle.std.proofs.Common.{◌≡◌, List}
+use Rattle.y4m_stream.specs.Writer.{WriterState}
+use Rattle.y4m_stream.specs.declared.reader.Phase.TheVariants.{Open}
+use Rattle.serve_hub.specs.declared.entry.Act.{Act}
+use Rattle.serve_work.specs.ClientInside.{HasPassed, IsCounted, TalliesSeat}
+use Rattle.serve_work.proofs.holding.hold_on.Given as goal
+
+abbrev pub invariant-loop : goal.invariant-loop
+invariant-loop g l = record {
+  passed : (past : List Act) (writer : WriterState) → IsCounted past l.initial.seat
+      → HasPassed l.initial.reader l.reader l.initial.seat l.seat writer writer;
+  header : l.reader.header ≡ l.initial.reader.header;
+  is_open : l.reader.phase ≡ Open;
+  tally : TalliesSeat l.initial.seat l.seat;
+}

@@ -1,0 +1,28 @@
+use Rattle.std.proofs.Common.{◌∙◌, ap, inl, refl, subst, sym}
+use Rattle.std.proofs.KnownBytes.{Keeps-refl}
+use Rattle.std.specs.Io.KnownBytes.{Keeps}
+use Rattle.y4m_stream.specs.Reader.{ReaderState}
+use Rattle.serve_work.specs.Rests.{IsRestOf, IsUnbegun}
+use Rattle.serve_work.specs.RestInside.{rest_of}
+use Rattle.serve_work.proofs.Ending.{ClientEnds-unopened}
+use Rattle.serve_work.proofs.Tallying.{TalliesSeat-same}
+use Rattle.serve_work.proofs.rest.ClientRest.give_up.Goals as goal
+
+pub returns-in-Unbegun : goal.returns-in-Unbegun
+returns-in-Unbegun g c = λ start past seat at.
+    let contents = g.W.Sink.contents in
+    let writer = c.in-Unbegun.writer in
+    let is : IsUnbegun start past seat c.in-Unbegun.reader (contents writer) (g.W.Sink.failures writer) =
+    subst (IsRestOf start past seat) (sym c.self.view_is ∙ ap (rest_of contents g.W.Sink.failures) c.in-Unbegun.is) at in
+    let kept : Keeps start.before (contents writer) = subst (λ b. Keeps b (contents writer)) is.same_contents (Keeps-refl (contents writer))
+    in
+    ClientEnds-unopened start _ past seat seat _ _ _ is (TalliesSeat-same seat seat refl refl refl refl refl) refl refl
+    (c.into_source.ensures.failures ∙ ap (λ (r : ReaderState). r.failures) (c.in-Unbegun.reader-is ∙ is.same_reader))
+    (inl (record {
+      stop = refl;
+      unread = c.into_source.ensures.remaining ∙ ap (λ (r : ReaderState). r.left) (c.in-Unbegun.reader-is ∙ is.same_reader);
+      unaccepted = refl;
+      none = refl;
+      kept = rw c.in-Unbegun.writer-is kept;
+      no_failure = rw c.in-Unbegun.writer-is is.same_failures;
+    }))

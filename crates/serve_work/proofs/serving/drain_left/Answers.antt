@@ -1,0 +1,35 @@
+use Rattle.std.proofs.Common.{ap}
+use Rattle.serve_hub.specs.Seats.{StreamSeatValue}
+use Rattle.serve_work.specs.declared.stop.Halt.TheVariants.{Stopped}
+use Rattle.serve_work.proofs.Stopping.{Feeds-drained, Serves-drained}
+use Rattle.serve_work.proofs.serving.drain_left.Goals as goal
+
+pub returns-in-Full-clause-answer : goal.returns-in-Full-clause-answer
+returns-in-Full-clause-answer g c = λ past o reader is at. (
+  at.0,
+  Feeds-drained past c.args.stop o.reader reader o.seat c.args.seat.now c.drain.new.seat o.writer c.args.writer.now c.drain.new.writer at.0
+      at.1
+      c.in-Full.ensures.answer c.drain.ensures.tally.seat,
+)
+
+pub returns-then-is_spoilt-clause-answer : goal.returns-then-is_spoilt-clause-answer
+returns-then-is_spoilt-clause-answer g c = λ past o reader is at.
+    c.discard_left.ensures.answer past o reader c.drain.new.writer
+    (Serves-drained past o.reader reader o.seat o.writer is.fresh.kept is.writing c.args.stop c.in-Stopped.last c.or-told.result
+    c.args.seat.now
+    c.drain.new.seat c.args.writer.now c.drain.new.writer at.0 at.1 c.in-Stopped.ensures.answer c.in-Stopped.ensures.own
+    (λ e. c.in-Stopped.ensures.drained (ap Stopped e)) (ap (λ (s : StreamSeatValue). s.accepted) c.drain.ensures.kept)
+    c.drain.ensures.tally.seat
+    c.or-told.ensures)
+
+pub returns-then-is_spoilt-clause-memory : goal.returns-then-is_spoilt-clause-memory
+returns-then-is_spoilt-clause-memory g c = λ reader buffers. c.discard_left.ensures.memory reader c.drain.new.writer buffers
+
+pub returns-else-is_spoilt-clause-answer : goal.returns-else-is_spoilt-clause-answer
+returns-else-is_spoilt-clause-answer g c = λ past o reader is at.
+    Serves-drained past o.reader reader o.seat o.writer is.fresh.kept is.writing c.args.stop c.in-Stopped.last c.or-told.result
+    c.args.seat.now
+    c.drain.new.seat c.args.writer.now c.drain.new.writer at.0 at.1 c.in-Stopped.ensures.answer c.in-Stopped.ensures.own
+    (λ e. c.in-Stopped.ensures.drained (ap Stopped e)) (ap (λ (s : StreamSeatValue). s.accepted) c.drain.ensures.kept)
+    c.drain.ensures.tally.seat
+    c.or-told.ensures

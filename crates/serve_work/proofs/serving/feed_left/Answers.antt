@@ -1,0 +1,118 @@
+use Rattle.std.proofs.Common.{◌≡◌, true, false, ap, refl, sym, ◌∙◌}
+use Rattle.serve_hub.specs.Seats.{StreamSeatValue}
+use Rattle.serve_work.specs.declared.feeding.Fed.TheVariants as feds
+use Rattle.serve_work.specs.ClientInside.{text_in}
+use Rattle.serve_work.proofs.Tallying.{Tallies-seat, Tallies-trans, TalliesSeat-trans, counted_later}
+use Rattle.serve_work.proofs.Resting.{fed_from}
+use Rattle.serve_work.proofs.Spoiling.{spoilt_from}
+use Rattle.serve_work.proofs.Stopping.{Feeds-closed, Serves-spoilt, close_tally, drain_few, drain_size, drain_writing, may_close}
+use Rattle.serve_work.proofs.serving.feed_left.Goals as goal
+
+pub drain_left-requires : goal.drain_left-requires
+drain_left-requires g c =
+    let can = c.requires.can in
+    let stop = c.in-Stopped.stop in
+    let fed = c.in-Stopped.ensures.answer can.past can.before can.counted can.holds in
+    let useful = c.is_spoilt.ensures.useful.0 c.if-is_spoilt.false in
+    let close = may_close c.feed.new.seat c.close.new.seat c.close.result c.close.ensures.closed c.close.ensures.refused in
+    record {
+      can = record {
+        few = drain_few can.past stop can.before c.feed.new.reader c.args.seat.now c.feed.new.seat c.close.new.seat c.args.writer.now
+            c.feed.new.writer useful fed close can.accounted;
+        writing = drain_writing can.past stop can.before c.feed.new.reader c.args.seat.now c.feed.new.seat c.close.new.seat
+            c.args.writer.now c.feed.new.writer useful fed close can.accounted;
+        size = drain_size can.past stop can.before c.feed.new.reader c.args.seat.now c.feed.new.seat c.close.new.seat c.args.writer.now
+            c.feed.new.writer useful fed close can.size;
+      };
+    }
+
+pub returns-in-Paused-clause-answer : goal.returns-in-Paused-clause-answer
+returns-in-Paused-clause-answer g c = λ past o is counted at.
+    fed_from (feds.Paused c.in-Paused.in_hand) (text_in c.args.in_hand) past o c.args.reader.now c.feed.new.reader c.args.seat.now
+    c.feed.new.seat
+    c.args.writer.now
+    c.feed.new.writer at (λ before h. c.in-Paused.ensures.answer past before counted h)
+
+pub returns-in-Paused-clause-memory : goal.returns-in-Paused-clause-memory
+returns-in-Paused-clause-memory g c = record {
+  chain = c.args.seat.now.chain;
+  header = rw c.feed.ensures.header c.requires.header;
+  size = c.in-Paused.ensures.frame.1;
+  memory = c.feed.ensures.buffers;
+  sized = c.in-Paused.ensures.frame.0;
+}
+
+pub hold_left-requires : goal.hold_left-requires
+hold_left-requires g c =
+    let can = c.requires.can in
+    let fed = c.in-Held.ensures.answer can.past can.before can.counted can.holds in
+    record {
+      header = rw (c.feed.ensures.header, c.feed.ensures.tally.seat.chain) c.requires.header;
+      can = record { is_open = fed.is_open; frame = tt; spoilt = fed.spoilt };
+    }
+
+pub returns-in-Held-clause-answer : goal.returns-in-Held-clause-answer
+returns-in-Held-clause-answer g c = λ past o is counted at.
+    let fed = fed_from (feds.Held c.in-Held.stop) (text_in c.args.in_hand) past o c.args.reader.now c.feed.new.reader c.args.seat.now
+    c.feed.new.seat c.args.writer.now c.feed.new.writer at (λ before h. c.in-Held.ensures.answer past before counted h) in
+    c.hold_left.ensures.answer past o c.feed.new.writer is
+    (counted_later past c.args.seat.now c.feed.new.seat c.feed.ensures.tally.seat counted)
+    (spoilt_from c.in-Held.stop o c.feed.new.reader c.feed.new.seat c.feed.new.writer is fed)
+
+pub returns-in-Held-clause-tally : goal.returns-in-Held-clause-tally
+returns-in-Held-clause-tally g c =
+    Tallies-trans _ _ _ _ _ _ c.feed.ensures.tally (Tallies-seat _ _ _ _ c.hold_left.ensures.tally refl)
+
+pub returns-in-Held-clause-memory : goal.returns-in-Held-clause-memory
+returns-in-Held-clause-memory g c = c.hold_left.ensures.memory c.feed.new.writer c.feed.new.buffers
+
+pub returns-then-is_spoilt-clause-answer : goal.returns-then-is_spoilt-clause-answer
+returns-then-is_spoilt-clause-answer g c = λ past o is counted at.
+    let stop = c.in-Stopped.stop in
+    let all = fed_from (feds.Stopped stop) (text_in c.args.in_hand) past o c.args.reader.now c.feed.new.reader c.args.seat.now
+    c.feed.new.seat
+    c.args.writer.now
+    c.feed.new.writer at (λ before h. c.in-Stopped.ensures.answer past before counted h) in
+    let close = may_close c.feed.new.seat c.close.new.seat c.close.result c.close.ensures.closed c.close.ensures.refused in
+    c.discard_left.ensures.answer past o c.feed.new.reader c.feed.new.writer
+    (Serves-spoilt past o.reader c.feed.new.reader o.seat o.writer is.fresh.kept is.writing stop c.feed.new.seat c.close.new.seat
+    c.feed.new.writer
+    (λ useful. let both : true ≡ false = sym c.if-is_spoilt.true ∙ c.is_spoilt.ensures.useful.1 useful in absurd (cc)) all
+    (ap (λ (s : StreamSeatValue). s.accepted) close)
+    (close_tally c.feed.new.seat c.close.new.seat c.close.result c.close.ensures.closed c.close.ensures.refused))
+
+pub returns-then-is_spoilt-clause-tally : goal.returns-then-is_spoilt-clause-tally
+returns-then-is_spoilt-clause-tally g c =
+    Tallies-trans _ _ _ _ _ _ c.feed.ensures.tally
+    (Tallies-seat _ _ _ _ (TalliesSeat-trans c.feed.new.seat c.close.new.seat c.discard_left.new.seat
+    (close_tally c.feed.new.seat c.close.new.seat c.close.result c.close.ensures.closed c.close.ensures.refused)
+    c.discard_left.ensures.tally) refl)
+
+pub returns-then-is_spoilt-clause-memory : goal.returns-then-is_spoilt-clause-memory
+returns-then-is_spoilt-clause-memory g c = c.discard_left.ensures.memory c.feed.new.reader c.feed.new.writer c.feed.new.buffers
+
+pub returns-else-is_spoilt-clause-answer : goal.returns-else-is_spoilt-clause-answer
+returns-else-is_spoilt-clause-answer g c = λ past o is counted at.
+    let stop = c.in-Stopped.stop in
+    let all = fed_from (feds.Stopped stop) (text_in c.args.in_hand) past o c.args.reader.now c.feed.new.reader c.args.seat.now
+    c.feed.new.seat
+    c.args.writer.now
+    c.feed.new.writer at (λ before h. c.in-Stopped.ensures.answer past before counted h) in
+    let close = may_close c.feed.new.seat c.close.new.seat c.close.result c.close.ensures.closed c.close.ensures.refused in
+    let useful = c.is_spoilt.ensures.useful.0 c.if-is_spoilt.false in
+    c.drain_left.ensures.answer past o c.feed.new.reader is (
+      useful,
+      Feeds-closed past stop o.reader c.feed.new.reader o.seat c.feed.new.seat c.close.new.seat o.writer c.feed.new.writer is.fresh.is_open
+          useful close
+          (close_tally c.feed.new.seat c.close.new.seat c.close.result c.close.ensures.closed c.close.ensures.refused) all,
+    )
+
+pub returns-else-is_spoilt-clause-tally : goal.returns-else-is_spoilt-clause-tally
+returns-else-is_spoilt-clause-tally g c =
+    Tallies-trans _ _ _ _ _ _ c.feed.ensures.tally
+    (Tallies-trans c.feed.new.seat c.close.new.seat c.drain_left.new.seat c.feed.new.writer c.feed.new.writer c.drain_left.new.writer
+    (Tallies-seat _ _ _ _ (close_tally c.feed.new.seat c.close.new.seat c.close.result c.close.ensures.closed c.close.ensures.refused) refl)
+    c.drain_left.ensures.tally)
+
+pub returns-else-is_spoilt-clause-memory : goal.returns-else-is_spoilt-clause-memory
+returns-else-is_spoilt-clause-memory g c = c.drain_left.ensures.memory c.feed.new.reader c.feed.new.buffers

@@ -1,0 +1,25 @@
+use Rattle.std.proofs.Common.{◌∙◌, Option, Some, ap, subst}
+use Rattle.serve_work.specs.declared.course.Course as code
+use Rattle.serve_work.specs.Rests.{IsBefore}
+use Rattle.serve_work.proofs.serving.serve.Goals as goal
+
+pub returns-in-Some-Feeding-clause-answer : goal.returns-in-Some-Feeding-clause-answer
+returns-in-Some-Feeding-clause-answer g c = λ past o is counted before.
+    c.feed_left-in-Some-Feeding.ensures.answer past o is counted
+    (subst (λ (course : Option code.Course). IsBefore course past o c.args.reader.now c.args.seat.now c.args.writer.now)
+    (c.in-Some-Feeding.is ∙ ap Some c.in-Some-Feeding.field-0-is) before)
+
+pub returns-in-Some-Holding-clause-answer : goal.returns-in-Some-Holding-clause-answer
+returns-in-Some-Holding-clause-answer g c = λ past o is counted before.
+    c.hold_left.ensures.answer past o c.args.writer.now is counted
+    (subst (λ (course : Option code.Course). IsBefore course past o c.args.reader.now c.args.seat.now c.args.writer.now)
+    (c.in-Some-Holding.is ∙ ap Some c.in-Some-Holding.field-0-is) before)
+
+pub returns-in-Some-Holding-clause-memory : goal.returns-in-Some-Holding-clause-memory
+returns-in-Some-Holding-clause-memory g c = c.hold_left.ensures.memory _ _
+
+pub returns-in-Some-Draining-clause-memory : goal.returns-in-Some-Draining-clause-memory
+returns-in-Some-Draining-clause-memory g c = c.drain_left.ensures.memory _ _
+
+pub returns-in-Some-Discarding-clause-memory : goal.returns-in-Some-Discarding-clause-memory
+returns-in-Some-Discarding-clause-memory g c = c.discard_left.ensures.memory _ _ _

@@ -1,0 +1,36 @@
+use Rattle.std.proofs.Common.{subst, sym}
+use Rattle.serve_work.specs.Rests.{IsRestOf}
+use Rattle.serve_work.specs.SessionInside.{IsReadyAt, Stands, StandsAt, Waiting, stream_of}
+use Rattle.serve_work.proofs.SessionTurns.{header_stays}
+use Rattle.serve_work.proofs.session.turn.Held.go_on.Goals as goal
+
+pub new-requires-in-Paused : goal.new-requires-in-Paused
+new-requires-in-Paused g c =
+    let inside = c.self.inside in
+    let value = stream_of g.R.Source.remaining g.R.Source.failures g.W.Sink.contents g.W.Sink.failures g.W.Sink.is_flushed in
+    let ready : IsReadyAt (Waiting c.in-Waiting.rest) inside.seat = subst (λ s. IsReadyAt (value s) inside.seat) c.in-Waiting.is
+    c.self.invariant in
+    let after : IsRestOf ready.1.0 ready.1.1 c.in-Paused.seat c.in-Paused.rest =
+    c.in-Paused.ensures ready.1.0 ready.1.1 ready.1.2 in
+    record {
+      ready = (
+        header_stays ready.1.0 ready.1.1 ready.1.1 inside.seat c.in-Paused.seat c.in-Waiting.rest c.in-Paused.rest ready.1.2 after ready.0,
+        (ready.1.0, ready.1.1, after),
+      );
+    }
+
+pub returns-in-Paused : goal.returns-in-Paused
+returns-in-Paused g c = λ start past at.
+    let inside = c.self.inside in
+    let value = stream_of g.R.Source.remaining g.R.Source.failures g.W.Sink.contents g.W.Sink.failures g.W.Sink.is_flushed in
+    let was : IsRestOf start past inside.seat c.in-Waiting.rest =
+    subst (λ s. StandsAt (value s) start past inside.seat) c.in-Waiting.is (subst (Stands start past) (sym c.self.view_is) at) in
+    rw c.new-in-Paused.ensures (c.in-Paused.ensures start past was)
+
+pub returns-in-Ended : goal.returns-in-Ended
+returns-in-Ended g c = λ start past at.
+    let inside = c.self.inside in
+    let value = stream_of g.R.Source.remaining g.R.Source.failures g.W.Sink.contents g.W.Sink.failures g.W.Sink.is_flushed in
+    let was : IsRestOf start past inside.seat c.in-Waiting.rest =
+    subst (λ s. StandsAt (value s) start past inside.seat) c.in-Waiting.is (subst (Stands start past) (sym c.self.view_is) at) in
+    rw c.new-in-Ended.ensures (rw (c.part-seat.ensures.seat, c.part-seat.ensures.outcome) (c.in-Ended.ensures start past was))

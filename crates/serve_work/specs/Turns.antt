@@ -1,0 +1,31 @@
+-- What a client comes to in an epoch.
+use Rattle.std.specs.Prelude.{ℕ, Bool, List, Option}
+use Rattle.serve_hub.specs.declared.entry.Act.{Act}
+use Rattle.serve_work.specs.declared.clients.ClientEnd.{ClientEnd}
+use Rattle.serve_work.specs.declared.clients.ClientTurn.{ClientTurn}
+use Rattle.serve_work.specs.declared.clients.ClientTurn.TheVariants as turns
+use Rattle.serve_work.specs.Clients.{ClientEnds, ClientOutcome, ClientStart}
+use Rattle.serve_work.specs.Rests.{IsRestOf}
+
+-- what a client's end tells, by what is known of its source and its writer
+abbrev pub end_of : {L R W : Type 0} (left : R → Option (List ℕ)) (read_failures : R → ℕ)
+    (after : W → Option (List ℕ)) (failures : W → ℕ) (is_flushed : W → Bool) → ClientEnd L R W → ClientOutcome
+end_of left read_failures after failures is_flushed end = record {
+  stop = end.stop;
+  accepted = end.accepted;
+  delivered = end.delivered;
+  left = left end.source;
+  read_failures = read_failures end.source;
+  after = after end.writer;
+  failures = failures end.writer;
+  is_flushed = is_flushed end.writer;
+}
+
+-- what a client comes to in an epoch, from this beginning of its stream: its end, or what is left to do
+abbrev pub Turns : {L R W : Type 0} (left : R → Option (List ℕ)) (read_failures : R → ℕ)
+    (after : W → Option (List ℕ)) (failures : W → ℕ) (is_flushed : W → Bool) → ClientStart → List Act
+    → ClientTurn L R W → Type 0
+Turns left read_failures after failures is_flushed start past (turns.Ended end) =
+    ClientEnds start past end.seat (end_of left read_failures after failures is_flushed end)
+Turns left read_failures after failures is_flushed start past (turns.Paused seat rest) =
+    IsRestOf start past seat rest

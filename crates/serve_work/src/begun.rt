@@ -1,0 +1,76 @@
+//! A client whose header line was written, where the journal is full.
+ghost use Rattle.serve_hub.specs.declared.entry.Act.{Act};
+ghost use Rattle.serve_hub.specs.Seats.{StreamSeatValue};
+ghost use Rattle.std.specs.Prelude.{List};
+ghost use Rattle.serve_work.specs.Clients.{ClientEnds, ClientStart};
+ghost use Rattle.serve_work.specs.Rests.{IsBegun};
+ghost use Rattle.serve_work.specs.Sessions.{outcome_of};
+
+use crate::buffers::Buffers;
+use crate::clients::flushed;
+use crate::course::Course;
+use crate::session::Served;
+use std::marker::Model;
+use y4m_stream::{Sink, Source, StreamReader, StreamWriter};
+
+/// A client whose header line was written. Contracts see the `BegunValue` of `specs/Rests.antt`.
+#[derive(Drop)]
+pub(crate) struct Begun<R: Source, W: Sink> {
+    pub(crate) reader: StreamReader<R>,
+    pub(crate) writer: StreamWriter<W>,
+    pub(crate) buffers: Buffers,
+    pub(crate) course: Course,
+    pub(crate) accepted: u64,
+    pub(crate) collected: u64,
+}
+
+impl<R: Source, W: Sink> Model for Begun<R, W> {
+    ghost use Rattle.serve_work.specs.Rests.{BegunValue, HasMemoryFor, course_of};
+
+    ghost Value = { BegunValue };
+
+    ghost view = { λ a. record {
+      reader = a.reader;
+      writer = a.writer;
+      course = course_of a.course;
+      accepted = a.accepted;
+      collected = a.collected;
+    } };
+
+    ghost invariant = { λ a. HasMemoryFor a.reader a.writer a.buffers a.course };
+}
+
+impl<R: Source + Drop, W: Sink> Begun<R, W> {
+    /// The end of the stream where no epoch comes any more.
+    pub(crate) fn give_up(self) -> Served<R, W>
+        ensures { (start : ClientStart) (past : List Act) (seat : StreamSeatValue)
+            → IsBegun start past seat self → ClientEnds start past seat
+            (outcome_of R.remaining R.failures W.contents W.failures W.is_flushed result) }
+    {
+        let Begun {
+            reader,
+            writer,
+            course,
+            accepted,
+            ..
+        } = self;
+        let stop = course.given_up();
+        let delivered = writer.frames();
+        let (writer, flush) = writer.finish();
+        Served {
+            accepted,
+            delivered,
+            charged: 0,
+            stop: flushed(stop, flush),
+            source: reader.into_source(),
+            writer,
+        }
+    }
+}
+
+/// Whether a client's header line was written.
+#[derive(Drop)]
+pub(crate) enum State<R: Source, W: Sink> {
+    Unbegun(StreamReader<R>, W),
+    Begun(Begun<R, W>),
+}

@@ -1,0 +1,47 @@
+//! Whether a client reads on.
+use serve_hub::{Epoch, Hub, StreamSeat};
+use std::sync::Wait;
+use y4m_stream::{Source, StreamReader};
+
+/// For how many milliseconds a client waits for its input before it looks for images that came meanwhile.
+const PATIENCE: u64 = 5;
+
+/// For how many milliseconds it waits for a frame that it may read beside the work on another one. A pipe
+/// that is full is seen to be ready by a thread that has to wake first.
+const GLANCE: u64 = 1;
+
+/// What a client finds that is about to read.
+#[derive(Clone, Copy, Debug, PartialEq, Eq)]
+pub(crate) enum Input {
+    /// The next frame has begun to come, or the end or a fault is there.
+    Ready,
+    /// Nothing came yet.
+    Silent,
+    /// Nothing came yet, and the journal is full.
+    JournalFull,
+}
+
+/// Waits a short while for a client's input.
+pub(crate) fn await_input<L: Epoch, R: Source + Drop, T: Wait>(
+    rt: &T,
+    hub: &Hub<L>,
+    reader: &StreamReader<R>,
+) -> Input {
+    if reader.is_ready(PATIENCE) {
+        Input::Ready
+    } else if hub.is_full(rt) {
+        Input::JournalFull
+    } else {
+        Input::Silent
+    }
+}
+
+/// Whether a frame is read beside the work on another one: where that takes long, since a filter looks at
+/// more than a frame's own rows, and the input is there.
+pub(crate) fn reads_ahead<L: Epoch, R: Source + Drop>(
+    seat: &StreamSeat<L>,
+    reader: &StreamReader<R>,
+) -> bool {
+    let chain = seat.spec().chain();
+    chain.steps() < chain.cost() && reader.is_ready(GLANCE)
+}

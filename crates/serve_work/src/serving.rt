@@ -1,0 +1,201 @@
+//! A client's way from its reader to its writer: it feeds its seat, and then drains it.
+ghost use Rattle.std.specs.Prelude.{◌≡◌, ◌≢◌, List, None};
+ghost use Rattle.serve_hub.specs.declared.entry.Act.{Act};
+ghost use Rattle.y4m_stream.specs.Reader.{IsOfHeader, ReaderState};
+ghost use Rattle.y4m_stream.specs.Writer.{WriterState};
+ghost use Rattle.serve_work.specs.declared.stop.Stop.TheVariants as stops;
+ghost use Rattle.serve_work.specs.declared.buffers.Buffers.{Buffers};
+ghost use Rattle.serve_work.specs.ClientInside.{HasInHand, IsCounted, Serves, Tallies, TalliesSeat, text_in};
+ghost use Rattle.serve_work.specs.Rests.{CanDrain, CanFeed, CanGoOn, CanHold, Comes, Draining, HasMemoryAt};
+ghost use Rattle.serve_work.specs.Rests.{IsAt, IsBefore, IsOutset, Outset, Spoils};
+
+use crate::buffers::Buffers;
+use crate::course::Course;
+use crate::delivery::{discard, drain};
+use crate::feeding::{Fed, feed};
+use crate::gate::Clock;
+use crate::holding::{Onward, hold};
+use crate::stop::{Halt, Stop};
+use frame_view::Frame;
+use serve_hub::{Epoch, Hub, StreamSeat};
+use std::alloc::Global;
+use std::sync::{Arc, Wait};
+use y4m_stream::reader::Phase;
+use y4m_stream::{Sink, Source, StreamReader, StreamWriter};
+
+/// How far a client came in an epoch.
+#[derive(Drop)]
+pub(crate) enum Step {
+    /// The journal is full.
+    Paused(Course),
+    /// All is done that could be, with the first fault.
+    Done(Stop),
+}
+
+/// Collects what is left and throws it away, behind a stop that is no end.
+fn discard_left<L: Epoch, T: Wait>(
+    rt: &T,
+    hub: &Hub<L>,
+    seat: &mut StreamSeat<L>,
+    stop: Stop,
+) -> Step
+    requires fault { stop ≢ stops.Whole }
+    ensures answer { (past : List Act) (o : Outset) (reader : ReaderState) (writer : WriterState)
+        → Serves past stop o.reader reader o.seat seat.old o.writer writer
+        → Comes result past o reader seat.new writer }
+    ensures tally { TalliesSeat seat.old seat.new }
+    ensures memory { (reader : ReaderState) (writer : WriterState) (buffers : Buffers)
+        → HasMemoryAt reader writer buffers result }
+{
+    if discard(rt, hub, seat) {
+        Step::Paused(Course::Discarding(stop))
+    } else {
+        Step::Done(stop)
+    }
+}
+
+/// Closes the stream, and throws away what is left.
+fn spoil_left<L: Epoch, T: Wait>(rt: &T, hub: &Hub<L>, seat: &mut StreamSeat<L>, stop: Stop) -> Step
+    requires fault { stop ≢ stops.Whole }
+    ensures answer { (past : List Act) (o : Outset) (reader : ReaderState) (writer : WriterState)
+        → Serves past stop o.reader reader o.seat seat.old o.writer writer
+        → Comes result past o reader seat.new writer }
+    ensures tally { TalliesSeat seat.old seat.new }
+    ensures memory { (reader : ReaderState) (writer : WriterState) (buffers : Buffers)
+        → HasMemoryAt reader writer buffers result }
+{
+    let _ = hub.close(rt, seat);
+    discard_left(rt, hub, seat, stop)
+}
+
+/// Reads and offers on, where an image couldn't be delivered for the reason that is held, and throws away
+/// what is left. It stops for that reason, unless another comes before the queue is full or the input ends.
+fn hold_left<L: Epoch, R: Source + Drop, K: Clock, T: Wait>(
+    rt: &T,
+    alloc: Global,
+    hub: &Hub<L>,
+    seat: &mut StreamSeat<L>,
+    reader: &mut StreamReader<R>,
+    clock: &K,
+    in_hand: Option<Arc<Frame>>,
+    held: Stop,
+) -> Step
+    requires header { IsOfHeader reader.old.header seat.old.chain.geometry }
+    requires can { CanHold in_hand held reader.old seat.old }
+    ensures answer { (past : List Act) (o : Outset) (writer : WriterState) → IsOutset o
+        → IsCounted past seat.old → Spoils held o reader.old seat.old writer (text_in in_hand)
+        → Comes result past o reader.new seat.new writer }
+    ensures tally { TalliesSeat seat.old seat.new }
+    ensures memory { (writer : WriterState) (buffers : Buffers)
+        → HasMemoryAt reader.new writer buffers result }
+    ensures header { reader.new.header ≡ reader.old.header }
+{
+    match hold(rt, alloc, hub, seat, reader, clock, in_hand) {
+        Onward::Paused(in_hand) => Step::Paused(Course::Holding(in_hand, held)),
+        Onward::QueueFull => spoil_left(rt, hub, seat, held),
+        Onward::Stopped(stop) => spoil_left(rt, hub, seat, stop.or(held)),
+    }
+}
+
+/// Collects and writes what is left, behind a stop.
+fn drain_left<L: Epoch, W: Sink, T: Wait>(
+    rt: &T,
+    hub: &Hub<L>,
+    seat: &mut StreamSeat<L>,
+    writer: &mut StreamWriter<W>,
+    stop: Stop,
+) -> Step
+    requires can { CanDrain seat.old writer.old }
+    ensures answer { (past : List Act) (o : Outset) (reader : ReaderState) → IsOutset o
+        → IsAt (Draining stop) past o reader seat.old writer.old
+        → Comes result past o reader seat.new writer.new }
+    ensures tally { Tallies seat.old seat.new writer.old writer.new }
+    ensures memory { (reader : ReaderState) (buffers : Buffers)
+        → HasMemoryAt reader writer.new buffers result }
+{
+    match drain(rt, hub, seat, writer) {
+        Halt::Full => Step::Paused(Course::Draining(stop)),
+        Halt::Stopped(last) => {
+            let told = stop.or(last);
+            if last.is_spoilt() {
+                discard_left(rt, hub, seat, told)
+            } else {
+                Step::Done(told)
+            }
+        }
+    }
+}
+
+/// Reads and offers what is left, with the frame in hand first if there is one, and then drains.
+fn feed_left<L: Epoch, R: Source + Drop, W: Sink, K: Clock, T: Wait>(
+    rt: &T,
+    alloc: Global,
+    hub: &Hub<L>,
+    seat: &mut StreamSeat<L>,
+    reader: &mut StreamReader<R>,
+    writer: &mut StreamWriter<W>,
+    buffers: &mut Buffers,
+    clock: &K,
+    in_hand: Option<Arc<Frame>>,
+) -> Step
+    requires header { IsOfHeader reader.old.header seat.old.chain.geometry }
+    requires can { CanFeed in_hand reader.old seat.old writer.old buffers.old }
+    ensures answer { (past : List Act) (o : Outset) → IsOutset o → IsCounted past seat.old
+        → HasInHand o.reader reader.old o.seat seat.old o.writer writer.old (text_in in_hand)
+        → Comes result past o reader.new seat.new writer.new }
+    ensures tally { Tallies seat.old seat.new writer.old writer.new }
+    ensures memory { HasMemoryAt reader.new writer.new buffers.new result }
+    ensures header { reader.new.header ≡ reader.old.header }
+{
+    match feed(
+        rt, alloc, hub, seat, reader, writer, buffers, clock, in_hand,
+    ) {
+        Fed::Paused(in_hand) => Step::Paused(Course::Feeding(in_hand)),
+        Fed::Held(stop) => hold_left(rt, alloc, hub, seat, reader, clock, None, stop),
+        Fed::Stopped(stop) => {
+            let _ = hub.close(rt, seat);
+            if stop.is_spoilt() {
+                discard_left(rt, hub, seat, stop)
+            } else {
+                drain_left(rt, hub, seat, writer, stop)
+            }
+        }
+    }
+}
+
+/// Goes on with a stream whose header line was written: from its first frame, or from where the client
+/// paused.
+pub(crate) fn serve<L: Epoch, R: Source + Drop, W: Sink, K: Clock, T: Wait>(
+    rt: &T,
+    alloc: Global,
+    hub: &Hub<L>,
+    seat: &mut StreamSeat<L>,
+    reader: &mut StreamReader<R>,
+    writer: &mut StreamWriter<W>,
+    buffers: &mut Buffers,
+    clock: &K,
+    course: Option<Course>,
+) -> Step
+    requires header { IsOfHeader reader.old.header seat.old.chain.geometry }
+    requires can { CanGoOn course reader.old seat.old writer.old buffers.old }
+    ensures answer { (past : List Act) (o : Outset) → IsOutset o → IsCounted past seat.old
+        → IsBefore course past o reader.old seat.old writer.old
+        → Comes result past o reader.new seat.new writer.new }
+    ensures tally { Tallies seat.old seat.new writer.old writer.new }
+    ensures memory { HasMemoryAt reader.new writer.new buffers.new result }
+    ensures header { reader.new.header ≡ reader.old.header }
+{
+    match course {
+        None => feed_left(rt, alloc, hub, seat, reader, writer, buffers, clock, None),
+        Some(Course::Feeding(in_hand)) => {
+            feed_left(
+                rt, alloc, hub, seat, reader, writer, buffers, clock, in_hand,
+            )
+        }
+        Some(Course::Holding(in_hand, held)) => {
+            hold_left(rt, alloc, hub, seat, reader, clock, in_hand, held)
+        }
+        Some(Course::Draining(stop)) => drain_left(rt, hub, seat, writer, stop),
+        Some(Course::Discarding(stop)) => discard_left(rt, hub, seat, stop),
+    }
+}

@@ -1,0 +1,187 @@
+//! The epochs of a session, each with a journal of its own.
+ghost use Rattle.std.specs.Prelude.{◌≡◌, ◌≢◌, ◌↔◌, List, IfErr, IfOk, IsErrOf, OnOk, length};
+ghost use Rattle.serve_core.specs.Schedule.{opened_schedule};
+ghost use Rattle.serve_hub.specs.Books.{IsLimit};
+ghost use Rattle.serve_hub.specs.Seats.{opened_streams};
+ghost use Rattle.serve_work.specs.Clients.{ClientStart};
+ghost use Rattle.serve_work.specs.Intervals.{IsBetween, CanBegin};
+ghost use Rattle.serve_work.specs.Sessions.{AreInputs, starts_of};
+
+use super::SessionFault;
+use super::interval::Interval;
+use super::opening::{Opening, opened, reopened};
+use super::places::Places;
+use super::room::{Room, slotted, unslotted};
+use super::threads::run_threads;
+use super::turn::{Stream, seated};
+use crate::gate::{Clock, Gate};
+use serve_core::Setup;
+use serve_hub::Epoch;
+use std::alloc::Global;
+use std::marker::Brand;
+use std::sync::Wait;
+use std::sync::ledger::Blank;
+use std::thread::Threads;
+use y4m_stream::{Sink, Source, StreamReader};
+
+/// Whether anything is left to do of a stream.
+fn any_waits<R: Source, W: Sink>(streams: &Vec<Stream<R, W>>) -> bool {
+    streams.iter().any(|stream| stream.is_waiting())
+}
+
+/// The streams go on with their seats of this epoch, until all are over or the journal is full. In the first
+/// epoch all workers have to start; in a later one it goes on with those that do.
+fn epoch<
+    L: Epoch + Send + Sync,
+    R: Source + Drop + Send,
+    W: Sink + Drop + Send,
+    G: Gate + Sync,
+    K: Clock + Sync,
+    T: Threads + Wait + Sync,
+>(
+    rt: &T,
+    alloc: Global,
+    opening: Opening<L, R, W>,
+    is_first: bool,
+    gate: &G,
+    clock: &K,
+) -> Result<Interval<R, W>, SessionFault>
+    requires at { (starts : List ClientStart)
+        × CanBegin R.remaining R.failures W.contents W.failures W.is_flushed starts opening }
+    ensures between { (starts : List ClientStart)
+        → CanBegin R.remaining R.failures W.contents W.failures W.is_flushed starts opening
+        → IfOk result (IsBetween R.remaining R.failures W.contents W.failures W.is_flushed starts) }
+    ensures fault { IfErr result (λ e. e ≢ SessionFault.BadLimit) }
+{
+    let Opening {
+        opened,
+        room,
+        streams,
+        served,
+    } = opening;
+    let (hub, seats, work_seats) = opened;
+    let Room {
+        turns,
+        mut places,
+        mut slots,
+        mut back,
+    } = room;
+    let workers = work_seats.len();
+    let turns = seated(turns, seats, streams);
+    slotted(&mut slots, work_seats);
+    let (is_on, turns) = run_threads(rt, alloc, &hub, &slots, turns, is_first, gate, clock)?;
+    unslotted(slots, &mut back);
+    places.fill(turns);
+    let Places { seats, streams } = places;
+    let Ok(ended) = hub.finish(seats, back) else {
+        return Err(SessionFault::Mismatch);
+    };
+    let goes_on = is_on && any_waits(&streams);
+    Ok(Interval {
+        ended,
+        streams,
+        served,
+        workers,
+        goes_on,
+    })
+}
+
+/// The first epoch of a session. All that it needs is taken before a frame is offered.
+pub(super) fn first<
+    L: Epoch + Send + Sync,
+    R: Source + Drop + Send,
+    W: Sink + Drop + Send,
+    G: Gate + Sync,
+    K: Clock + Sync,
+    T: Threads + Wait + Sync,
+>(
+    rt: &T,
+    alloc: Global,
+    blank: Blank,
+    setup: Setup,
+    inputs: Vec<(StreamReader<R>, W)>,
+    limit: usize,
+    gate: &G,
+    clock: &K,
+) -> Result<Interval<R, W>, SessionFault>
+    requires name { blank.name ≡ L.name }
+    requires parts { blank.parts ≡ L.parts }
+    requires enough { blank.parts ≡ 80 }
+    requires opening { opened_schedule setup ≡ L.opening }
+    requires inputs { AreInputs setup.streams inputs.items }
+    ensures between { IfOk result (IsBetween R.remaining R.failures W.contents W.failures W.is_flushed
+        (starts_of W.contents W.failures (opened_streams limit 0 setup.streams) inputs.items)) }
+    ensures limit { OnOk result (IsLimit (length setup.streams) limit) }
+    ensures bad_limit { IsErrOf result SessionFault.BadLimit ↔ ¬ IsLimit (length setup.streams) limit }
+{
+    let opening = opened::<L, R, W>(alloc, blank, setup, inputs, limit)?;
+    epoch(rt, alloc, opening, true, gate, clock)
+}
+
+/// The next epoch of a session. Where none can be opened, the session doesn't go on.
+fn later<
+    L: Epoch + Send + Sync,
+    R: Source + Drop + Send,
+    W: Sink + Drop + Send,
+    G: Gate + Sync,
+    K: Clock + Sync,
+    T: Threads + Wait + Sync,
+>(
+    rt: &T,
+    alloc: Global,
+    blank: Blank,
+    interval: Interval<R, W>,
+    limit: usize,
+    gate: &G,
+    clock: &K,
+) -> Result<Interval<R, W>, SessionFault>
+    requires name { blank.name ≡ L.name }
+    requires parts { blank.parts ≡ L.parts }
+    requires enough { blank.parts ≡ 80 }
+    requires opening { interval.ended.book.desk ≡ L.opening }
+    requires at { (starts : List ClientStart)
+        × IsBetween R.remaining R.failures W.contents W.failures W.is_flushed starts interval }
+    ensures between { (starts : List ClientStart)
+        → IsBetween R.remaining R.failures W.contents W.failures W.is_flushed starts interval
+        → IfOk result (IsBetween R.remaining R.failures W.contents W.failures W.is_flushed starts) }
+    ensures fault { IfErr result (λ e. e ≢ SessionFault.BadLimit) }
+{
+    match reopened::<L, R, W>(alloc, blank, interval, limit) {
+        Err(interval) => Ok(interval),
+        Ok(opening) => epoch(rt, alloc, opening, false, gate, clock),
+    }
+}
+
+/// Goes on with a session from epoch to epoch, until all its streams are over or no epoch comes any more.
+pub(super) fn go_on<
+    R: Source + Drop + Send,
+    W: Sink + Drop + Send,
+    G: Gate + Sync,
+    K: Clock + Sync,
+    T: Threads + Wait + Sync,
+>(
+    rt: &T,
+    alloc: Global,
+    interval: Interval<R, W>,
+    limit: usize,
+    gate: &G,
+    clock: &K,
+) -> Result<Interval<R, W>, SessionFault>
+    requires at { (starts : List ClientStart)
+        × IsBetween R.remaining R.failures W.contents W.failures W.is_flushed starts interval }
+    ensures between { (starts : List ClientStart)
+        → IsBetween R.remaining R.failures W.contents W.failures W.is_flushed starts interval
+        → IfOk result (IsBetween R.remaining R.failures W.contents W.failures W.is_flushed starts) }
+    ensures fault { IfErr result (λ e. e ≢ SessionFault.BadLimit) }
+{
+    let mut interval = interval;
+    for _ in rt.forever() {
+        let goes_on = interval.goes_on;
+        if !goes_on {
+            return Ok(interval);
+        }
+        let blank = Blank::new(80);
+        interval = later::<Brand, R, W, G, K, T>(rt, alloc, blank, interval, limit, gate, clock)?;
+    }
+    unreachable!()
+}

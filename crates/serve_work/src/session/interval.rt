@@ -1,0 +1,79 @@
+//! A session between two epochs.
+ghost use Rattle.std.specs.Prelude.{◌≡◌, ◌<◌, ◌≤◌, ◌^◌, ℕ, ⊤, List, [], map, vec_capacity, vec_len};
+ghost use Rattle.serve_core.specs.Schedule.{HasLane};
+ghost use Rattle.serve_work.specs.Clients.{ClientStart};
+ghost use Rattle.serve_work.specs.Intervals.{IsBetween};
+ghost use Rattle.serve_work.specs.SessionInside.{AreOver, AreTold};
+ghost use Rattle.serve_work.specs.Sessions.{AreServed, outcome_of, served_of};
+
+use super::Served;
+use super::turn::{Stream, told};
+use serve_hub::Ended;
+use y4m_stream::{Sink, Source};
+
+/// What crosses from one epoch to the next.
+#[derive(Drop)]
+pub(super) struct Interval<R: Source, W: Sink> {
+    pub(super) ended: Ended,
+    pub(super) streams: Vec<Stream<R, W>>,
+    /// The place for what is told of the streams, so that the end takes no memory.
+    pub(super) served: Vec<Served<R, W>>,
+    /// How many workers there are.
+    pub(super) workers: usize,
+    /// Whether a next epoch may bring a stream further.
+    pub(super) goes_on: bool,
+}
+
+/// What became of each stream, where no epoch comes any more.
+pub(super) fn report<R: Source + Drop, W: Sink + Drop>(
+    interval: Interval<R, W>,
+) -> Vec<Served<R, W>>
+    requires at { (starts : List ClientStart)
+        × IsBetween R.remaining R.failures W.contents W.failures W.is_flushed starts interval }
+    ensures { (starts : List ClientStart)
+        → IsBetween R.remaining R.failures W.contents W.failures W.is_flushed starts interval
+        → AreServed starts
+        (map (served_of R.remaining R.failures W.contents W.failures W.is_flushed) result.items) }
+{
+    let Interval {
+        ended,
+        streams,
+        mut served,
+        ..
+    } = interval;
+    tell(streams, &mut served);
+    charge(&ended, &mut served);
+    served
+}
+
+/// Tells what became of each stream.
+fn tell<R: Source + Drop, W: Sink + Drop>(
+    streams: Vec<Stream<R, W>>,
+    served: &mut Vec<Served<R, W>>,
+)
+    requires none { served.old.items ≡ [] }
+    requires room { vec_len streams ≤ vec_capacity served.old }
+    ensures { AreOver R.remaining R.failures W.contents W.failures W.is_flushed streams.items
+        served.new.items }
+{
+    for stream in streams {
+        served.push_reserved(told(stream));
+    }
+}
+
+/// Tells what each stream was charged.
+fn charge<R: Source, W: Sink>(ended: &Ended, served: &mut Vec<Served<R, W>>)
+    requires few { vec_len served.old < 2 ^ 32 }
+    requires lanes { (n : ℕ) → n < vec_len served.old → HasLane ended.now.book.desk n (λ _. ⊤) }
+    ensures outcomes { map (outcome_of R.remaining R.failures W.contents W.failures W.is_flushed)
+        served.new.items
+        ≡ map (outcome_of R.remaining R.failures W.contents W.failures W.is_flushed) served.old.items }
+    ensures told { AreTold ended.now.book.desk (vec_len served.new) served.new.items }
+{
+    for n in 0..served.len() {
+        let Some(counts) = ended.counts(n as u32) else {
+            unreachable!()
+        };
+        served[n].charged = counts.charged;
+    }
+}

@@ -1,0 +1,51 @@
+//! What is left of an epoch: the seats, and the streams.
+ghost use Rattle.std.specs.Prelude.{◌≡◌, ◌≤◌, List, [], IfOk, Some, map, vec_capacity, vec_len};
+ghost use Rattle.serve_work.specs.SessionInside.{HeldValue, stream_of};
+
+use super::turn::{Stream, Turn};
+use serve_hub::{Epoch, StreamSeat};
+use std::alloc::{AllocError, Global};
+use y4m_stream::{Sink, Source};
+
+/// The places for what an epoch leaves: the seats, and the streams.
+#[derive(Drop)]
+pub(super) struct Places<L: Epoch, R: Source, W: Sink> {
+    pub(super) seats: Vec<StreamSeat<L>>,
+    pub(super) streams: Vec<Stream<R, W>>,
+}
+
+impl<L: Epoch, R: Source + Drop, W: Sink + Drop> Places<L, R, W> {
+    pub(super) fn new(alloc: Global, streams: usize) -> Result<Places<L, R, W>, AllocError>
+        ensures none { IfOk result (λ places. (places.seats.items ≡ []) × (places.streams.items ≡ [])) }
+        ensures room { IfOk result (λ places. (streams ≤ vec_capacity places.seats)
+            × (streams ≤ vec_capacity places.streams)) }
+    {
+        Ok(Places {
+            seats: Vec::with_capacity(alloc, streams)?,
+            streams: Vec::with_capacity(alloc, streams)?,
+        })
+    }
+
+    /// Takes the turns apart, in order.
+    pub(super) fn fill(&mut self, turns: Vec<Turn<L, R, W>>)
+        requires seats { self.old.seats.items ≡ [] }
+        requires streams { self.old.streams.items ≡ [] }
+        requires seats_room { vec_len turns ≤ vec_capacity self.old.seats }
+        requires streams_room { vec_len turns ≤ vec_capacity self.old.streams }
+        requires held { (helds : List HeldValue) × (turns.items ≡ map Some helds) }
+        ensures seats { (helds : List HeldValue) → turns.items ≡ map Some helds
+            → self.new.seats.items ≡ map (λ held. held.seat) helds }
+        ensures streams { (helds : List HeldValue) → turns.items ≡ map Some helds
+            → map (stream_of R.remaining R.failures W.contents W.failures W.is_flushed) self.new.streams.items
+            ≡ map (λ held. held.stream) helds }
+    {
+        for turn in turns {
+            let Some(held) = turn.into_held() else {
+                unreachable!()
+            };
+            let (seat, stream) = held.part();
+            self.seats.push_reserved(seat);
+            self.streams.push_reserved(stream);
+        }
+    }
+}

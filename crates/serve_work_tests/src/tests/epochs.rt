@@ -1,0 +1,240 @@
+//! Sessions that go on from epoch to epoch, since their journals are short.
+use super::many::{Hall, OneServed, Stream, WIDE, serve_all};
+use super::stops::{
+    PLAIN_THREE, Session, TURNED_THREE, Told, WHOLE, WHOLE_TURNED, goes, was_served,
+};
+use super::{PLAIN, Plan};
+use serve_work::{Cause, SessionFault, Stop};
+use std::alloc::Global;
+use std::process::Abort;
+use std::sync::Wait;
+use std::test::Fail;
+use std::thread::Threads;
+use test_tools::streams::{HEADER, ONE, ONE_INVERTED, numbered};
+use y4m_stream::{ReadFault, WriteFault};
+
+/// Sessions of two streams. The history of the first has 32 entries: six offers, two closes and six
+/// collections, and nine leases with as many settlements.
+const SESSIONS: &[Session<'_>] = &[
+    Session {
+        name: "two streams are whole",
+        hall: WIDE,
+        streams: &[PLAIN_THREE, TURNED_THREE],
+        told: &[WHOLE, WHOLE_TURNED],
+    },
+    Session {
+        name: "a writer takes the header line alone",
+        hall: WIDE,
+        streams: &[
+            Stream {
+                plan: Plan { room: 22, ..PLAIN },
+                ..PLAIN_THREE
+            },
+            TURNED_THREE,
+        ],
+        told: &[
+            Told {
+                end: (Stop::Write(WriteFault::Device(22)), 3, 0, 3),
+                written: HEADER,
+            },
+            WHOLE_TURNED,
+        ],
+    },
+    Session {
+        name: "a reader fails behind its first frame",
+        hall: WIDE,
+        streams: &[
+            Stream {
+                input: ONE,
+                breaks: true,
+                ..PLAIN_THREE
+            },
+            TURNED_THREE,
+        ],
+        told: &[
+            Told {
+                end: (Stop::Read(ReadFault::Device), 1, 1, 1),
+                written: ONE_INVERTED,
+            },
+            WHOLE_TURNED,
+        ],
+    },
+];
+
+/// The sessions come to the same whatever the journal's limit is, from the least on.
+#[test]
+fn short_journals_change_nothing(rt: HostRuntime) -> Result<(), Fail> {
+    for session in SESSIONS {
+        goes(&rt, rt.alloc(), session)?;
+        for limit in 16..33 {
+            let name = format!(in rt.alloc(); "{}, {limit} entries", session.name)?;
+            let short = Session {
+                name: &name,
+                hall: Hall { limit, ..WIDE },
+                streams: session.streams,
+                told: session.told,
+            };
+            goes(&rt, rt.alloc(), &short)?;
+        }
+    }
+    Ok(())
+}
+
+const ONE_WHOLE: Told<'_> = Told {
+    end: (Stop::Whole, 1, 1, 1),
+    written: ONE_INVERTED,
+};
+
+/// Where fourteen of sixteen entries are kept for closes, an epoch has place for two others.
+#[test]
+fn fourteen_streams_share_sixteen_entries(rt: HostRuntime) -> Result<(), Fail> {
+    let one = Stream {
+        input: ONE,
+        ..PLAIN_THREE
+    };
+    let hall = Hall {
+        workers: 8,
+        limit: 16,
+        ..WIDE
+    };
+    let all = serve_all(&rt, rt.alloc(), &[one; 14], hall)??;
+    assert_eq!(rt; all.len(), 14);
+    for served in all {
+        was_served(&rt, served, &ONE_WHOLE, "16 entries");
+    }
+    Ok(())
+}
+
+/// A stream of these frames, and others that stop behind fifteen of them, in the eighteenth image, in a
+/// twenty-first frame, and at the end.
+fn faulty<'a>(whole: &'a [u8], cut: &'a [u8]) -> [Stream<'a>; 5] {
+    let all = Stream {
+        input: whole,
+        ..PLAIN_THREE
+    };
+    let few = Plan {
+        frames: 15,
+        ..PLAIN
+    };
+    let narrow = Plan { room: 195, ..PLAIN };
+    [
+        all,
+        Stream { plan: few, ..all },
+        Stream {
+            plan: narrow,
+            ..all
+        },
+        Stream { input: cut, ..all },
+        Stream {
+            breaks: true,
+            ..all
+        },
+    ]
+}
+
+/// What is told of these streams.
+fn told_of(images: &[u8]) -> [Told<'_>; 5] {
+    let whole = |stop| Told {
+        end: (stop, 20, 20, 20),
+        written: images,
+    };
+    [
+        whole(Stop::Whole),
+        Told {
+            end: (Stop::Refused(Cause::TooManyFrames), 15, 15, 15),
+            written: images.get(..172).unwrap_or(images),
+        },
+        Told {
+            end: (Stop::Write(WriteFault::Device(195)), 20, 17, 20),
+            written: images.get(..195).unwrap_or(images),
+        },
+        whole(Stop::Read(ReadFault::Truncated)),
+        whole(Stop::Read(ReadFault::Device)),
+    ]
+}
+
+/// What stops a stream in a later epoch is told as in the first one, behind all that came before it, and
+/// other streams go on.
+#[test]
+fn faults_of_later_epochs_are_told(rt: HostRuntime) -> Result<(), Fail> {
+    let alloc = rt.alloc();
+    let (whole, images) = numbered(alloc, 20)?;
+    let (mut cut, _) = numbered(alloc, 20)?;
+    cut.extend_from_slice(b"FRAME\n\x01")?;
+    for limit in [16, 17, 21, 40] {
+        let session = Session {
+            name: "later epochs",
+            hall: Hall {
+                workers: 3,
+                limit,
+                ..WIDE
+            },
+            streams: &faulty(&whole, &cut),
+            told: &told_of(&images),
+        };
+        goes(&rt, alloc, &session)?;
+    }
+    Ok(())
+}
+
+/// Serves the two streams by so many workers over epochs of 16 entries. Where memory or a worker's thread is
+/// refused, that is told, and what was written is a front of the images.
+fn wants_memory_alone(
+    rt: &(impl Abort + Threads + Wait + Sync),
+    alloc: Global,
+    workers: u64,
+) -> Result<(), Fail> {
+    let hall = Hall {
+        workers,
+        limit: 16,
+        ..WIDE
+    };
+    let all = match serve_all(rt, alloc, &[PLAIN_THREE, TURNED_THREE], hall)? {
+        Ok(all) => all,
+        Err(fault) => {
+            assert_eq!(rt; fault, SessionFault::NoMemory);
+            return Ok(());
+        }
+    };
+    for (served, whole) in all.into_iter().zip(&[WHOLE, WHOLE_TURNED]) {
+        if served.stop == Stop::Whole {
+            was_served(rt, served, whole, "with memory");
+        } else {
+            wants_memory(rt, served, whole.written);
+        }
+    }
+    Ok(())
+}
+
+/// The stream stopped for want of memory, and a front of the images was written.
+fn wants_memory(rt: &impl Abort, served: OneServed<'_>, images: &[u8]) {
+    let is_refused = matches!(
+        served.stop,
+        Stop::Refused(Cause::NoMemory) | Stop::Read(ReadFault::NoMemory)
+    );
+    assert!(rt; is_refused);
+    let written = served.writer.into_inner().taken;
+    assert!(rt; images.starts_with(&written));
+}
+
+/// It holds whichever growth is refused: `bench/growths` refuses each in turn.
+#[test]
+fn a_refused_growth_of_any_epoch_is_told(rt: HostRuntime) -> Result<(), Fail> {
+    wants_memory_alone(&rt, rt.alloc(), 2)
+}
+
+/// In a later epoch those of sixteen workers go on whose threads are granted: `bench/threads` refuses some.
+#[test]
+fn sixteen_workers_go_on_with_those_that_start(rt: HostRuntime) -> Result<(), Fail> {
+    let session = Session {
+        name: "sixteen workers",
+        hall: Hall {
+            workers: 16,
+            limit: 16,
+            ..WIDE
+        },
+        streams: &[PLAIN_THREE, TURNED_THREE],
+        told: &[WHOLE, WHOLE_TURNED],
+    };
+    goes(&rt, rt.alloc(), &session)
+}

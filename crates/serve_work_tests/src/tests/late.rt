@@ -1,0 +1,402 @@
+//! Inputs that come late: streams that wait for another one, or for their own images.
+ghost use Rattle.std.specs.Prelude.{IfOk};
+ghost use Rattle.serve_work.specs.Sessions.{IsInput};
+
+use super::{Open, PLAIN, Plan, Still, stream_of};
+use serve_core::{Setup, StreamSpec};
+use serve_work::{Served, Stop, serve_session};
+use std::alloc::Global;
+use std::io::{self, ErrorKind, Read};
+use std::process::Abort;
+use std::sync::Wait;
+use std::sync::atomic::{AtomicU64, Ordering};
+use std::test::Fail;
+use std::thread::Threads;
+use test_tools::streams::{CUT, HEADER, ONE, ONE_INVERTED, THREE, THREE_INVERTED};
+use test_tools::{Room, Tape};
+use y4m_stream::{OverRead, OverWrite, ReadFault, Sink, Source, StreamReader, WriteFault};
+
+/// When the bytes of a stream come: so many at first, and then ten at a time, where so many bytes were written
+/// by then, and so many more for each ten of them.
+#[derive(Clone, Copy)]
+struct Pace<'a> {
+    first: usize,
+    written: &'a AtomicU64,
+    least: u64,
+    each: u64,
+}
+
+impl Pace<'_> {
+    /// Whether what a source gives that was read so often has come.
+    fn has_come(&self, reads: u64) -> bool {
+        let more = reads.saturating_sub(1).saturating_mul(self.each);
+        reads == 0 || self.written.load(Ordering::SeqCst) >= self.least.saturating_add(more)
+    }
+}
+
+/// Bytes that come by a pace: a read before that fails.
+#[derive(Drop)]
+struct Paced<'a> {
+    tape: Tape<'a>,
+    pace: Pace<'a>,
+}
+
+impl Read for Paced<'_> {
+    fn read(&mut self, buf: &mut [u8]) -> io::Result<usize> {
+        if !self.pace.has_come(self.tape.reads) {
+            return Err(io::Error::from(ErrorKind::Other));
+        }
+        let answer = self.tape.read(buf);
+        self.tape.step = 10;
+        answer
+    }
+}
+
+/// A source that is ready by a pace, and counts how often it was read.
+#[derive(Drop)]
+struct Late<'a, S: Source> {
+    source: S,
+    pace: Pace<'a>,
+    reads: u64,
+}
+
+impl<'a, S: Source> Source for Late<'a, S> {
+    ghost remaining = { λ s. S.remaining s.source };
+
+    ghost failures = { λ s. S.failures s.source };
+
+    fn read(&mut self, buf: &mut [u8]) -> io::Result<usize> {
+        self.reads = self.reads.saturating_add(1);
+        self.source.read(buf)
+    }
+
+    fn is_ready(&self, _milliseconds: u64) -> bool {
+        self.pace.has_come(self.reads)
+    }
+}
+
+/// A sink that counts the bytes that it takes.
+#[derive(Drop)]
+struct Counted<'a, S: Sink> {
+    sink: S,
+    written: &'a AtomicU64,
+}
+
+impl<'a, S: Sink> Sink for Counted<'a, S> {
+    ghost contents = { λ s. S.contents s.sink };
+
+    ghost failures = { λ s. S.failures s.sink };
+
+    ghost is_flushed = { λ s. S.is_flushed s.sink };
+
+    fn write(&mut self, buf: &[u8]) -> io::Result<usize> {
+        let answer = self.sink.write(buf);
+        if let Ok(n) = &answer {
+            self.written.fetch_add(*n as u64, Ordering::SeqCst);
+        }
+        answer
+    }
+
+    fn flush(&mut self) -> io::Result<()> {
+        self.sink.flush()
+    }
+}
+
+/// A stream whose input comes late: its bytes, when they come, what it is served with, and where its bytes
+/// that were written are counted.
+#[derive(Clone, Copy)]
+struct Side<'a> {
+    input: &'a [u8],
+    pace: Pace<'a>,
+    plan: Plan<'a>,
+    written: &'a AtomicU64,
+}
+
+type Reader<'a> = StreamReader<Late<'a, OverRead<Paced<'a>>>>;
+
+type Writer<'a> = Counted<'a, OverWrite<Room>>;
+
+type OneServed<'a> = Served<Late<'a, OverRead<Paced<'a>>>, Writer<'a>>;
+
+fn opened<'a>(alloc: Global, side: Side<'a>) -> Result<(StreamSpec, (Reader<'a>, Writer<'a>)), Fail>
+    ensures { IfOk result (λ made. IsInput made.0 made.1) }
+{
+    let pace = side.pace;
+    let tape = Tape::by_steps(side.input, pace.first);
+    let source = OverRead::new(Paced { tape, pace });
+    let reader = StreamReader::open(
+        alloc,
+        Late {
+            source,
+            pace,
+            reads: 0,
+        },
+    )?;
+    let spec = stream_of(alloc, reader.header(), side.plan)?;
+    let sink = OverWrite::new(Room::new(alloc, side.plan.room)?);
+    let written = side.written;
+    Ok((spec, (reader, Counted { sink, written })))
+}
+
+/// Serves two streams by two workers, with room for sixteen entries an epoch.
+fn served_beside<'a, T: Threads + Wait + Sync>(
+    rt: &T,
+    alloc: Global,
+    first: Side<'a>,
+    second: Side<'a>,
+) -> Result<Vec<OneServed<'a>>, Fail> {
+    let (first, input) = opened(alloc, first)?;
+    let (second, other) = opened(alloc, second)?;
+    let mut specs = Vec::new(alloc);
+    specs.push(first)?;
+    specs.push(second)?;
+    let mut inputs = Vec::new(alloc);
+    inputs.push(input)?;
+    inputs.push(other)?;
+    let setup = Setup::new(2, 4, specs)?;
+    Ok(serve_session(rt, alloc, setup, inputs, 16, &Open, &Still(0))?)
+}
+
+/// What a stream came to: why it stopped, how many frames were accepted, delivered and charged, and what was
+/// written.
+#[derive(Drop)]
+struct Came {
+    end: (Stop, u64, u64, u64),
+    written: Vec<u8>,
+}
+
+fn end_of(served: OneServed<'_>) -> Came {
+    let end = (
+        served.stop,
+        served.accepted,
+        served.delivered,
+        served.charged,
+    );
+    let written = served.writer.sink.into_inner().taken;
+    Came { end, written }
+}
+
+/// What two streams come to that are served beside each other.
+fn both_came<'a, T: Threads + Wait + Sync>(
+    rt: &T,
+    alloc: Global,
+    first: Side<'a>,
+    second: Side<'a>,
+) -> Result<Vec<Came>, Fail> {
+    let mut all = Vec::new(alloc);
+    for served in served_beside(rt, alloc, first, second)? {
+        all.push(end_of(served))?;
+    }
+    Ok(all)
+}
+
+/// What is told of a stream, as `Came` has it.
+#[derive(Drop)]
+struct Told<'a> {
+    end: (Stop, u64, u64, u64),
+    written: &'a [u8],
+}
+
+fn came_to(rt: &impl Abort, came: Option<Came>, told: &Told<'_>) -> Result<(), Fail> {
+    let came = came.ok_or("no stream")?;
+    assert_eq!(rt; came.end, told.end);
+    assert_eq!(rt; came.written.as_slice(), told.written);
+    Ok(())
+}
+
+/// Twenty frames of four samples each, and what they are inverted to, each behind the header line: 222 bytes.
+fn twenty(alloc: Global) -> Result<(Vec<u8>, Vec<u8>), Fail> {
+    let mut frames = HEADER.to_vec(alloc)?;
+    let mut images = HEADER.to_vec(alloc)?;
+    for n in 0..20u8 {
+        frames.extend_from_slice(b"FRAME\n\x00\x01\x02")?;
+        frames.push(n)?;
+        images.extend_from_slice(b"FRAME\n\xff\xfe\xfd")?;
+        images.push(255 - n)?;
+    }
+    Ok((frames, images))
+}
+
+/// What a stream comes to that is silent, behind its first bytes, until all of another's images were written.
+struct Case<'a> {
+    input: &'a [u8],
+    first: usize,
+    room: usize,
+    told: Told<'a>,
+}
+
+const CASES: &[Case<'_>] = &[
+    Case {
+        input: THREE,
+        first: 22,
+        room: 1 << 16,
+        told: Told {
+            end: (Stop::Whole, 3, 3, 3),
+            written: THREE_INVERTED,
+        },
+    },
+    Case {
+        input: THREE,
+        first: 32,
+        room: 1 << 16,
+        told: Told {
+            end: (Stop::Whole, 3, 3, 3),
+            written: THREE_INVERTED,
+        },
+    },
+    // the fault of the first image is held until the input's end
+    Case {
+        input: THREE,
+        first: 32,
+        room: 22,
+        told: Told {
+            end: (Stop::Write(WriteFault::Device(22)), 3, 0, 3),
+            written: HEADER,
+        },
+    },
+    // and a fault of the input comes before it
+    Case {
+        input: CUT,
+        first: 32,
+        room: 22,
+        told: Told {
+            end: (Stop::Read(ReadFault::Truncated), 1, 0, 1),
+            written: HEADER,
+        },
+    },
+    Case {
+        input: ONE,
+        first: 22,
+        room: 1 << 16,
+        told: Told {
+            end: (Stop::Whole, 1, 1, 1),
+            written: ONE_INVERTED,
+        },
+    },
+];
+
+/// What two streams come to, of which one is silent, behind its first bytes, until all images of the other
+/// were written.
+fn beside_silent<'a, T: Threads + Wait + Sync>(
+    rt: &T,
+    alloc: Global,
+    frames: &'a [u8],
+    input: &'a [u8],
+    sizes: (usize, usize),
+    written: &'a AtomicU64,
+    other: &'a AtomicU64,
+) -> Result<Vec<Came>, Fail> {
+    let (first, room) = sizes;
+    let talker = Side {
+        input: frames,
+        pace: Pace {
+            first: 22,
+            written: other,
+            least: 0,
+            each: 0,
+        },
+        plan: PLAIN,
+        written,
+    };
+    let silent = Side {
+        input,
+        pace: Pace {
+            first,
+            written,
+            least: 222,
+            each: 0,
+        },
+        plan: Plan { room, ..PLAIN },
+        written: other,
+    };
+    both_came(rt, alloc, talker, silent)
+}
+
+/// A silent stream holds up no other, whose images need a dozen epochs.
+fn comes_behind(
+    rt: &(impl Abort + Threads + Wait + Sync),
+    alloc: Global,
+    case: &Case<'_>,
+) -> Result<(), Fail> {
+    let (frames, images) = twenty(alloc)?;
+    let written = AtomicU64::new(0);
+    let other = AtomicU64::new(0);
+    let sizes = (case.first, case.room);
+    let mut all = beside_silent(rt, alloc, &frames, case.input, sizes, &written, &other)?;
+    came_to(rt, all.pop(), &case.told)?;
+    let told = Told {
+        end: (Stop::Whole, 20, 20, 20),
+        written: &images,
+    };
+    came_to(rt, all.pop(), &told)
+}
+
+#[test]
+fn a_silent_stream_holds_up_no_other(rt: HostRuntime) -> Result<(), Fail> {
+    for case in CASES {
+        comes_behind(&rt, rt.alloc(), case)?;
+    }
+    Ok(())
+}
+
+/// A stream of twenty frames, each of which comes once the image of the one before it is written.
+fn live<'a>(frames: &'a [u8], ops: &'a str, written: &'a AtomicU64) -> Side<'a> {
+    let pace = Pace {
+        first: 22,
+        written,
+        least: 22,
+        each: 10,
+    };
+    Side {
+        input: frames,
+        pace,
+        plan: Plan { ops, ..PLAIN },
+        written,
+    }
+}
+
+/// What two such streams come to.
+fn both_live<'a, T: Threads + Wait + Sync>(
+    rt: &T,
+    alloc: Global,
+    frames: &'a [u8],
+    ops: &'a str,
+    first: &'a AtomicU64,
+    second: &'a AtomicU64,
+) -> Result<Vec<Came>, Fail> {
+    let first = live(frames, ops, first);
+    let second = live(frames, ops, second);
+    both_came(rt, alloc, first, second)
+}
+
+/// Serves two such streams, and compares what was written where the images are known.
+fn served_live(
+    rt: &(impl Abort + Threads + Wait + Sync),
+    alloc: Global,
+    ops: &str,
+    images: Option<&[u8]>,
+) -> Result<(), Fail> {
+    let (frames, _) = twenty(alloc)?;
+    let first = AtomicU64::new(0);
+    let second = AtomicU64::new(0);
+    let all = both_live(rt, alloc, &frames, ops, &first, &second)?;
+    assert_eq!(rt; all.len(), 2);
+    for came in all {
+        let (stop, accepted, delivered, _) = came.end;
+        assert_eq!(rt; (stop, accepted, delivered), (Stop::Whole, 20, 20), "{ops}");
+        assert_eq!(rt; came.written.len(), 222, "{ops}");
+        if let Some(images) = images {
+            assert_eq!(rt; came.written.as_slice(), images, "{ops}");
+        }
+    }
+    Ok(())
+}
+
+/// Also where a blur takes long, so that a client would read ahead.
+#[test]
+fn an_image_leaves_before_the_next_frame_comes(rt: HostRuntime) -> Result<(), Fail> {
+    let alloc = rt.alloc();
+    let (_, images) = twenty(alloc)?;
+    served_live(&rt, alloc, "invert", Some(&images))?;
+    served_live(&rt, alloc, "blur:1+invert", None)
+}
