@@ -1,0 +1,145 @@
+"""What `growths` and `threads` share: runs of which a growth of memory or a thread is refused, and what they may come to."""
+
+import os
+import re
+import subprocess
+import sys
+
+import streams as s
+
+SECONDS = 60
+# how a test ends that fails: by a result that is an error, or by a panic
+FAILED = (101, -6)
+HEADER = b"YUV4MPEG2 W2 H2 F25:1 Ip A1:1 Cmono XA=b\n"
+FRAME = b"FRAME\n\x00\x01\xfe\xff"
+NEGATIVE = b"FRAME\n\xff\xfe\x01\x00"
+
+
+class Ended:
+    """How a run ended, and whether anything of it was refused."""
+
+    def __init__(self, status, out, errors, refused):
+        self.status, self.out, self.errors, self.refused = status, out, errors, refused
+
+    def answer(self):
+        return self.status, self.out, self.errors
+
+
+def library(folder):
+    made = os.path.join(folder, "refuse.so")
+    source = os.path.join(os.path.dirname(os.path.abspath(__file__)), "refuse.c")
+    if subprocess.run(["cc", "-O1", "-shared", "-fPIC", "-o", made, source]).returncode != 0:
+        sys.exit("refuse.c was not compiled")
+    return made
+
+
+def run(made, words, given, what, number, and_all):
+    """A run whose GROWTH or THREAD of this number is refused, or that and all behind it; with the number 0 none."""
+    told, tell = os.pipe()
+    wanted = dict(os.environ, LD_PRELOAD=made, REFUSE_TOLD=str(tell), **{"REFUSE_" + what: str(number)})
+    if and_all:
+        wanted["REFUSE_ALL"] = "yes"
+    try:
+        ran = subprocess.run(words, input=given, capture_output=True, env=wanted, pass_fds=[tell], timeout=SECONDS)
+        status, out, errors = ran.returncode, ran.stdout, ran.stderr
+    except subprocess.TimeoutExpired:
+        status, out, errors = "no end", b"", b""
+    finally:
+        os.close(tell)
+    with os.fdopen(told, "rb") as file:
+        return Ended(status, out, errors, file.read() != b"")
+
+
+class Test:
+    """One test of a crate."""
+
+    # how it may name what was refused
+    WANT = re.compile(rb"NoMemory|AllocError|AllocFailed|OutOfMemory|memory|was a thread .*refused", re.I)
+
+    def __init__(self, crate, program, name):
+        self.name, self.words, self.given = f"{crate} {name}", [program, name], b""
+
+    def fault(self, ended):
+        text = ended.out + ended.errors
+        if ended.status == 0:
+            return None if b"test result: ok" in text else "it passed, and did not say so"
+        if ended.status not in FAILED:
+            return f"it ended with status {ended.status}"
+        return None if self.WANT.search(text) else f"it failed for another cause: {text[-200:]!r}"
+
+
+class Case:
+    """One run of the program, with its answer: status, output and errors."""
+
+    def __init__(self, words, given, status, out, errors):
+        self.name, self.words, self.given = " ".join(words), [s.program(), *words], given
+        self.whole = (status, out, errors)
+
+    def fault(self, ended):
+        if ended.answer() == self.whole:
+            return None
+        if ended.refused and (self.names_words(ended) or self.is_front(ended)):
+            return None
+        return f"status {ended.status}, {len(ended.out)} bytes, {ended.errors[-200:]!r}"
+
+    @staticmethod
+    def names_words(ended):
+        """There was no memory for the words."""
+        return ended.answer() == (1, b"", b"y4mserve: NoMemory\n")
+
+    def is_front(self, ended):
+        return False
+
+
+class Session(Case):
+    """A run of `serve` on two files: what was written of each is a front of its images, and all of them where it stops whole."""
+
+    LINE = re.compile(rb"([ab]) accepted (\d+) delivered (\d+) charged (\d+) stop (whole|open|create|read .*|ops .*|refused NoMemory)")
+
+    def __init__(self, folder, options, frames):
+        paths = {name: os.path.join(folder, f"{name}{frames}") for name in "ab"}
+        for path in paths.values():
+            with open(path, "wb") as file:
+                file.write(HEADER + frames * FRAME)
+        rows = [f"{name} accepted {frames} delivered {frames} charged {frames} stop whole\n" for name in paths]
+        super().__init__(["serve", *options, *(f"{name}:{path}:{path}.out:10:40:invert" for name, path in paths.items())],
+                         b"", 0, "".join([*rows, f"units {2 * frames}\n"]).encode(), b"")
+        self.name, self.outs = " ".join(["serve", *options]), [path + ".out" for path in paths.values()]
+        self.images = HEADER + frames * NEGATIVE
+
+    def fault(self, ended):
+        wrote, images = [self.taken(path) for path in self.outs], self.images
+        if ended.answer() == self.whole:
+            return None if wrote == [images, images] else "a stream that is told as whole isn't"
+        if not all(images.startswith(front) for front in wrote):
+            return "what was written is no front of the images"
+        lines = ended.out.splitlines()
+        if ended.refused and (self.names_words(ended) or ended.answer() == (1, b"", b"y4mserve: session NoMemory\n")):
+            return None
+        told = [self.LINE.fullmatch(line) for line in lines[:-1]]
+        if not ended.refused or ended.status != 1 or ended.errors or len(told) != 2 or None in told:
+            return f"status {ended.status}, {ended.out!r}, {ended.errors[-200:]!r}"
+        is_true = all(self.is_true(line, front) for line, front in zip(told, wrote))
+        return None if is_true else f"{ended.out!r} isn't what was written"
+
+    def is_true(self, line, front):
+        """Whether so many images were written as are told, and all of a stream that is whole."""
+        images = HEADER + int(line[3]) * NEGATIVE
+        return front == self.images if line[5] == b"whole" else front == images or (front, line[3]) == (b"", b"0")
+
+    @staticmethod
+    def taken(path):
+        """What was written, which is then taken away."""
+        if not os.path.exists(path):
+            return b""
+        with open(path, "rb") as file:
+            written = file.read()
+        os.remove(path)
+        return written
+
+
+def tests_of(crate, kind=Test):
+    """Each test of a crate, as one of this kind."""
+    program = s.tests(crate)
+    listed = subprocess.run([program, "--list"], check=True, capture_output=True, text=True).stdout
+    return [kind(crate, program, name) for name in re.findall(r"^(.*): test$", listed, re.M)]
