@@ -1,5 +1,6 @@
 -- How far a server's deadline can be put off.
-use Rattle.std.proofs.Common.{ℕ, zero, suc, ◌+◌, ◌*◌, ◌^◌, ◌≡◌, ◌≤◌, ◌<◌, ◌∙◌, List, [], ◌∷◌, replicate, refl, subst, arith, zero-add, add_assoc, mul-le-mul_right}
+use Rattle.std.proofs.Common.{ℕ, zero, suc, ◌+◌, ◌*◌, ◌^◌, ◌≡◌, ◌≤◌, ◌<◌, ◌∙◌, List, [], ◌∷◌, replicate, refl}
+use Rattle.std.proofs.Common.{subst, arith, zero-add, add_assoc, mul-le-mul_right}
 use Rattle.std.proofs.lemmas.Bool.Decides.{nat_tests}
 use Rattle.cbs_account.specs.declared.limits.TheConstants.{DEADLINE_END, LAST_MOMENT, LONGEST_PERIOD, MOST_UNITS_IN_ALL}
 use Rattle.cbs_account.specs.Balance.{Balance, opened}
@@ -29,10 +30,12 @@ limited-unit m n b h = grind (arith, nat_tests)
 limited-idle : (m n r : ℕ) (b : Balance) → r ≤ m → IsLimited m n b → IsLimited m n (after_idle r b)
 limited-idle m n r b within h = grind (arith, nat_tests)
 
-limited : (m n : ℕ) (later : List OwnEvent) (b : Balance) → IsLimited m n b → NoneAfter m later → IsLimited m (n + unit_count later) (after_all b later)
+limited : (m n : ℕ) (later : List OwnEvent) (b : Balance) → IsLimited m n b → NoneAfter m later
+    → IsLimited m (n + unit_count later) (after_all b later)
 limited m n [] b h none = omega arith
 limited m n (UnitOfWork ∷ later) b h none =
-    let one : IsLimited m (n + unit_count later + 1) (after_unit (after_all b later)) = limited-unit m (n + unit_count later) (after_all b later) (limited m n later b h none) in
+    let one : IsLimited m (n + unit_count later + 1) (after_unit (after_all b later)) =
+    limited-unit m (n + unit_count later) (after_all b later) (limited m n later b h none) in
     subst (λ (units : ℕ). IsLimited m units (after_unit (after_all b later))) (add_assoc n (unit_count later) 1) one
 limited m n (Idle r ∷ later) b h none = limited-idle m (n + unit_count later) r (after_all b later) none.0 (limited m n later b h none.1)
 

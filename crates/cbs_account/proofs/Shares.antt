@@ -30,7 +30,8 @@ divides m server = m % server.period ≡ 0
 abbrev use_in : ℕ → Reservation → ℕ
 use_in m server = server.maximum * (m / server.period)
 
-uses_covered : (m : ℕ) (servers : List Reservation) → All (divides m) servers → sum_by (use_in m) servers * WHOLE ≤ m * sum_by share_of servers
+uses_covered : (m : ℕ) (servers : List Reservation) → All (divides m) servers
+    → sum_by (use_in m) servers * WHOLE ≤ m * sum_by share_of servers
 uses_covered m [] whole = omega arith
 uses_covered m (server ∷ servers) whole =
     let here = use_covered server.maximum server.period m (All-head (divides m) server servers whole) in

@@ -33,7 +33,12 @@ after_units-below k b positive within below =
 
 -- as many units as the budget has, or more
 abbrev pub divided : ℕ → Balance → Balance
-divided k b = record { maximum = b.maximum; period = b.period; budget = b.maximum - (k - b.budget) % b.maximum; deadline = b.deadline + b.period * (1 + (k - b.budget) / b.maximum) }
+divided k b = record {
+  maximum = b.maximum;
+  period = b.period;
+  budget = b.maximum - (k - b.budget) % b.maximum;
+  deadline = b.deadline + b.period * (1 + (k - b.budget) / b.maximum);
+}
 
 pub after_units-from : (k : ℕ) (b : Balance) → 1 ≤ b.budget → b.budget ≤ b.maximum → b.budget ≤ k → after_units k b ≡ divided k b
 after_units-from k b positive within enough =
@@ -50,4 +55,5 @@ deadline_rises_by zero i b = rw zero-add (le_refl _)
 deadline_rises_by (suc k) i b = rw suc-add (omega (arith, deadline_rises_by k i b, deadline_rises (after_units (k + i) b)))
 
 pub deadline_rises_to : (i k : ℕ) (b : Balance) → i ≤ k → (after_units i b).deadline ≤ (after_units k b).deadline
-deadline_rises_to i k b le = let e : (k - i) + i ≡ k = omega arith in subst (λ (n : ℕ). (after_units i b).deadline ≤ (after_units n b).deadline) e (deadline_rises_by (k - i) i b)
+deadline_rises_to i k b le = let e : (k - i) + i ≡ k = omega arith in
+    subst (λ (n : ℕ). (after_units i b).deadline ≤ (after_units n b).deadline) e (deadline_rises_by (k - i) i b)

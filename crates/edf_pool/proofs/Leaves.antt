@@ -1,6 +1,10 @@
 -- The deadlines by stream, as the leaves of a tree show them.
-use Rattle.std.proofs.Common.{◌≡◌, ℕ, zero, suc, ◌+◌, ◌-◌, ◌<◌, ◌≤◌, inl, inr, List, [], ◌∷◌, ◌++◌, length, take, drop, map, get_or, set, replicate, slice_get, Option, Some, None, refl, sym, ap, ◌∙◌, subst, arith, length-drop, length-set}
-use Rattle.std.proofs.lemmas.List.{map-set, map_push, drop-set-add, take-replicate, take_more, get_or-set_same, get_or-set_other, length-map, length-take-le, get_or-take, get_or-drop}
+use Rattle.std.proofs.Common.{◌≡◌, ℕ, zero, suc, ◌+◌, ◌-◌, ◌<◌, ◌≤◌, inl, inr, List, [], ◌∷◌, ◌++◌, length}
+use Rattle.std.proofs.Common.{take, drop, map, get_or, set, replicate, slice_get, Option, Some, None, refl}
+use Rattle.std.proofs.Common.{sym, ap, ◌∙◌, subst, arith, length-drop, length-set}
+use Rattle.std.proofs.lemmas.List.{map-set, map_push, drop-set-add, take-replicate, take_more}
+use Rattle.std.proofs.lemmas.List.{get_or-set_same, get_or-set_other, length-map, length-take-le, get_or-take}
+use Rattle.std.proofs.lemmas.List.{get_or-drop}
 use Rattle.std.proofs.Math.Seq.{take-set-lt}
 use Rattle.std.proofs.lemmas.Option.{slice_get-map, slice_get-get_or, slice_get_within}
 use Rattle.edf_pool.specs.declared.node.Ready.{Ready}
@@ -20,7 +24,8 @@ pub slice_get-deadlines : (streams : ℕ) (nodes : List (Option Ready)) (s : ℕ
 slice_get-deadlines streams nodes s size most within =
     let row = take streams (drop 64 nodes) in
     let long : s < length row = rw (length-take-le streams (drop 64 nodes) (omega (arith, length-drop 64 nodes))) within in
-    let read : get_or row s None ≡ node_at nodes (64 + s) = get_or-take streams (drop 64 nodes) s None within ∙ get_or-drop 64 nodes s None in
+    let read : get_or row s None ≡ node_at nodes (64 + s) = get_or-take streams (drop 64 nodes) s None within
+    ∙ get_or-drop 64 nodes s None in
     rw (slice_get-map deadline_of row s, slice_get-get_or row s None long, read) refl
 
 -- a node that shows a deadline is of a ready stream

@@ -1,11 +1,13 @@
 -- Node 1 of a winner tree holds the earliest of all.
-use Rattle.std.proofs.Common.{◌≡◌, ℕ, zero, suc, ◌+◌, ◌-◌, ◌*◌, ◌/◌, ◌<◌, ◌≤◌, ◌⊎◌, inl, inr, List, length, replicate, Option, Some, None, MatchOption, refl, sym, ◌∙◌, subst, arith}
+use Rattle.std.proofs.Common.{◌≡◌, ℕ, zero, suc, ◌+◌, ◌-◌, ◌*◌, ◌/◌, ◌<◌, ◌≤◌, ◌⊎◌, inl, inr, List, length}
+use Rattle.std.proofs.Common.{replicate, Option, Some, None, MatchOption, refl, sym, ◌∙◌, subst, arith}
 use Rattle.std.proofs.lemmas.List.{length-replicate, get_or-replicate, get_or_past}
 use Rattle.edf_pool.specs.declared.node.Ready.{Ready}
 use Rattle.edf_pool.specs.Earliest.{IsReady, IsEarliest, NoneReady}
 use Rattle.edf_pool.specs.Tree.{node_at, AreLeaves, AreWinners, IsTree, deadlines}
 use Rattle.edf_pool.proofs.Leaves.{IsTold, leaf_of_ready, leaves_told, length-told, slice_get-deadlines}
-use Rattle.edf_pool.proofs.Orders.{IsAtMost, at_most_itself, at_most_along, earlier, lower, lesser_at_most_left, lesser_at_most_right, lesser_either}
+use Rattle.edf_pool.proofs.Orders.{IsAtMost, at_most_itself, at_most_along, earlier, lower}
+use Rattle.edf_pool.proofs.Orders.{lesser_at_most_left, lesser_at_most_right, lesser_either}
 use Rattle.edf_pool.proofs.Winners.{below_or}
 
 even_or_odd : (j : ℕ) → (j ≡ 2 * (j / 2)) ⊎ (j ≡ 2 * (j / 2) + 1)
@@ -65,7 +67,8 @@ at_own_leaf streams nodes (suc steps) i ready leaves winners some near e =
       | inr leaf ↦ leaf_is_own streams nodes i ready leaves leaf e
     ]
 
-module _ (streams : ℕ) (nodes : List (Option Ready)) (size : length nodes ≡ 128) (most : streams ≤ 64) (leaves : AreLeaves streams nodes) (winners : AreWinners nodes) where
+module _ (streams : ℕ) (nodes : List (Option Ready)) (size : length nodes ≡ 128) (most : streams ≤ 64)
+    (leaves : AreLeaves streams nodes) (winners : AreWinners nodes) where
   abbrev all : List (Option ℕ)
   all = deadlines streams nodes
 

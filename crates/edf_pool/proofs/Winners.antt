@@ -1,5 +1,6 @@
 -- The inner nodes while a leaf is written and each node above it is told.
-use Rattle.std.proofs.Common.{ℕ, ◌+◌, ◌*◌, ◌/◌, ◌≡◌, ◌≢◌, ◌≤◌, ◌<◌, ◌^◌, ◌⊎◌, inl, inr, List, add-one, lit<, length, set, Option, None, refl, sym, arith, subst}
+use Rattle.std.proofs.Common.{ℕ, ◌+◌, ◌*◌, ◌/◌, ◌≡◌, ◌≢◌, ◌≤◌, ◌<◌, ◌^◌, ◌⊎◌, inl, inr, List, add-one, lit<}
+use Rattle.std.proofs.Common.{length, set, Option, None, refl, sym, arith, subst}
 use Rattle.std.proofs.lemmas.List.{get_or-set_same, get_or-set_other}
 use Rattle.std.proofs.Math.Nat.{mul-le-mul_left, pow-suc, pow-le-pow_right, mul_assoc}
 use Rattle.edf_pool.specs.declared.node.Ready.{Ready}

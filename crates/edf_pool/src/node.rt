@@ -32,7 +32,8 @@ impl Ready {
 }
 
 /// How many comparisons of nodes were made. The count, `made`, stands in contracts alone and takes no bytes.
-/// Only [`Compares::less`], which compares two nodes, adds to it.
+/// Only [`Compares::less`], which compares two nodes, adds to it. What bounds the count that a call is handed
+/// bounds no other one: that the call makes none of its own is to be read from its code.
 #[derive(Drop)]
 pub struct Compares {
     pub ghost made: { ℕ },

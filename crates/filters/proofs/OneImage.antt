@@ -51,9 +51,11 @@ module _ (g h : Geometry) (e : format_of g ≡ format_of h) where
 
   same_pixel : (op : Op) (samples : List ℕ) (p y x : ℕ) → image_pixel op g samples p y x ≡ image_pixel op h samples p y x
   same_pixel op samples p y x =
-      let from : ℕ → ℕ → ℕ → Samples = λ columns rows start. record { columns = columns; rows = rows; at = λ y x. slice_index samples (start + y * columns + x) } in
+      let from : ℕ → ℕ → ℕ → Samples =
+      λ columns rows start. record { columns = columns; rows = rows; at = λ y x. slice_index samples (start + y * columns + x) } in
       let planes : plane_of g samples p ≡ plane_of h samples p =
-      ap (λ n. from n (plane_height g p) (plane_start g p)) (same_width p) ∙ ap (λ n. from (plane_width h p) n (plane_start g p)) (same_height p)
+      ap (λ n. from n (plane_height g p) (plane_start g p)) (same_width p)
+      ∙ ap (λ n. from (plane_width h p) n (plane_start g p)) (same_height p)
       ∙ ap (from (plane_width h p) (plane_height h p)) (same_start p) in
       ap (λ c. pixel op c p (plane_of g samples p) y x) chroma ∙ ap (λ s. pixel op h.chroma p s y x) planes
 
@@ -64,7 +66,8 @@ pub record SamePixels (a b : FrameValue) : Type 0 where
 
 one_image : (op : Op) (s t a b : FrameValue) → SamePixels s t → IsImage op s a → IsImage op t b → SamePixels a b
 one_image op s t a b same x y =
-    let format : format_of a.geometry ≡ format_of b.geometry = x.geometry.format ∙ ap (format_after op) same.format ∙ sym y.geometry.format in
+    let format : format_of a.geometry ≡ format_of b.geometry = x.geometry.format ∙ ap (format_after op) same.format
+    ∙ sym y.geometry.format in
     let long : length a.samples ≡ length b.samples = x.whole ∙ same_len a.geometry b.geometry format ∙ sym y.whole in
     record {
       format = format;
@@ -80,7 +83,8 @@ one_image op s t a b same x y =
           ∙ ap (λ i. get_or b.samples i 0) (ap (λ i. i + column) (sym (same_row a.geometry b.geometry format p row)) ∙ sym place.4));
     }
 
-pub one_image_by_all : (ops : List Op) (s t a b : FrameValue) → SamePixels s t → IsImageByAll ops s a → IsImageByAll ops t b → SamePixels a b
+pub one_image_by_all : (ops : List Op) (s t a b : FrameValue) → SamePixels s t → IsImageByAll ops s a
+    → IsImageByAll ops t b → SamePixels a b
 one_image_by_all [] s t a b same x y = rw (x, y) (record { format = same.format; samples = same.samples })
 one_image_by_all (op ∷ ops) s t a b same x y = one_image_by_all ops x.0 y.0 a b (one_image op s t x.0 y.0 same x.1 y.1) x.2 y.2
 

@@ -12,7 +12,7 @@ abbrev pub kept_chain : Inside → ChainValue
 kept_chain a = record { ops = a.ops.items; geometry = a.geometry; band_height = a.band_height }
 
 -- the outputs and the number of steps are those of the chain
-pub record IsSound (a : Inside) : Type 0 where
+pub record IsKeptChain (a : Inside) : Type 0 where
   pub is_chain : ∥ IsChain (kept_chain a) ∥₁
   pub count : IsChainLength (length a.ops.items)
   pub outputs : AreOutputs a.ops.items a.geometry a.outputs.items

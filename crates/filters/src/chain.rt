@@ -43,11 +43,11 @@ impl Model for Chain {
 
     ghost Value = { ChainValue };
 
-    ghost use Rattle.filters.specs.ChainInside.{kept_chain, IsSound};
+    ghost use Rattle.filters.specs.ChainInside.{IsKeptChain, kept_chain};
 
     ghost view = { kept_chain };
 
-    ghost invariant = { IsSound };
+    ghost invariant = { IsKeptChain };
 }
 
 /// What a frame takes, where the operations make a chain.
@@ -111,7 +111,7 @@ impl Chain {
     }
 
     /// What every chain keeps. It does nothing: proofs about a chain that was made elsewhere ask for this.
-    pub fn is_chain_law(&self)
+    pub fn recall_is_chain(&self)
         ensures { ∥ IsChain self.now ∥₁ }
     {
         let _steps = self.steps;

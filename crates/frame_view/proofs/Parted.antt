@@ -5,7 +5,8 @@ use Rattle.y4m_header.specs.Chroma.{plane_count}
 use Rattle.frame_view.specs.declared.geometry.Geometry.{Geometry}
 use Rattle.frame_view.specs.Places.{plane_width, plane_height, plane_start, row_start, frame_len}
 use Rattle.frame_view.specs.Rows.{IsPlace, IsInOneRow, EachByteInOneRow}
-use Rattle.frame_view.proofs.Places.{first_plane, next_plane, next_row, planes_ordered, planes_fill, row_in_plane, row_in_frame, some_columns}
+use Rattle.frame_view.proofs.Places.{first_plane, next_plane, next_row, planes_ordered, planes_fill}
+use Rattle.frame_view.proofs.Places.{row_in_plane, row_in_frame, some_columns}
 
 either_side : (i n : ℕ) → (i < n) ⊎ (n ≤ i)
 either_side i n = grind arith
@@ -21,9 +22,11 @@ plane_at g (suc n) i h = elim (either_side i (plane_start g n)) [
   | inr l ↦ (n, omega arith, l, rw (let e : n + 1 ≡ suc n = omega arith in e) h)
 ]
 
-same_plane : (g : Geometry) (p q z v i : ℕ) → plane_start g p ≤ i → i < plane_start g (p + 1) → IsPlace g q z v → i ≡ row_start g q z + v → q ≡ p
+same_plane : (g : Geometry) (p q z v i : ℕ) → plane_start g p ≤ i → i < plane_start g (p + 1) → IsPlace g q z v
+    → i ≡ row_start g q z + v → q ≡ p
 same_plane g p q z v i low high a e =
-    let above : row_start g q z + v < plane_start g (q + 1) = omega (arith, row_in_plane g q (z + 1) (let k = a.row in omega arith), next_row g q z, a.column) in
+    let above : row_start g q z + v < plane_start g (q + 1) =
+    omega (arith, row_in_plane g q (z + 1) (let k = a.row in omega arith), next_row g q z, a.column) in
     elim (three q p) [
       | inl l ↦ absurd (omega (arith, planes_ordered g (q + 1) p (omega arith)))
       | inr (inl s) ↦ s

@@ -1,5 +1,6 @@
 -- The places of planes and rows.
-use Rattle.std.proofs.Common.{ℕ, ◌≡◌, ◌+◌, ◌*◌, ◌/◌, ◌%◌, ◌<◌, ◌≤◌, zero, suc, arith, refl, ap, ◌∙◌, add-one, le_refl, Bool, true, false, eqb, ◌||◌, if◌then◌else◌, ◌⊎◌, inl, inr, nat_lt}
+use Rattle.std.proofs.Common.{ℕ, ◌≡◌, ◌+◌, ◌*◌, ◌/◌, ◌%◌, ◌<◌, ◌≤◌, zero, suc, arith, refl, ap, ◌∙◌, add-one}
+use Rattle.std.proofs.Common.{le_refl, Bool, true, false, eqb, ◌||◌, if◌then◌else◌, ◌⊎◌, inl, inr, nat_lt}
 use Rattle.std.proofs.Math.Nat.{mul-le-mul_right}
 use Rattle.std.proofs.lemmas.Grind.{common_steps}
 use Rattle.y4m_header.specs.declared.chroma.Chroma.{Chroma}
@@ -67,7 +68,8 @@ pub planes_fill : (g : Geometry) → plane_start g (plane_count g.chroma) ≡ fr
 planes_fill g = filled g.chroma g.width g.height (plane_start g) g.columns_divided g.rows_divided (start_1 g) (start_3 g) (start_4 g)
 
 pub row_in_frame : (g : Geometry) (p y : ℕ) → p < plane_count g.chroma → y ≤ plane_height g p → row_start g p y ≤ frame_len g
-row_in_frame g p y hp hy = omega (arith, row_in_plane g p y hy, planes_ordered g (p + 1) (plane_count g.chroma) (omega arith), planes_fill g)
+row_in_frame g p y hp hy =
+    omega (arith, row_in_plane g p y hy, planes_ordered g (p + 1) (plane_count g.chroma) (omega arith), planes_fill g)
 
 some_across : (c : Chroma) (n : ℕ) → 1 ≤ n → n % horizontal_divisor c ≡ 0 → 1 ≤ n / horizontal_divisor c
 some_across S420 n h e = omega arith
@@ -94,11 +96,13 @@ some_by_plane p full divided f d = by_test (eqb p 1 || eqb p 2) full divided f d
 
 pub some_columns : (g : Geometry) (p : ℕ) → 1 ≤ plane_width g p
 unfolding plane_width
-some_columns g p = some_by_plane p g.width (g.width / horizontal_divisor g.chroma) g.some_columns (some_across g.chroma g.width g.some_columns g.columns_divided)
+some_columns g p = some_by_plane p g.width (g.width / horizontal_divisor g.chroma) g.some_columns
+    (some_across g.chroma g.width g.some_columns g.columns_divided)
 
 pub some_rows : (g : Geometry) (p : ℕ) → 1 ≤ plane_height g p
 unfolding plane_height
-some_rows g p = some_by_plane p g.height (g.height / vertical_divisor g.chroma) g.some_rows (some_down g.chroma g.height g.some_rows g.rows_divided)
+some_rows g p =
+    some_by_plane p g.height (g.height / vertical_divisor g.chroma) g.some_rows (some_down g.chroma g.height g.some_rows g.rows_divided)
 
 low_by_plane : (p full divided n : ℕ) → full ≤ n → divided ≤ n → by_plane p full divided ≤ n
 low_by_plane p full divided n f d = by_test (eqb p 1 || eqb p 2) f d
@@ -117,10 +121,13 @@ low_down Mono h = omega arith
 
 pub few_rows : (g : Geometry) (p : ℕ) → plane_height g p ≤ LONGEST_SIDE
 unfolding plane_height
-few_rows g p = low_by_plane p g.height (g.height / vertical_divisor g.chroma) LONGEST_SIDE g.low (omega (arith, low_down g.chroma g.height, g.low))
+few_rows g p =
+    low_by_plane p g.height (g.height / vertical_divisor g.chroma) LONGEST_SIDE g.low (omega (arith, low_down g.chroma g.height, g.low))
 
-lent_by_count : (n a b c d : ℕ) → (n ≡ 1) ⊎ ((n ≡ 3) ⊎ (n ≡ 4)) → (start : ℕ → ℕ) → start 1 ≡ a → start 3 ≡ a + (b + c) → start 4 ≡ a + (b + (c + d))
-    → (if nat_lt 0 n then a else 0) + ((if nat_lt 1 n then b else 0) + ((if nat_lt 2 n then c else 0) + (if nat_lt 3 n then d else 0))) ≡ start n
+lent_by_count : (n a b c d : ℕ) → (n ≡ 1) ⊎ ((n ≡ 3) ⊎ (n ≡ 4)) → (start : ℕ → ℕ) → start 1 ≡ a → start 3 ≡ a + (b + c)
+    → start 4 ≡ a + (b + (c + d))
+    → (if nat_lt 0 n then a else 0)
+    + ((if nat_lt 1 n then b else 0) + ((if nat_lt 2 n then c else 0) + (if nat_lt 3 n then d else 0))) ≡ start n
 lent_by_count n a b c d (inl e) start x y z = rw e (omega (arith, x))
 lent_by_count n a b c d (inr (inl e)) start x y z = rw e (omega (arith, y))
 lent_by_count n a b c d (inr (inr e)) start x y z = rw e (omega (arith, z))
@@ -136,7 +143,8 @@ counts Mono = inl refl
 -- the lent planes are all of the frame
 pub lent_fill : (g : Geometry) → lent_len g 0 + (lent_len g 1 + (lent_len g 2 + lent_len g 3)) ≡ frame_len g
 lent_fill g =
-    lent_by_count (plane_count g.chroma) (plane_width g 0 * plane_height g 0) (plane_width g 1 * plane_height g 1) (plane_width g 2 * plane_height g 2) (plane_width g 3 * plane_height g 3) (counts g.chroma) (plane_start g)
+    lent_by_count (plane_count g.chroma) (plane_width g 0 * plane_height g 0) (plane_width g 1 * plane_height g 1)
+    (plane_width g 2 * plane_height g 2) (plane_width g 3 * plane_height g 3) (counts g.chroma) (plane_start g)
     (omega (arith, next_plane g 0, first_plane g))
     (omega (arith, next_plane g 0, next_plane g 1, next_plane g 2, first_plane g))
     (omega (arith, next_plane g 0, next_plane g 1, next_plane g 2, next_plane g 3, first_plane g))

@@ -1,5 +1,6 @@
 -- Rows that were written, and what a frame then has.
-use Rattle.std.proofs.Common.{ℕ, ◌≡◌, ◌+◌, ◌*◌, ◌-◌, ◌<◌, ◌≤◌, List, ◌++◌, length, arith, slice_index, slice_range, ap, ◌∙◌, ◌⊎◌, inl, inr, refl, length-append}
+use Rattle.std.proofs.Common.{ℕ, ◌≡◌, ◌+◌, ◌*◌, ◌-◌, ◌<◌, ◌≤◌, List, ◌++◌, length, arith, slice_index}
+use Rattle.std.proofs.Common.{slice_range, ap, ◌∙◌, ◌⊎◌, inl, inr, refl, length-append}
 use Rattle.std.proofs.lemmas.List.{get_or_append_left, get_or-append_right}
 use Rattle.y4m_header.specs.Chroma.{plane_count}
 use Rattle.frame_view.specs.declared.geometry.Geometry.{Geometry}
@@ -56,17 +57,36 @@ rows_joined picture g p from mid to xs ys h k a b =
     let w = plane_width g p in
     let n : length xs ≡ (mid - from) * w = a.len in
     record {
-      len = simp length-append (omega (arith, gap (mid - from) (to - from) w (omega arith), a.len, b.len, ap (λ z. z * w) (let e : (to - from) - (mid - from) ≡ to - mid = omega arith in e)));
+      len = simp length-append
+          (omega (
+            arith,
+            gap (mid - from) (to - from) w (omega arith),
+            a.len,
+            b.len,
+            ap (λ z. z * w) (let e : (to - from) - (mid - from) ≡ to - mid = omega arith in e),
+          ));
       samples = λ y x c d l. elim (either_side y mid) [
-        | inl q ↦ get_or_append_left xs ys 0 ((y - from) * w + x) (omega (arith, row_below (y - from) (mid - from) x w (omega arith) l)) ∙ a.samples y x c q l
-        | inr q ↦ (let s : (y - from) * w + x - (mid - from) * w ≡ (y - mid) * w + x = omega (arith, gap (mid - from) (y - from) w (omega arith), ap (λ z. z * w) (let e : (y - from) - (mid - from) ≡ y - mid = omega arith in e)) in
-            get_or-append_right xs ys ((mid - from) * w) ((y - from) * w + x) 0 n (omega (arith, gap (mid - from) (y - from) w (omega arith))) ∙ ap (λ z. slice_index ys z) s ∙ b.samples y x q d l)
+        | inl q ↦ get_or_append_left xs ys 0 ((y - from) * w + x)
+            (omega (arith, row_below (y - from) (mid - from) x w (omega arith) l)) ∙ a.samples y x c q l
+        | inr q ↦ (let s : (y - from) * w + x - (mid - from) * w ≡ (y - mid) * w + x =
+            omega (
+              arith,
+              gap (mid - from) (y - from) w (omega arith),
+              ap (λ z. z * w) (let e : (y - from) - (mid - from) ≡ y - mid = omega arith in e),
+            ) in
+            get_or-append_right xs ys ((mid - from) * w) ((y - from) * w + x) 0 n
+            (omega (arith, gap (mid - from) (y - from) w (omega arith))) ∙ ap (λ z. slice_index ys z) s ∙ b.samples y x q d l)
       ];
     }
 
 -- the rows that are left after a cut
 pub rest_rows : (from mid to w n m : ℕ) → from ≤ mid → mid ≤ to → n + (mid - from) * w ≡ m → m ≡ (to - from) * w → n ≡ (to - mid) * w
-rest_rows from mid to w n m h k e f = omega (arith, gap (mid - from) (to - from) w (omega arith), ap (λ z. z * w) (let e : (to - from) - (mid - from) ≡ to - mid = omega arith in e))
+rest_rows from mid to w n m h k e f =
+    omega (
+      arith,
+      gap (mid - from) (to - from) w (omega arith),
+      ap (λ z. z * w) (let e : (to - from) - (mid - from) ≡ to - mid = omega arith in e),
+    )
 
 pub length-part : (xs : List ℕ) (a b : ℕ) → b ≤ length xs → length (slice_range xs a b) ≡ b - a
 length-part xs a b h = grind (arith, common_steps)
@@ -75,7 +95,8 @@ pub read-part : (xs : List ℕ) (a b k : ℕ) → b ≤ length xs → k < b - a 
 read-part xs a b k h l = grind (arith, common_steps)
 
 -- rows of a frame are those of the picture that it shows
-pub shown_rows : (g : Geometry) (bytes : List ℕ) (p from to : ℕ) → from ≤ to → row_start g p to ≤ length bytes → IsRows (sample g bytes) g p from to (run_of g bytes p from to)
+pub shown_rows : (g : Geometry) (bytes : List ℕ) (p from to : ℕ) → from ≤ to → row_start g p to ≤ length bytes
+    → IsRows (sample g bytes) g p from to (run_of g bytes p from to)
 shown_rows g bytes p from to h room =
     let w = plane_width g p in
     let at = row_start g p from in

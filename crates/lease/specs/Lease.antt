@@ -8,7 +8,7 @@ pub record LeaseValue : Type 0 where
   pub job : JobValue
   -- the job's stream, and its number in it
   pub stream : ℕ
-  pub seq : ℕ
+  pub number : ℕ
   -- how many steps the lease may do, and how many of these are done
   pub granted : ℕ
   pub used : ℕ
@@ -27,4 +27,4 @@ pub record IsLease (lease : LeaseValue) : Type 0 where
 
 -- no step is done under the lease
 abbrev pub granted_of : JobValue → ℕ → ℕ → ℕ → LeaseValue
-granted_of job stream seq grant = record { job = job; stream = stream; seq = seq; granted = grant; used = 0 }
+granted_of job stream number grant = record { job = job; stream = stream; number = number; granted = grant; used = 0 }

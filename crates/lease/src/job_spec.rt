@@ -1,6 +1,9 @@
 // What is done to each frame of a stream.
-use filters::Chain;
+ghost use Rattle.std.specs.Prelude.{◌≡◌, ◌↔◌, IsTrue};
+
+use filters::{Chain, Op};
 use frame_view::Geometry;
+use row_bands::BandHeight;
 use std::marker::Model;
 
 /// What is done to each frame of a stream: a chain of operations.
@@ -33,9 +36,39 @@ impl JobSpec {
     }
 
     /// Whether the chain was made for frames of this geometry.
-    pub(crate) fn fits(&self, geometry: Geometry) -> bool
+    pub fn fits(&self, geometry: Geometry) -> bool
         ensures { IsTrue result ↔ (geometry ≡ self.now.geometry) }
     {
         geometry == self.chain.geometry()
     }
+}
+
+/// Whether the same is done to the frames: the same operations, on frames of the same geometry, in bands of
+/// the same height.
+pub fn is_same_spec(one: &JobSpec, other: &JobSpec) -> bool
+    ensures { IsTrue result ↔ (one.now ≡ other.now) }
+{
+    are_same_ops(one.chain.ops(), other.chain.ops())
+        && one.fits(other.chain.geometry())
+        && is_same_height(one.chain.band_height(), other.chain.band_height())
+}
+
+fn is_same_height(one: BandHeight, other: BandHeight) -> bool
+    ensures { IsTrue result ↔ (one ≡ other) }
+{
+    one == other
+}
+
+fn are_same_ops(one: &[Op], other: &[Op]) -> bool
+    ensures { IsTrue result ↔ (one.now ≡ other.now) }
+{
+    if one.len() != other.len() {
+        return false;
+    }
+    for i in 0..one.len() {
+        if one[i] != other[i] {
+            return false;
+        }
+    }
+    true
 }

@@ -17,7 +17,7 @@ pub struct GrantSpent;
 pub struct Lease {
     job: Job,
     stream: u32,
-    seq: u64,
+    number: u64,
     granted: u32,
     used: u32,
     spent: u32,
@@ -28,11 +28,11 @@ impl Model for Lease {
 
     ghost Value = { LeaseValue };
 
-    ghost use Rattle.lease.specs.LeaseInside.{lease_of, IsSound};
+    ghost use Rattle.lease.specs.LeaseInside.{IsCounted, lease_of};
 
     ghost view = { lease_of };
 
-    ghost invariant = { IsSound };
+    ghost invariant = { IsCounted };
 }
 
 impl Lease {
@@ -43,17 +43,17 @@ impl Lease {
     ghost use Rattle.lease.specs.Job.{StepsOn};
     ghost use Rattle.lease.specs.Lease.{granted_of, spent_of};
 
-    /// A lease of this many steps of a job, which is the `seq`th of its stream.
-    pub fn new(job: Job, stream: u32, seq: u64, grant: u32) -> Lease
+    /// A lease of this many steps of the job of frame `number` of its stream.
+    pub fn new(job: Job, stream: u32, number: u64, grant: u32) -> Lease
         requires started { IsSome job.scratch }
         requires some { 1 ≤ grant }
         requires left { job.done + grant ≤ steps_of job.chain }
-        ensures { result ≡ granted_of job stream seq grant }
+        ensures { result ≡ granted_of job stream number grant }
     {
         Lease {
             job,
             stream,
-            seq,
+            number,
             granted: grant,
             used: 0,
             spent: 0,
@@ -130,10 +130,10 @@ impl Lease {
     }
 
     /// The job's number in its stream.
-    pub fn seq(&self) -> u64
-        ensures { result ≡ self.now.seq }
+    pub fn number(&self) -> u64
+        ensures { result ≡ self.now.number }
     {
-        self.seq
+        self.number
     }
 
     /// The frame that the job filters.
@@ -183,7 +183,7 @@ impl Lease {
         let Lease {
             job,
             stream: _,
-            seq: _,
+            number: _,
             granted: _,
             used: _,
             spent: _,

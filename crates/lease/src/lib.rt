@@ -13,7 +13,7 @@ pub mod scratch;
 mod step;
 
 pub use job::Job;
-pub use job_spec::JobSpec;
+pub use job_spec::{JobSpec, is_same_spec};
 pub use lease::{GrantSpent, Lease};
 pub use refused::{JobRefused, OverRefused};
 pub use scratch::Scratch;

@@ -231,7 +231,7 @@ fn tells_what_it_is(rt: &impl Abort, job: Job)
 {
     same_steps(rt, &job, 0, 10);
     let mut lease = Lease::new(job, 6, 70, 7);
-    let names = (lease.stream(), lease.seq(), lease.granted());
+    let names = (lease.stream(), lease.number(), lease.granted());
     same(rt, names, (6, 70, 7));
     same_frame(rt, lease.source(), b"FRAME Ip", &[5; 10]);
     same(rt, lease.spec().chain().cost(), 20);

@@ -35,7 +35,8 @@ divisor-positive S444Alpha = omega arith
 divisor-positive Mono = omega arith
 
 pub rows_above-le : (g : Geometry) (p a b : ℕ) → a ≤ b → rows_above g p a ≤ rows_above g p b
-rows_above-le g p a b h = pick-le (eqb p 1 || eqb p 2) a b (a / vertical_divisor g.chroma) (b / vertical_divisor g.chroma) h (div-mono a b (vertical_divisor g.chroma) h (divisor-positive g.chroma))
+rows_above-le g p a b h = pick-le (eqb p 1 || eqb p 2) a b (a / vertical_divisor g.chroma)
+    (b / vertical_divisor g.chroma) h (div-mono a b (vertical_divisor g.chroma) h (divisor-positive g.chroma))
 
 pub rows_above-height : (g : Geometry) (p : ℕ) → rows_above g p g.height ≡ plane_height g p
 unfolding plane_height
@@ -44,12 +45,15 @@ rows_above-height g p = refl
 pub inside : (g : Geometry) (p n : ℕ) → n ≤ g.height → rows_above g p n ≤ plane_height g p
 inside g p n h = omega (arith, rows_above-le g p n g.height h, rows_above-height g p)
 
-pub band_has_rows : (g : Geometry) (p b k : ℕ) → 2 ≤ b → b % 2 ≡ 0 → k < band_count g b → rows_above g p (luma_from b k) < rows_above g p (luma_to g b k)
-band_has_rows g p b k hb e h = some_rows (eqb p 1 || eqb p 2) (vertical_divisor g.chroma) g.height b k (one_or_two g.chroma) hb e g.rows_divided h
+pub band_has_rows : (g : Geometry) (p b k : ℕ) → 2 ≤ b → b % 2 ≡ 0 → k < band_count g b
+    → rows_above g p (luma_from b k) < rows_above g p (luma_to g b k)
+band_has_rows g p b k hb e h =
+    some_rows (eqb p 1 || eqb p 2) (vertical_divisor g.chroma) g.height b k (one_or_two g.chroma) hb e g.rows_divided h
 
 pub each_row_in_one_band : (g : Geometry) (b : ℕ) → 2 ≤ b → b % 2 ≡ 0 → EachRowInOneBand g b
 unfolding plane_height
-each_row_in_one_band g b hb e = λ p y hp hy. in_one (eqb p 1 || eqb p 2) (vertical_divisor g.chroma) g.height b y (one_or_two g.chroma) hb e g.rows_divided hy
+each_row_in_one_band g b hb e =
+    λ p y hp hy. in_one (eqb p 1 || eqb p 2) (vertical_divisor g.chroma) g.height b y (one_or_two g.chroma) hb e g.rows_divided hy
 
 pub half_above_middle : (g : Geometry) (from to : ℕ) → half_row g from to ≤ from + (to - from) / 2
 half_above_middle g from to = div-mul-le_self (from + (to - from) / 2) (vertical_divisor g.chroma)

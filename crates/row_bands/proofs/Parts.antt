@@ -17,7 +17,8 @@ below_count n b k hb h = elim (either k (div_ceil n b)) [
     either a b = grind arith
 
 pub starts_inside : (n b k : ℕ) → 0 < b → k < div_ceil n b → k * b < n
-starts_inside n b k hb h = let a = div_ceil_times n b hb in omega (arith, a.1, mul-le-mul_right {m = k + 1} {n = div_ceil n b} b (omega arith))
+starts_inside n b k hb h = let a = div_ceil_times n b hb in
+    omega (arith, a.1, mul-le-mul_right {m = k + 1} {n = div_ceil n b} b (omega arith))
 
 within : (e c y : ℕ) → 0 < c → y < e → ((y / c) * c ≤ y) × (y < min e ((y / c + 1) * c))
 within e c y hc h = (div-mul-le_self y c, omega (arith, lt-div-mul-add {a = y} {b = c} hc))
@@ -49,7 +50,12 @@ pub in_one : (t : Bool) (d n b y : ℕ) → (d ≡ 1) ⊎ (d ≡ 2) → 2 ≤ b 
 in_one false d n b y c hb e f h = whole_in_one n b y hb h
 in_one true d n b y (inl o) hb e f h =
     let w = whole_in_one n b y hb (omega (arith, by_one n, ap (λ z. n / z) o)) in
-    rw o (w.0, w.1, (rw (by_one (w.0 * b)) w.2.0, rw (by_one (min n ((w.0 + 1) * b))) w.2.1), λ j i. w.3 j (rw (by_one (j * b)) at i.0, rw (by_one (min n ((j + 1) * b))) at i.1))
+    rw o (
+      w.0,
+      w.1,
+      (rw (by_one (w.0 * b)) w.2.0, rw (by_one (min n ((w.0 + 1) * b))) w.2.1),
+      λ j i. w.3 j (rw (by_one (j * b)) at i.0, rw (by_one (min n ((j + 1) * b))) at i.1),
+    )
 in_one true d n b y (inr o) hb e f h =
     let f' : n % 2 ≡ 0 = rw o at f in
     let w = within (n / 2) (b / 2) y (omega arith) (rw o at h) in
@@ -62,9 +68,11 @@ in_one true d n b y (inr o) hb e f h =
     )
 
 -- a band that begins inside has rows
-pub some_rows : (t : Bool) (d n b k : ℕ) → (d ≡ 1) ⊎ (d ≡ 2) → 2 ≤ b → b % 2 ≡ 0 → n % d ≡ 0 → k < div_ceil n b → pick t (k * b) ((k * b) / d) < pick t (min n ((k + 1) * b)) ((min n ((k + 1) * b)) / d)
+pub some_rows : (t : Bool) (d n b k : ℕ) → (d ≡ 1) ⊎ (d ≡ 2) → 2 ≤ b → b % 2 ≡ 0 → n % d ≡ 0 → k < div_ceil n b
+    → pick t (k * b) ((k * b) / d) < pick t (min n ((k + 1) * b)) ((min n ((k + 1) * b)) / d)
 some_rows false d n b k c hb e f h = omega (arith, starts_inside n b k (omega arith) h)
-some_rows true d n b k (inl o) hb e f h = rw (o, by_one (k * b), by_one (min n ((k + 1) * b))) (omega (arith, starts_inside n b k (omega arith) h))
+some_rows true d n b k (inl o) hb e f h =
+    rw (o, by_one (k * b), by_one (min n ((k + 1) * b))) (omega (arith, starts_inside n b k (omega arith) h))
 some_rows true d n b k (inr o) hb e f h =
     let f' : n % 2 ≡ 0 = rw o at f in
     rw (o, half_times k b e, half_min n (k + 1) b f' e) (omega (arith, starts_inside n b k (omega arith) h, half_times k b e))

@@ -9,9 +9,9 @@ use crate::painter::Painter;
 use crate::part::{Part, paint_parts};
 use std::thread::Threads;
 
-/// Writes the painter's rows into a band by two threads: the caller's own writes the part above luma row
-/// `row`, in all planes, and one that is started writes the part from that row on. `row` is counted in the
-/// frame. Each calls `note` once before it writes, with 0 for the part above and 1 for the other.
+/// Writes the painter's rows into a band, perhaps by two threads: the caller's own writes the part above luma
+/// row `row`, in all planes, and one that is started writes the part from that row on. `row` is counted in
+/// the frame. Each calls `note` once before it writes, with 0 for the part above and 1 for the other.
 ///
 /// Where no thread is granted, the caller's own writes both parts.
 pub fn paint_halves<R: Threads, P: Painter + Sync, N: Fn(u32) + Sync>(

@@ -197,12 +197,12 @@ fn paint_runs<R: Threads, P: Painter + Sync, N: Fn(u32) + Sync>(
         ),
         &mut || top.paint(painter, luma_top, cb_top, cr_top, alpha_top, 0, note),
     );
-    settle(luma_top, cb_top, cr_top, alpha_top);
-    settle(luma_bottom, cb_bottom, cr_bottom, alpha_bottom);
+    use_again(luma_top, cb_top, cr_top, alpha_top);
+    use_again(luma_bottom, cb_bottom, cr_bottom, alpha_bottom);
 }
 
 /// Does nothing: a use of references after what borrowed them.
-fn settle(luma: &mut [u8], cb: &mut [u8], cr: &mut [u8], alpha: &mut [u8])
+fn use_again(luma: &mut [u8], cb: &mut [u8], cr: &mut [u8], alpha: &mut [u8])
     ensures luma { luma.new ≡ luma.old }
     ensures cb { cb.new ≡ cb.old }
     ensures cr { cr.new ≡ cr.old }

@@ -9,9 +9,9 @@ use Rattle.serve_core.specs.Events.{Then}
 use Rattle.serve_core.specs.Grants.{cost_of_first}
 use Rattle.serve_core.specs.Leads.{Leads}
 use Rattle.serve_core.specs.Rules.{Allows, settle_reply}
+use Rattle.serve_core.specs.Setup.{ImageRelation, SizeTest}
 use Rattle.serve_core.specs.Setup.{costs}
 use Rattle.serve_core.specs.Sound.{Sound}
-use Rattle.serve_core.specs.Setup.{ImageRelation, SizeTest}
 use Rattle.serve_core.specs.States.{StreamState, State, after, did_any}
 
 -- a lease with k bands more

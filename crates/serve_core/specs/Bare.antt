@@ -1,8 +1,8 @@
 -- Bare transcripts: those without their frames and images.
 use Rattle.std.specs.Prelude.{◌≡◌, ⊤, map}
 use Rattle.serve_core.specs.Events.{Event, Arrive, Lease, Band, Settle, Tick, Close, Collect, Admit}
-use Rattle.serve_core.specs.Events.{Transcript, Start, Then, Reply, Accepted, Leased, Stepped, Returned}
 use Rattle.serve_core.specs.Events.{Finished, Ticked, Closing, Image, Admitted, Refused, GivenBack, SpecBack}
+use Rattle.serve_core.specs.Events.{Transcript, Start, Then, Reply, Accepted, Leased, Stepped, Returned}
 use Rattle.serve_core.specs.Leads.{Leads}
 use Rattle.serve_core.specs.Rules.{IsLegal}
 use Rattle.serve_core.specs.Setup.{Setup, ImageRelation, SizeTest}

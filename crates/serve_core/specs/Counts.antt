@@ -5,8 +5,8 @@ use Rattle.cbs_account.specs.Laws.{unit_count}
 use Rattle.cbs_account.specs.Rules.{OwnEvent, UnitOfWork, Idle}
 use Rattle.serve_core.specs.declared.held.Held.{Held}
 use Rattle.serve_core.specs.Events.{Event, Arrive, Lease, Band, Settle, Tick, Close, Collect, Admit}
-use Rattle.serve_core.specs.Events.{Transcript, Start, Then, Reply, Accepted, Leased, Stepped, Returned}
 use Rattle.serve_core.specs.Events.{Finished, Ticked, Closing, Image, with_admitted}
+use Rattle.serve_core.specs.Events.{Transcript, Start, Then, Reply, Accepted, Leased, Stepped, Returned}
 use Rattle.serve_core.specs.Grants.{cost_of_band}
 use Rattle.serve_core.specs.Setup.{Setup, StreamSpec}
 

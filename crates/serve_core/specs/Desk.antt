@@ -18,28 +18,28 @@ use Rattle.serve_core.specs.AtOnce.{bands_settled, cost_of_next, worked_at_once}
 use Rattle.serve_core.specs.Bare.{Blank, measures_any, is_any_image}
 use Rattle.serve_core.specs.Events.{Event, Arrive, Tick, Reply, Accepted, Returned, Finished, Ticked}
 use Rattle.serve_core.specs.Events.{Transcript, Start, Then}
-use Rattle.serve_core.specs.Lanes.{GainsImage, IsFresh, IsStarted, Lane, with_leased}
 use Rattle.serve_core.specs.Leads.{Leads}
 use Rattle.serve_core.specs.Rules.{arrival_refusal}
-use Rattle.serve_core.specs.Schedule.{HasLane, IsAdmitAnswer, ScheduleValue, came, deadlines, finished, lent}
-use Rattle.serve_core.specs.Schedule.{returned, state_by, with_held, with_lane}
+use Rattle.serve_core.specs.Schedule.{HasStream, IsAdmitAnswer, ScheduleValue, deadlines, stream_finished, stream_lent, stream_offered}
+use Rattle.serve_core.specs.Schedule.{state_by, stream_returned, with_held, with_stream_at}
 use Rattle.serve_core.specs.Setup.{StreamSpec, steps}
 use Rattle.serve_core.specs.States.{State}
+use Rattle.serve_core.specs.Streams.{GainsImage, IsFresh, IsStarted, KeptStream, with_leased}
 
 abbrev pub blanks : ℕ → List Blank
 blanks n = replicate n tt
 
 -- a blank for each accepted frame that isn't collected
-abbrev pub bare_frames : Lane → List Blank
-bare_frames lane = blanks (lane.state.accepted - lane.state.collected)
+abbrev pub bare_frames : KeptStream → List Blank
+bare_frames stream = blanks (stream.state.accepted - stream.state.collected)
 
 -- the bare summary of what a desk keeps
 abbrev pub desk_state : ScheduleValue → State Blank
 desk_state x = state_by bare_frames x
 
 -- a bare transcript leads from what a desk kept to what it keeps
-abbrev pub Answers : ScheduleValue → Transcript Blank Blank → ScheduleValue → Type 0
-Answers old p new = Leads measures_any is_any_image (desk_state old) p (desk_state new)
+abbrev pub LeadsDesk : ScheduleValue → Transcript Blank Blank → ScheduleValue → Type 0
+LeadsDesk old p new = Leads measures_any is_any_image (desk_state old) p (desk_state new)
 
 -- a single event with its reply
 abbrev pub one : Event Blank → Reply Blank Blank → Transcript Blank Blank
@@ -59,21 +59,21 @@ settlement w bands None = bands_settled w bands Returned
 settlement w bands (Some number) = bands_settled w bands (Finished number)
 
 -- why a stream that may be there refuses a frame of its size
-abbrev pub lane_refusal : Option Lane → Option Refusal
-lane_refusal None = Some refusals.NoStream
-lane_refusal (Some lane) = arrival_refusal true lane.state
+abbrev pub stream_refusal : Option KeptStream → Option Refusal
+stream_refusal None = Some refusals.NoStream
+stream_refusal (Some stream) = arrival_refusal true stream.state
 
 -- why an offered job is refused, if it is
 abbrev pub job_refusal : ScheduleValue → (s at : ℕ) → Option Refusal
 job_refusal x s at =
-    if nat_lt LAST_MOMENT at then Some refusals.ClockEnd else lane_refusal (slice_get x.lanes s)
+    if nat_lt LAST_MOMENT at then Some refusals.ClockEnd else stream_refusal (slice_get x.streams s)
 
 -- how a stream answers a frame of this geometry, want of memory aside: by a refusal, or by none
 abbrev pub IsArrivalAnswer : ScheduleValue → ℕ → Geometry → Option Refusal → Type 0
 IsArrivalAnswer x s geometry answer =
-    MatchOption (slice_get x.lanes s) (answer ≡ Some refusals.NoStream) (λ lane.
-    (is_sized : Bool) × (IsTrue is_sized ↔ (geometry ≡ lane.state.spec.geometry))
-    × (answer ≡ arrival_refusal is_sized lane.state))
+    MatchOption (slice_get x.streams s) (answer ≡ Some refusals.NoStream) (λ stream.
+    (is_sized : Bool) × (IsTrue is_sized ↔ (geometry ≡ stream.state.spec.geometry))
+    × (answer ≡ arrival_refusal is_sized stream.state))
 
 -- and how a desk answers it at a moment
 abbrev pub IsOfferAnswer : ScheduleValue → (s at : ℕ) → Geometry → Option Refusal → Type 0
@@ -82,14 +82,14 @@ IsOfferAnswer x s at geometry answer =
 
 -- the job is fresh, and of stream s, if that is there
 abbrev pub IsFreshFor : ScheduleValue → ℕ → JobValue → Type 0
-IsFreshFor x s job = (lane : Lane) → slice_get x.lanes s ≡ Some lane → IsFresh lane.state.spec.chain job
+IsFreshFor x s job = (stream : KeptStream) → slice_get x.streams s ≡ Some stream → IsFresh stream.state.spec.chain job
 
 -- at moment at, or at the clock if that is later, stream s takes the job behind all others
 abbrev pub TakesJob : (s at : ℕ) → JobValue → (number : ℕ) → (old new : ScheduleValue) → Type 0
 TakesJob s at job number old new =
     let clock = max old.clock at in
-    HasLane old s (λ lane. (number ≡ lane.state.accepted)
-    × (new ≡ with_lane s (came clock job lane) (record old { clock = clock })))
+    HasStream old s (λ stream. (number ≡ stream.state.accepted)
+    × (new ≡ with_stream_at s (stream_offered clock job stream) (record old { clock = clock })))
 
 -- and so it takes a job of this frame
 abbrev pub TakesFrame : (s at : ℕ) → Frame → (number : ℕ) → (old new : ScheduleValue) → Type 0
@@ -109,44 +109,44 @@ RefusesAdmission x spec e =
 
 -- a stream is ready
 abbrev pub SomeReady : ScheduleValue → Type 0
-SomeReady x = (s : ℕ) × IsEarliest (deadlines x.lanes) s
+SomeReady x = (s : ℕ) × IsEarliest (deadlines x.streams) s
 
 -- what a worker holds with a lease
 abbrev pub held_of : LeaseValue → Held
 held_of lease = record {
   stream = lease.stream;
-  number = lease.seq;
+  number = lease.number;
   grant = lease.granted;
   used = lease.used;
 }
 
--- the lane without its front job, which worker w has
-abbrev pub given : ℕ → Lane → Lane
-given w lane = with_leased None (lent w None lane)
+-- the stream without its front job, which worker w has
+abbrev pub given : ℕ → KeptStream → KeptStream
+given w stream = with_leased None (stream_lent w None stream)
 
 -- the front job of the lease's stream is given away with the lease
 pub record GivesJob (w : ℕ) (lease : LeaseValue) (old new : ScheduleValue) : Type 0 where
-  pub lane : Lane
-  pub here : slice_get old.lanes lease.stream ≡ Some lane
-  pub number : lease.seq ≡ lane.state.finished
+  pub stream : KeptStream
+  pub here : slice_get old.streams lease.stream ≡ Some stream
+  pub number : lease.number ≡ stream.state.finished
   pub none_used : lease.used ≡ 0
-  pub job : IsSomeAnd (slice_get lane.jobs 0) (λ first.
+  pub job : IsSomeAnd (slice_get stream.jobs 0) (λ first.
       lease.job ≡ record first { scratch = lease.job.scratch })
-  pub started : IsStarted lane.state.spec.chain lane.state.done lease.job
-  pub schedule : new ≡ with_held w (Some (held_of lease)) (with_lane lease.stream (given w lane) old)
+  pub started : IsStarted stream.state.spec.chain stream.state.done lease.job
+  pub schedule : new ≡ with_held w (Some (held_of lease)) (with_stream_at lease.stream (given w stream) old)
 
 -- what a worker holds is this lease, with a job of the stream that has its bands and those of the lease done
-pub record IsRecorded (lease : LeaseValue) (held : Held) (lane : Lane) : Type 0 where
+pub record IsRecorded (lease : LeaseValue) (held : Held) (its : KeptStream) : Type 0 where
   pub stream : lease.stream ≡ held.stream
-  pub number : lease.seq ≡ held.number
+  pub number : lease.number ≡ held.number
   pub grant : lease.granted ≡ held.grant
-  pub chain : lease.job.chain ≡ lane.state.spec.chain
-  pub done : lease.job.done ≡ lane.state.done + lease.used
+  pub chain : lease.job.chain ≡ its.state.spec.chain
+  pub done : lease.job.done ≡ its.state.done + lease.used
 
 -- where worker w holds a lease, it is this one
 abbrev pub IsHeldBy : ScheduleValue → ℕ → LeaseValue → Type 0
-IsHeldBy x w lease = (held : Held) (lane : Lane) → slice_get x.workers w ≡ Some (Some held)
-    → slice_get x.lanes held.stream ≡ Some lane → IsRecorded lease held lane
+IsHeldBy x w lease = (held : Held) (stream : KeptStream) → slice_get x.workers w ≡ Some (Some held)
+    → slice_get x.streams held.stream ≡ Some stream → IsRecorded lease held stream
 
 -- why there is nothing to settle
 abbrev pub RefusesSettle : ScheduleValue → ℕ → Refusal → Type 0
@@ -157,40 +157,40 @@ RefusesSettle x w e =
 -- why a stream isn't closed
 abbrev pub RefusesClose : ScheduleValue → ℕ → Refusal → Type 0
 RefusesClose x s e =
-    MatchOption (slice_get x.lanes s) (e ≡ refusals.NoStream) (λ lane.
-    IsTrue lane.state.is_closed × (e ≡ refusals.AlreadyClosed))
+    MatchOption (slice_get x.streams s) (e ≡ refusals.NoStream) (λ stream.
+    IsTrue stream.state.is_closed × (e ≡ refusals.AlreadyClosed))
 
--- the lane with this job out, which did these bands
-abbrev pub brought_by : JobValue → (bands : ℕ) → Lane → Lane
-brought_by job bands lane = with_leased (Some job) (record lane { state = worked_at_once bands lane.state })
+-- the stream with this job out, which did these bands
+abbrev pub brought_by : JobValue → (bands : ℕ) → KeptStream → KeptStream
+brought_by job bands stream = with_leased (Some job) (record stream { state = worked_at_once bands stream.state })
 
--- the lane with the lease's job and bands
-abbrev pub brought : LeaseValue → Lane → Lane
-brought lease lane = brought_by lease.job lease.used lane
+-- the stream with the lease's job and bands
+abbrev pub brought : LeaseValue → KeptStream → KeptStream
+brought lease stream = brought_by lease.job lease.used stream
 
--- the job was handed over of this lane, and did these bands, whose units can be charged
-pub record CanBring (job : JobValue) (bands units : ℕ) (lane : Lane) : Type 0 where
-  pub out : IsSome lane.state.holder
-  pub away : lane.leased ≡ None
-  pub started : IsStarted lane.state.spec.chain (lane.state.done + bands) job
-  pub left : lane.state.done + bands ≤ steps lane.state.spec
-  pub cost : units ≡ cost_of_next bands lane.state
-  pub charge : CanCharge units lane.state.account
-  pub few : lane.state.charged + units < 2 ^ 64
+-- the job was handed over of this stream, and did these bands, whose units can be charged
+pub record CanBring (job : JobValue) (bands units : ℕ) (stream : KeptStream) : Type 0 where
+  pub out : IsSome stream.state.holder
+  pub away : stream.leased ≡ None
+  pub started : IsStarted stream.state.spec.chain (stream.state.done + bands) job
+  pub left : stream.state.done + bands ≤ steps stream.state.spec
+  pub cost : units ≡ cost_of_next bands stream.state
+  pub charge : CanCharge units stream.state.account
+  pub few : stream.state.charged + units < 2 ^ 64
 
 -- the lease's job is at the front of its stream again
 pub record TakesBack (w : ℕ) (lease : LeaseValue) (old new : ScheduleValue) : Type 0 where
-  pub lane : Lane
-  pub here : slice_get old.lanes lease.stream ≡ Some lane
-  pub left : lane.state.done + lease.used ≢ steps lane.state.spec
-  pub schedule : new ≡ with_held w None (with_lane lease.stream (returned (brought lease lane)) old)
+  pub stream : KeptStream
+  pub here : slice_get old.streams lease.stream ≡ Some stream
+  pub left : stream.state.done + lease.used ≢ steps stream.state.spec
+  pub schedule : new ≡ with_held w None (with_stream_at lease.stream (stream_returned (brought lease stream)) old)
 
 -- all steps of the lease's job are done: its source and image are the last of its stream's images
 pub record TakesImage (w : ℕ) (lease : LeaseValue) (number : ℕ) (old new : ScheduleValue) : Type 0 where
-  pub lane : Lane
-  pub here : slice_get old.lanes lease.stream ≡ Some lane
-  pub all : lane.state.done + lease.used ≡ steps lane.state.spec
-  pub first : number ≡ lane.state.finished
+  pub stream : KeptStream
+  pub here : slice_get old.streams lease.stream ≡ Some stream
+  pub all : stream.state.done + lease.used ≡ steps stream.state.spec
+  pub first : number ≡ stream.state.finished
   pub images : List Collected
-  pub gains : GainsImage lease.job lane.images images
-  pub schedule : new ≡ with_held w None (with_lane lease.stream (finished images (brought lease lane)) old)
+  pub gains : GainsImage lease.job stream.images images
+  pub schedule : new ≡ with_held w None (with_stream_at lease.stream (stream_finished images (brought lease stream)) old)

@@ -14,9 +14,9 @@ use Rattle.serve_core.specs.Grants.{cost_of_first}
 use Rattle.serve_core.specs.Leads.{Leads}
 use Rattle.serve_core.specs.Released.{StillFits, is_released, unreleased}
 use Rattle.serve_core.specs.Rules.{IsLegal, Allows}
+use Rattle.serve_core.specs.Setup.{ImageRelation, SizeTest}
 use Rattle.serve_core.specs.Setup.{Setup, StreamSpec, IsWithin, Fits, costs, cost}
 use Rattle.serve_core.specs.Sound.{Sound}
-use Rattle.serve_core.specs.Setup.{ImageRelation, SizeTest}
 use Rattle.serve_core.specs.States.{StreamState, State, state_of, after, past, is_ready}
 
 -- what the streams were charged whose deadline is at most d

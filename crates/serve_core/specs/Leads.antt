@@ -2,9 +2,9 @@
 use Rattle.std.specs.Prelude.{◌≡◌, ◌↔◌, ⊤}
 use Rattle.serve_core.specs.Events.{Event, Reply, Transcript, Start, Then, joined}
 use Rattle.serve_core.specs.Rules.{Allows, IsLegal}
+use Rattle.serve_core.specs.Setup.{ImageRelation, SizeTest}
 use Rattle.serve_core.specs.Setup.{Setup}
 use Rattle.serve_core.specs.Sound.{Sound}
-use Rattle.serve_core.specs.Setup.{ImageRelation, SizeTest}
 use Rattle.serve_core.specs.States.{State, state_of, after, opening}
 
 module _ {F G : Type 0} where

@@ -15,11 +15,12 @@ pub mod Laws
 pub mod Delivered
 pub mod Headline
 pub mod Frames
-pub mod Lanes
-pub mod LaneInside
+pub mod Streams
+pub mod StreamInside
 pub mod Schedule
 pub mod ScheduleInside
 pub mod Seen
 pub mod MachineInside
 pub mod Desk
 pub mod DeskInside
+pub mod Words

@@ -11,12 +11,12 @@ use Rattle.serve_core.specs.declared.held.Held.{Held}
 use Rattle.serve_core.specs.declared.refusal.Refusal.{Refusal}
 use Rattle.serve_core.specs.declared.refusal.Refusal.TheVariants as refusals
 use Rattle.serve_core.specs.Events.{Event, Arrive, Lease, Band, Settle, Tick, Close, Collect, Admit}
-use Rattle.serve_core.specs.Events.{Transcript, Start, Then, Reply, Accepted, Leased, Stepped, Returned}
 use Rattle.serve_core.specs.Events.{Finished, Ticked, Closing, Image, Admitted, Refused, GivenBack, SpecBack}
+use Rattle.serve_core.specs.Events.{Transcript, Start, Then, Reply, Accepted, Leased, Stepped, Returned}
 use Rattle.serve_core.specs.Grants.{grant_of}
 use Rattle.serve_core.specs.Released.{held_load}
-use Rattle.serve_core.specs.Setup.{Setup, StreamSpec, HasBandwidth, IsWithinLimits, costs, steps}
 use Rattle.serve_core.specs.Setup.{ImageRelation, SizeTest}
+use Rattle.serve_core.specs.Setup.{Setup, StreamSpec, HasBandwidth, IsWithinLimits, costs, steps}
 use Rattle.serve_core.specs.States.{StreamState, State, state_of, deadlines}
 
 -- why there is no stream of this spec: the first reason that holds, or want of memory where none does

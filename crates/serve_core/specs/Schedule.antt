@@ -13,17 +13,17 @@ use Rattle.serve_core.specs.declared.held.Held.{Held}
 use Rattle.serve_core.specs.declared.refusal.Refusal.{Refusal}
 use Rattle.serve_core.specs.declared.refusal.Refusal.TheVariants as refusals
 use Rattle.serve_core.specs.Counts.{Came, Lent, Shut, Taken, Worked, Back, Ended}
-use Rattle.serve_core.specs.Lanes.{IsPair, IsStarted, Lane, listed, opened, source_in, source_of}
 use Rattle.serve_core.specs.Released.{held_share}
 use Rattle.serve_core.specs.Rules.{CanAdmit, RefusesAdmit, grant, lack}
 use Rattle.serve_core.specs.Setup.{Setup, StreamSpec, steps}
 use Rattle.serve_core.specs.States.{State, StreamState, did, next_cost, ready_deadline}
+use Rattle.serve_core.specs.Streams.{IsPair, IsStarted, KeptStream, listed, opened, source_in, source_of}
 
 pub record ScheduleValue : Type 0 where
   pub clock : ℕ
   pub quantum : ℕ
   -- each stream with its jobs and images
-  pub lanes : List Lane
+  pub streams : List KeptStream
   -- what each worker holds
   pub workers : List (Option Held)
 
@@ -32,62 +32,62 @@ abbrev pub opened_schedule : Setup → ScheduleValue
 opened_schedule setup = record {
   clock = 0;
   quantum = setup.quantum;
-  lanes = map opened setup.streams;
+  streams = map opened setup.streams;
   workers = replicate setup.workers None;
 }
 
--- the stream of a lane, with other frames
-abbrev pub stream_by : {F : Type 0} → (Lane → List F) → Lane → StreamState F
-stream_by frames lane = record {
-  spec = lane.state.spec;
-  accepted = lane.state.accepted;
-  finished = lane.state.finished;
-  collected = lane.state.collected;
-  is_closed = lane.state.is_closed;
-  charged = lane.state.charged;
-  done = lane.state.done;
-  holder = lane.state.holder;
-  account = lane.state.account;
-  frames = frames lane;
+-- what is counted of a stream, with other frames
+abbrev pub stream_by : {F : Type 0} → (KeptStream → List F) → KeptStream → StreamState F
+stream_by frames stream = record {
+  spec = stream.state.spec;
+  accepted = stream.state.accepted;
+  finished = stream.state.finished;
+  collected = stream.state.collected;
+  is_closed = stream.state.is_closed;
+  charged = stream.state.charged;
+  done = stream.state.done;
+  holder = stream.state.holder;
+  account = stream.state.account;
+  frames = frames stream;
 }
 
 -- the state of a schedule, with these frames
-abbrev pub state_by : {F : Type 0} → (Lane → List F) → ScheduleValue → State F
+abbrev pub state_by : {F : Type 0} → (KeptStream → List F) → ScheduleValue → State F
 state_by frames x = record {
   clock = x.clock;
   quantum = x.quantum;
-  streams = map (stream_by frames) x.lanes;
+  streams = map (stream_by frames) x.streams;
   workers = x.workers;
 }
 
 -- the deadlines of the streams that are ready, by stream
-abbrev pub deadlines : List Lane → List (Option ℕ)
-deadlines lanes = map (λ lane. ready_deadline lane.state) lanes
+abbrev pub deadlines : List KeptStream → List (Option ℕ)
+deadlines streams = map (λ stream. ready_deadline stream.state) streams
 
 -- the workers, and the shares that their streams hold
-abbrev pub held_of_lanes : (workers clock : ℕ) → List Lane → Load
-held_of_lanes workers clock lanes =
-    record { workers = workers; shares = sum_by (λ lane. held_share clock lane.state) lanes }
+abbrev pub held_of_streams : (workers clock : ℕ) → List KeptStream → Load
+held_of_streams workers clock streams =
+    record { workers = workers; shares = sum_by (λ stream. held_share clock stream.state) streams }
 
 abbrev pub held_by : ScheduleValue → Load
-held_by x = held_of_lanes (length x.workers) x.clock x.lanes
+held_by x = held_of_streams (length x.workers) x.clock x.streams
 
 -- how a schedule answers a stream that is to be admitted, want of memory aside: by a refusal, or by none
 abbrev pub IsAdmitAnswer : ScheduleValue → StreamSpec → Option Refusal → Type 0
-IsAdmitAnswer x spec None = CanAdmit (length x.lanes) (held_by x) spec
+IsAdmitAnswer x spec None = CanAdmit (length x.streams) (held_by x) spec
 IsAdmitAnswer x spec (Some refusals.NoMemory) = ⊥
-IsAdmitAnswer x spec (Some e) = RefusesAdmit (length x.lanes) (held_by x) spec e
+IsAdmitAnswer x spec (Some e) = RefusesAdmit (length x.streams) (held_by x) spec e
 
 -- one stream more, behind all others
 abbrev pub with_stream : StreamSpec → ScheduleValue → ScheduleValue
-with_stream spec x = record x { lanes = x.lanes ++ opened spec ∷ [] }
+with_stream spec x = record x { streams = x.streams ++ opened spec ∷ [] }
 
--- lane s, and the schedule without its clock
-abbrev pub HasLane : ScheduleValue → ℕ → (Lane → Type 0) → Type 0
-HasLane x s P = IsSomeAnd (slice_get x.lanes s) P
+-- stream s is there, and so it is
+abbrev pub HasStream : ScheduleValue → ℕ → (KeptStream → Type 0) → Type 0
+HasStream x s P = IsSomeAnd (slice_get x.streams s) P
 
-abbrev pub with_lane : ℕ → Lane → ScheduleValue → ScheduleValue
-with_lane s lane x = record x { lanes = slice_set x.lanes s lane }
+abbrev pub with_stream_at : ℕ → KeptStream → ScheduleValue → ScheduleValue
+with_stream_at s stream x = record x { streams = slice_set x.streams s stream }
 
 abbrev pub with_held : ℕ → Option Held → ScheduleValue → ScheduleValue
 with_held w held x = record x { workers = slice_set x.workers w held }
@@ -106,79 +106,79 @@ tick_refusal clock to =
 abbrev pub RefusesLease : ScheduleValue → ℕ → Refusal → Type 0
 RefusesLease x w e =
     MatchOption (slice_get x.workers w) (e ≡ refusals.NoWorker) (λ held.
-    MatchOption held ((e ≡ refusals.NoneReady) × NoneReady (deadlines x.lanes)) (λ l. e ≡ refusals.Busy))
+    MatchOption held ((e ≡ refusals.NoneReady) × NoneReady (deadlines x.streams)) (λ l. e ≡ refusals.Busy))
 
 -- why stream s gives no image
 abbrev pub RefusesCollect : ScheduleValue → ℕ → Refusal → Type 0
 RefusesCollect x s e =
-    MatchOption (slice_get x.lanes s) (e ≡ refusals.NoStream) (λ lane.
-    (lane.state.finished ≤ lane.state.collected) × (e ≡ lack lane.state))
+    MatchOption (slice_get x.streams s) (e ≡ refusals.NoStream) (λ stream.
+    (stream.state.finished ≤ stream.state.collected) × (e ≡ lack stream.state))
 
--- a lane after what happened to its stream
-abbrev pub came : ℕ → JobValue → Lane → Lane
-came t job lane = record lane {
-  state = did lane.state (Came t (source_of job));
-  jobs = lane.jobs ++ job ∷ [];
+-- a stream after what happened to it
+abbrev pub stream_offered : ℕ → JobValue → KeptStream → KeptStream
+stream_offered t job stream = record stream {
+  state = did stream.state (Came t (source_of job));
+  jobs = stream.jobs ++ job ∷ [];
 }
 
-abbrev pub lent : ℕ → Option JobValue → Lane → Lane
-lent w job lane = record lane {
-  state = did lane.state (Lent w);
+abbrev pub stream_lent : ℕ → Option JobValue → KeptStream → KeptStream
+stream_lent w job stream = record stream {
+  state = did stream.state (Lent w);
   leased = job;
-  jobs = drop 1 lane.jobs;
+  jobs = drop 1 stream.jobs;
 }
 
-abbrev pub worked : Option JobValue → Lane → Lane
-worked job lane = record lane { state = did lane.state Worked; leased = job }
+abbrev pub stream_worked : Option JobValue → KeptStream → KeptStream
+stream_worked job stream = record stream { state = did stream.state Worked; leased = job }
 
-abbrev pub returned : Lane → Lane
-returned lane = record lane {
-  state = did lane.state Back;
+abbrev pub stream_returned : KeptStream → KeptStream
+stream_returned stream = record stream {
+  state = did stream.state Back;
   leased = None;
-  jobs = listed lane.leased ++ lane.jobs;
+  jobs = listed stream.leased ++ stream.jobs;
 }
 
-abbrev pub finished : List Collected → Lane → Lane
-finished images lane = record lane { state = did lane.state Ended; leased = None; images = images }
+abbrev pub stream_finished : List Collected → KeptStream → KeptStream
+stream_finished images stream = record stream { state = did stream.state Ended; leased = None; images = images }
 
-abbrev pub shut : Lane → Lane
-shut lane = record lane { state = did lane.state Shut }
+abbrev pub stream_closed : KeptStream → KeptStream
+stream_closed stream = record stream { state = did stream.state Shut }
 
-abbrev pub taken : Lane → Lane
-taken lane = record lane { state = did lane.state Taken; images = drop 1 lane.images }
+abbrev pub stream_collected : KeptStream → KeptStream
+stream_collected stream = record stream { state = did stream.state Taken; images = drop 1 stream.images }
 
 -- the first image that isn't collected, with its frame
-pub record IsFirst (pair : Collected) (lane : Lane) : Type 0 where
-  pub first : slice_get lane.images 0 ≡ Some pair
-  pub frame : slice_get lane.state.frames 0 ≡ Some (source_in pair)
-  pub image : IsPair lane.state.spec.chain pair
-  pub less : lane.state.collected < lane.state.finished
+pub record IsFirst (pair : Collected) (stream : KeptStream) : Type 0 where
+  pub first : slice_get stream.images 0 ≡ Some pair
+  pub frame : slice_get stream.state.frames 0 ≡ Some (source_in pair)
+  pub image : IsPair stream.state.spec.chain pair
+  pub less : stream.state.collected < stream.state.finished
 
--- the front job of the lane is out, started
-pub record IsLent (w : ℕ) (old new : Lane) : Type 0 where
-  pub lane : new ≡ lent w new.leased old
+-- the front job of the stream is out, started
+pub record IsLent (w : ℕ) (old new : KeptStream) : Type 0 where
+  pub stream : new ≡ stream_lent w new.leased old
   pub job : IsSomeAnd new.leased (λ job. IsSomeAnd (slice_get old.jobs 0) (λ first.
       job ≡ record first { scratch = job.scratch }))
   pub started : IsSomeAnd new.leased (IsStarted old.state.spec.chain old.state.done)
 
 -- worker w is lent the front job of the stream with the earliest deadline
 pub record IsLending (w : ℕ) (held : Held) (old new : ScheduleValue) : Type 0 where
-  pub earliest : IsEarliest (deadlines old.lanes) held.stream
-  pub old_lane : Lane
-  pub new_lane : Lane
-  pub here : slice_get old.lanes held.stream ≡ Some old_lane
-  pub number : held.number ≡ old_lane.state.finished
-  pub grant : held.grant ≡ grant old.quantum old_lane.state
+  pub earliest : IsEarliest (deadlines old.streams) held.stream
+  pub stream_before : KeptStream
+  pub stream_after : KeptStream
+  pub here : slice_get old.streams held.stream ≡ Some stream_before
+  pub number : held.number ≡ stream_before.state.finished
+  pub grant : held.grant ≡ grant old.quantum stream_before.state
   pub none_used : held.used ≡ 0
-  pub lent : IsLent w old_lane new_lane
-  pub schedule : new ≡ with_held w (Some held) (with_lane held.stream new_lane old)
+  pub lent : IsLent w stream_before stream_after
+  pub schedule : new ≡ with_held w (Some held) (with_stream_at held.stream stream_after old)
 
 -- the job that is out can do one band more, which can be charged
-pub record CanStep (lane : Lane) : Type 0 where
-  pub leased : IsSome lane.leased
-  pub left : lane.state.done < steps lane.state.spec
-  pub charge : CanCharge (next_cost lane.state) lane.state.account
-  pub few : lane.state.charged + next_cost lane.state < 2 ^ 64
+pub record CanStep (stream : KeptStream) : Type 0 where
+  pub leased : IsSome stream.leased
+  pub left : stream.state.done < steps stream.state.spec
+  pub charge : CanCharge (next_cost stream.state) stream.state.account
+  pub few : stream.state.charged + next_cost stream.state < 2 ^ 64
 
 -- the budget and the deadline of a stream
 abbrev pub account_of : {F : Type 0} → StreamState F → ℕ × ℕ

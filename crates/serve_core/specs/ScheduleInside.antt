@@ -8,7 +8,7 @@ abbrev pub schedule : Inside → ScheduleValue
 schedule a = record {
   clock = a.clock;
   quantum = a.quantum;
-  lanes = a.streams.items;
+  streams = a.streams.items;
   workers = a.workers.items;
 }
 

@@ -10,8 +10,8 @@ use Rattle.serve_core.specs.declared.event.Event.TheVariants as events
 use Rattle.serve_core.specs.declared.event.Reply as answer
 use Rattle.serve_core.specs.declared.event.Reply.TheVariants as replies
 use Rattle.serve_core.specs.Events.{Event, Arrive, Lease, Band, Settle, Tick, Close, Collect, Admit}
-use Rattle.serve_core.specs.Events.{Reply, Accepted, Leased, Stepped, Returned, Finished, Ticked, Closing}
 use Rattle.serve_core.specs.Events.{Image, Admitted, Refused, GivenBack, SpecBack}
+use Rattle.serve_core.specs.Events.{Reply, Accepted, Leased, Stepped, Returned, Finished, Ticked, Closing}
 
 abbrev pub seen : code.Event → Event FrameValue
 seen (events.Arrive s frame) = Arrive s (value_of (arc_value frame))

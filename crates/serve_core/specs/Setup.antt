@@ -1,5 +1,5 @@
 -- What a machine is made for, and the limits of its numbers.
-use Rattle.std.specs.Prelude.{ℕ, Bool, ◌≡◌, ◌≤◌, ◌^◌, All, List, length, map, sum}
+use Rattle.std.specs.Prelude.{ℕ, Bool, ◌≡◌, ◌≤◌, All, List, length, map, sum}
 use Rattle.stream_queue.specs.declared.limits.TheConstants.{MOST_PLACES}
 use Rattle.cbs_account.specs.declared.limits.TheConstants.{MOST_WORKERS}
 use Rattle.edf_pool.specs.declared.limits.TheConstants.{MOST_STREAMS}
@@ -9,6 +9,8 @@ use Rattle.cbs_account.specs.Balance.{IsBandwidth}
 use Rattle.filters.specs.Chain.{ChainValue}
 use Rattle.filters.specs.Costs.{step_costs}
 use Rattle.frame_view.specs.declared.geometry.Geometry.{Geometry}
+use Rattle.filters.specs.declared.limits.TheConstants.{MOST_COST}
+use Rattle.serve_core.specs.declared.limits.TheConstants.{MOST_FRAMES, MOST_QUANTUM}
 
 -- what a stream is served with
 pub record StreamSpec : Type 0 where
@@ -55,20 +57,20 @@ cost spec = sum (costs spec)
 pub record IsWithinLimits (spec : StreamSpec) : Type 0 where
   pub geometry : spec.chain.geometry ≡ spec.geometry
   pub some_steps : 1 ≤ steps spec
-  pub cost : cost spec ≤ 2 ^ 15
+  pub cost : cost spec ≤ MOST_COST
   pub some_places : 1 ≤ spec.queue
   pub places : spec.queue ≤ MOST_PLACES
   pub some_room : 1 ≤ spec.outbox
   pub room : spec.outbox ≤ MOST_PLACES
   pub some_frames : 1 ≤ spec.frames
-  pub frames : spec.frames ≤ 2 ^ 24
+  pub frames : spec.frames ≤ MOST_FRAMES
 
 -- the numbers of a setup, but those of the streams' accounts, are within their limits
 pub record HasLimits (setup : Setup) : Type 0 where
   pub some_workers : 1 ≤ setup.workers
   pub workers : setup.workers ≤ MOST_WORKERS
   pub some_quantum : 1 ≤ setup.quantum
-  pub quantum : setup.quantum ≤ 64
+  pub quantum : setup.quantum ≤ MOST_QUANTUM
   pub some_streams : 1 ≤ length setup.streams
   pub streams : length setup.streams ≤ MOST_STREAMS
   pub each : All IsWithinLimits setup.streams

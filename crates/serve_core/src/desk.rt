@@ -7,12 +7,12 @@ ghost use Rattle.std.specs.Option.{option_map};
 ghost use Rattle.serve_core.specs.declared.refusal.Refusal.TheVariants as refusals;
 ghost use Rattle.serve_core.specs.Bare.{Blank};
 ghost use Rattle.serve_core.specs.Desk as rules;
-ghost use Rattle.serve_core.specs.Desk.{Answers, IsOfferAnswer, desk_state, one};
+ghost use Rattle.serve_core.specs.Desk.{IsOfferAnswer, LeadsDesk, desk_state, one};
 ghost use Rattle.serve_core.specs.Events as events;
-ghost use Rattle.serve_core.specs.Lanes.{HasPlace, IsFresh, IsOver};
 ghost use Rattle.serve_core.specs.Leads.{opening_state};
+ghost use Rattle.serve_core.specs.Streams.{HasPlace, IsFresh, IsOver};
 ghost use Rattle.serve_core.specs.Schedule as schedules;
-ghost use Rattle.serve_core.specs.Schedule.{HasLane, HasLease, account_of, counts_of, with_lane};
+ghost use Rattle.serve_core.specs.Schedule.{HasLease, HasStream, account_of, counts_of, with_stream_at};
 
 use crate::collected::Collected;
 use crate::counts::Counts;
@@ -56,7 +56,7 @@ impl Desk {
         ensures desk { IfOk result (λ x. x ≡ schedules.opened_schedule setup) }
         ensures state { IfOk result (λ x. desk_state x ≡ opening_state Blank Blank setup) }
     {
-        setup.limits_law();
+        setup.recall_limits();
         let schedule = Schedule::new(alloc, setup)?;
         Ok(Desk { schedule })
     }
@@ -70,21 +70,21 @@ impl Desk {
 
     /// How many streams there are.
     pub fn streams(&self) -> usize
-        ensures { result ≡ length self.now.lanes }
+        ensures { result ≡ length self.now.streams }
     {
         self.schedule.streams()
     }
 
     /// The budget and the deadline of stream `s`.
     pub fn account(&self, s: u32) -> Option<(u64, u64)>
-        ensures { result ≡ option_map (λ lane. account_of lane.state) (slice_get self.now.lanes s) }
+        ensures { result ≡ option_map (λ stream. account_of stream.state) (slice_get self.now.streams s) }
     {
         self.schedule.account(s)
     }
 
     /// How many frames of stream `s` were accepted, finished and collected, and what it was charged.
     pub fn counts(&self, s: u32) -> Option<Counts>
-        ensures { result ≡ option_map (λ lane. counts_of lane.state) (slice_get self.now.lanes s) }
+        ensures { result ≡ option_map (λ stream. counts_of stream.state) (slice_get self.now.streams s) }
     {
         self.schedule.counts(s)
     }
@@ -92,7 +92,7 @@ impl Desk {
     /// What is done to the frames of stream `s`.
     pub fn spec(&self, s: u32) -> Option<&JobSpec>
         ensures { option_copied result
-            ≡ option_map (λ lane. lane.state.spec.chain) (slice_get self.now.lanes s) }
+            ≡ option_map (λ stream. stream.state.spec.chain) (slice_get self.now.streams s) }
     {
         self.schedule.spec(s)
     }
@@ -101,8 +101,8 @@ impl Desk {
     pub fn offer_refusal(&self, s: u32, at: u64, frame: &Frame) -> Option<Refusal>
         ensures answer { IsOfferAnswer self.now s at frame.now.geometry result }
         ensures moment { IfNone result (at ≤ LAST_MOMENT) }
-        ensures place { IfNone result (HasLane self.now s (λ lane.
-            (frame.now.geometry ≡ lane.state.spec.geometry) × HasPlace lane.state)) }
+        ensures place { IfNone result (HasStream self.now s (λ stream.
+            (frame.now.geometry ≡ stream.state.spec.geometry) × HasPlace stream.state)) }
     {
         if at > LAST_MOMENT {
             return Some(Refusal::ClockEnd);
@@ -111,7 +111,8 @@ impl Desk {
     }
 
     /// A frame arrives at stream `s` at a moment, or now if that is later. A refused frame comes back, and
-    /// the clock stays.
+    /// the clock stays. Where no other refusal holds, no clause says when `NoMemory` is told: that it is so
+    /// only where memory was refused is tested.
     pub fn offer(
         &mut self,
         alloc: Global,
@@ -119,7 +120,7 @@ impl Desk {
         at: u64,
         frame: Arc<Frame>,
     ) -> Result<u64, (Refusal, Arc<Frame>)>
-        ensures events { IfOk result (λ n. Answers self.old (rules.offered self.old.clock s at n) self.new) }
+        ensures events { IfOk result (λ n. LeadsDesk self.old (rules.offered self.old.clock s at n) self.new) }
         ensures answer { OnOk result (IsOfferAnswer self.old s at (arc_value frame).geometry None) }
         ensures job { IfOk result (λ n. rules.TakesFrame s at (arc_value frame) n self.old self.new) }
         ensures refused { IfErr result (λ e.
@@ -149,7 +150,7 @@ impl Desk {
     /// the clock stays.
     pub fn offer_job(&mut self, s: u32, at: u64, job: Job) -> Result<u64, (Refusal, Job)>
         requires { rules.IsFreshFor self.old s job }
-        ensures events { IfOk result (λ n. Answers self.old (rules.offered self.old.clock s at n) self.new) }
+        ensures events { IfOk result (λ n. LeadsDesk self.old (rules.offered self.old.clock s at n) self.new) }
         ensures answer { OnOk result (rules.job_refusal self.old s at ≡ None) }
         ensures job { IfOk result (λ n. rules.TakesJob s at job n self.old self.new) }
         ensures refused { IfErr result (λ e. rules.job_refusal self.old s at ≡ Some e.0) }
@@ -167,8 +168,8 @@ impl Desk {
     /// Stream `s` takes the job at a moment, or now if that is later.
     fn accept(&mut self, s: u32, at: u64, job: Job) -> u64
         requires moment { at ≤ LAST_MOMENT }
-        requires lane { HasLane self.old s (λ lane. HasPlace lane.state × IsFresh lane.state.spec.chain job) }
-        ensures events { Answers self.old (rules.offered self.old.clock s at result) self.new }
+        requires stream { HasStream self.old s (λ stream. HasPlace stream.state × IsFresh stream.state.spec.chain job) }
+        ensures events { LeadsDesk self.old (rules.offered self.old.clock s at result) self.new }
         ensures job { rules.TakesJob s at job result self.old self.new }
     {
         let moment = self.schedule.clock().max(at);
@@ -185,10 +186,10 @@ impl Desk {
 
     /// One stream more, with the number behind all others. A refused spec comes back.
     pub fn admit(&mut self, alloc: Global, spec: StreamSpec) -> Result<u32, (Refusal, StreamSpec)>
-        ensures events { IfOk result (λ s. Answers self.old (one (events.Admit spec) (events.Admitted s))
+        ensures events { IfOk result (λ s. LeadsDesk self.old (one (events.Admit spec) (events.Admitted s))
             self.new) }
         ensures answer { OnOk result (schedules.IsAdmitAnswer self.old spec None) }
-        ensures stream { IfOk result (λ s. (s ≡ length self.old.lanes)
+        ensures stream { IfOk result (λ s. (s ≡ length self.old.streams)
             × (self.new ≡ schedules.with_stream spec self.old)) }
         ensures refused { IfErr result (λ e. rules.RefusesAdmission self.old spec e.0) }
         ensures back { IfErr result (λ e. (e.1 ≡ spec) × (self.new ≡ self.old)) }
@@ -209,10 +210,10 @@ impl Desk {
     /// What [`Desk::admit`] does, with the stream's memory, which was taken outside. A refused newcomer comes
     /// back.
     pub fn admit_newcomer(&mut self, newcomer: Newcomer) -> Result<u32, (Refusal, Newcomer)>
-        ensures events { IfOk result (λ s. Answers self.old (one (events.Admit newcomer) (events.Admitted s))
+        ensures events { IfOk result (λ s. LeadsDesk self.old (one (events.Admit newcomer) (events.Admitted s))
             self.new) }
         ensures answer { OnOk result (schedules.IsAdmitAnswer self.old newcomer None) }
-        ensures stream { IfOk result (λ s. (s ≡ length self.old.lanes)
+        ensures stream { IfOk result (λ s. (s ≡ length self.old.streams)
             × (self.new ≡ schedules.with_stream newcomer self.old)) }
         ensures refused { IfErr result (λ e. rules.RefusesAdmission self.old newcomer e.0) }
         ensures back { IfErr result (λ e. (e.1 ≡ newcomer) × (self.new ≡ self.old)) }
@@ -229,9 +230,9 @@ impl Desk {
     /// Takes a newcomer that can be admitted. It comes back where the memory for its place is refused.
     fn add(&mut self, newcomer: Newcomer) -> Result<u32, Newcomer>
         requires { schedules.IsAdmitAnswer self.old newcomer None }
-        ensures events { IfOk result (λ s. Answers self.old (one (events.Admit newcomer) (events.Admitted s))
+        ensures events { IfOk result (λ s. LeadsDesk self.old (one (events.Admit newcomer) (events.Admitted s))
             self.new) }
-        ensures stream { IfOk result (λ s. (s ≡ length self.old.lanes)
+        ensures stream { IfOk result (λ s. (s ≡ length self.old.streams)
             × (self.new ≡ schedules.with_stream newcomer self.old)) }
         ensures back { IfErr result (λ back. (back ≡ newcomer) × (self.new ≡ self.old)) }
     {
@@ -249,8 +250,8 @@ impl Desk {
 
     /// Worker `w` gets the front job of the ready stream that has the earliest deadline, with the lease.
     pub fn lease(&mut self, w: u32) -> Result<Lease, Refusal>
-        ensures events { IfOk result (λ lease. Answers self.old (one (events.Lease w)
-            (events.Leased lease.stream lease.seq lease.granted)) self.new) }
+        ensures events { IfOk result (λ lease. LeadsDesk self.old (one (events.Lease w)
+            (events.Leased lease.stream lease.number lease.granted)) self.new) }
         ensures job { IfOk result (λ lease. rules.GivesJob w lease self.old self.new) }
         ensures free { OnOk result (slice_get self.old.workers w ≡ Some None) }
         ensures ready { OnOk result (rules.SomeReady self.old) }
@@ -272,21 +273,21 @@ impl Desk {
 
     /// How many bands of the first unfinished frame of stream `s` were settled.
     pub fn done(&self, s: u32) -> Option<u32>
-        ensures { result ≡ option_map (λ lane. lane.state.done) (slice_get self.now.lanes s) }
+        ensures { result ≡ option_map (λ stream. stream.state.done) (slice_get self.now.streams s) }
     {
         self.schedule.done(s)
     }
 
     /// Whether stream `s` is there, and a worker has its first unfinished frame.
     pub fn is_out(&self, s: u32) -> bool
-        ensures { IsTrue result ↔ HasLane self.now s (λ lane. IsSome lane.state.holder) }
+        ensures { IsTrue result ↔ HasStream self.now s (λ stream. IsSome stream.state.holder) }
     {
         self.schedule.is_out(s)
     }
 
     /// Whether every stream is closed, with all its frames finished: then there is nothing more to lease.
     pub fn is_over(&self) -> bool
-        ensures { IsTrue result ↔ All IsOver self.now.lanes }
+        ensures { IsTrue result ↔ All IsOver self.now.streams }
     {
         self.schedule.is_over()
     }
@@ -295,7 +296,7 @@ impl Desk {
     /// frame if that is finished. A refused lease comes back.
     pub fn settle(&mut self, w: u32, lease: Lease) -> Result<Option<u64>, (Refusal, Lease)>
         requires { rules.IsHeldBy self.old w lease }
-        ensures events { IfOk result (λ n. Answers self.old (rules.settlement w lease.used n) self.new) }
+        ensures events { IfOk result (λ n. LeadsDesk self.old (rules.settlement w lease.used n) self.new) }
         ensures job { IfOk result (λ n. MatchOption n (rules.TakesBack w lease self.old self.new)
             (λ number. rules.TakesImage w lease number self.old self.new)) }
         ensures refused { IfErr result (λ e. rules.RefusesSettle self.old w e.0) }
@@ -311,7 +312,7 @@ impl Desk {
     pub fn take_back(&mut self, w: u32, held: Held, lease: Lease) -> Option<u64>
         requires holds { HasLease self.old w held }
         requires recorded { rules.IsHeldBy self.old w lease }
-        ensures events { Answers self.old (rules.settlement w lease.used result) self.new }
+        ensures events { LeadsDesk self.old (rules.settlement w lease.used result) self.new }
         ensures job { MatchOption result (rules.TakesBack w lease self.old self.new)
             (λ number. rules.TakesImage w lease number self.old self.new) }
     {
@@ -324,9 +325,9 @@ impl Desk {
 
     /// Stream `s` accepts no more frames.
     pub fn close(&mut self, s: u32) -> Result<(), Refusal>
-        ensures events { OnOk result (Answers self.old (one (events.Close s) events.Closing) self.new) }
-        ensures lane { OnOk result (HasLane self.old s (λ lane.
-            self.new ≡ with_lane s (schedules.shut lane) self.old)) }
+        ensures events { OnOk result (LeadsDesk self.old (one (events.Close s) events.Closing) self.new) }
+        ensures stream { OnOk result (HasStream self.old s (λ stream.
+            self.new ≡ with_stream_at s (schedules.stream_closed stream) self.old)) }
         ensures refused { IfErr result (λ e. rules.RefusesClose self.old s e × (self.new ≡ self.old)) }
     {
         self.schedule.close(s)
@@ -335,17 +336,17 @@ impl Desk {
     /// What [`Desk::collect`] would refuse for stream `s`.
     pub fn collect_refusal(&self, s: u32) -> Option<Refusal>
         ensures some { IfSome result (schedules.RefusesCollect self.now s) }
-        ensures none { IfNone result (HasLane self.now s (λ lane.
-            lane.state.collected < lane.state.finished)) }
+        ensures none { IfNone result (HasStream self.now s (λ stream.
+            stream.state.collected < stream.state.finished)) }
     {
         self.schedule.collect_refusal(s)
     }
 
     /// Gives the oldest image of stream `s` away, with its source.
     pub fn collect(&mut self, s: u32) -> Result<Collected, Refusal>
-        ensures events { OnOk result (Answers self.old (one (events.Collect s) (events.Image tt)) self.new) }
-        ensures pair { IfOk result (λ pair. HasLane self.old s (λ lane. schedules.IsFirst pair lane
-            × (self.new ≡ with_lane s (schedules.taken lane) self.old))) }
+        ensures events { OnOk result (LeadsDesk self.old (one (events.Collect s) (events.Image tt)) self.new) }
+        ensures pair { IfOk result (λ pair. HasStream self.old s (λ stream. schedules.IsFirst pair stream
+            × (self.new ≡ with_stream_at s (schedules.stream_collected stream) self.old))) }
         ensures refused { IfErr result (λ e. schedules.RefusesCollect self.old s e × (self.new ≡ self.old)) }
     {
         self.schedule.collect(s)

@@ -8,12 +8,12 @@ use filters::Chain;
 
 /// The bands that a lease grants where `done` are done: as many as the quantum allows and the budget pays
 /// for, but at least one.
-#[tactic(auto, using(crate::proofs::Grants::paid_left))]
+#[tactic(auto, using(crate::proofs::Bands::Grants::paid_left))]
 pub(crate) fn grant_of(chain: &Chain, quantum: u64, budget: u64, done: u32) -> u32
     requires { done ≤ steps_of chain.now }
     ensures { result ≡ rules.grant_of quantum budget (drop done (step_costs chain.now)) }
 {
-    let _steps = chain.steps();
+    let _recalled = chain.steps();
     paid_count(chain, quantum, budget, done).max(1) as u32
 }
 

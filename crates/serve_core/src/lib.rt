@@ -15,6 +15,7 @@ pub mod event;
 mod grant;
 pub mod held;
 pub mod laws;
+pub mod limits;
 pub mod machine;
 pub mod newcomer;
 pub mod refusal;

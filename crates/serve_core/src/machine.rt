@@ -9,8 +9,8 @@ ghost use Rattle.serve_core.specs.Frames.{measures, is_image};
 ghost use Rattle.serve_core.specs.Headline.{IsRun};
 ghost use Rattle.serve_core.specs.Leads.{Leads, LeadsOn, opening_state};
 ghost use Rattle.serve_core.specs.Rules.{Allows};
-ghost use Rattle.serve_core.specs.Seen.{GivesBack, IsGivenBack, heard, seen};
 ghost use Rattle.serve_core.specs.Schedule.{account_of, counts_of};
+ghost use Rattle.serve_core.specs.Seen.{GivesBack, IsGivenBack, heard, seen};
 ghost use Rattle.serve_core.specs.States.{after};
 
 use crate::counts::Counts;
@@ -58,14 +58,14 @@ impl Machine {
     pub fn new(alloc: Global, setup: Setup) -> Result<Machine, AllocError>
         ensures { IfOk result (λ m. m ≡ opening_state FrameValue FrameValue setup) }
     {
-        setup.limits_law();
+        setup.recall_limits();
         let schedule = Schedule::new(alloc, setup)?;
         Ok(Machine { schedule })
     }
 
     /// One event. Only an arrival and an admission take memory; where they are refused, the frame or the spec
-    /// comes back. Behind each legal transcript that led to the machine's state, event and reply are legal
-    /// again, and lead to the new one.
+    /// comes back. That `NoMemory` is told only where memory was refused is tested. Behind each legal
+    /// transcript that led to the machine's state, event and reply are legal again, and lead to the new one.
     pub fn step(&mut self, alloc: Global, event: Event) -> Reply
         ensures allowed { Allows measures is_image self.old (seen event) (heard result) }
         ensures state { self.new ≡ after self.old (seen event) (heard result) }
@@ -247,7 +247,7 @@ pub fn run(alloc: Global, setup: Setup, events: Vec<Event>) -> Result<Vec<Reply>
     ensures { IfOk result (λ replies.
         IsRun measures is_image setup (map seen events.items) (map heard replies.items)) }
 {
-    setup.limits_law();
+    setup.recall_limits();
     let mut machine = match Machine::new(alloc, setup) {
         Ok(machine) => machine,
         Err(_) => return Err(CoreError::NoMemory),

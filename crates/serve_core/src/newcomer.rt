@@ -1,8 +1,8 @@
 //! A stream that isn't admitted yet.
 ghost use Rattle.std.specs.Prelude.{◌≡◌, IfOk, IfErr, OnOk};
-ghost use Rattle.serve_core.specs.Lanes.{opened};
 ghost use Rattle.serve_core.specs.Rules.{RefusesSpec};
 ghost use Rattle.serve_core.specs.Setup.{HasBandwidth, IsWithinLimits};
+ghost use Rattle.serve_core.specs.Streams.{opened};
 
 use crate::refusal::Refusal;
 use crate::spec::StreamSpec;
@@ -19,7 +19,7 @@ pub struct Newcomer {
 
 impl Model for Newcomer {
     ghost use Rattle.std.specs.Prelude.{◌≡◌};
-    ghost use Rattle.serve_core.specs.Lanes.{opened};
+    ghost use Rattle.serve_core.specs.Streams.{opened};
     ghost use Rattle.serve_core.specs.Setup.{IsWithinLimits, StreamSpec};
 
     ghost Value = { StreamSpec };
@@ -59,7 +59,7 @@ impl Newcomer {
     }
 
     /// What every newcomer keeps. It does nothing: the call that takes its stream asks for this.
-    pub(crate) fn limits_law(&self)
+    pub(crate) fn recall_limits(&self)
         ensures { IsWithinLimits self.now }
     {
         let _stream = &self.stream;

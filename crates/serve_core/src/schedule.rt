@@ -9,10 +9,10 @@ ghost use Rattle.edf_pool.specs.Earliest.{IsEarliest};
 ghost use Rattle.serve_core.specs.declared.refusal.Refusal.TheVariants as refusals;
 ghost use Rattle.serve_core.specs.AtOnce.{with_used};
 ghost use Rattle.serve_core.specs.Desk.{SomeReady};
-ghost use Rattle.serve_core.specs.Lanes.{HasPlace, IsFresh, GainsImage};
+ghost use Rattle.serve_core.specs.Streams.{HasPlace, IsFresh, GainsImage};
 ghost use Rattle.serve_core.specs.Schedule as rules;
-ghost use Rattle.serve_core.specs.Schedule.{HasLane, HasLease, account_of, counts_of, with_held, with_lane};
 ghost use Rattle.serve_core.specs.Rules.{arrival_refusal};
+ghost use Rattle.serve_core.specs.Schedule.{HasLease, HasStream, account_of, counts_of, with_held, with_stream_at};
 ghost use Rattle.serve_core.specs.Setup.{steps};
 ghost use Rattle.serve_core.specs.States.{ready_deadline};
 
@@ -113,11 +113,11 @@ impl Schedule {
 
     /// Why a frame of this geometry is refused by stream `s`, if it is, want of memory aside.
     pub(crate) fn arrival_refusal(&self, s: u32, geometry: Geometry) -> Option<Refusal>
-        ensures refusal { MatchOption (slice_get self.now.lanes s) (result ≡ Some refusals.NoStream) (λ lane.
-            (is_sized : Bool) × (IsTrue is_sized ↔ (geometry ≡ lane.state.spec.geometry))
-            × (result ≡ arrival_refusal is_sized lane.state)) }
-        ensures place { IfNone result (HasLane self.now s (λ lane. (geometry ≡ lane.state.spec.geometry)
-            × HasPlace lane.state)) }
+        ensures refusal { MatchOption (slice_get self.now.streams s) (result ≡ Some refusals.NoStream) (λ stream.
+            (is_sized : Bool) × (IsTrue is_sized ↔ (geometry ≡ stream.state.spec.geometry))
+            × (result ≡ arrival_refusal is_sized stream.state)) }
+        ensures place { IfNone result (HasStream self.now s (λ stream. (geometry ≡ stream.state.spec.geometry)
+            × HasPlace stream.state)) }
     {
         match self.streams.get(s as usize) {
             None => Some(Refusal::NoStream),
@@ -127,8 +127,8 @@ impl Schedule {
 
     /// A job for a frame of stream `s`. The frame comes back where the memory for it is refused.
     pub(crate) fn job(&self, alloc: Global, s: u32, frame: Arc<Frame>) -> Result<Job, Arc<Frame>>
-        requires { HasLane self.now s (λ lane. (arc_value frame).geometry ≡ lane.state.spec.geometry) }
-        ensures ok { IfOk result (λ job. HasLane self.now s (λ lane. IsFresh lane.state.spec.chain job)) }
+        requires { HasStream self.now s (λ stream. (arc_value frame).geometry ≡ stream.state.spec.geometry) }
+        ensures ok { IfOk result (λ job. HasStream self.now s (λ stream. IsFresh stream.state.spec.chain job)) }
         ensures source { IfOk result (λ job. job.source ≡ arc_value frame) }
         ensures back { IfErr result (λ back. back ≡ frame) }
     {
@@ -137,9 +137,9 @@ impl Schedule {
 
     /// Takes a job behind all others of stream `s`, and answers its number.
     pub(crate) fn accept(&mut self, s: u32, job: Job) -> u64
-        requires { HasLane self.old s (λ lane. HasPlace lane.state × IsFresh lane.state.spec.chain job) }
-        ensures { HasLane self.old s (λ lane. (result ≡ lane.state.accepted)
-            × (self.new ≡ with_lane s (rules.came self.old.clock job lane) self.old)) }
+        requires { HasStream self.old s (λ stream. HasPlace stream.state × IsFresh stream.state.spec.chain job) }
+        ensures { HasStream self.old s (λ stream. (result ≡ stream.state.accepted)
+            × (self.new ≡ with_stream_at s (rules.stream_offered self.old.clock job stream) self.old)) }
     {
         let stream = &mut self.streams[s as usize];
         let number = stream.accept(self.clock, job);
@@ -171,8 +171,8 @@ impl Schedule {
     /// Takes a stream behind all others, and answers its number. The spec comes back where the memory for it
     /// is refused.
     pub(crate) fn admit(&mut self, alloc: Global, spec: StreamSpec) -> Result<u32, StreamSpec>
-        requires few { length self.old.lanes < MOST_STREAMS }
-        ensures ok { IfOk result (λ s. (s ≡ length self.old.lanes)
+        requires few { length self.old.streams < MOST_STREAMS }
+        ensures ok { IfOk result (λ s. (s ≡ length self.old.streams)
             × (self.new ≡ rules.with_stream spec self.old)) }
         ensures err { IfErr result (λ back. (back ≡ spec) × (self.new ≡ self.old)) }
     {
@@ -189,13 +189,13 @@ impl Schedule {
     /// Takes a newcomer behind all others, and answers its number. It comes back where the memory for its
     /// place is refused.
     pub(crate) fn join(&mut self, newcomer: Newcomer) -> Result<u32, Newcomer>
-        requires few { length self.old.lanes < MOST_STREAMS }
-        ensures ok { IfOk result (λ s. (s ≡ length self.old.lanes)
+        requires few { length self.old.streams < MOST_STREAMS }
+        ensures ok { IfOk result (λ s. (s ≡ length self.old.streams)
             × (self.new ≡ rules.with_stream newcomer self.old)) }
         ensures err { IfErr result (λ back. (back ≡ newcomer) × (self.new ≡ self.old)) }
     {
         let number = self.streams.len() as u32;
-        newcomer.limits_law();
+        newcomer.recall_limits();
         match self.streams.push(newcomer.into_stream()) {
             Ok(()) => {
                 self.pool.grow();
@@ -241,7 +241,7 @@ impl Schedule {
     /// Lends worker `w` the front job of stream `s`.
     fn lend(&mut self, w: u32, s: u32) -> Held
         requires worker { w < length self.old.workers }
-        requires earliest { IsEarliest (rules.deadlines self.old.lanes) s }
+        requires earliest { IsEarliest (rules.deadlines self.old.streams) s }
         ensures { rules.IsLending w result self.old self.new }
     {
         let stream = &mut self.streams[s as usize];
@@ -274,11 +274,11 @@ impl Schedule {
     pub(crate) fn step(&mut self, w: u32, held: Held)
         requires lease { HasLease self.old w held }
         requires left { held.used < held.grant }
-        requires lane { HasLane self.old held.stream rules.CanStep }
-        ensures { HasLane self.old held.stream (λ lane. HasLane self.new held.stream (λ after.
+        requires stream { HasStream self.old held.stream rules.CanStep }
+        ensures { HasStream self.old held.stream (λ stream. HasStream self.new held.stream (λ after.
             IsSome after.leased
-            × (self.new ≡ with_held w (Some (with_used 1 held)) (with_lane held.stream
-            (rules.worked after.leased lane) self.old)))) }
+            × (self.new ≡ with_held w (Some (with_used 1 held)) (with_stream_at held.stream
+            (rules.stream_worked after.leased stream) self.old)))) }
     {
         let stream = &mut self.streams[held.stream as usize];
         stream.step();
@@ -293,16 +293,16 @@ impl Schedule {
     /// and answers its number then.
     pub(crate) fn settle(&mut self, w: u32, held: Held) -> Option<u64>
         requires lease { HasLease self.old w held }
-        requires lane { HasLane self.old held.stream (λ lane. IsSome lane.leased) }
-        ensures back { IfNone result (HasLane self.old held.stream (λ lane.
-            (lane.state.done ≢ steps lane.state.spec)
-            × (self.new ≡ with_held w None (with_lane held.stream (rules.returned lane) self.old)))) }
-        ensures finished { IfSome result (λ number. HasLane self.old held.stream (λ lane.
-            HasLane self.new held.stream (λ after.
-            (lane.state.done ≡ steps lane.state.spec) × (number ≡ lane.state.finished)
-            × IsSomeAnd lane.leased (λ job. GainsImage job lane.images after.images)
-            × (self.new ≡ with_held w None (with_lane held.stream
-            (rules.finished after.images lane) self.old))))) }
+        requires stream { HasStream self.old held.stream (λ stream. IsSome stream.leased) }
+        ensures back { IfNone result (HasStream self.old held.stream (λ stream.
+            (stream.state.done ≢ steps stream.state.spec)
+            × (self.new ≡ with_held w None (with_stream_at held.stream (rules.stream_returned stream) self.old)))) }
+        ensures finished { IfSome result (λ number. HasStream self.old held.stream (λ stream.
+            HasStream self.new held.stream (λ after.
+            (stream.state.done ≡ steps stream.state.spec) × (number ≡ stream.state.finished)
+            × IsSomeAnd stream.leased (λ job. GainsImage job stream.images after.images)
+            × (self.new ≡ with_held w None (with_stream_at held.stream
+            (rules.stream_finished after.images stream) self.old))))) }
     {
         let stream = &mut self.streams[held.stream as usize];
         let number = stream.settle();
@@ -313,11 +313,11 @@ impl Schedule {
 
     /// Closes stream `s`.
     pub(crate) fn close(&mut self, s: u32) -> Result<(), Refusal>
-        ensures ok { OnOk result (HasLane self.old s (λ lane. IsFalse lane.state.is_closed
-            × (self.new ≡ with_lane s (rules.shut lane) self.old))) }
-        ensures err { IfErr result (λ e. (self.new ≡ self.old) × MatchOption (slice_get self.old.lanes s)
+        ensures ok { OnOk result (HasStream self.old s (λ stream. IsFalse stream.state.is_closed
+            × (self.new ≡ with_stream_at s (rules.stream_closed stream) self.old))) }
+        ensures err { IfErr result (λ e. (self.new ≡ self.old) × MatchOption (slice_get self.old.streams s)
             (e ≡ refusals.NoStream)
-            (λ lane. IsTrue lane.state.is_closed × (e ≡ refusals.AlreadyClosed))) }
+            (λ stream. IsTrue stream.state.is_closed × (e ≡ refusals.AlreadyClosed))) }
     {
         if s as usize >= self.streams.len() {
             return Err(Refusal::NoStream);
@@ -331,8 +331,8 @@ impl Schedule {
     /// Why stream `s` gives no image, if it gives none.
     pub(crate) fn collect_refusal(&self, s: u32) -> Option<Refusal>
         ensures some { IfSome result (λ e. rules.RefusesCollect self.now s e) }
-        ensures none { IfNone result (HasLane self.now s (λ lane.
-            lane.state.collected < lane.state.finished)) }
+        ensures none { IfNone result (HasStream self.now s (λ stream.
+            stream.state.collected < stream.state.finished)) }
     {
         match self.streams.get(s as usize) {
             None => Some(Refusal::NoStream),
@@ -342,8 +342,8 @@ impl Schedule {
 
     /// Gives the oldest image of stream `s` away, with its source.
     pub(crate) fn collect(&mut self, s: u32) -> Result<Collected, Refusal>
-        ensures ok { IfOk result (λ pair. HasLane self.old s (λ lane.
-            rules.IsFirst pair lane × (self.new ≡ with_lane s (rules.taken lane) self.old))) }
+        ensures ok { IfOk result (λ pair. HasStream self.old s (λ stream.
+            rules.IsFirst pair stream × (self.new ≡ with_stream_at s (rules.stream_collected stream) self.old))) }
         ensures err { IfErr result (λ e. rules.RefusesCollect self.old s e × (self.new ≡ self.old)) }
     {
         if let Some(refusal) = self.collect_refusal(s) {
@@ -361,21 +361,21 @@ impl Schedule {
 
     /// How many streams there are.
     pub(crate) fn streams(&self) -> usize
-        ensures { result ≡ length self.now.lanes }
+        ensures { result ≡ length self.now.streams }
     {
         self.streams.len()
     }
 
     /// What stream `s` may still use, and its deadline.
     pub(crate) fn account(&self, s: u32) -> Option<(u64, u64)>
-        ensures { result ≡ option_map (λ lane. account_of lane.state) (slice_get self.now.lanes s) }
+        ensures { result ≡ option_map (λ stream. account_of stream.state) (slice_get self.now.streams s) }
     {
         self.streams.get(s as usize).map(|stream| stream.account())
     }
 
     /// How many frames of stream `s` were accepted, finished and collected, and what it was charged.
     pub(crate) fn counts(&self, s: u32) -> Option<Counts>
-        ensures { result ≡ option_map (λ lane. counts_of lane.state) (slice_get self.now.lanes s) }
+        ensures { result ≡ option_map (λ stream. counts_of stream.state) (slice_get self.now.streams s) }
     {
         self.streams.get(s as usize).map(|stream| stream.counts())
     }
@@ -385,8 +385,8 @@ impl Schedule {
 fn held(workers: u64, moment: u64, streams: &[Stream]) -> Admission
     requires some { 1 ≤ workers }
     requires most { workers ≤ MOST_WORKERS }
-    requires fits { Fits (rules.held_of_lanes workers moment streams.now) }
-    ensures { result ≡ rules.held_of_lanes workers moment streams.now }
+    requires fits { Fits (rules.held_of_streams workers moment streams.now) }
+    ensures { result ≡ rules.held_of_streams workers moment streams.now }
 {
     let mut admission = Admission::new(workers);
     for stream in streams {

@@ -3,14 +3,13 @@ ghost use Rattle.std.specs.Prelude.{◌≡◌, ◌≤◌, ◌↔◌, All, IsTrue
 ghost use Rattle.serve_core.specs.Admitted.{AreAdmitted, IsFault, IsRefusal};
 ghost use Rattle.serve_core.specs.Setup.{HasLimits, IsSetup, IsWithinLimits, setup_of};
 
+use crate::limits::MOST_QUANTUM;
 use crate::spec::StreamSpec;
 use cbs_account::limits::MOST_WORKERS;
 use cbs_account::{Admission, AdmissionError};
 use edf_pool::limits::MOST_STREAMS;
 use std::marker::Model;
 use thiserror::Error;
-
-const MOST_QUANTUM: u64 = 64;
 
 /// Why there is no setup. Streams are told by their number, from 0.
 #[derive(Clone, Copy, Debug, PartialEq, Eq, Error)]
@@ -47,7 +46,8 @@ impl Model for Setup {
 }
 
 impl Setup {
-    /// A setup, or its first fault. Shares of the workers are given stream by stream.
+    /// A setup, or its first fault: a number outside its limits, or a chain that isn't for its stream's
+    /// frames; then, stream by stream, a bandwidth that no server may have, or a share that isn't left.
     pub fn new(workers: u64, quantum: u64, streams: Vec<StreamSpec>) -> Result<Setup, SetupError>
         ensures accepted { IsOk result ↔ IsSetup (setup_of workers quantum streams.items) }
         ensures setup { IfOk result (λ setup. setup ≡ setup_of workers quantum streams.items) }
@@ -79,14 +79,15 @@ impl Setup {
     }
 
     /// What every setup keeps. It does nothing: the laws on transcripts of a setup ask for this.
-    pub fn limits_law(&self)
+    pub fn recall_limits(&self)
         ensures { IsSetup self.now }
     {
         let _workers = self.workers;
     }
 }
 
-/// Whether all numbers but those of the streams' accounts are within their limits.
+/// Whether all numbers but those of the streams' accounts are within their limits, and each chain is for its
+/// stream's frames.
 fn has_limits(workers: u64, quantum: u64, streams: &[StreamSpec]) -> bool
     ensures { IsTrue result ↔ HasLimits (setup_of workers quantum streams.now) }
 {

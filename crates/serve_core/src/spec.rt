@@ -5,6 +5,7 @@ ghost use Rattle.serve_core.specs.Setup as rules;
 ghost use Rattle.serve_core.specs.Grants.{cost_of_band};
 ghost use Rattle.serve_core.specs.Setup.{IsWithinLimits, costs, steps};
 
+use crate::limits::MOST_FRAMES;
 use filters::MOST_COST;
 use frame_view::Geometry;
 use lease::JobSpec;
@@ -12,15 +13,12 @@ use std::marker::Model;
 use std::sync::Arc;
 use stream_queue::limits::MOST_PLACES;
 
-/// The most frames that a stream may accept at all.
-const MOST_FRAMES: u64 = 1 << 24;
-
 /// What a stream is served with: its frames' geometry, its chain, its account, and how many frames it may
 /// have. Contracts see it as the record of that name in `specs/Setup.antt`.
 #[derive(Debug, Drop)]
 pub struct StreamSpec {
     pub(crate) geometry: Geometry,
-    pub(crate) spec: Arc<JobSpec>,
+    pub(crate) job: Arc<JobSpec>,
     pub(crate) maximum: u64,
     pub(crate) period: u64,
     pub(crate) queue: u64,
@@ -36,7 +34,7 @@ impl Model for StreamSpec {
 
     ghost view = { λ a. record {
       geometry = a.geometry;
-      chain = arc_value a.spec;
+      chain = arc_value a.job;
       maximum = a.maximum;
       period = a.period;
       queue = a.queue;
@@ -53,7 +51,7 @@ impl StreamSpec {
     /// may be accepted at all. Nothing is checked before a setup is made of it or it asks to be admitted.
     pub fn new(
         geometry: Geometry,
-        spec: Arc<JobSpec>,
+        job: Arc<JobSpec>,
         q: u64,
         t: u64,
         queue: u64,
@@ -62,7 +60,7 @@ impl StreamSpec {
     ) -> StreamSpec
         ensures { result ≡ record {
           geometry = geometry;
-          chain = arc_value spec;
+          chain = arc_value job;
           maximum = q;
           period = t;
           queue = queue;
@@ -72,7 +70,7 @@ impl StreamSpec {
     {
         StreamSpec {
             geometry,
-            spec,
+            job,
             maximum: q,
             period: t,
             queue,
@@ -82,10 +80,10 @@ impl StreamSpec {
     }
 
     /// What is done to each frame.
-    pub fn spec(&self) -> &Arc<JobSpec>
+    pub fn job(&self) -> &Arc<JobSpec>
         ensures { arc_value result.now ≡ self.now.chain }
     {
-        &self.spec
+        &self.job
     }
 
     /// How many of its frames may be unfinished.
@@ -110,12 +108,12 @@ impl StreamSpec {
     }
 
     /// What band `k` of a frame costs.
-    #[tactic(auto, using(crate::proofs::Lanes::band_cost))]
+    #[tactic(auto, using(crate::proofs::Schedules::Jobs::band_cost))]
     pub(crate) fn cost_of_band(&self, k: u32) -> u64
         requires { k < steps self.now }
         ensures { result ≡ cost_of_band k (costs self.now) }
     {
-        let chain = self.spec.chain();
+        let chain = self.job.chain();
         prove!(k < chain.steps());
         chain.cost_of_step(k) as u64
     }
@@ -125,7 +123,7 @@ impl StreamSpec {
     pub(crate) fn is_within_limits(&self) -> bool
         ensures { IsTrue result ↔ IsWithinLimits self.now }
     {
-        let chain = self.spec.chain();
+        let chain = self.job.chain();
         prove!(1 <= chain.steps());
         prove!(chain.cost() <= MOST_COST);
         if !is_same(chain.geometry(), self.geometry) {
@@ -142,8 +140,8 @@ impl StreamSpec {
 }
 
 /// Whether two geometries are the same.
-pub(crate) fn is_same(one: Geometry, other: Geometry) -> bool
+fn is_same(one: Geometry, other: Geometry) -> bool
     ensures { IsTrue result ↔ (one ≡ other) }
 {
-    one.width == other.width && one.height == other.height && one.chroma == other.chroma
+    one == other
 }

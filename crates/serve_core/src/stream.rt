@@ -7,10 +7,10 @@ ghost use Rattle.filters.specs.Steps.{steps_of};
 ghost use Rattle.lease.specs.Job.{StepsOn};
 ghost use Rattle.serve_core.specs.AtOnce.{cost_of_next, worked_at_once};
 ghost use Rattle.serve_core.specs.Counts.{Came, Worked, Ended, Back, Lent, Shut, Taken};
-ghost use Rattle.serve_core.specs.Lanes.{GainsImage, HasPlace, IsFresh, IsPair, IsStarted, IsWithOne, listed};
-ghost use Rattle.serve_core.specs.Lanes.{IsOver, opened, source_of, with_leased, source_in};
+ghost use Rattle.serve_core.specs.Streams.{GainsImage, HasPlace, IsFresh, IsPair, IsStarted, IsWithOne, listed};
+ghost use Rattle.serve_core.specs.Streams.{IsOver, opened, source_of, with_leased, source_in};
 ghost use Rattle.serve_core.specs.Rules as rules;
-ghost use Rattle.serve_core.specs.Schedule.{counts_of, finished, returned};
+ghost use Rattle.serve_core.specs.Schedule.{counts_of, stream_finished, stream_returned};
 ghost use Rattle.std.specs.Arc.{arc_value};
 ghost use Rattle.serve_core.specs.Setup.{HasBandwidth, IsWithinLimits, steps};
 ghost use Rattle.serve_core.specs.States as states;
@@ -22,7 +22,7 @@ use crate::collected::Collected;
 use crate::counts::Counts;
 use crate::grant::grant_of;
 use crate::refusal::Refusal;
-use crate::spec::{StreamSpec, is_same};
+use crate::spec::StreamSpec;
 use cbs_account::Account;
 use cbs_account::limits::LAST_MOMENT;
 use circular_buffer::HeapCircularBuffer;
@@ -34,7 +34,7 @@ use std::sync::Arc;
 use stream_queue::FrameQueue;
 
 /// A stream's account, its jobs and its images. The scratch is with its front job once that has started. The
-/// job that is out stays here unless it is handed over. Contracts see the `Lane` of `specs/Lanes.antt`.
+/// job that is out stays here unless it is handed over. Contracts see the `KeptStream` of `specs/Streams.antt`.
 #[derive(Drop)]
 pub(crate) struct Stream {
     spec: StreamSpec,
@@ -50,15 +50,15 @@ pub(crate) struct Stream {
 }
 
 impl Model for Stream {
-    ghost use Rattle.serve_core.specs.Lanes.{Lane};
+    ghost use Rattle.serve_core.specs.Streams.{KeptStream};
 
-    ghost Value = { Lane };
+    ghost Value = { KeptStream };
 
-    ghost use Rattle.serve_core.specs.LaneInside.{IsLane, lane};
+    ghost use Rattle.serve_core.specs.StreamInside.{IsStream, stream};
 
-    ghost view = { lane };
+    ghost view = { stream };
 
-    ghost invariant = { IsLane };
+    ghost invariant = { IsStream };
 }
 
 impl Stream {
@@ -79,7 +79,7 @@ impl Stream {
         let Ok(outbox) = HeapCircularBuffer::with_capacity(alloc, spec.outbox as usize) else {
             return Err(spec);
         };
-        let Ok(scratch) = Scratch::new(alloc, &spec.spec) else {
+        let Ok(scratch) = Scratch::new(alloc, &spec.job) else {
             return Err(spec);
         };
         Ok(Stream {
@@ -114,7 +114,7 @@ impl Stream {
     pub(crate) fn spec(&self) -> &JobSpec
         ensures { result.now ≡ self.now.state.spec.chain }
     {
-        &self.spec.spec
+        &self.spec.job
     }
 
     /// The deadline, if the front frame can be leased.
@@ -134,7 +134,7 @@ impl Stream {
     pub(crate) fn is_sized(&self, geometry: Geometry) -> bool
         ensures { IsTrue result ↔ (geometry ≡ self.now.state.spec.geometry) }
     {
-        is_same(geometry, self.spec.geometry)
+        geometry == self.spec.geometry
     }
 
     /// A job for a frame of the stream's size. The frame comes back where its memory is refused.
@@ -144,7 +144,7 @@ impl Stream {
         ensures source { IfOk result (λ job. job.source ≡ arc_value frame) }
         ensures back { IfErr result (λ back. back ≡ frame) }
     {
-        let spec = match self.spec.spec.clone() {
+        let spec = match self.spec.job.clone() {
             Ok(spec) => spec,
             Err(_) => return Err(frame),
         };
@@ -175,7 +175,7 @@ impl Stream {
     }
 
     /// Takes a job behind all others.
-    #[tactic(auto, using(crate::proofs::Lanes::here_more))]
+    #[tactic(auto, using(crate::proofs::Schedules::Jobs::here_more))]
     pub(crate) fn accept(&mut self, now: u64, job: Job) -> u64
         requires clock { now ≤ LAST_MOMENT }
         requires place { HasPlace self.old.state }
@@ -198,7 +198,7 @@ impl Stream {
     }
 
     /// Lends the front job to a worker, started, and answers its number and how many bands are granted.
-    #[tactic(auto, using(crate::proofs::Lanes::none_lent))]
+    #[tactic(auto, using(crate::proofs::Schedules::Jobs::none_lent))]
     pub(crate) fn lend(&mut self, worker: u32, quantum: u64) -> (u64, u32)
         requires unfinished { self.old.state.finished < self.old.state.accepted }
         requires here { self.old.state.holder ≡ None }
@@ -221,7 +221,7 @@ impl Stream {
                 self.leased = Some(started(job, self.scratch.take()));
                 self.holder = Some(worker);
                 let budget = self.account.budget();
-                let grant = grant_of(self.spec.spec.chain(), quantum, budget, self.done);
+                let grant = grant_of(self.spec.job.chain(), quantum, budget, self.done);
                 (number, grant)
             }
         }
@@ -250,7 +250,7 @@ impl Stream {
     }
 
     /// Does the next band of the job that is out, and charges the units that it costs.
-    #[tactic(auto, using(crate::proofs::Costs::few_steps))]
+    #[tactic(auto, using(crate::proofs::Bands::Costs::few_steps))]
     pub(crate) fn step(&mut self)
         requires leased { IsSome self.old.leased }
         requires left { self.old.state.done < steps self.old.state.spec }
@@ -275,7 +275,7 @@ impl Stream {
     }
 
     /// Charges bands of the job that was handed over, with the units that they cost together.
-    #[tactic(auto, using(crate::proofs::Costs::few_steps))]
+    #[tactic(auto, using(crate::proofs::Bands::Costs::few_steps))]
     pub(crate) fn charge(&mut self, bands: u32, units: u64)
         requires out { IsSome self.old.state.holder }
         requires gone { self.old.leased ≡ None }
@@ -309,7 +309,7 @@ impl Stream {
 
     /// Takes the job back that is out and whose steps are all done, and answers its number. Its image waits
     /// for collection.
-    #[tactic(auto, using(crate::proofs::Lanes::finishing))]
+    #[tactic(auto, using(crate::proofs::Schedules::Jobs::finishing))]
     pub(crate) fn finish(&mut self) -> u64
         requires leased { IsSome self.old.leased }
         requires all { self.old.state.done ≡ steps self.old.state.spec }
@@ -342,13 +342,13 @@ impl Stream {
     pub(crate) fn settle(&mut self) -> Option<u64>
         requires { IsSome self.old.leased }
         ensures back { IfNone result ((self.old.state.done ≢ steps self.old.state.spec)
-            × (self.new ≡ returned self.old)) }
+            × (self.new ≡ stream_returned self.old)) }
         ensures finished { IfSome result (λ number. (self.old.state.done ≡ steps self.old.state.spec)
             × (number ≡ self.old.state.finished)
-            × (self.new ≡ finished self.new.images self.old)
+            × (self.new ≡ stream_finished self.new.images self.old)
             × IsSomeAnd self.old.leased (λ job. GainsImage job self.old.images self.new.images)) }
     {
-        if self.done == self.spec.spec.chain().steps() {
+        if self.done == self.spec.job.chain().steps() {
             Some(self.finish())
         } else {
             self.put_back();
@@ -370,7 +370,7 @@ impl Stream {
     }
 
     /// Gives the oldest image away, with its source.
-    #[tactic(auto, using(crate::proofs::Lanes::fewer, crate::proofs::Lanes::first_of))]
+    #[tactic(auto, using(crate::proofs::Schedules::Jobs::fewer, crate::proofs::Schedules::Jobs::first_of))]
     pub(crate) fn collect(&mut self) -> Option<Collected>
         ensures first { IfSome result (λ pair. slice_get self.old.images 0 ≡ Some pair) }
         ensures source { IfSome result (λ pair. slice_get self.old.state.frames 0 ≡ Some (source_in pair)) }
@@ -449,7 +449,7 @@ impl Stream {
 }
 
 /// The job, started with the scratch where it has none.
-#[tactic(auto, using(crate::proofs::Lanes::with_scratch))]
+#[tactic(auto, using(crate::proofs::Schedules::Jobs::with_scratch))]
 fn started(job: Job, scratch: Option<Scratch>) -> Job
     requires { IsWithOne job.chain scratch job.scratch }
     ensures same { result ≡ record job { scratch = result.scratch } }

@@ -1,5 +1,6 @@
 -- Streams that are admitted, and what those are told that aren't.
 use Rattle.std.proofs.Common.{ℕ, ◌+◌, ◌≡◌, ◌≤◌, ◌<◌, inl, inr, Some, sym, ap, subst, arith}
+use Rattle.edf_pool.specs.declared.limits.TheConstants.{MOST_STREAMS}
 use Rattle.serve_core.specs.declared.refusal.Refusal as core
 use Rattle.serve_core.specs.declared.refusal.Refusal.TheVariants as cores
 use Rattle.serve_core.specs.Desk as desks
@@ -7,6 +8,7 @@ use Rattle.serve_core.specs.Schedule.{ScheduleValue}
 use Rattle.serve_core.specs.Setup.{StreamSpec}
 use Rattle.serve_hub.specs.declared.refusal.Refusal.{Refusal}
 use Rattle.serve_hub.specs.declared.refusal.Refusal.TheVariants.{Core, HistoryFull, StrayLease, Torn}
+use Rattle.serve_hub.specs.declared.limits.TheConstants.{MOST_SEATS}
 use Rattle.serve_hub.specs.Answers.{IsAdmitAnswer, RefusesAdmission}
 use Rattle.serve_hub.specs.Books.{BookValue, room}
 use Rattle.serve_hub.specs.Calls.{AllowsAdmission}
@@ -43,8 +45,8 @@ refusal_told b spec e told =
           let can = memory.1.0 in subst (AllowsAdmission spec) (sym memory.0) (can.limits, can.bandwidth))
     ]
 
--- where fewer than 64 streams have a seat, a part of the ledger is left
+-- where fewer streams have a seat than may be there, a part of the ledger is left
 pub part_left : (opening of_book : ScheduleValue) (streams workers spare all : ℕ)
-    → IsOpening opening of_book workers → streams < 64 → spare + streams + workers ≡ all → all ≡ 80 → 1 ≤ spare
+    → IsOpening opening of_book workers → streams < MOST_STREAMS → spare + streams + workers ≡ all → all ≡ MOST_SEATS → 1 ≤ spare
 part_left opening of_book streams workers spare all o few parts enough =
     omega (arith, (few_here opening o.reached).1, o.each_worker, few, parts, enough)

@@ -7,7 +7,7 @@ use Rattle.filters.specs.declared.op.Op.{Op}
 use Rattle.filters.specs.Chain.{format_of, last_format}
 use Rattle.filters.specs.ChainImage.{FrameValue, IsImageByAll, value_of}
 use Rattle.serve_core.specs.declared.collected.Collected.{Collected}
-use Rattle.serve_core.specs.Lanes.{source_in}
+use Rattle.serve_core.specs.Streams.{source_in}
 use Rattle.serve_hub.specs.declared.entry.Act.TheVariants as acts
 use Rattle.serve_hub.specs.declared.refusal.Refusal.{Refusal}
 use Rattle.serve_hub.specs.declared.refused.CollectRefused.{CollectRefused}

@@ -1,9 +1,12 @@
 -- A journal whose book was opened for a setup, and what its streams were charged.
-use Rattle.std.proofs.Common.{ℕ, suc, ◌+◌, ◌*◌, ◌^◌, ◌≡◌, ◌≤◌, ◌<◌, ◌⊎◌, inl, inr, All, List, Some, length}
+use Rattle.std.proofs.Common.{ℕ, suc, ◌+◌, ◌*◌, ◌≡◌, ◌≤◌, ◌<◌, ◌⊎◌, inl, inr, All, List, Some, length}
 use Rattle.std.proofs.Common.{slice_get, slice_index_or, ap, subst, arith, mul-le-mul_right}
 use Rattle.std.proofs.lemmas.List.{length-map}
 use Rattle.std.proofs.Math.Nat.{suc-mul}
 use Rattle.std.proofs.lemmas.Option.{slice_get-get_or}
+use Rattle.cbs_account.specs.declared.limits.TheConstants.{MOST_WORKERS}
+use Rattle.edf_pool.specs.declared.limits.TheConstants.{MOST_STREAMS}
+use Rattle.serve_core.specs.declared.limits.TheConstants.{MOST_FRAMES}
 use Rattle.serve_core.specs.Bare.{Blank, measures_any, is_any_image}
 use Rattle.serve_core.specs.Desk.{bare_frames, desk_state}
 use Rattle.serve_core.specs.Grants.{cost_of_first}
@@ -13,12 +16,12 @@ use Rattle.serve_core.specs.Schedule.{ScheduleValue, stream_by}
 use Rattle.serve_core.specs.Setup.{cost, costs}
 use Rattle.serve_core.specs.Sound.{IsSound}
 use Rattle.serve_core.specs.States.{StreamState}
-use Rattle.serve_core.proofs.Costs.{cost_within}
-use Rattle.serve_core.proofs.Lifts.{stream_here}
-use Rattle.serve_core.proofs.Options.{some_and}
-use Rattle.serve_core.proofs.Reached.{few_is, leads_behind, reached_is}
+use Rattle.serve_core.proofs.Bands.Costs.{cost_within}
+use Rattle.serve_core.proofs.Items.Options.{some_and}
+use Rattle.serve_core.proofs.Schedules.Lifts.{stream_here}
+use Rattle.serve_core.proofs.Transcripts.Reached.{few_is, leads_behind, reached_is}
 use Rattle.serve_hub.specs.Books.{BookValue, IsBook, book_transcript}
-use Rattle.serve_hub.specs.Ends.{AreLanes, IsCharged, IsHistory, IsOpening}
+use Rattle.serve_hub.specs.Ends.{AreStreamsOf, IsCharged, IsHistory, IsOpening}
 use Rattle.serve_hub.specs.Seats.{StreamSeatValue, collected_by}
 
 -- the journal leads from where its book opened to where the desk is
@@ -46,17 +49,17 @@ reached_now opening b w h o =
 
 -- a desk that is reached has few streams and workers
 pub few_here : (x : ScheduleValue) → IsReached measures_any is_any_image (desk_state x)
-    → (length x.lanes ≤ 64) × (length x.workers ≤ 16)
+    → (length x.streams ≤ MOST_STREAMS) × (length x.workers ≤ MOST_WORKERS)
 few_here x r =
     let few = few_is measures_any is_any_image (desk_state x) r in
-    (omega (arith, few.0, length-map x.lanes (stream_by bare_frames)), few.1)
+    (omega (arith, few.0, length-map x.streams (stream_by bare_frames)), few.1)
 
 -- a seat that tells of its stream what the book has tells of few images
-pub few_collected : (b : BookValue) (seats : List StreamSeatValue) → IsBook b → AreLanes b.desk seats
-    → All (λ s. collected_by s ≤ 2 ^ 24) seats
-few_collected b seats h lanes = λ k d l.
+pub few_collected : (b : BookValue) (seats : List StreamSeatValue) → IsBook b → AreStreamsOf b.desk seats
+    → All (λ s. collected_by s ≤ MOST_FRAMES) seats
+few_collected b seats h streams = λ k d l.
     let seat = slice_index_or seats k d in
-    let a = some_and (slice_get b.desk.lanes seat.number) _ (lanes k d l) in
+    let a = some_and (slice_get b.desk.streams seat.number) _ (streams k d l) in
     let x = stream_by bare_frames a.0 in
     let is = h.sound.streams seat.number x (stream_here bare_frames b.desk seat.number a.0 a.1) in
     omega (arith, a.2.collected, is.in_order, is.finished, is.limit, is.limits.frames)
@@ -85,10 +88,10 @@ between t x h =
       ],
     )
 
-pub charged_between : (b : BookValue) → IsBook b → All IsCharged b.desk.lanes
+pub charged_between : (b : BookValue) → IsBook b → All IsCharged b.desk.streams
 charged_between b h = λ k d l.
-    let lane = slice_index_or b.desk.lanes k d in
-    let here : slice_get b.desk.lanes k ≡ Some lane = slice_get-get_or b.desk.lanes k d l in
-    let x = stream_by bare_frames lane in
-    let is = between b.desk.clock x (h.sound.streams k x (stream_here bare_frames b.desk k lane here)) in
+    let stream = slice_index_or b.desk.streams k d in
+    let here : slice_get b.desk.streams k ≡ Some stream = slice_get-get_or b.desk.streams k d l in
+    let x = stream_by bare_frames stream in
+    let is = between b.desk.clock x (h.sound.streams k x (stream_here bare_frames b.desk k stream here)) in
     record { least = is.0; most = is.1 }

@@ -2,8 +2,8 @@
 use Rattle.std.proofs.Common.{ℕ, ◌+◌, ◌^◌, ◌≡◌, ◌≤◌, List, [], ◌∷◌, ◌++◌, length, reverse, Some, slice_get}
 use Rattle.std.proofs.Common.{◌<◌, inl, inr, slice_index_or, slice_set, refl, sym, ◌∙◌, ap, subst, arith}
 use Rattle.std.proofs.lemmas.Option.{slice_get-get_or}
-use Rattle.serve_core.proofs.Lists.{slice_get_set_other, slice_get_set_same}
-use Rattle.serve_core.proofs.Streams.{same_or}
+use Rattle.serve_core.proofs.Events.Streams.{same_or}
+use Rattle.serve_core.proofs.Items.Lists.{slice_get_set_other, slice_get_set_same}
 use Rattle.std.specs.Vec.{vec_capacity}
 use Rattle.serve_core.specs.Schedule.{ScheduleValue}
 use Rattle.serve_hub.specs.declared.book.Book.TheInside.{Inside}

@@ -5,8 +5,8 @@ use Rattle.serve_core.specs.Events.{Transcript, joined}
 use Rattle.serve_core.specs.Leads.{Leads, state_from}
 use Rattle.serve_core.specs.Setup.{StreamSpec}
 use Rattle.serve_core.specs.States.{State}
-use Rattle.serve_core.proofs.Openings.{join_is, joined_state}
-use Rattle.serve_core.proofs.Reached.{joined_again}
+use Rattle.serve_core.proofs.Transcripts.Openings.{join_is, joined_state}
+use Rattle.serve_core.proofs.Transcripts.Reached.{joined_again}
 use Rattle.serve_hub.specs.declared.entry.Act.{Act}
 use Rattle.serve_hub.specs.declared.entry.Entry.{Entry}
 use Rattle.serve_hub.specs.declared.entry.Seat.{Seat}

@@ -3,13 +3,13 @@ use Rattle.std.proofs.Common.{ℕ, ◌+◌, ◌≡◌, ◌≤◌, List, [], ◌�
 use Rattle.std.proofs.Common.{arith, sym, subst}
 use Rattle.std.proofs.lemmas.List.{reverse-append}
 use Rattle.serve_core.specs.Bare.{Blank, measures_any, is_any_image}
-use Rattle.serve_core.specs.Desk.{Answers, desk_state}
+use Rattle.serve_core.specs.Desk.{LeadsDesk, desk_state}
 use Rattle.serve_core.specs.Events.{Transcript}
 use Rattle.serve_core.specs.Leads.{state_from}
 use Rattle.serve_core.specs.Schedule.{ScheduleValue}
 use Rattle.serve_core.specs.Setup.{StreamSpec}
 use Rattle.serve_core.specs.States.{State}
-use Rattle.serve_core.proofs.Openings.{sound_from}
+use Rattle.serve_core.proofs.Transcripts.Openings.{sound_from}
 use Rattle.serve_hub.specs.declared.entry.Act.{Act}
 use Rattle.serve_hub.specs.declared.entry.Entry.{Entry}
 use Rattle.serve_hub.specs.declared.entry.Seat.{Seat}
@@ -36,7 +36,7 @@ AddsUnits b desk seat act units =
 
 -- the journal, where more streams may be behind
 journal_still : (b : BookValue) (desk : ScheduleValue) (p : Transcript Blank Blank) → IsBook b
-    → Answers b.desk p desk
+    → LeadsDesk b.desk p desk
     → IsJournal (specs_of desk) (opening_of b) b.past (desk_state b.desk)
     × (transcript_of (specs_of desk) (opening_of b) b.past ≡ book_transcript b)
 journal_still b desk p h led =
@@ -45,7 +45,7 @@ journal_still b desk p h led =
     (journal_behind (specs_of b.desk) (added p) (opening_of b) (desk_state b.desk) b.past h.journal)
 
 pub one_more : (b : BookValue) (seat : Seat) (act : Act) (desk : ScheduleValue) (units : List ℕ) → IsBook b
-    → Answers b.desk (events_of (specs_of desk) (desk_state b.desk) seat act) desk
+    → LeadsDesk b.desk (events_of (specs_of desk) (desk_state b.desk) seat act) desk
     → IsEntry (specs_of desk) (desk_state b.desk) seat act
     → length units ≡ length desk.workers → AddsUnits b desk seat act units
     → sum units + charges b.opening ≡ charges desk → taken (grown b seat act desk units) ≤ b.limit → IsBook (grown b seat act desk units)

@@ -8,7 +8,6 @@ pub mod Settling
 pub mod Inside
 pub mod Bands
 pub mod Opened
-pub mod Chains
 pub mod Keeping
 pub mod Giving
 pub mod Outcomes

@@ -1,5 +1,5 @@
 -- A book before any entry.
-use Rattle.std.proofs.Common.{ℕ, zero, suc, ◌^◌, ◌≡◌, ◌≤◌, Bool, true, false, List, [], ◌∷◌, length, map}
+use Rattle.std.proofs.Common.{ℕ, zero, suc, ◌≡◌, ◌≤◌, Bool, true, false, List, [], ◌∷◌, length, map}
 use Rattle.std.proofs.Common.{replicate, Some, None, if◌then◌else◌}
 use Rattle.std.proofs.Common.{slice_get, sum_by, length-append, Option, reverse, refl, sym, ◌∙◌, ap, subst, arith}
 use Rattle.std.proofs.lemmas.List.{length-map, length-replicate}
@@ -10,19 +10,20 @@ use Rattle.serve_core.specs.Bare.{Blank, measures_any, is_any_image}
 use Rattle.serve_core.specs.Counts.{held_after}
 use Rattle.serve_core.specs.Desk.{desk_state}
 use Rattle.serve_core.specs.Events.{Start, Then, Transcript}
-use Rattle.serve_core.specs.Lanes.{Lane, opened}
 use Rattle.serve_core.specs.Leads.{state_from}
 use Rattle.serve_core.specs.Schedule.{ScheduleValue, opened_schedule}
 use Rattle.serve_core.specs.Setup.{IsSetup, IsWithin, Setup, StreamSpec}
 use Rattle.serve_core.specs.Sound.{Sound}
 use Rattle.serve_core.specs.States.{State}
-use Rattle.serve_core.proofs.Desks.{desk_opened}
-use Rattle.serve_core.proofs.Kept.{opening_sound}
-use Rattle.serve_core.proofs.Reached.{length-map_at}
+use Rattle.serve_core.specs.Streams.{KeptStream, opened}
+use Rattle.serve_core.proofs.Calls.Desks.{desk_opened}
+use Rattle.serve_core.proofs.Events.Kept.{opening_sound}
+use Rattle.serve_core.proofs.Transcripts.Reached.{length-map_at}
 use Rattle.std.specs.Vec.{vec_capacity}
 use Rattle.serve_hub.specs.declared.book.Book.TheInside.{Inside}
 use Rattle.serve_hub.specs.declared.entry.Entry.{Entry}
 use Rattle.serve_hub.specs.BookInside.{IsKept, book}
+use Rattle.serve_hub.specs.declared.limits.TheConstants.{MOST_ENTRIES}
 use Rattle.serve_hub.specs.Books.{BookValue, IsBook, IsLimit, book_transcript, one_open, one_out, opened_book}
 use Rattle.serve_hub.specs.Books.{opening_of, reserved, specs_of, taken}
 use Rattle.serve_hub.specs.Ends.{AreFree, IsOpening}
@@ -54,13 +55,13 @@ one_or_none : (b : Bool) → (if b then 0 else 1) ≤ 1
 one_or_none true = omega arith
 one_or_none false = omega arith
 
-few_open : (lanes : List Lane) → sum_by one_open lanes ≤ length lanes
+few_open : (streams : List KeptStream) → sum_by one_open streams ≤ length streams
 few_open [] = omega arith
-few_open (lane ∷ lanes) =
-    omega (arith, sum_by-cons one_open lane lanes, few_open lanes, one_or_none lane.state.is_closed)
+few_open (stream ∷ streams) =
+    omega (arith, sum_by-cons one_open stream streams, few_open streams, one_or_none stream.state.is_closed)
 
-pub few_reserved : (x : ScheduleValue) → AreFree x.workers → reserved x ≤ length x.lanes
-few_reserved x free = omega (arith, none_out x.workers free, few_open x.lanes)
+pub few_reserved : (x : ScheduleValue) → AreFree x.workers → reserved x ≤ length x.streams
+few_reserved x free = omega (arith, none_out x.workers free, few_open x.streams)
 
 -- a book without entries over any desk
 is_book_over : (desk : ScheduleValue) (limit : ℕ) → Sound (desk_state desk) → reserved desk ≤ limit
@@ -81,7 +82,7 @@ same_book : (o d x : ScheduleValue) (p : List Entry) (l : ℕ) (u : List ℕ) �
 same_book o d x p l u e f g h = cc
 
 -- what a book keeps that is opened over a desk
-pub kept_over : (z : Inside) (x : ScheduleValue) → Sound (desk_state x) → reserved x ≤ z.limit → z.limit ≤ 2 ^ 20
+pub kept_over : (z : Inside) (x : ScheduleValue) → Sound (desk_state x) → reserved x ≤ z.limit → z.limit ≤ MOST_ENTRIES
     → z.opening.value ≡ z.desk → z.desk ≡ x → z.journal.items ≡ []
     → z.units.items ≡ replicate (length x.workers) 0 → z.taken ≡ reserved x → z.limit ≤ vec_capacity z.journal
     → IsKept z
@@ -147,14 +148,14 @@ same_workers b h =
     sym (ap (λ (m : State Blank). length m.workers) now) ∙ workers_from (opening_of b) (book_transcript b)
 
 -- the streams that a book opened with stay
-pub more_streams : (b : BookValue) → IsBook b → length b.opening.lanes ≤ length b.desk.lanes
+pub more_streams : (b : BookValue) → IsBook b → length b.opening.streams ≤ length b.desk.streams
 more_streams b h =
     let p = book_transcript b in
-    let spec = λ (lane : Lane). lane.state.spec in
+    let spec = λ (stream : KeptStream). stream.state.spec in
     omega (
       arith,
       ap length (specs_led b.opening b.desk p h.journal.leads),
       length-append (specs_of b.opening) (added p),
-      length-map b.opening.lanes spec,
-      length-map b.desk.lanes spec,
+      length-map b.opening.streams spec,
+      length-map b.desk.streams spec,
     )

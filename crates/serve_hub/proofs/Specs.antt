@@ -4,14 +4,14 @@ use Rattle.std.proofs.Common.{refl, sym, ◌∙◌, ap, subst, arith, append_ass
 use Rattle.std.proofs.lemmas.List.{map_push}
 use Rattle.serve_core.specs.Bare.{Blank}
 use Rattle.serve_core.specs.Counts.{Deed, deed}
-use Rattle.serve_core.specs.Desk.{Answers, bare_frames, desk_state}
+use Rattle.serve_core.specs.Desk.{LeadsDesk, bare_frames, desk_state}
 use Rattle.serve_core.specs.Events.{Admit, Admitted, Event, Reply, Start, Then, Transcript, joined, with_admitted}
-use Rattle.serve_core.specs.Lanes.{Lane}
 use Rattle.serve_core.specs.Leads.{state_from}
 use Rattle.serve_core.specs.Schedule.{ScheduleValue, stream_by}
 use Rattle.serve_core.specs.Setup.{StreamSpec}
 use Rattle.serve_core.specs.States.{State, StreamState, after, did_any, held_at, map_at, new_stream}
-use Rattle.serve_core.proofs.Releases.{same_spec}
+use Rattle.serve_core.specs.Streams.{KeptStream}
+use Rattle.serve_core.proofs.Events.Releases.{same_spec}
 use Rattle.serve_hub.specs.declared.entry.Act.{Act}
 use Rattle.serve_hub.specs.declared.entry.Act.TheVariants as acts
 use Rattle.serve_hub.specs.declared.entry.Entry.{Entry}
@@ -66,19 +66,19 @@ specs_from m (Then p e r) =
     ∙ ap (λ (specs : List StreamSpec). with_admitted (λ spec. spec) e r specs) (specs_from m p)
     ∙ behind e r (specs_in m) (added p)
 
-specs_seen : (lanes : List Lane)
-    → map (λ x. x.spec) (map (stream_by bare_frames) lanes) ≡ map (λ lane. lane.state.spec) lanes
+specs_seen : (streams : List KeptStream)
+    → map (λ x. x.spec) (map (stream_by bare_frames) streams) ≡ map (λ stream. stream.state.spec) streams
 specs_seen [] = refl
-specs_seen (lane ∷ lanes) = ap (λ (specs : List StreamSpec). lane.state.spec ∷ specs) (specs_seen lanes)
+specs_seen (stream ∷ streams) = ap (λ (specs : List StreamSpec). stream.state.spec ∷ specs) (specs_seen streams)
 
 -- what a call leads to has the streams that were there, and perhaps more behind them
-pub specs_led : (x y : ScheduleValue) (p : Transcript Blank Blank) → Answers x p y
+pub specs_led : (x y : ScheduleValue) (p : Transcript Blank Blank) → LeadsDesk x p y
     → specs_of y ≡ specs_of x ++ added p
 specs_led x y p led =
-    sym (specs_seen y.lanes)
+    sym (specs_seen y.streams)
     ∙ ap specs_in (sym led.1)
     ∙ specs_from (desk_state x) p
-    ∙ ap (λ (specs : List StreamSpec). specs ++ added p) (specs_seen x.lanes)
+    ∙ ap (λ (specs : List StreamSpec). specs ++ added p) (specs_seen x.streams)
 
 get_first : (xs ys : List StreamSpec) (s : ℕ) → s < length xs → slice_get (xs ++ ys) s ≡ slice_get xs s
 get_first [] ys s l = absurd (omega (arith, l))

@@ -8,9 +8,9 @@ use Rattle.serve_core.specs.Events.{Band, Start, Stepped, Then, Transcript, join
 use Rattle.serve_core.specs.Leads.{state_from}
 use Rattle.serve_core.specs.Setup.{StreamSpec}
 use Rattle.serve_core.specs.States.{State, StreamState, held_at}
-use Rattle.serve_core.proofs.AtOnce.{at_once_is, lease_at_once, next_more, stream_at_once}
-use Rattle.serve_core.proofs.Openings.{joined_state}
-use Rattle.serve_core.proofs.Steps.{held_at_is}
+use Rattle.serve_core.proofs.Charges.AtOnce.{at_once_is, lease_at_once, next_more, stream_at_once}
+use Rattle.serve_core.proofs.Events.Steps.{held_at_is}
+use Rattle.serve_core.proofs.Transcripts.Openings.{joined_state}
 use Rattle.serve_hub.specs.declared.entry.Act.TheVariants.{Offered}
 use Rattle.serve_hub.specs.declared.entry.Seat.TheVariants.{Stream}
 use Rattle.serve_hub.specs.Journal.{admission_of, event_units, events_of, lease_cost, units_from}

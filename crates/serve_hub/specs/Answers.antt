@@ -8,7 +8,7 @@ use Rattle.serve_core.specs.declared.refusal.Refusal.TheVariants as cores
 use Rattle.serve_core.specs.Desk as desks
 use Rattle.serve_core.specs.Desk.{SomeReady}
 use Rattle.serve_core.specs.Schedule as schedules
-use Rattle.serve_core.specs.Schedule.{HasLane, RefusesCollect, RefusesLease, ScheduleValue}
+use Rattle.serve_core.specs.Schedule.{HasStream, RefusesCollect, RefusesLease, ScheduleValue}
 use Rattle.serve_core.specs.Setup.{StreamSpec}
 use Rattle.serve_hub.specs.declared.entry.Settled as code
 use Rattle.serve_hub.specs.declared.entry.Settled.TheVariants as settled
@@ -59,7 +59,7 @@ DeskLends x w None = (slice_get x.workers w ≡ Some None) × SomeReady x
 DeskLends x w (Some e) = RefusesLease x w e
 
 abbrev pub DeskGives : ScheduleValue → (s : ℕ) → Option core.Refusal → Type 0
-DeskGives x s None = HasLane x s (λ lane. lane.state.collected < lane.state.finished)
+DeskGives x s None = HasStream x s (λ stream. stream.state.collected < stream.state.finished)
 DeskGives x s (Some e) = RefusesCollect x s e
 
 -- a lease needs its own entry and that of its settlement

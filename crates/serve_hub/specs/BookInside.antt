@@ -2,6 +2,7 @@
 use Rattle.std.specs.Prelude.{ℕ, ◌*◌, ◌≡◌, ◌≤◌, ◌^◌, length, reverse, slice_get, Some}
 use Rattle.std.specs.Vec.{vec_capacity}
 use Rattle.serve_hub.specs.declared.book.Book.TheInside.{Inside}
+use Rattle.serve_hub.specs.declared.limits.TheConstants.{MOST_ENTRIES}
 use Rattle.serve_hub.specs.Books.{BookValue, IsBook, taken}
 
 abbrev pub book : Inside → BookValue
@@ -16,7 +17,7 @@ book a = record {
 pub record IsKept (a : Inside) : Type 0 where
   pub is_book : IsBook (book a)
   pub counted : a.taken ≡ taken (book a)
-  pub limit : a.limit ≤ 2 ^ 20
+  pub limit : a.limit ≤ MOST_ENTRIES
   -- the journal is reserved
   pub reserved : a.limit ≤ vec_capacity a.journal
   -- a settlement adds less than 2^32 units

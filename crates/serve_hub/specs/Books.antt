@@ -1,20 +1,21 @@
 -- What a book keeps.
-use Rattle.std.specs.Prelude.{ℕ, ◌+◌, ◌-◌, ◌≡◌, ◌≤◌, ◌^◌, List, [], ◌∷◌, ◌++◌, length, map, replicate, slice_get}
+use Rattle.std.specs.Prelude.{ℕ, ◌+◌, ◌-◌, ◌≡◌, ◌≤◌, List, [], ◌∷◌, ◌++◌, length, map, replicate, slice_get}
 use Rattle.std.specs.Prelude.{slice_set, slice_index_or, sum, sum_by, Option, Some, None, IsSomeAnd}
 use Rattle.std.specs.Prelude.{if◌then◌else◌}
 use Rattle.lease.specs.Lease.{LeaseValue}
 use Rattle.serve_core.specs.declared.held.Held.{Held}
-use Rattle.serve_core.specs.Desk.{Answers, IsRecorded, desk_state}
 use Rattle.serve_core.specs.Bare.{Blank}
+use Rattle.serve_core.specs.Desk.{IsRecorded, LeadsDesk, desk_state}
 use Rattle.serve_core.specs.Events.{Transcript}
-use Rattle.serve_core.specs.Lanes.{Lane}
-use Rattle.serve_core.specs.Schedule.{HasLane, ScheduleValue}
+use Rattle.serve_core.specs.Schedule.{HasStream, ScheduleValue}
 use Rattle.serve_core.specs.Setup.{StreamSpec}
 use Rattle.serve_core.specs.Sound.{Sound}
 use Rattle.serve_core.specs.States.{State}
+use Rattle.serve_core.specs.Streams.{KeptStream}
 use Rattle.serve_hub.specs.declared.entry.Act.{Act}
 use Rattle.serve_hub.specs.declared.entry.Entry.{Entry}
 use Rattle.serve_hub.specs.declared.entry.Seat.{Seat}
+use Rattle.serve_hub.specs.declared.limits.TheConstants.{FEWEST_ENTRIES, MOST_ENTRIES}
 use Rattle.serve_hub.specs.Journal.{IsJournal, entry_of, events_of, transcript_of, units_from}
 
 pub record BookValue : Type 0 where
@@ -30,7 +31,7 @@ pub record BookValue : Type 0 where
 
 -- a desk of no stream and no worker
 abbrev pub no_schedule : ScheduleValue
-no_schedule = record { clock = 0; quantum = 0; lanes = []; workers = [] }
+no_schedule = record { clock = 0; quantum = 0; streams = []; workers = [] }
 
 -- a book without entries, over a desk
 abbrev pub opened_book : ScheduleValue → ℕ → BookValue
@@ -44,8 +45,8 @@ opened_book desk limit = record {
 
 -- a limit for a journal of so many streams
 pub record IsLimit (streams limit : ℕ) : Type 0 where
-  pub some : 16 ≤ limit
-  pub most : limit ≤ 2 ^ 20
+  pub some : FEWEST_ENTRIES ≤ limit
+  pub most : limit ≤ MOST_ENTRIES
   pub closes : streams + 2 ≤ limit
 
 -- the state that a book was opened in
@@ -54,7 +55,7 @@ opening_of b = desk_state b.opening
 
 -- the specs of all streams, by number
 abbrev pub specs_of : ScheduleValue → List StreamSpec
-specs_of desk = map (λ lane. lane.state.spec) desk.lanes
+specs_of desk = map (λ stream. stream.state.spec) desk.streams
 
 abbrev pub book_transcript : BookValue → Transcript Blank Blank
 book_transcript b = transcript_of (specs_of b.desk) (opening_of b) b.past
@@ -63,13 +64,13 @@ abbrev pub one_out : Option Held → ℕ
 one_out None = 0
 one_out (Some held) = 1
 
-abbrev pub one_open : Lane → ℕ
-one_open lane = if lane.state.is_closed then 0 else 1
+abbrev pub one_open : KeptStream → ℕ
+one_open stream = if stream.state.is_closed then 0 else 1
 
 -- an entry is reserved for the settlement of each lease out, and for the close of each stream that isn't
 -- closed
 abbrev pub reserved : ScheduleValue → ℕ
-reserved desk = sum_by one_out desk.workers + sum_by one_open desk.lanes
+reserved desk = sum_by one_out desk.workers + sum_by one_open desk.streams
 
 abbrev pub taken : BookValue → ℕ
 taken b = length b.past + reserved b.desk
@@ -83,7 +84,7 @@ AreUnits b = (w n : ℕ) → slice_get b.units w ≡ Some n → n ≡ units_from
 
 -- the units that all streams were charged
 abbrev pub charges : ScheduleValue → ℕ
-charges desk = sum_by (λ lane. lane.state.charged) desk.lanes
+charges desk = sum_by (λ stream. stream.state.charged) desk.streams
 
 -- what a book always is
 pub record IsBook (b : BookValue) : Type 0 where
@@ -102,7 +103,7 @@ SpecsLaw = (b : BookValue) → IsBook b → (more : List StreamSpec) × (specs_o
 -- one entry more, its own: the desk answers its events, and all else stays
 pub record Appends (seat : Seat) (act : Act) (old new : BookValue) : Type 0 where
   pub book : new ≡ record old { past = entry_of seat act ∷ old.past; desk = new.desk }
-  pub events : Answers old.desk (events_of (specs_of new.desk) (desk_state old.desk) seat act) new.desk
+  pub events : LeadsDesk old.desk (events_of (specs_of new.desk) (desk_state old.desk) seat act) new.desk
   pub fits : length new.past ≤ new.limit
 
 -- worker w has done bands of so many units more
@@ -114,4 +115,4 @@ with_units w units b = record b { units = slice_set b.units w (slice_index_or b.
 abbrev pub IsOut : BookValue → (w : ℕ) → LeaseValue → Type 0
 IsOut b w lease =
     IsSomeAnd (slice_get b.desk.workers w) (λ h.
-    IsSomeAnd h (λ held. HasLane b.desk held.stream (IsRecorded lease held)))
+    IsSomeAnd h (λ held. HasStream b.desk held.stream (IsRecorded lease held)))

@@ -11,8 +11,8 @@ use Rattle.lease.specs.Lease.{LeaseValue}
 use Rattle.serve_core.specs.declared.collected.Collected.{Collected}
 use Rattle.serve_core.specs.declared.refusal.Refusal as core
 use Rattle.serve_core.specs.declared.refusal.Refusal.TheVariants as cores
-use Rattle.serve_core.specs.Lanes.{IsImageOf, source_in}
 use Rattle.serve_core.specs.Setup.{HasBandwidth, IsWithinLimits, StreamSpec}
+use Rattle.serve_core.specs.Streams.{IsImageOf, source_in}
 use Rattle.serve_hub.specs.declared.entry.Act.TheVariants as acts
 use Rattle.serve_hub.specs.declared.entry.Settled as code
 use Rattle.serve_hub.specs.declared.entry.Settled.TheVariants as settled
@@ -175,7 +175,7 @@ IsCollectRefused e old new =
 -- the worker got this lease
 abbrev pub Leases : LeaseValue → (old new : WorkSeatValue) → Type 0
 Leases lease old new =
-    new ≡ record old { calls = with_call (acts.Leased lease.stream lease.seq lease.granted) old.calls }
+    new ≡ record old { calls = with_call (acts.Leased lease.stream lease.number lease.granted) old.calls }
 
 -- the worker gave this lease back, with this outcome
 abbrev pub Settles : LeaseValue → code.Settled → (old new : WorkSeatValue) → Type 0
@@ -188,12 +188,12 @@ pub record IsOutcome (lease : LeaseValue) (done : code.Settled) : Type 0 where
 
 abbrev pub HasNumber : LeaseValue → code.Settled → Type 0
 HasNumber lease settled.Returned = ⊤
-HasNumber lease (settled.Finished n) = n ≡ lease.seq
+HasNumber lease (settled.Finished n) = n ≡ lease.number
 
 -- a settlement finished a frame of another number than the lease's
 abbrev pub FinishesOther : LeaseValue → Refusal → (old new : WorkSeatValue) → Type 0
 FinishesOther lease (Torn (came.Number n)) old new =
-    (n ≢ lease.seq) × IsOutcome lease (settled.Finished n) × Settles lease (settled.Finished n) old new
+    (n ≢ lease.number) × IsOutcome lease (settled.Finished n) × Settles lease (settled.Finished n) old new
 FinishesOther lease e old new = ⊥
 
 -- why a settlement is refused. The lease doesn't come back where it was settled after all

@@ -5,10 +5,10 @@ use Rattle.std.specs.List.{Any}
 use Rattle.serve_core.specs.declared.held.Held.{Held}
 use Rattle.serve_core.specs.Bare.{measures_any, is_any_image}
 use Rattle.serve_core.specs.Desk.{desk_state}
-use Rattle.serve_core.specs.Lanes.{Lane}
 use Rattle.serve_core.specs.Reached.{IsReached, LeadsOver}
-use Rattle.serve_core.specs.Schedule.{HasLane, ScheduleValue}
+use Rattle.serve_core.specs.Schedule.{HasStream, ScheduleValue}
 use Rattle.serve_core.specs.Setup.{cost}
+use Rattle.serve_core.specs.Streams.{KeptStream}
 use Rattle.serve_hub.specs.declared.entry.Act.{Act}
 use Rattle.serve_hub.specs.declared.entry.Act.TheVariants.{Leased}
 use Rattle.serve_hub.specs.declared.entry.Entry.{Entry}
@@ -84,7 +84,7 @@ AreFree workers = (w : ℕ) (held : Held) → slice_get workers w ≢ Some (Some
 -- a hub can open from what is left of it
 pub record IsEnded (e : EndedValue) : Type 0 where
   pub free : AreFree e.book.desk.workers
-  pub each_stream : length e.streams ≡ length e.book.desk.lanes
+  pub each_stream : length e.streams ≡ length e.book.desk.streams
   pub reached : IsReached measures_any is_any_image (desk_state e.book.desk)
 
 -- each of so many streams has its seat here, and each of so many workers
@@ -96,15 +96,15 @@ HaveWorkers count seats = (n : ℕ) → n < count → Any (λ s. s.number ≡ n)
 
 -- the seat's stream: it has the seat's chain, and as many of its frames were accepted and collected as the
 -- seat tells
-pub record IsLaneOf (seat : StreamSeatValue) (lane : Lane) : Type 0 where
-  pub chain : lane.state.spec.chain ≡ seat.chain
-  pub accepted : lane.state.accepted ≡ seat.accepted
-  pub collected : lane.state.collected ≡ collected_by seat
+pub record IsStreamOf (seat : StreamSeatValue) (stream : KeptStream) : Type 0 where
+  pub chain : stream.state.spec.chain ≡ seat.chain
+  pub accepted : stream.state.accepted ≡ seat.accepted
+  pub collected : stream.state.collected ≡ collected_by seat
 
-abbrev pub AreLanes : ScheduleValue → List StreamSeatValue → Type 0
-AreLanes desk seats = All (λ s. HasLane desk s.number (IsLaneOf s)) seats
+abbrev pub AreStreamsOf : ScheduleValue → List StreamSeatValue → Type 0
+AreStreamsOf desk seats = All (λ s. HasStream desk s.number (IsStreamOf s)) seats
 
 -- a stream was charged at least what its collected frames cost, and at most what its accepted ones do
-pub record IsCharged (lane : Lane) : Type 0 where
-  pub least : lane.state.collected * cost lane.state.spec ≤ lane.state.charged
-  pub most : lane.state.charged ≤ lane.state.accepted * cost lane.state.spec
+pub record IsCharged (stream : KeptStream) : Type 0 where
+  pub least : stream.state.collected * cost stream.state.spec ≤ stream.state.charged
+  pub most : stream.state.charged ≤ stream.state.accepted * cost stream.state.spec

@@ -2,7 +2,7 @@
 ghost use Rattle.std.specs.Prelude.{◌≡◌, IsTrue};
 ghost use Rattle.std.specs.List.{Any};
 ghost use Rattle.serve_hub.specs.Ends as rules;
-ghost use Rattle.serve_hub.specs.Ends.{AreLanes, AreStreamCalls, AreWorkCalls, HaveStreams, HaveWorkers};
+ghost use Rattle.serve_hub.specs.Ends.{AreStreamCalls, AreStreamsOf, AreWorkCalls, HaveStreams, HaveWorkers};
 ghost use Rattle.serve_hub.specs.Ends.{acts_of};
 
 use crate::book::Book;
@@ -101,11 +101,11 @@ fn has_worker<L: Epoch>(seats: &Vec<WorkSeat<L>>, number: usize) -> bool
 }
 
 /// Whether each seat's stream is in the book as the seat tells of it.
-pub(crate) fn are_lanes<L: Epoch>(book: &Book, seats: &Vec<StreamSeat<L>>) -> bool
-    ensures { IsTrue result → AreLanes book.now.desk seats.now.items }
+pub(crate) fn have_their_streams<L: Epoch>(book: &Book, seats: &Vec<StreamSeat<L>>) -> bool
+    ensures { IsTrue result → AreStreamsOf book.now.desk seats.now.items }
 {
     for seat in seats {
-        if !seat.has_lane(book) {
+        if !seat.has_its_stream(book) {
             return false;
         }
     }

@@ -1,10 +1,9 @@
 //! A desk with the journal of what it accepted.
-ghost use Rattle.std.specs.Prelude.{◌≡◌, ◌<◌, ◌≤◌, ◌^◌, ◌↔◌, [], All, IfOk, IfSome, IsErrOf, IsSome, IsTrue};
+ghost use Rattle.std.specs.Prelude.{◌≡◌, ◌<◌, ◌≤◌, ◌^◌, ◌↔◌, [], IfOk, IfSome, IsErrOf, IsTrue};
 ghost use Rattle.std.specs.Prelude.{length, option_copied, reverse, slice_get};
 ghost use Rattle.std.specs.Vec.{vec_capacity};
 ghost use Rattle.std.specs.Option.{option_map};
-ghost use Rattle.serve_core.specs.Lanes.{IsOver};
-ghost use Rattle.serve_core.specs.Schedule.{HasLane, account_of, counts_of, opened_schedule};
+ghost use Rattle.serve_core.specs.Schedule.{opened_schedule};
 ghost use Rattle.serve_hub.specs.Books.{IsBook, IsLimit, book_transcript, opened_book, opening_of, reserved};
 ghost use Rattle.serve_hub.specs.Books as rules;
 ghost use Rattle.serve_hub.specs.Ends.{AreFree};
@@ -15,34 +14,13 @@ mod leases;
 mod offers;
 
 use crate::entry::{Act, Entry, Seat};
-use crate::limit::is_limit;
+use crate::error::HubError;
+use crate::limits::{MOST_ENTRIES, is_limit};
 use lease::JobSpec;
-use serve_core::{Counts, Desk, Setup};
-use std::alloc::{AllocError, Global};
+use serve_core::{Desk, Setup};
+use std::alloc::Global;
 use std::marker::Model;
 use std::snapshot::Snapshot;
-use thiserror::Error;
-
-/// Why there is no book.
-#[derive(Clone, Copy, Debug, PartialEq, Eq, Error)]
-pub enum BookError {
-    /// The journal's limit isn't 16 to 1,048,576, or not at least the number of streams and 2.
-    #[error("BadLimit")]
-    BadLimit,
-    /// The memory for the desk or the journal was refused.
-    #[error("NoMemory")]
-    NoMemory,
-}
-
-impl From<AllocError> for BookError {
-    ghost use Rattle.serve_hub.specs.declared.book.BookError.{BookError};
-
-    ghost from_gives = { λ _ e. e ≡ BookError.NoMemory };
-
-    fn from(_: AllocError) -> BookError {
-        BookError::NoMemory
-    }
-}
 
 /// A desk, and the journal of what it accepted: an entry for each accepted call, and none for a refused one.
 ///
@@ -76,16 +54,16 @@ impl Model for Book {
 
 impl Book {
     /// A book without entries, over a desk before any event, for at most `limit` entries.
-    pub fn new(alloc: Global, setup: Setup, limit: usize) -> Result<Book, BookError>
+    pub fn new(alloc: Global, setup: Setup, limit: usize) -> Result<Book, HubError>
         ensures book { IfOk result (λ b. b ≡ opened_book (opened_schedule setup) limit) }
         ensures limit { IfOk result (λ _. IsLimit (length setup.streams) limit) }
-        ensures bad_limit { IsErrOf result BookError.BadLimit ↔ ¬ IsLimit (length setup.streams) limit }
+        ensures bad_limit { IsErrOf result HubError.BadLimit ↔ ¬ IsLimit (length setup.streams) limit }
     {
-        setup.limits_law();
+        setup.recall_limits();
         let streams = setup.streams().len();
         let workers = setup.workers();
         if !is_limit(streams, limit) {
-            return Err(BookError::BadLimit);
+            return Err(HubError::BadLimit);
         }
         let desk = Desk::new(alloc, setup)?;
         let journal = Vec::with_capacity(alloc, limit)?;
@@ -105,7 +83,7 @@ impl Book {
     pub(crate) fn reopened(self, journal: Vec<Entry>, limit: usize) -> (Book, Vec<Entry>)
         requires empty { journal.items ≡ [] }
         requires capacity { limit ≤ vec_capacity journal }
-        requires most { limit ≤ 2 ^ 20 }
+        requires most { limit ≤ MOST_ENTRIES }
         requires fits { reserved self.desk ≤ limit }
         ensures book { result.0 ≡ opened_book self.desk limit }
         ensures past { reverse result.1.items ≡ self.past }
@@ -151,55 +129,20 @@ impl Book {
         self.limit - self.taken
     }
 
-    /// The present moment.
-    pub fn clock(&self) -> u64
-        ensures { result ≡ self.now.desk.clock }
+    /// The desk, which has at least the streams that the book opened with.
+    pub fn desk(&self) -> &Desk
+        ensures desk { result.now ≡ self.now.desk }
+        ensures more { length self.now.opening.streams ≤ length result.now.streams }
     {
-        self.desk.clock()
-    }
-
-    /// The budget and the deadline of stream `s`.
-    pub fn account(&self, s: u32) -> Option<(u64, u64)>
-        ensures { result ≡ option_map (λ lane. account_of lane.state) (slice_get self.now.desk.lanes s) }
-    {
-        self.desk.account(s)
-    }
-
-    /// How many frames of stream `s` were accepted, finished and collected, and what it was charged.
-    pub fn counts(&self, s: u32) -> Option<Counts>
-        ensures { result ≡ option_map (λ lane. counts_of lane.state) (slice_get self.now.desk.lanes s) }
-    {
-        self.desk.counts(s)
+        &self.desk
     }
 
     /// What is done to the frames of stream `s`.
     pub fn spec(&self, s: u32) -> Option<&JobSpec>
         ensures { option_copied result
-            ≡ option_map (λ lane. lane.state.spec.chain) (slice_get self.now.desk.lanes s) }
+            ≡ option_map (λ stream. stream.state.spec.chain) (slice_get self.now.desk.streams s) }
     {
         self.desk.spec(s)
-    }
-
-    /// Whether stream `s` is there, and a worker has its first unfinished frame.
-    pub fn is_out(&self, s: u32) -> bool
-        ensures { IsTrue result ↔ HasLane self.now.desk s (λ lane. IsSome lane.state.holder) }
-    {
-        self.desk.is_out(s)
-    }
-
-    /// Whether every stream is closed, with all its frames finished: then there is nothing more to lease.
-    pub fn is_over(&self) -> bool
-        ensures { IsTrue result ↔ All IsOver self.now.desk.lanes }
-    {
-        self.desk.is_over()
-    }
-
-    /// How many streams there are.
-    pub(crate) fn streams(&self) -> usize
-        ensures count { result ≡ length self.now.desk.lanes }
-        ensures more { length self.now.opening.lanes ≤ result }
-    {
-        self.desk.streams()
     }
 
     /// How many workers there are.
@@ -243,7 +186,7 @@ impl Book {
 
 /// The bands that a journal tells of worker `w`.
 fn bands_settled(w: u32, journal: &[Entry]) -> u64
-    requires { length journal.now ≤ 2 ^ 20 }
+    requires { length journal.now ≤ MOST_ENTRIES }
     ensures { result ≡ bands_of w journal.now }
 {
     let mut sum = 0;

@@ -45,7 +45,7 @@ impl Model for Ended {
 impl Ended {
     pub(crate) fn new(book: Book, streams: Vec<SeatRest>) -> Ended
         requires free { AreFree book.desk.workers }
-        requires each_stream { length streams.items ≡ length book.desk.lanes }
+        requires each_stream { length streams.items ≡ length book.desk.streams }
         requires reached { IsReached measures_any is_any_image (desk_state book.desk) }
         ensures book { result.book ≡ book }
         ensures streams { result.streams ≡ streams.items }
@@ -95,21 +95,21 @@ impl Ended {
     pub fn clock(&self) -> u64
         ensures { result ≡ self.now.book.desk.clock }
     {
-        self.book.clock()
+        self.book.desk().clock()
     }
 
     /// The budget and the deadline of stream `s`.
     pub fn account(&self, s: u32) -> Option<(u64, u64)>
-        ensures { result ≡ option_map (λ lane. account_of lane.state) (slice_get self.now.book.desk.lanes s) }
+        ensures { result ≡ option_map (λ stream. account_of stream.state) (slice_get self.now.book.desk.streams s) }
     {
-        self.book.account(s)
+        self.book.desk().account(s)
     }
 
     /// How many frames of stream `s` were accepted, finished and collected, and what it was charged.
     pub fn counts(&self, s: u32) -> Option<Counts>
-        ensures { result ≡ option_map (λ lane. counts_of lane.state) (slice_get self.now.book.desk.lanes s) }
+        ensures { result ≡ option_map (λ stream. counts_of stream.state) (slice_get self.now.book.desk.streams s) }
     {
-        self.book.counts(s)
+        self.book.desk().counts(s)
     }
 
     /// How many bands worker `w` settled.

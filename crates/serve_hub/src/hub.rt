@@ -6,7 +6,7 @@ ghost use Rattle.serve_core.specs.Schedule.{opened_schedule};
 ghost use Rattle.serve_core.specs.Setup.{IsWithinLimits};
 ghost use Rattle.serve_hub.specs.declared.ended.Fault.TheVariants as faults;
 ghost use Rattle.serve_hub.specs.Books.{IsBook, IsLimit};
-ghost use Rattle.serve_hub.specs.Ends.{AreCalls, AreFree, AreLanes, AreStreamCalls, AreWorkCalls};
+ghost use Rattle.serve_hub.specs.Ends.{AreCalls, AreFree, AreStreamCalls, AreStreamsOf, AreWorkCalls};
 ghost use Rattle.serve_hub.specs.Ends.{HasLeaseOut, HaveStreams, HaveWorkers, IsCharged, IsHistory};
 ghost use Rattle.serve_hub.specs.Ends.{IsMissing, IsOpening};
 ghost use Rattle.serve_hub.specs.Seats.{hub_of, left_by, opened_rests, opened_streams, opened_worker};
@@ -20,7 +20,8 @@ mod offers;
 use crate::book::Book;
 use crate::ended::{Ended, Fault, Mismatch};
 use crate::epoch::Epoch;
-use crate::limit::is_limit;
+use crate::error::HubError;
+use crate::limits::{MOST_SEATS, is_limit};
 use crate::rest::SeatRest;
 use crate::room::Room;
 use crate::shared::Shared;
@@ -34,7 +35,6 @@ use std::array;
 use std::marker::Model;
 use std::sync::ledger::Blank;
 use std::sync::{Condvar, Mutex, Wait};
-use thiserror::Error;
 
 /// A book under one lock, for the seats of its streams and workers, whose calls wait for the lock.
 ///
@@ -64,33 +64,12 @@ impl<L: Epoch> Model for Hub<L> {
     ghost view = { λ a. record { streams = a.streams; workers = a.workers } };
 }
 
-/// Why there is no hub.
-#[derive(Clone, Copy, Debug, PartialEq, Eq, Error)]
-pub enum HubError {
-    /// The journal's limit isn't 16 to 1,048,576, or not at least the number of streams and 2.
-    #[error("BadLimit")]
-    BadLimit,
-    /// The memory for the book or the seats was refused.
-    #[error("NoMemory")]
-    NoMemory,
-}
-
-impl From<AllocError> for HubError {
-    ghost use Rattle.serve_hub.specs.declared.hub.HubError.{HubError};
-
-    ghost from_gives = { λ _ e. e ≡ HubError.NoMemory };
-
-    fn from(_: AllocError) -> HubError {
-        HubError::NoMemory
-    }
-}
-
 /// A hub with the seats of its streams and of its workers.
 pub type Opened<L> = (Hub<L>, Vec<StreamSeat<L>>, Vec<WorkSeat<L>>);
 
 impl<L: Epoch> Hub<L> {
-    /// A hub without entries, for at most `limit`, with a seat for each stream and each worker. The ledger's
-    /// 80 parts are enough for these: a seat has one.
+    /// A hub without entries, for at most `limit`, with a seat for each stream and each worker, for which the
+    /// ledger has parts.
     pub fn new(
         alloc: Global,
         blank: Blank,
@@ -99,7 +78,7 @@ impl<L: Epoch> Hub<L> {
     ) -> Result<Opened<L>, HubError>
         requires name { blank.name ≡ L.name }
         requires parts { blank.parts ≡ L.parts }
-        requires enough { blank.parts ≡ 80 }
+        requires enough { blank.parts ≡ MOST_SEATS }
         requires opening { opened_schedule setup ≡ L.opening }
         ensures hub { IfOk result (λ r. r.0 ≡ hub_of (length setup.streams) setup.workers) }
         ensures streams { IfOk result (λ r. r.1.items ≡ opened_streams limit 0 setup.streams) }
@@ -108,7 +87,7 @@ impl<L: Epoch> Hub<L> {
         ensures limit { IfOk result (λ _. IsLimit (length setup.streams) limit) }
         ensures bad_limit { IsErrOf result HubError.BadLimit ↔ ¬ IsLimit (length setup.streams) limit }
     {
-        setup.limits_law();
+        setup.recall_limits();
         let streams = setup.streams().len();
         let workers = setup.workers() as usize;
         if !is_limit(streams, limit) {
@@ -148,20 +127,20 @@ impl<L: Epoch> Hub<L> {
     ) -> Result<Ended, Mismatch<L>>
         ensures calls { IfOk result (λ ended. AreCalls ended.book streams.items workers.items) }
         ensures each_stream { IfOk result (λ ended.
-            HaveStreams (length ended.book.desk.lanes) streams.items) }
+            HaveStreams (length ended.book.desk.streams) streams.items) }
         ensures each_worker { OnOk result (HaveWorkers self.workers workers.items) }
         ensures history { IfOk result (λ ended. IsHistory L.opening ended.book) }
         ensures book { IfOk result (λ ended. IsBook ended.book) }
-        ensures lanes { IfOk result (λ ended. AreLanes ended.book.desk streams.items) }
-        ensures charges { IfOk result (λ ended. All IsCharged ended.book.desk.lanes) }
+        ensures kept { IfOk result (λ ended. AreStreamsOf ended.book.desk streams.items) }
+        ensures charges { IfOk result (λ ended. All IsCharged ended.book.desk.streams) }
         ensures left { IfOk result (λ ended. ended.streams ≡ map left_by streams.items) }
         ensures all_workers { IfOk result (λ ended. length ended.book.desk.workers ≡ self.workers) }
         ensures missing { MatchResult result
-            (λ ended. ¬ IsMissing (hub_of (length ended.book.desk.lanes) self.workers) (vec_len streams)
+            (λ ended. ¬ IsMissing (hub_of (length ended.book.desk.streams) self.workers) (vec_len streams)
             (vec_len workers))
             (λ m. (m.fault ≡ faults.SeatMissing) ↔ IsMissing (hub_of m.all_streams self.workers)
             (vec_len streams) (vec_len workers)) }
-        ensures all_streams { IfErr result (λ m. length L.opening.lanes ≤ m.all_streams) }
+        ensures all_streams { IfErr result (λ m. length L.opening.streams ≤ m.all_streams) }
         ensures out { IfErr result (λ m. m.fault ≡ faults.LeaseOut
             → ¬ All (λ s. ¬ HasLeaseOut s) workers.items) }
         ensures settled { OnOk result (All (λ s. ¬ HasLeaseOut s) workers.items) }
@@ -233,10 +212,10 @@ fn fault<L: Epoch>(
         (AreStreamCalls (reverse shared.now.book.past) streams.now.items) }
     ensures of_workers { IfNone result
         (AreWorkCalls (reverse shared.now.book.past) workers.now.items) }
-    ensures count { IfNone result (shared.now.streams ≡ length shared.now.book.desk.lanes) }
+    ensures count { IfNone result (shared.now.streams ≡ length shared.now.book.desk.streams) }
     ensures each_stream { IfNone result (HaveStreams counts.0 streams.now.items) }
     ensures each_worker { IfNone result (HaveWorkers counts.1 workers.now.items) }
-    ensures lanes { IfNone result (AreLanes shared.now.book.desk streams.now.items) }
+    ensures kept { IfNone result (AreStreamsOf shared.now.book.desk streams.now.items) }
     ensures free { IfNone result (AreFree shared.now.book.desk.workers) }
     ensures opened { IfNone result (IsOpening L.opening shared.now.book.opening counts.1) }
     ensures book { IfNone result (IsBook shared.now.book) }

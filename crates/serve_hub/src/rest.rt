@@ -26,7 +26,8 @@ pub(crate) struct SeatRest {
 }
 
 impl Model for SeatRest {
-    ghost use Rattle.std.specs.Prelude.{◌≤◌, ◌^◌};
+    ghost use Rattle.serve_core.specs.declared.limits.TheConstants.{MOST_FRAMES};
+    ghost use Rattle.std.specs.Prelude.{◌≤◌};
     ghost use Rattle.std.specs.Arc.{arc_value};
     ghost use Rattle.std.specs.VecDeque.{deque_capacity};
     ghost use Rattle.serve_hub.specs.Seats.{AreSized, StreamRest, kept_in};
@@ -46,7 +47,7 @@ impl Model for SeatRest {
     } };
 
     ghost invariant = { λ a. AreSized (arc_value a.spec).geometry (kept_in a.kept.items)
-        × (a.frames ≤ 2 ^ 24) × (a.collected ≤ 2 ^ 24) };
+        × (a.frames ≤ MOST_FRAMES) × (a.collected ≤ MOST_FRAMES) };
 }
 
 impl SeatRest {
@@ -62,7 +63,7 @@ impl SeatRest {
         let places = stream.queue() + stream.outbox();
         Ok(SeatRest {
             number,
-            spec: Arc::try_clone(stream.spec())?,
+            spec: Arc::try_clone(stream.job())?,
             queue: stream.queue(),
             frames: stream.frames(),
             accepted: 0,

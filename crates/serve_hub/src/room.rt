@@ -9,6 +9,7 @@ use crate::book::Book;
 use crate::calls::Calls;
 use crate::epoch::Epoch;
 use crate::hub::{Hub, Opened};
+use crate::limits::MOST_SEATS;
 use crate::rest::SeatRest;
 use crate::shared::Shared;
 use crate::stream_seat::StreamSeat;
@@ -41,7 +42,7 @@ impl<L: Epoch> Room<L> {
     ) -> Result<Room<L>, AllocError>
         requires name { blank.name ≡ L.name }
         requires parts { blank.parts ≡ L.parts }
-        requires enough { blank.parts ≡ 80 }
+        requires enough { blank.parts ≡ MOST_SEATS }
         requires few_streams { streams ≤ MOST_STREAMS }
         requires few_workers { workers ≤ MOST_WORKERS }
         ensures total { IfOk result (λ room. room.total.total ≡ 0) }
@@ -86,7 +87,7 @@ impl<L: Epoch> Room<L> {
         requires seats_room { vec_len rests ≤ vec_capacity self.seats }
         requires left { self.rests.items ≡ [] }
         requires left_room { MOST_STREAMS ≤ vec_capacity self.rests }
-        requires enough { L.parts ≡ 80 }
+        requires enough { L.parts ≡ MOST_SEATS }
         ensures hub { result.0 ≡ hub_of (vec_len rests) workers }
         ensures streams { result.1.items ≡ map (seat_over limit) rests.items }
         ensures workers { result.2.items ≡ self.workers.items }

@@ -1,24 +1,26 @@
 //! What stands under the lock of a hub.
-ghost use Rattle.std.specs.Prelude.{◌≡◌, ◌+◌, ◌<◌, ◌≤◌, ◌^◌, ◌↔◌, ◌⊎◌, [], All, IfErr, IfNone, IfOk, IfSome};
+ghost use Rattle.std.specs.Prelude.{◌≡◌, ◌+◌, ◌<◌, ◌≤◌, ◌↔◌, ◌⊎◌, [], All, IfErr, IfNone, IfOk, IfSome};
 ghost use Rattle.std.specs.Prelude.{IsFalse, IsTrue, length, map, reverse, sum_by, vec_len};
 ghost use Rattle.std.specs.Vec.{vec_capacity};
+ghost use Rattle.serve_core.specs.declared.limits.TheConstants.{MOST_FRAMES};
 ghost use Rattle.serve_core.specs.declared.refusal.Refusal.TheVariants.{Drained, Empty};
-ghost use Rattle.serve_core.specs.Lanes.{IsOver};
+ghost use Rattle.serve_core.specs.Streams.{IsOver};
 ghost use Rattle.serve_hub.specs.declared.refusal.Refusal.TheVariants.{Core, HistoryFull};
 ghost use Rattle.serve_hub.specs.declared.entry.Act.TheVariants.{Admitted};
 ghost use Rattle.serve_hub.specs.declared.entry.Seat.TheVariants.{Stream};
 ghost use Rattle.serve_hub.specs.Books.{Appends, IsBook, room};
 ghost use Rattle.serve_hub.specs.Calls.{Admits, IsAdmitRefused};
-ghost use Rattle.serve_hub.specs.Ends.{AreFree, AreLanes, AreStreamCalls, AreWorkCalls, HaveStreams};
+ghost use Rattle.serve_hub.specs.Ends.{AreFree, AreStreamCalls, AreStreamsOf, AreWorkCalls, HaveStreams};
 ghost use Rattle.serve_hub.specs.Ends.{HaveWorkers, IsOpening, calls_in};
 ghost use Rattle.serve_hub.specs.Seats.{collected_by, left_by, opened_rest};
 
-use crate::agree::{are_lanes, have_streams, have_workers, streams_agree, workers_agree};
+use crate::agree::{have_streams, have_their_streams, have_workers, streams_agree, workers_agree};
 use crate::book::Book;
 use crate::calls::Calls;
 use crate::ended::Ended;
 use crate::entry::Act;
 use crate::epoch::Epoch;
+use crate::limits::MOST_SEATS;
 use crate::refusal::{Came, Refusal};
 use crate::refused::AdmitRefused;
 use crate::rest::SeatRest;
@@ -45,6 +47,7 @@ pub(crate) struct Shared<L: Epoch> {
 impl<L: Epoch> Model for Shared<L> {
     ghost use Rattle.std.specs.Prelude.{◌≡◌, ◌+◌, ◌≤◌, [], length, vec_capacity};
     ghost use Rattle.edf_pool.specs.declared.limits.TheConstants.{MOST_STREAMS};
+    ghost use Rattle.serve_hub.specs.declared.limits.TheConstants.{MOST_SEATS};
     ghost use Rattle.serve_hub.specs.Ends.{IsOpening};
     ghost use Rattle.serve_hub.specs.Seats.{SharedValue};
 
@@ -55,7 +58,7 @@ impl<L: Epoch> Model for Shared<L> {
     ghost invariant = { λ a. (a.total.total ≡ length a.book.past) × (a.limit ≡ a.book.limit)
         × (a.spare.parts + a.streams + a.workers ≡ L.parts) × (a.spare.amount ≡ 0)
         × IsOpening L.opening a.book.opening a.workers
-        × (a.rests.items ≡ []) × (MOST_STREAMS ≤ vec_capacity a.rests) × (L.parts ≡ 80) };
+        × (a.rests.items ≡ []) × (MOST_STREAMS ≤ vec_capacity a.rests) × (L.parts ≡ MOST_SEATS) };
 }
 
 impl<L: Epoch> Shared<L> {
@@ -75,7 +78,7 @@ impl<L: Epoch> Shared<L> {
         requires opened { IsOpening L.opening book.opening workers }
         requires none { rests.items ≡ [] }
         requires room { MOST_STREAMS ≤ vec_capacity rests }
-        requires enough { L.parts ≡ 80 }
+        requires enough { L.parts ≡ MOST_SEATS }
     {
         Shared {
             book,
@@ -100,11 +103,11 @@ impl<L: Epoch> Shared<L> {
         ensures seat { IfOk result (Admits newcomer) }
         ensures entry { IfOk result (λ seat.
             Appends (Stream seat.number) Admitted self.old.book self.new.book) }
-        ensures behind { IfOk result (λ seat. length L.opening.lanes ≤ seat.number) }
+        ensures behind { IfOk result (λ seat. length L.opening.streams ≤ seat.number) }
         ensures few { IfOk result (λ seat. seat.number < MOST_STREAMS) }
         ensures refused { IfErr result (IsAdmitRefused newcomer) }
     {
-        if self.book.streams() != self.streams || list.capacity() < self.limit {
+        if self.book.desk().streams() != self.streams || list.capacity() < self.limit {
             return Err(AdmitRefused {
                 refusal: Refusal::Torn(Came::Other),
                 spec: newcomer.into_spec(),
@@ -127,10 +130,10 @@ impl<L: Epoch> Shared<L> {
 
     /// How many streams there are, those that were admitted too.
     pub(crate) fn all_streams(&self) -> usize
-        ensures count { result ≡ length self.now.book.desk.lanes }
-        ensures more { length L.opening.lanes ≤ result }
+        ensures count { result ≡ length self.now.book.desk.streams }
+        ensures more { length L.opening.streams ≤ result }
     {
-        self.book.streams()
+        self.book.desk().streams()
     }
 
     /// Whether the journal has no place for another lease and its settlement.
@@ -142,11 +145,11 @@ impl<L: Epoch> Shared<L> {
 
     /// Why a worker that finds no stream ready need not wait for one.
     pub(crate) fn end_of_work(&self) -> Option<Refusal>
-        ensures some { IfSome result (λ e. (e ≡ Core Drained) × All IsOver self.now.book.desk.lanes
+        ensures some { IfSome result (λ e. (e ≡ Core Drained) × All IsOver self.now.book.desk.streams
             ⊎ (e ≡ HistoryFull) × (room self.now.book < 2)) }
         ensures none { IfNone result (2 ≤ room self.now.book) }
     {
-        if self.book.is_over() {
+        if self.book.desk().is_over() {
             return Some(Refusal::Core(serve_core::Refusal::Drained));
         }
         if self.is_full() {
@@ -169,7 +172,7 @@ impl<L: Epoch> Shared<L> {
 
     /// Whether no image of a stream can come: no lease can be given any more, and none of it is out.
     fn is_stuck(&self, stream: u32) -> bool {
-        self.is_full() && !self.book.is_out(stream)
+        self.is_full() && !self.book.desk().is_out(stream)
     }
 
     /// Whether a stream's next image is made without a pause: a lease can be given, the stream has a frame
@@ -188,6 +191,7 @@ impl<L: Epoch> Shared<L> {
     /// Whether a stream has a frame that isn't finished.
     fn has_work(&self, stream: u32) -> bool {
         self.book
+            .desk()
             .counts(stream)
             .is_some_and(|counts| counts.finished < counts.accepted)
     }
@@ -199,25 +203,25 @@ impl<L: Epoch> Shared<L> {
         ensures opened { IsOpening L.opening self.now.book.opening self.now.workers }
         ensures streams { IsTrue result → vec_len streams.now ≡ self.now.streams }
         ensures workers { IsTrue result → vec_len workers.now ≡ self.now.workers }
-        ensures count { IsTrue result → self.now.streams ≡ length self.now.book.desk.lanes }
+        ensures count { IsTrue result → self.now.streams ≡ length self.now.book.desk.streams }
         ensures of_streams { IsTrue result
             → AreStreamCalls (reverse self.now.book.past) streams.now.items }
         ensures of_workers { IsTrue result
             → AreWorkCalls (reverse self.now.book.past) workers.now.items }
         ensures each_stream { IsTrue result → HaveStreams self.now.streams streams.now.items }
         ensures each_worker { IsTrue result → HaveWorkers self.now.workers workers.now.items }
-        ensures lanes { IsTrue result → AreLanes self.now.book.desk streams.now.items }
+        ensures kept { IsTrue result → AreStreamsOf self.now.book.desk streams.now.items }
         ensures free { IsTrue result → AreFree self.now.book.desk.workers }
     {
         let journal = self.book.journal();
         streams.len() == self.streams
             && workers.len() == self.workers
-            && self.book.streams() == self.streams
+            && self.book.desk().streams() == self.streams
             && streams_agree(journal, streams)
             && workers_agree(journal, workers)
             && have_streams(self.streams, streams)
             && have_workers(self.workers, workers)
-            && are_lanes(&self.book, streams)
+            && have_their_streams(&self.book, streams)
             && self.book.is_free()
     }
 
@@ -225,9 +229,9 @@ impl<L: Epoch> Shared<L> {
     pub(crate) fn into_ended(self, streams: Vec<StreamSeat<L>>, workers: Vec<WorkSeat<L>>) -> Ended
         requires streams { vec_len streams ≡ self.streams }
         requires workers { vec_len workers ≡ self.workers }
-        requires count { self.streams ≡ length self.book.desk.lanes }
+        requires count { self.streams ≡ length self.book.desk.streams }
         requires is_book { IsBook self.book }
-        requires lanes { AreLanes self.book.desk streams.items }
+        requires kept { AreStreamsOf self.book.desk streams.items }
         requires free { AreFree self.book.desk.workers }
         ensures book { result.book ≡ self.book }
         ensures counted { length result.book.past ≡ calls_in streams.items workers.items }
@@ -251,7 +255,7 @@ impl<L: Epoch> Shared<L> {
 fn merge_streams<L: Epoch>(all: &mut Share<L>, rests: &mut Vec<SeatRest>, seats: Vec<StreamSeat<L>>)
     requires none { rests.old.items ≡ [] }
     requires room { vec_len seats ≤ vec_capacity rests.old }
-    requires few { All (λ s. collected_by s ≤ 2 ^ 24) seats.items }
+    requires few { All (λ s. collected_by s ≤ MOST_FRAMES) seats.items }
     ensures parts { all.new.parts ≡ all.old.parts + vec_len seats }
     ensures amount { all.new.amount ≡ all.old.amount + sum_by (λ s. length s.calls.list) seats.items }
     ensures left { rests.new.items ≡ map left_by seats.items }

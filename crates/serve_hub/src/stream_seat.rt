@@ -1,7 +1,8 @@
 //! The seat of a stream.
-ghost use Rattle.std.specs.Prelude.{◌≡◌, ◌+◌, ◌≤◌, ◌^◌, length, slice_get, IsSomeAnd, IsTrue};
-ghost use Rattle.serve_core.specs.Schedule.{HasLane};
-ghost use Rattle.serve_hub.specs.Ends.{IsLaneOf};
+ghost use Rattle.std.specs.Prelude.{◌≡◌, ◌+◌, ◌≤◌, length, slice_get, IsSomeAnd, IsTrue};
+ghost use Rattle.serve_core.specs.declared.limits.TheConstants.{MOST_FRAMES};
+ghost use Rattle.serve_core.specs.Schedule.{HasStream};
+ghost use Rattle.serve_hub.specs.Ends.{IsStreamOf};
 ghost use Rattle.serve_hub.specs.Seats.{collected_by, left_by, no_calls, seat_over, with_call};
 
 mod images;
@@ -12,10 +13,9 @@ use crate::calls::Calls;
 use crate::entry::Act;
 use crate::epoch::Epoch;
 use crate::rest::SeatRest;
-use crate::same::is_same_spec;
 use crate::shared::Shared;
 use frame_view::Frame;
-use lease::JobSpec;
+use lease::{JobSpec, is_same_spec};
 use std::collections::VecDeque;
 use std::marker::Model;
 use std::sync::Arc;
@@ -39,7 +39,8 @@ pub struct StreamSeat<L: Epoch> {
 }
 
 impl<L: Epoch> Model for StreamSeat<L> {
-    ghost use Rattle.std.specs.Prelude.{◌≤◌, ◌^◌};
+    ghost use Rattle.serve_core.specs.declared.limits.TheConstants.{MOST_FRAMES};
+    ghost use Rattle.std.specs.Prelude.{◌≤◌};
     ghost use Rattle.std.specs.Arc.{arc_value};
     ghost use Rattle.std.specs.VecDeque.{deque_capacity};
     ghost use Rattle.serve_hub.specs.Seats.{AreSized, StreamSeatValue, kept_in};
@@ -60,7 +61,7 @@ impl<L: Epoch> Model for StreamSeat<L> {
     } };
 
     ghost invariant = { λ a. AreSized (arc_value a.spec).geometry (kept_in a.kept.items)
-        × (a.frames ≤ 2 ^ 24) × (a.before ≤ 2 ^ 24) };
+        × (a.frames ≤ MOST_FRAMES) × (a.before ≤ MOST_FRAMES) };
 }
 
 impl<L: Epoch> StreamSeat<L> {
@@ -114,7 +115,7 @@ impl<L: Epoch> StreamSeat<L> {
 
     /// What it leaves, and the part of the ledger that counted its calls.
     pub(crate) fn leave(self) -> (Share<L>, SeatRest)
-        requires { collected_by self ≤ 2 ^ 24 }
+        requires { collected_by self ≤ MOST_FRAMES }
         ensures parts { result.0.parts ≡ 1 }
         ensures amount { result.0.amount ≡ length self.calls.list }
         ensures rest { result.1 ≡ left_by self }
@@ -196,7 +197,7 @@ impl<L: Epoch> StreamSeat<L> {
     /// How many frames it may have accepted: at most 16,777,216.
     pub fn frames(&self) -> u64
         ensures value { result ≡ self.now.frames }
-        ensures most { result ≤ 2 ^ 24 }
+        ensures most { result ≤ MOST_FRAMES }
     {
         self.frames
     }
@@ -210,10 +211,11 @@ impl<L: Epoch> StreamSeat<L> {
 
     /// Whether the book has its stream, with its chain, and as many frames accepted and collected as the seat
     /// tells.
-    pub(crate) fn has_lane(&self, book: &Book) -> bool
-        ensures { IsTrue result → HasLane book.now.desk self.now.number (IsLaneOf self.now) }
+    pub(crate) fn has_its_stream(&self, book: &Book) -> bool
+        ensures { IsTrue result → HasStream book.now.desk self.now.number (IsStreamOf self.now) }
     {
-        let (Some(spec), Some(counts)) = (book.spec(self.number), book.counts(self.number)) else {
+        let desk = book.desk();
+        let (Some(spec), Some(counts)) = (desk.spec(self.number), desk.counts(self.number)) else {
             return false;
         };
         counts.accepted == self.accepted
@@ -225,8 +227,8 @@ impl<L: Epoch> StreamSeat<L> {
     /// Whether the book has its stream, with its chain, and a journal of its limit.
     fn is_of(&self, shared: &Shared<L>) -> bool
         ensures limit { IsTrue result → self.now.calls.limit ≡ shared.now.book.limit }
-        ensures chain { IsTrue result → HasLane shared.now.book.desk self.now.number (λ lane.
-            lane.state.spec.chain ≡ self.now.chain) }
+        ensures chain { IsTrue result → HasStream shared.now.book.desk self.now.number (λ stream.
+            stream.state.spec.chain ≡ self.now.chain) }
     {
         match shared.book.spec(self.number) {
             None => false,

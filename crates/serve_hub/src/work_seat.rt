@@ -109,7 +109,7 @@ impl<L: Epoch> WorkSeat<L> {
                 lease: Some(lease),
             });
         }
-        let number = lease.seq();
+        let number = lease.number();
         let Shared { book, total, .. } = shared;
         let done = match book.settle(self.number, lease) {
             Ok(done) => done,

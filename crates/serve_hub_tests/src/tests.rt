@@ -201,7 +201,7 @@ fn stepped(lease: Lease, bands: u32) -> Lease {
 
 /// The stream, the number and the grant of a lease.
 fn told(lease: &Lease) -> (u32, u64, u32) {
-    (lease.stream(), lease.seq(), lease.granted())
+    (lease.stream(), lease.number(), lease.granted())
 }
 
 /// Budget, deadline, and how many frames were accepted, finished and collected, and what was charged.

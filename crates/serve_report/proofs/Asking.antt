@@ -1,9 +1,11 @@
 -- Streams that words ask for, one after the other.
-use Rattle.std.proofs.Common.{◌≡◌, ℕ, ◌+◌, ◌<◌, Bool, ◌||◌, List, [], ◌∷◌, ◌++◌, length, get_or, drop, bytes_eq, Result, Ok, Err, Bor, sym, ap, ◌∙◌, add-one, drop-cons}
+use Rattle.std.proofs.Common.{◌≡◌, ℕ, ◌+◌, ◌<◌, Bool, ◌||◌, List, [], ◌∷◌, ◌++◌, length, get_or, drop}
+use Rattle.std.proofs.Common.{bytes_eq, Result, Ok, Err, Bor, sym, ap, ◌∙◌, add-one, drop-cons}
 use Rattle.std.proofs.lemmas.List.{map_push}
 use Rattle.std.proofs.lemmas.List.Elements.{All-append, All-from_recursion}
 use Rattle.serve_report.specs.StreamWords.{StreamAsked}
-use Rattle.serve_report.specs.ServeChecks.{AreSaid, Fault, IsSaid, all_told, asked_told, is_named, then_given, word_given, words_asked, words_given}
+use Rattle.serve_report.specs.ServeChecks.{AreSaid, Fault, IsSaid, all_told, asked_told, is_named, then_given}
+use Rattle.serve_report.specs.ServeChecks.{word_given, words_asked, words_given}
 use Rattle.serve_report.specs.declared.serve.checks.Asked.{Asked}
 
 -- what is left of a list begins with the element there

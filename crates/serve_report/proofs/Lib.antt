@@ -3,3 +3,4 @@ pub mod Inputs
 pub mod Reporting
 pub mod TakenAhead
 pub mod Openings
+pub mod Filtering

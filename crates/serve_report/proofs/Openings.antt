@@ -1,34 +1,60 @@
 -- Streams that are opened, each with what came of it.
-use Rattle.std.proofs.Common.{◌≡◌, ℕ, suc, ◌<◌, List, [], ◌∷◌, ◌++◌, length, map, get_or, ◌∙◌, ap, append_assoc, append-nil, arith, refl, sym}
+use Rattle.std.proofs.Common.{◌≡◌, ℕ, suc, ◌<◌, List, [], ◌∷◌, ◌++◌, length, map, get_or, None, Some, Option, Result, Ok, Err, ◌∙◌, ap}
+use Rattle.std.proofs.Common.{append_assoc, append-nil, arith, refl, subst, sym}
+use Rattle.std.specs.Io.KnownBytes.{Keeps}
 use Rattle.std.specs.List.{AllZip}
+use Rattle.std.specs.Prelude.{IfOk}
 use Rattle.std.proofs.lemmas.List.{map_push}
+use Rattle.y4m_stream.specs.Reader.{IsOpened, ReaderState}
+use Rattle.y4m_stream.specs.declared.device.Sink as sinks
+use Rattle.y4m_stream.specs.declared.device.Source as sources
+use Rattle.serve_report.specs.Openings.{Entry, come_of, entry_of, made_after}
+use Rattle.serve_report.specs.declared.serve.ready.Ready.{Ready}
+use Rattle.serve_report.specs.declared.serve.report.StreamStop.{StreamStop}
 
 -- one more
-pub moved_more : {E A : Type 0} (at : E → A) (moved : List E) (more : E) (left later : List A) (first : A) → left ≡ first ∷ later → at more ≡ first
+pub moved_more : {E A : Type 0} (at : E → A) (moved : List E) (more : E) (left later : List A) (first : A) → left ≡ first ∷ later
+    → at more ≡ first
     → map at (moved ++ more ∷ []) ++ later ≡ map at moved ++ left
 moved_more at moved more left later first is same =
     ap (λ all. all ++ later) (map_push at moved more) ∙ append_assoc (map at moved) (at more ∷ []) later
     ∙ ap (λ one. map at moved ++ one ∷ later) same ∙ sym (ap (λ all. map at moved ++ all) is)
 
 -- where none is left, all were moved
-pub moved_all : {E A : Type 0} (at : E → A) (moved : List E) (left all : List A) → left ≡ [] → map at moved ++ left ≡ all → map at moved ≡ all
+pub moved_all : {E A : Type 0} (at : E → A) (moved : List E) (left all : List A) → left ≡ [] → map at moved ++ left ≡ all
+    → map at moved ≡ all
 moved_all at moved left all none are = sym (append-nil (map at moved)) ∙ sym (ap (λ rest. map at moved ++ rest) none) ∙ are
 
--- what came of each place, where each was tried
-pub zipped : {J X : Type 0} (Comes : J → X → Type 0) (jobs : List J) (results : List X) → length results ≡ length jobs
-    → ((i : ℕ) (job : J) (result : X) → i < length jobs → Comes (get_or jobs i job) (get_or results i result)) → AllZip Comes jobs results
-zipped Comes [] [] len each = tt
-zipped Comes [] (result ∷ results) len each = absurd (omega (arith, len))
-zipped Comes (job ∷ jobs) [] len each = absurd (omega (arith, len))
-zipped Comes (job ∷ jobs) (result ∷ results) len each =
-    (each 0 job result (omega arith), zipped Comes jobs results (omega (arith, len)) (λ i j r less. each (suc i) j r (omega (arith, less))))
+-- what came of each place, where each was tried, is told in order
+pub zipped : {J X A B : Type 0} (from : J → A) (come : X → B) (Comes : A → B → Type 0) (jobs : List J) (results : List X)
+    → length results ≡ length jobs
+    → ((i : ℕ) (job : J) (result : X) → i < length jobs → Comes (from (get_or jobs i job)) (come (get_or results i result)))
+    → AllZip Comes (map from jobs) (map come results)
+zipped from come Comes [] [] len each = tt
+zipped from come Comes [] (result ∷ results) len each = absurd (omega (arith, len))
+zipped from come Comes (job ∷ jobs) [] len each = absurd (omega (arith, len))
+zipped from come Comes (job ∷ jobs) (result ∷ results) len each = (
+  each 0 job result (omega arith),
+  zipped from come Comes jobs results (omega (arith, len)) (λ i j r less. each (suc i) j r (omega (arith, less))),
+)
 
-module _ {J X : Type 0} (Comes : J → X → Type 0) where
-  -- what each keeps of its place is as it was there
-  pub map_zipped : {A : Type 0} (at : X → A) (from : J → A) → ((job : J) (result : X) → Comes job result → at result ≡ from job)
-      → (jobs : List J) (results : List X) → AllZip Comes jobs results → map at results ≡ map from jobs
-  map_zipped at from same [] [] all = refl
-  map_zipped at from same [] (result ∷ results) all = absurd all
-  map_zipped at from same (job ∷ jobs) [] all = absurd all
-  map_zipped at from same (job ∷ jobs) (result ∷ results) all =
-      ap (λ first. first ∷ map at results) (same job result all.0) ∙ ap (λ more. from job ∷ more) (map_zipped at from same jobs results all.1)
+module _ {R W : Type 0} {source : sources.Ghosts R} {sink : sinks.Ghosts W} where
+  -- it is told as it came, whether a file was made
+  pub made_come : (result : Result (Ready R W source sink) StreamStop) (made : ℕ)
+      → made_after (come_of result) made ≡ made_after result made
+  made_come (Ok ready) made = refl
+  made_come (Err stop) made = refl
+
+  -- and what is known of its entry
+  pub entry_come : (Is : Entry → Type 0) (result : Result (Ready R W source sink) StreamStop)
+      → IfOk result (λ ready. Is (entry_of ready)) → IfOk (come_of result) Is
+  entry_come Is (Ok ready) is = is
+  entry_come Is (Err stop) is = is
+
+-- a reader that stands behind a header stands there by what was known before, too
+pub opened_of : (known bytes : Option (List ℕ)) (failures : ℕ) (reader : ReaderState) → Keeps known bytes → IsOpened bytes failures reader
+    → IsOpened known failures reader
+opened_of None bytes failures reader keeps opened =
+    record { header = opened.header; taken = tt; ahead = opened.ahead; is_open = opened.is_open; no_failure = opened.no_failure }
+opened_of (Some xs) None failures reader keeps opened = absurd keeps
+opened_of (Some xs) (Some ys) failures reader keeps opened = subst (λ (zs : List ℕ). IsOpened (Some zs) failures reader) keeps opened

@@ -1,11 +1,12 @@
 -- The lines of a report, one after the other.
-use Rattle.std.proofs.Common.{◌≡◌, ℕ, ◌+◌, ◌<◌, Bor, List, [], ◌∷◌, ◌++◌, length, get_or, map, take, Option, Some, None, option_and_then, option_map, unwrap_or, refl, ◌∙◌, ap, sym}
+use Rattle.std.proofs.Common.{◌≡◌, ℕ, ◌+◌, ◌<◌, Bor, Bool, List, [], ◌∷◌, ◌++◌, length, get_or, map, take, Option, Some, None}
+use Rattle.std.proofs.Common.{option_and_then, option_map, refl, ◌∙◌, ap, sym}
 use Rattle.std.proofs.lemmas.List.{flat_map_more, take_more}
 use Rattle.std.specs.List.{flat_map}
-use Rattle.serve_report.specs.Entrants.{given_at, rows_given, served_row, stopped_row}
+use Rattle.serve_report.specs.Entrants.{given_at, rows_given, served_row, stopped_row, told_row}
 use Rattle.serve_report.specs.declared.serve.opening.Entrant.{Entrant}
-use Rattle.serve_report.specs.declared.serve.report.StreamRow.{StreamRow}
 use Rattle.serve_report.specs.declared.serve.report.StreamStop.{StreamStop}
+use Rattle.serve_work.specs.Sessions.{ServedValue, served_of}
 use Rattle.serve_work.specs.declared.session.Served.{Served}
 
 -- one line more
@@ -15,33 +16,24 @@ text_more text lines i d less =
     ap (flat_map text) (take_more lines i d less)
     ∙ sym (flat_map_more text [] (take i lines) (get_or lines i d))
 
-names_in : List StreamRow → List (Bor (List ℕ))
-names_in rows = map (λ row. row.name) rows
+module _ {R W : Type 0} (left_of : R → Option (List ℕ)) (read_failures : R → ℕ) (after : W → Option (List ℕ))
+    (failures : W → ℕ) (is_flushed : W → Bool) where
+  abbrev value_of : Served R W → ServedValue
+  value_of served = served_of left_of read_failures after failures is_flushed served
 
--- a row before others that have these names
-row_named : (row : StreamRow) (given : Option (List StreamRow)) (names : List (Bor (List ℕ))) (rows : List StreamRow)
-    → option_map (λ later. row ∷ later) given ≡ Some rows → ((later : List StreamRow) → given ≡ Some later → names_in later ≡ names)
-    → names_in rows ≡ row.name ∷ names
-unfolding names_in
-row_named row None names rows e later_named = absurd (cc)
-row_named row (Some later) names rows e later_named =
-    ap (λ (o : Option (List StreamRow)). names_in (unwrap_or o [])) (sym e) ∙ ap (λ ns. row.name ∷ ns) (later_named later refl)
+  -- the row of a stream before those of the streams after it
+  row_told_of : (name : Bor (List ℕ)) (stop : Option StreamStop) (left : List (Served R W)) (more : List Entrant)
+      → ((later : List (Served R W)) → rows_given told_row more (map value_of later) ≡ rows_given served_row more later)
+      → option_and_then (λ next. option_map (λ rows. next.0 ∷ rows) (rows_given told_row more next.1))
+      (given_at told_row name stop (map value_of left))
+      ≡ option_and_then (λ next. option_map (λ rows. next.0 ∷ rows) (rows_given served_row more next.1))
+      (given_at served_row name stop left)
+  row_told_of name None [] more same = refl
+  row_told_of name None (served ∷ later) more same = ap (option_map (λ rows. served_row name served ∷ rows)) (same later)
+  row_told_of name (Some stop) left more same = ap (option_map (λ rows. stopped_row name stop ∷ rows)) (same left)
 
-module _ {R W : Type 0} where
-  -- a stream's row before those of the streams after it
-  entrant_named : (name : Bor (List ℕ)) (stop : Option StreamStop) (left : List (Served R W)) (more : List Entrant) (rows : List StreamRow)
-      → option_and_then (λ next. option_map (λ later. next.0 ∷ later) (rows_given more next.1)) (given_at name stop left) ≡ Some rows
-      → ((left : List (Served R W)) (later : List StreamRow) → rows_given more left ≡ Some later → names_in later ≡ map (λ entrant. entrant.name) more)
-      → names_in rows ≡ name ∷ map (λ entrant. entrant.name) more
-  entrant_named name None [] more rows e more_named = absurd (cc)
-  entrant_named name None (served ∷ later) more rows e more_named =
-      row_named (served_row name served) (rows_given more later) _ rows e (more_named later)
-  entrant_named name (Some stop) left more rows e more_named =
-      row_named (stopped_row name stop) (rows_given more left) _ rows e (more_named left)
-
-  -- the rows have the streams' names
-  pub rows_named : (entrants : List Entrant) (left : List (Served R W)) (rows : List StreamRow) → rows_given entrants left ≡ Some rows
-      → map (λ row. row.name) rows ≡ map (λ entrant. entrant.name) entrants
-  unfolding names_in
-  rows_named [] left rows e = ap (λ (o : Option (List StreamRow)). names_in (unwrap_or o [])) (sym e)
-  rows_named (entrant ∷ more) left rows e = entrant_named entrant.name entrant.stop left more rows e (rows_named more)
+  -- the rows are those of what is told of the streams
+  pub rows_told : (entrants : List Entrant) (left : List (Served R W))
+      → rows_given told_row entrants (map value_of left) ≡ rows_given served_row entrants left
+  rows_told [] left = refl
+  rows_told (entrant ∷ more) left = row_told_of entrant.name entrant.stop left more (rows_told more)

@@ -1,5 +1,6 @@
 -- What stays known where bytes are read ahead, and then taken.
-use Rattle.std.proofs.Common.{◌≡◌, ℕ, ◌<◌, ◌≤◌, List, [], ◌++◌, length, take, drop, None, Some, Option, refl, sym, ap, ◌∙◌, append_assoc, arith, ◌-◌, min}
+use Rattle.std.proofs.Common.{◌≡◌, ℕ, ◌<◌, ◌≤◌, List, [], ◌++◌, length, take, drop, None, Some, Option, refl}
+use Rattle.std.proofs.Common.{sym, ap, ◌∙◌, append_assoc, arith, ◌-◌, min}
 use Rattle.std.proofs.lemmas.List.{drop_all, length-drop, length-take, take-append-drop, take-append-le, take-take}
 use Rattle.std.specs.Io.KnownBytes.{Consumes, Keeps, prepend_known}
 
@@ -14,7 +15,8 @@ read_ahead (Some xs) None read p = absurd p
 read_ahead (Some xs) (Some ys) read p = sym p
 
 -- bytes that are held are taken off the front
-pub taken_off : (a : Option (List ℕ)) (held : List ℕ) (n : ℕ) → Consumes (prepend_known held a) (prepend_known (drop n held) a) (take n held)
+pub taken_off : (a : Option (List ℕ)) (held : List ℕ) (n : ℕ)
+    → Consumes (prepend_known held a) (prepend_known (drop n held) a) (take n held)
 taken_off None held n = tt
 taken_off (Some xs) held n = ap (λ l. l ++ xs) (sym (take-append-drop n held)) ∙ append_assoc (take n held) (drop n held) xs
 
@@ -26,5 +28,6 @@ front_read read rest len n h k = take-take n len (read ++ rest) k ∙ take-appen
 pub some_taken : (bytes : List ℕ) (from to room n : ℕ) → from < to → to ≤ length bytes → 0 < room
     → n ≡ min (length (drop from (take to bytes))) room → n ≡ 0 → ⊥
 some_taken bytes from to room n h k l is none =
-    let is' : n ≡ min (min to (length bytes) - from) room = is ∙ ap (λ m. min m room) (length-drop from (take to bytes) ∙ ap (λ m. m - from) (length-take to bytes)) in
+    let is' : n ≡ min (min to (length bytes) - from) room = is
+    ∙ ap (λ m. min m room) (length-drop from (take to bytes) ∙ ap (λ m. m - from) (length-take to bytes)) in
     omega (arith, is', none)

@@ -1,24 +1,25 @@
 -- The streams of a run, and what is reported of them.
-use Rattle.std.specs.Prelude.{ℕ, ◌+◌, ◌-◌, ◌^◌, min, Bool, true, false, List, [], ◌∷◌, ◌++◌, codes, decimal}
-use Rattle.std.specs.Prelude.{fold, map, ◌≡◌}
+use Rattle.std.specs.Prelude.{ℕ, ◌+◌, ◌-◌, ◌^◌, ◌≡◌, ◌⊎◌, min, Bool, true, false, List, [], ◌∷◌, ◌++◌}
+use Rattle.std.specs.Prelude.{codes, decimal, fold, map}
 use Rattle.std.specs.Prelude.{Option, Some, None, Ok, option_and_then}
 use Rattle.std.specs.Borrow.{Bor}
 use Rattle.std.specs.Io.KnownBytes.{Appends}
-use Rattle.std.specs.List.{flat_map, list_all}
+use Rattle.std.specs.List.{AllZip, flat_map, list_all}
 use Rattle.std.specs.Option.{option_map}
-use Rattle.filters.specs.Chain.{chain_of}
-use Rattle.frame_view.specs.declared.geometry.Geometry.{Geometry}
-use Rattle.row_bands.specs.declared.band_height.BandHeight.{BandHeight}
-use Rattle.serve_core.specs.Setup.{StreamSpec}
+use Rattle.serve_core.specs.Setup.{StreamSpec, setup_of}
 use Rattle.serve_script.specs.ScriptReport.{line_text}
-use Rattle.serve_report.specs.ServeChecks.{ChecksGive, all_told}
+use Rattle.serve_report.specs.Moments.{IsMoment}
+use Rattle.serve_report.specs.Openings.{IsOpening, OfName, Opening, entrant_of, specs_in, starts_in}
+use Rattle.serve_report.specs.ServeChecks.{AreSaid, ChecksGive, HasOptions, all_told}
 use Rattle.serve_report.specs.ServeReport.{row_text, stop_told}
-use Rattle.serve_report.specs.declared.serve.checks.Asked.{Asked}
+use Rattle.serve_report.specs.declared.serve.checks.Checked.{Checked}
 use Rattle.serve_report.specs.declared.serve.opening.Entrant.{Entrant}
 use Rattle.serve_report.specs.declared.serve.report.StreamRow.{StreamRow}
 use Rattle.serve_report.specs.declared.serve.report.StreamStop.{StreamStop}
 use Rattle.serve_report.specs.declared.serve.report.StreamStop.TheVariants as stops
 use Rattle.serve_report.specs.declared.words.ServeWords.{ServeWords}
+use Rattle.serve_work.specs.Clients.{ClientStart}
+use Rattle.serve_work.specs.Sessions.{IsSession, ServedValue}
 use Rattle.serve_work.specs.declared.session.Served.{Served}
 
 -- a stream that takes part in the session
@@ -28,22 +29,6 @@ entered name = record { name = name; stop = None }
 -- a stream that stopped before it
 abbrev pub stopped : Bor (List ℕ) → StreamStop → Entrant
 stopped name stop = record { name = name; stop = Some stop }
-
--- what a stream is served with, where its frames have this size: its operations, in bands of this height, and
--- its share; 4 of its frames may wait and 4 of its images, and 16777216 frames may come
-abbrev pub spec_asked : BandHeight → Asked → Geometry → StreamSpec
-spec_asked height asked geometry = record {
-  geometry = geometry;
-  chain = chain_of asked.ops.items geometry height;
-  maximum = asked.word.q;
-  period = asked.word.t;
-  queue = 4;
-  outbox = 4;
-  frames = 2 ^ 24;
-}
-
-abbrev pub IsAsked : BandHeight → Asked → StreamSpec → Type 0
-IsAsked height asked spec = spec ≡ spec_asked height asked spec.geometry
 
 -- what is reported of a stream that stopped before the session
 abbrev pub stopped_row : Bor (List ℕ) → StreamStop → StreamRow
@@ -59,28 +44,38 @@ served_row name served = record {
   stop = stop_told served.stop;
 }
 
+-- the same by what is told of it
+abbrev pub told_row : Bor (List ℕ) → ServedValue → StreamRow
+told_row name served = record {
+  name = name;
+  accepted = served.outcome.accepted;
+  delivered = served.outcome.delivered;
+  charged = served.charged;
+  stop = stop_told served.outcome.stop;
+}
+
 -- what is reported of a stream, and what the session left of those after it
 abbrev pub next_row : {S : Type 0} → (S → StreamRow) → List S → Option (StreamRow × List S)
 next_row row [] = None
 next_row row (served ∷ later) = Some (row served, later)
 
-abbrev pub given_at : {R W : Type 0} → Bor (List ℕ) → Option StreamStop → List (Served R W)
-    → Option (StreamRow × List (Served R W))
-given_at name None left = next_row (served_row name) left
-given_at name (Some stop) left = Some (stopped_row name stop, left)
+module _ {S : Type 0} (row : Bor (List ℕ) → S → StreamRow) where
+  abbrev pub given_at : Bor (List ℕ) → Option StreamStop → List S → Option (StreamRow × List S)
+  given_at name None left = next_row (row name) left
+  given_at name (Some stop) left = Some (stopped_row name stop, left)
 
-abbrev pub next_given : {R W : Type 0} → Entrant → List (Served R W) → Option (StreamRow × List (Served R W))
-next_given entrant left = given_at entrant.name entrant.stop left
+  abbrev pub next_given : Entrant → List S → Option (StreamRow × List S)
+  next_given entrant left = given_at entrant.name entrant.stop left
+
+  -- what is reported of streams, in order, where a session left this of those that took part
+  abbrev pub rows_given : List Entrant → List S → Option (List StreamRow)
+  rows_given [] left = Some []
+  rows_given (entrant ∷ more) left =
+      option_and_then (λ next. option_map (λ rows. next.0 ∷ rows) (rows_given more next.1))
+      (next_given entrant left)
 
 abbrev pub row_told : {S : Type 0} → StreamRow × Bor (List S) → StreamRow × List S
 row_told next = (next.0, next.1.now)
-
--- what is reported of streams, in order, where a session left this of those that took part
-abbrev pub rows_given : {R W : Type 0} → List Entrant → List (Served R W) → Option (List StreamRow)
-rows_given [] left = Some []
-rows_given (entrant ∷ more) left =
-    option_and_then (λ next. option_map (λ rows. next.0 ∷ rows) (rows_given more next.1))
-    (next_given entrant left)
 
 abbrev pub is_whole_stop : StreamStop → Bool
 is_whole_stop stops.Whole = true
@@ -100,15 +95,37 @@ rows_text rows = flat_map (λ row. line_text (row_text row)) rows
 abbrev pub report_text : List StreamRow → List ℕ
 report_text rows = rows_text rows ++ line_text (codes "units " ++ decimal (charged_in rows))
 
+-- what a session of these streams left of them; where none takes part there is none
+abbrev pub Leaves : (workers quantum : ℕ) → List StreamSpec → List ClientStart → List ServedValue → Type 0
+Leaves workers quantum specs starts left =
+    ((specs ≡ []) × (left ≡ [])) ⊎ IsSession IsMoment (setup_of workers quantum specs) starts left
+
+-- each row tells of its stream: why it took no part, or what the session left of it
+pub record Tells (workers quantum journal : ℕ) (openings : List Opening)
+    (rows : List StreamRow) : Type 0 where
+  pub left : List ServedValue
+  pub session : Leaves workers quantum (specs_in openings) (starts_in journal openings) left
+  pub given : rows_given told_row (map entrant_of openings) left ≡ Some rows
+
+-- the streams were opened as their words ask, and the rows tell of them
+pub record Serves (WasOpened WasMade : OfName) (checked : Checked) (rows : List StreamRow) : Type 0 where
+  pub openings : List Opening
+  pub opened : AllZip (IsOpening WasOpened WasMade checked.height) checked.streams.items openings
+  pub tells : Tells checked.workers checked.quantum checked.journal openings rows
+
 -- what is reported of these streams, in their order, went out; and whether all of them are whole
-pub record Reports (streams : List Asked) (old new : Option (List ℕ)) (whole : Bool) : Type 0 where
+pub record Reports (WasOpened WasMade : OfName) (checked : Checked) (old new : Option (List ℕ))
+    (whole : Bool) : Type 0 where
   pub rows : List StreamRow
-  pub names : map (λ row. row.name) rows ≡ map (λ asked. asked.word.name) streams
+  pub serves : Serves WasOpened WasMade checked rows
   pub all : whole ≡ list_all is_whole rows
   pub wrote : Appends old new (report_text rows)
 
 -- the streams that the words ask for are all whole, and what is reported of them went out
-pub record ServesAll (words : ServeWords) (old new : Option (List ℕ)) : Type 0 where
-  pub streams : List Asked
-  pub asked : ChecksGive words (Ok (all_told streams))
-  pub reported : Reports streams old new true
+pub record ServesAll (WasOpened WasMade : OfName) (words : ServeWords)
+    (old new : Option (List ℕ)) : Type 0 where
+  pub checked : Checked
+  pub options : HasOptions words checked
+  pub asked : ChecksGive words (Ok (all_told checked.streams.items))
+  pub said : AreSaid checked.streams.items
+  pub reported : Reports WasOpened WasMade checked old new true

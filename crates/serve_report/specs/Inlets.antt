@@ -2,8 +2,15 @@
 use Rattle.std.specs.Prelude.{ℕ, List, Option, None}
 use Rattle.serve_report.specs.declared.inlet.Inflow.{Inflow}
 use Rattle.serve_report.specs.declared.inlet.Inflow.TheVariants as inflow
+use Rattle.serve_report.specs.declared.inlet.Inlet.{Inlet}
+use Rattle.serve_report.specs.declared.inlet.Inlet.TheVariants as inlet
 
--- the bytes that reads will give, where they are known: behind a lookout they aren't
+-- the bytes that reads will give, where they are known: those of a file that may wait aren't
+abbrev pub inlet_remaining : {R S : Type 0} → (R → Option (List ℕ)) → Inlet R S → Option (List ℕ)
+inlet_remaining prompt (inlet.Prompt reader) = prompt reader
+inlet_remaining prompt (inlet.Slow reader) = None
+
+-- the same where one can be asked whether a read would wait: behind a lookout they aren't known
 abbrev pub inflow_remaining : {R S T : Type 0} → (R → Option (List ℕ)) → (S → Option (List ℕ)) → Inflow R S T
     → Option (List ℕ)
 inflow_remaining prompt slow (inflow.Prompt reader) = prompt reader

@@ -2,6 +2,9 @@ pub mod Board
 pub mod StreamWords
 pub mod ServeChecks
 pub mod ServeReport
+pub mod Moments
+pub mod Openings
 pub mod Entrants
 pub mod ReadAhead
 pub mod Inlets
+pub mod Filtering

@@ -14,10 +14,12 @@ use Rattle.edf_pool.specs.declared.limits.TheConstants.{MOST_STREAMS}
 use Rattle.filters.specs.OpsText.{ops_of}
 use Rattle.filters.specs.declared.error.FilterError.{FilterError}
 use Rattle.filters.specs.declared.error.FilterError.TheVariants as filter
+use Rattle.filters.specs.declared.limits.TheConstants.{MOST_OPS}
 use Rattle.filters.specs.declared.op.Op.{Op}
 use Rattle.row_bands.specs.Height.{IsBandHeight}
 use Rattle.serve_report.specs.StreamWords.{StreamAsked, stream_of, stream_told}
 use Rattle.serve_report.specs.declared.serve.checks.Asked.{Asked}
+use Rattle.serve_report.specs.declared.serve.checks.Checked.{Checked}
 use Rattle.serve_report.specs.declared.serve.checks.WordFault.{WordFault}
 use Rattle.serve_report.specs.declared.serve.checks.WordFault.TheVariants as faults
 use Rattle.serve_report.specs.declared.words.ServeWords.{ServeWords}
@@ -70,7 +72,7 @@ is_named name streams = list_any (λ stream. bytes_eq name stream.name) streams
 -- the operations of the stream of this name, or what is wrong with them
 abbrev pub ops_given : List ℕ → Option (List Op) → Result (List Op) Fault
 ops_given name None = Err (BadOps filter.BadOp name)
-ops_given name (Some ops) = if nat_lt 8 (length ops) then Err (BadOps filter.TooManyOps name) else Ok ops
+ops_given name (Some ops) = if nat_lt MOST_OPS (length ops) then Err (BadOps filter.TooManyOps name) else Ok ops
 
 -- what comes of the first is passed on
 abbrev pub then_given : {S T : Type 0} → (S → Result T Fault) → Result S Fault → Result T Fault
@@ -117,3 +119,10 @@ ChecksGive words given =
     ⊎ (IsBandHeight words.band × (length words.streams.items ≤ MOST_STREAMS)
     × MatchResult (words_given [] (words_asked words.streams.items))
     (λ streams. SharesGive words.workers streams given) (λ fault. given ≡ Err fault))
+
+-- the options are those of the words
+pub record HasOptions (words : ServeWords) (checked : Checked) : Type 0 where
+  pub workers : checked.workers ≡ words.workers
+  pub quantum : checked.quantum ≡ words.quantum
+  pub journal : checked.journal ≡ words.journal
+  pub band : checked.height.rows ≡ words.band

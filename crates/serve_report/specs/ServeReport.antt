@@ -1,7 +1,6 @@
 -- What is reported of a stream that was served.
 use Rattle.std.specs.Prelude.{ℕ, List, ◌++◌, codes, decimal}
-use Rattle.serve_work.specs.declared.stop.Cause.{Cause}
-use Rattle.serve_work.specs.declared.stop.Cause.TheVariants as causes
+use Rattle.serve_work.specs.Words.{cause_word}
 use Rattle.serve_work.specs.declared.stop.Stop.{Stop}
 use Rattle.serve_work.specs.declared.stop.Stop.TheVariants as clients
 use Rattle.filters.specs.Words.{filter_word}
@@ -9,11 +8,6 @@ use Rattle.y4m_stream.specs.Words.{read_text, write_text}
 use Rattle.serve_report.specs.declared.serve.report.StreamRow.{StreamRow}
 use Rattle.serve_report.specs.declared.serve.report.StreamStop.{StreamStop}
 use Rattle.serve_report.specs.declared.serve.report.StreamStop.TheVariants as stops
-
-abbrev pub cause_word : Cause → List ℕ
-cause_word causes.TooManyFrames = codes "TooManyFrames"
-cause_word causes.ClockEnd = codes "ClockEnd"
-cause_word causes.NoMemory = codes "NoMemory"
 
 abbrev pub stop_text : StreamStop → List ℕ
 stop_text stops.Whole = codes "whole"

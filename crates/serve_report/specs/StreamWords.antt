@@ -4,6 +4,7 @@ use Rattle.std.specs.Prelude.{Option, None, option_and_then}
 use Rattle.std.specs.List.{before_first}
 use Rattle.std.specs.Option.{option_map, option_map_or}
 use Rattle.y4m_header.specs.Text.{number_of, text_after}
+use Rattle.y4m_header.specs.declared.limits.TheConstants.{MOST_DIGITS}
 use Rattle.serve_script.specs.SessionWords.{is_name}
 use Rattle.serve_report.specs.declared.serve.stream_word.StreamWord.{StreamWord}
 use Rattle.serve_report.specs.declared.serve.stream_word.WordParts.{WordParts}
@@ -34,7 +35,7 @@ stream_of_parts (name ∷ input ∷ output ∷ q ∷ t ∷ operations ∷ []) =
       q = units;
       t = moments;
       operations = operations;
-    }) (number_of 19 t)) (number_of 19 q)
+    }) (number_of MOST_DIGITS t)) (number_of MOST_DIGITS q)
     else None
 stream_of_parts parts = None
 

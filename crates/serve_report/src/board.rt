@@ -1,6 +1,7 @@
-//! The lines that show how far the streams of a run have come, drawn over one another.
-ghost use Rattle.std.specs.Prelude.{◌≡◌, ◌≤◌, ◌+◌, ◌↔◌, IsTrue, OnOk, IfOk, map, string_bytes};
-ghost use Rattle.std.specs.Prelude.{unwrap_or};
+//! What shows how far a run has come: a line for each of its streams, or one for a stream that is alone. Each
+//! drawing stands over the one before. Times are milliseconds from the start of the run.
+ghost use Rattle.std.specs.Prelude.{◌≡◌, ◌≤◌, ◌+◌, ◌-◌, ◌^◌, ◌↔◌, IsTrue, None, OnOk, IfOk, Some, map, min};
+ghost use Rattle.std.specs.Prelude.{string_bytes, unwrap_or};
 ghost use Rattle.std.specs.Io.KnownBytes.{Appends};
 ghost use Rattle.serve_report.specs.Board.{drawing_text, line_drawn, lines_drawn};
 
@@ -11,8 +12,140 @@ use std::marker::Model;
 use std::sync::Mutex;
 use std::sync::atomic::{AtomicU64, Ordering};
 
-/// The time between two drawings, in milliseconds.
-const BETWEEN: u64 = 200;
+/// The time between two drawings of the lines of streams.
+const BETWEEN_DRAWINGS: u64 = 200;
+
+/// The time between two lines of a stream that is alone.
+const BETWEEN_LINES: u64 = 100;
+
+/// The columns of the line of a stream that is alone: it is filled up with spaces, over what stood there.
+const WIDTH: usize = 64;
+
+/// Whether it is so long ago that something was drawn, or that the run began where nothing was.
+fn has_passed(between: u64, drawn: Option<u64>, time: u64) -> bool
+    ensures { IsTrue result ↔ (unwrap_or drawn 0 + between ≤ time) }
+{
+    let before = drawn.unwrap_or(0);
+    time >= between && time - between >= before
+}
+
+/// How far a stream that is alone has come, and when that was last shown.
+#[derive(Clone, Copy)]
+struct Progress {
+    frames: u64,
+    bytes: u64,
+    shown: Option<u64>,
+}
+
+impl Progress {
+    /// At the start.
+    fn new() -> Progress
+        ensures { result ≡ record { frames = 0; bytes = 0; shown = None } }
+    {
+        Progress {
+            frames: 0,
+            bytes: 0,
+            shown: None,
+        }
+    }
+
+    /// The same, with so many images and bytes more. A number of 64 bits stays at its last value.
+    fn with(self, frames: u64, bytes: u64) -> Progress
+        ensures frames { result.frames ≡ min (self.frames + frames) (2 ^ 64 - 1) }
+        ensures bytes { result.bytes ≡ min (self.bytes + bytes) (2 ^ 64 - 1) }
+        ensures shown { result.shown ≡ self.shown }
+    {
+        Progress {
+            frames: self.frames.saturating_add(frames),
+            bytes: self.bytes.saturating_add(bytes),
+            shown: self.shown,
+        }
+    }
+
+    /// Whether its line may be shown at this time: at least a tenth of a second after the one before and the
+    /// start.
+    fn is_due(self, time: u64) -> bool
+        ensures { IsTrue result ↔ (unwrap_or self.shown 0 + 100 ≤ time) }
+    {
+        has_passed(BETWEEN_LINES, self.shown, time)
+    }
+
+    /// The same, where its line is shown at this time.
+    fn shown_at(self, time: u64) -> Progress
+        ensures { result ≡ record self { shown = Some time } }
+    {
+        Progress {
+            shown: Some(time),
+            ..self
+        }
+    }
+
+    /// Shows its line, with the rates up to this time, in one write.
+    fn show<E: Write>(self, errors: &mut E, time: u64) {
+        let Progress { frames, bytes, .. } = self;
+        let time = time.max(1);
+        let tenths = frames.saturating_mul(10_000) / time;
+        let (whole, tenth) = (tenths / 10, tenths % 10);
+        let megabytes = bytes / 1_000 / time;
+        let mut room = [b' '; WIDTH];
+        let mut rest = room.as_mut_slice();
+        let _ = write!(
+            rest,
+            "\r{frames} frames, {whole}.{tenth} frames/s, {megabytes} MB/s"
+        );
+        let _ = errors.write_all(&room);
+    }
+}
+
+/// The line of a stream that is alone. One thread tells of it, so that the lock is free.
+#[derive(Drop)]
+pub struct Line {
+    progress: Mutex<Progress>,
+}
+
+impl Line {
+    /// None of the stream's images was written yet.
+    pub fn new() -> Line {
+        Line {
+            progress: Mutex::new(Progress::new()),
+        }
+    }
+
+    /// So many images more have been written whole, and so many bytes.
+    pub fn add_written(&self, frames: u64, bytes: u64) {
+        if let Some(mut progress) = self.progress.try_lock() {
+            let before = *progress;
+            *progress = before.with(frames, bytes);
+        }
+    }
+
+    /// Draws the line, if it may be drawn at this time.
+    pub fn draw<E: Write>(&self, errors: &mut E, time: u64) {
+        let Some(mut progress) = self.progress.try_lock() else {
+            return;
+        };
+        let now = *progress;
+        if now.is_due(time) {
+            now.show(errors, time);
+            *progress = now.shown_at(time);
+        }
+    }
+
+    /// Draws the line a last time, where the time is known, and ends it, where it was drawn before.
+    pub fn draw_last<E: Write>(&self, errors: &mut E, time: Option<u64>) {
+        let Some(progress) = self.progress.try_lock() else {
+            return;
+        };
+        let last = *progress;
+        if last.shown.is_none() {
+            return;
+        }
+        if let Some(time) = time {
+            last.show(errors, time);
+        }
+        let _ = errors.write_all(b"\n");
+    }
+}
 
 /// How far a stream has come.
 #[derive(Clone, Copy)]
@@ -41,13 +174,12 @@ impl fmt::Display for StreamProgress<'_> {
     }
 }
 
-/// Whether the lines may be drawn at this time: at least a fifth of a second after they were last drawn, or
-/// after the start. Times are milliseconds from there.
+/// Whether the lines of streams may be drawn at this time: at least a fifth of a second after they were last
+/// drawn, or after the start.
 fn is_due(drawn: Option<u64>, time: u64) -> bool
     ensures { IsTrue result ↔ (unwrap_or drawn 0 + 200 ≤ time) }
 {
-    let before = drawn.unwrap_or(0);
-    time >= BETWEEN && time - BETWEEN >= before
+    has_passed(BETWEEN_DRAWINGS, drawn, time)
 }
 
 /// Writes a line for each stream; where they were drawn before, over those.

@@ -1,4 +1,8 @@
 //! The files of a run, by name.
+ghost use Rattle.std.specs.Prelude.{ℕ, ◌≡◌, List, Option, IfOk};
+ghost use Rattle.y4m_stream.specs.Failures.{one_more};
+ghost use Rattle.serve_report.specs.Inlets.{inlet_remaining};
+
 use crate::inlet::Inlet;
 use std::io::{self, Read, Write};
 
@@ -12,9 +16,60 @@ pub trait Files {
 
     type Writer: Write + Drop + Send;
 
+    /// A file of this name was opened, and its reads will give these bytes, where they are known.
+    ghost was_opened: { (name : List ℕ) → (bytes : Option (List ℕ)) → Type 0 };
+
+    /// A file of this name was made, and holds these bytes, where they are known.
+    ghost was_made: { (name : List ℕ) → (bytes : Option (List ℕ)) → Type 0 };
+
     /// Opens the file of this name for reading.
-    fn open(&self, name: &str) -> io::Result<Inlet<Self::Reader, Self::Slow>>;
+    fn open(&self, name: &str) -> io::Result<Inlet<Self::Reader, Self::Slow>>
+        ensures { IfOk result (λ inlet. was_opened name.now (inlet_remaining Self.Reader.remaining inlet)) };
 
     /// Makes the file of this name for writing, or empties the one that is there.
-    fn create(&self, name: &str) -> io::Result<Self::Writer>;
+    fn create(&self, name: &str) -> io::Result<Self::Writer>
+        ensures { IfOk result (λ file. was_made name.now (Self.Writer.contents file)) };
+}
+
+/// The files of a run for one stream, with a count of those that were asked for, for contracts alone.
+#[derive(Drop)]
+pub(crate) struct StreamFiles<'f, F: Files> {
+    files: &'f F,
+    pub opened: u64,
+    pub made: u64,
+}
+
+impl<'f, F: Files> StreamFiles<'f, F> {
+    /// None was asked for yet.
+    pub fn new(files: &'f F) -> StreamFiles<'f, F>
+        ensures opened { result.opened ≡ 0 }
+        ensures made { result.made ≡ 0 }
+    {
+        StreamFiles {
+            files,
+            opened: 0,
+            made: 0,
+        }
+    }
+
+    /// Opens a file, as `Files::open` does.
+    pub fn open(&mut self, name: &str) -> io::Result<Inlet<F::Reader, F::Slow>>
+        ensures opened { self.new.opened ≡ one_more self.old.opened }
+        ensures made { self.new.made ≡ self.old.made }
+        ensures file { IfOk result (λ inlet.
+            F.was_opened name.now (inlet_remaining F.Reader.remaining inlet)) }
+    {
+        self.opened = self.opened.saturating_add(1);
+        self.files.open(name)
+    }
+
+    /// Makes a file, as `Files::create` does.
+    pub fn create(&mut self, name: &str) -> io::Result<F::Writer>
+        ensures opened { self.new.opened ≡ self.old.opened }
+        ensures made { self.new.made ≡ one_more self.old.made }
+        ensures file { IfOk result (λ file. F.was_made name.now (F.Writer.contents file)) }
+    {
+        self.made = self.made.saturating_add(1);
+        self.files.create(name)
+    }
 }

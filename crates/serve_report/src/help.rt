@@ -14,9 +14,10 @@ pub const PAGE: &str = "Examples:
   printf 'account 2 10\\nidle 0\\ncharge 2\\n' | y4mserve replay
 
 Status:
-  0  all went well
-  1  a fault of a stream or of the script, or no memory
-  2  wrong words, or a stream that would go to a terminal
+  0  All went well.
+  1  A fault of a stream or of the script, a stop of 'serve' that is not whole,
+     or no memory.
+  2  Wrong words, or a stream that would go to a terminal.
 A pipe has the status of its last program, but with 'set -o pipefail' that of
 one that failed.
 
@@ -39,8 +40,8 @@ pub const BAND: &str = "Luma rows of a band, even, 2 to 128";
 
 /// The same, for the long help.
 pub const BAND_LONG: &str = "Luma rows of a band, the part of a picture that is worked on at a time:
-even, 2 to 128. The images are the same for each B, and the cost of a
-frame (see below) is less for a higher one";
+even, 2 to 128. The images are the same for each B, and a frame costs
+less for a higher one";
 
 /// What `--threads` is.
 pub const THREADS: &str = "Threads, 1 or 2";
@@ -112,7 +113,7 @@ Status 1:
   ops TooManySteps      A frame costs more than its limit: a higher --band helps.
   write N               Writing failed, or nobody reads on; N bytes went out.
   TooManyFrames         One more frame follows the last that is read.
-  NoMemory              No memory was left; also behind 'read ' and 'ops '.
+  NoMemory              No memory was left; also behind 'read' and 'ops'.
   At a read fault, an ops fault and TooManyFrames the images of all frames
   before it have been written.";
 
@@ -157,19 +158,20 @@ Commands of a session script before 'start'; a setting prints 'ok':
                  A stream with an account of Q units in every T moments, where
                  1 <= Q <= T <= 1048576, with at most QUEUE frames unfinished and
                  OUTBOX images waiting, each 1 to 256. OPS is as for 'filter';
-                 HEADER is all that follows, the header line of its frames. The
-                 line is checked in this order: its form, the name, OPS, HEADER,
-                 and the chain of OPS for such frames.
+                 HEADER is all that follows, spaces too: the header line of its
+                 frames. The line is checked in this order: its form, the name,
+                 OPS, HEADER, and the chain of OPS for such frames with the last
+                 'band'.
   start          Prints 'started'. There are 1 to 64 streams. A stream's share is
                  Q * 1000000 / T, rounded up; all together are at most 1000000
                  for each worker. The numbers are checked here: first all limits,
                  then stream by stream Q and T and the share.
 
 Commands of a session script after 'start':
-  arrive NAME HEX  A frame arrives; HEX is its samples, the planes one after
-                 another: 'accepted SEQ', SEQ counted from 0 in its stream.
-                 Where no frame of the stream was unfinished, its account moves
-                 as by 'idle' at the moment that the clock shows.
+  arrive NAME HEX  A frame arrives, with the line 'FRAME'; HEX is its samples,
+                 the planes one after another: 'accepted SEQ', SEQ counted from 0
+                 in its stream. Where no frame of the stream was unfinished, its
+                 account moves as by 'idle' at the moment that the clock shows.
   lease W        The worker asks for a lease: 'leased NAME SEQ grant G'. It goes
                  to the ready stream with the earliest deadline, then the lowest
                  number, for at most the quantum, the bands that are left, and
@@ -201,7 +203,8 @@ Refusals change nothing, and the script goes on: 'refused N WORD', the lowest N:
   2 Closed         A frame arrives, and the stream was closed.
   3 WrongSize      A frame of the stream has another number of samples.
   4 TooManyFrames  The stream has accepted as many frames as it may.
-  5 Full           As many frames as QUEUE says are unfinished.
+  5 Full           As many frames as QUEUE says are unfinished. A leased one keeps
+                   its place.
   6 NoMemory       There was no memory for the frame's images; or for a stream
                    that is asked for, and nothing else speaks against it.
   7 NoWorker       There is no such worker.
@@ -237,21 +240,22 @@ Faults of the script, printed as the last line, 'line N: WORD'; status 1:
   Range          At 'charge': K, or D afterwards, is over its limit.
   BadOp          A part of OPS has none of the forms of an operation.
   TooManyOps     OPS has more than 8 parts.
-  NotY4m         HEADER is refused, here and by the next six as after 'read
-                 Header' in 'filter --help'.
+  NotY4m         HEADER is refused, here and at the next six as behind 'read
+                 Header' of 'filter'.
   BadNumber      W or H of HEADER.
   RepeatedTag    W, H or C of HEADER.
   MissingSize    W or H of HEADER.
   UnknownChroma  C of HEADER.
   NotDivisible   W or H of HEADER.
   TooLarge       W, H or a frame of HEADER.
-  BadCrop        A rectangle of OPS is none of the stream's pictures.
+  BadCrop        A rectangle of OPS is empty, leaves the picture or cuts a chroma
+                 sample.
   TooManySteps   A frame of the stream costs more than 32768 units.
   BadLimits      A number is outside its limits: at 'band', else at 'start'.
   BadBandwidth   Q and T of 'account' are out of range, or at 'start', with NAME
                  behind it, those of that stream.
   Overload NAME  Those before it leave the stream less than its share.
-  TooLong        The script is over its limit (N is 0).
+  TooLong        The script is over its limit; N is 0.
   NoMemory       No memory was left. This one is told on standard error too.
 Other faults, each one line on standard error behind 'y4mserve: '; status 1:
   read           Reading failed. Nothing was run.
@@ -272,12 +276,12 @@ pub const STREAM: &str = "A stream: its name, its two files, its share and its o
 
 /// The same, for the long help.
 pub const STREAM_LONG: &str = "A stream, in six parts; there may be 64:
-  NAME  1 to 32 letters, digits, '_' or '-', each stream's its own
-  IN    the file that is read
-  OUT   the file that is written; it is made, or emptied
-  Q, T  the stream's share: Q units in every T moments (see below), where
-        1 <= Q <= T <= 1048576
-  OPS   its operations, as for 'filter'
+  NAME  1 to 32 letters, digits, '_' or '-', each stream's its own.
+  IN    The file that is read.
+  OUT   The file that is written; it is made, or emptied.
+  Q, T  The stream's share: Q units in every T moments, where
+        1 <= Q <= T <= 1048576.
+  OPS   Its operations, as for 'filter'.
 IN and OUT hold no colon. Either may be a FIFO (see mkfifo), so that decoders
 and encoders stand on both sides, and IN may be /dev/stdin";
 
@@ -288,7 +292,7 @@ pub const WORKERS: &str = "Threads that filter, 1 to 16";
 pub const WORKERS_LONG: &str =
     "Threads that filter, 1 to 16. Each stream has one more, which reads and
 writes. As many as the machine has processors is the fastest. Shares decide
-only where streams wait for a worker, so where there are fewer workers";
+only where streams wait for a worker, so where workers are fewer than streams";
 
 /// What `--quantum` is.
 pub const QUANTUM: &str = "Most bands that a worker does at a time, 1 to 64";
@@ -362,7 +366,7 @@ Stops, the ends of these lines:
 
 The streams are opened side by side: IN, whose header is read, and then OUT.
 What writes to a FIFO, or reads from one, is to be started before, or beside.
-At most 4 frames of a stream wait to be filtered, and 4 images to be written.
+At most 4 frames of a stream are unfinished, and 4 images wait to be written.
 
 Faults, each one line on standard error behind 'y4mserve: '; status 2:
   bad band              B is odd.

@@ -1,6 +1,7 @@
 //! What the streams of a run are read from.
 ghost use Rattle.std.specs.Prelude.{◌≡◌};
-ghost use Rattle.serve_report.specs.Inlets.{inflow_remaining};
+ghost use Rattle.std.specs.Io.KnownBytes.{Keeps};
+ghost use Rattle.serve_report.specs.Inlets.{inflow_remaining, inlet_remaining};
 
 use crate::lookout::Lookout;
 use std::alloc::Global;
@@ -40,12 +41,13 @@ impl<R: Read, S: Read + Drop, T: Wait + Drop> Read for Inflow<R, S, T> {
     }
 }
 
-/// Looks out at an inlet that may wait.
+/// Looks out at an inlet that may wait. Nothing is read of it yet.
 pub fn inflow_of<R, S, T>(rt: &T, alloc: Global, inlet: Inlet<R, S>) -> Inflow<R, S, T>
 where
     R: Read,
     S: Read + Drop + Send + 'static,
     T: Threads + Wait + Clock + Copy + Drop + Send + 'static,
+    ensures { Keeps (inlet_remaining R.remaining inlet) (inflow_remaining R.remaining S.remaining result) }
 {
     match inlet {
         Inlet::Prompt(reader) => Inflow::Prompt(reader),
@@ -65,7 +67,10 @@ pub struct OverInflow<R: Read, S: Read + Drop, T: Wait + Drop> {
 
 impl<R: Read, S: Read + Drop, T: Wait + Drop> OverInflow<R, S, T> {
     /// No read has failed yet.
-    pub fn new(inflow: Inflow<R, S, T>) -> OverInflow<R, S, T> {
+    pub fn new(inflow: Inflow<R, S, T>) -> OverInflow<R, S, T>
+        ensures inflow { result.inflow ≡ inflow }
+        ensures failures { result.failures ≡ 0 }
+    {
         OverInflow {
             inflow,
             failures: 0,

@@ -4,21 +4,19 @@
 mod ahead;
 pub mod board;
 pub mod files;
-mod frame_count;
 mod help;
 pub mod inlet;
 pub mod lookout;
 pub mod program;
-pub mod progress;
 mod serve;
 mod tell;
 pub mod watch;
-mod watched;
 mod words;
 
 pub use files::Files;
 pub use inlet::Inlet;
 pub use lookout::Lookout;
 pub use program::{main_on, run_on};
+pub use serve::Counter;
 pub use serve_script::{ReplayFault, replay};
 pub use watch::{Unwatched, Watch};

@@ -1,12 +1,13 @@
 // The program, over any reader and writers.
-ghost use Rattle.std.specs.Prelude.{◌≡◌, ◌≤◌};
+ghost use Rattle.std.specs.Prelude.{ℕ, ◌≡◌, ◌≤◌, ◌↔◌, IfOk, IsOk, List, Option};
 ghost use Rattle.std.specs.Io.KnownBytes.{Keeps};
+ghost use Rattle.y4m_stream.specs.Filtered.{IsServed};
+ghost use Rattle.serve_report.specs.Filtering.{AreAsked};
 
 use crate::files::Files;
 use crate::serve::run_serve;
 use crate::tell::tell;
-use crate::watch::{Unwatched, Watch, following};
-use crate::watched::{WatchedSink, WatchedSource};
+use crate::watch::{Unwatched, Watch, WatchedSink, WatchedSource, following};
 use crate::words::{FilterWords, NoRequest, Request, read_words};
 use filters::{FilterError, Op, parse_ops};
 use row_bands::BandHeight;
@@ -144,7 +145,9 @@ fn check_words<V: Watch>(
     alloc: Global,
     asked: FilterWords<'_>,
     watch: &V,
-) -> Result<(Vec<Op>, BandHeight), WordFault> {
+) -> Result<(Vec<Op>, BandHeight), WordFault>
+    ensures { IfOk result (λ checked. AreAsked asked.entry checked.0.items checked.1) }
+{
     let Some(height) = BandHeight::new(asked.band) else {
         return Err(WordFault::BadBand);
     };
@@ -158,7 +161,8 @@ fn check_words<V: Watch>(
     Ok((ops, height))
 }
 
-/// Filters a stream by as many threads as are asked for.
+/// Filters a stream by as many threads as are asked for, and gives the output back.
+#[tactic(auto, using(crate::proofs::Filtering::served_where_ok))]
 fn filter_by<T: Threads, R: Source + Drop + Send, W: Sink + Drop>(
     rt: &T,
     alloc: Global,
@@ -167,13 +171,33 @@ fn filter_by<T: Threads, R: Source + Drop + Send, W: Sink + Drop>(
     output: W,
     ops: Vec<Op>,
     height: BandHeight,
-) -> Result<u64, FilterFault> {
-    let (_, result) = if threads == 1 {
+) -> (W, Result<u64, FilterFault>)
+    ensures { IfOk result.1 (λ count. (left : Option (List ℕ)) × IsServed count ops.items height (record {
+      input = R.remaining input;
+      left = left;
+      before = W.contents output;
+      after = W.contents result.0;
+    })) }
+{
+    if threads == 1 {
         filter_stream(alloc, input, output, ops, height)
     } else {
         filter_overlapped(rt, alloc, input, output, ops, height)
-    };
-    result
+    }
+}
+
+/// Tells the fault of a stream that was filtered, if there is one, and answers the program's status.
+fn status_of<E: Write>(errors: &mut E, filtered: Result<u64, FilterFault>) -> u8
+    ensures status { result ≤ 1 }
+    ensures well { (result ≡ 0) ↔ IsOk filtered }
+{
+    match filtered {
+        Ok(_) => 0,
+        Err(fault) => {
+            tell(errors, &fault);
+            1
+        }
+    }
 }
 
 /// Filters the input as the words ask.
@@ -200,19 +224,13 @@ fn run_filter<T: Threads, R: Read + Drop + Send, W: Write, E: Write, V: Watch + 
         tell(errors, &AWAITED);
     }
     let told = following(watch, asked.is_quiet);
-    let input = WatchedSource::new(alloc, OverRead::new(input), ALONE, told);
-    let output = WatchedSink::new(alloc, OverWrite::new(output), ALONE, told);
-    let result = filter_by(rt, alloc, asked.threads, input, output, ops, height);
+    let input = WatchedSource::new(OverRead::new(input), ALONE, told);
+    let output = WatchedSink::new(OverWrite::new(output), ALONE, told);
+    let (_, filtered) = filter_by(rt, alloc, asked.threads, input, output, ops, height);
     if told.is_some() {
         watch.ends();
     }
-    match result {
-        Ok(_) => 0,
-        Err(fault) => {
-            tell(errors, &fault);
-            1
-        }
-    }
+    status_of(errors, filtered)
 }
 
 /// Runs the script of the input.

@@ -2,20 +2,21 @@
 //! some workers.
 ghost use Rattle.std.specs.Prelude.{◌≡◌, ◌≤◌, IfOk, map};
 ghost use Rattle.std.specs.Io.KnownBytes.{Keeps};
-ghost use Rattle.serve_report.specs.Entrants.{Reports, ServesAll};
-ghost use Rattle.serve_work.specs.Sessions.{AreInputs};
+ghost use Rattle.serve_hub.specs.Seats.{opened_streams};
+ghost use Rattle.serve_report.specs.Entrants.{Leaves, Reports, Serves, ServesAll, Tells};
+ghost use Rattle.serve_report.specs.Openings.{openings_of};
+ghost use Rattle.serve_work.specs.Sessions.{AreInputs, served_of, starts_of};
 
 use self::checks::{Asked, Checked, check};
-use self::clock::Counter;
+pub use self::clock::Counter;
 use self::gate::PlainGate;
-use self::opening::{Opened, open_all};
+use self::opening::{Opened, Tried, all_tried, open_all};
 use self::ready::Input;
 use self::report::StreamRow;
 use self::rows::{are_whole, rows_of, write_report};
 use crate::files::Files;
 use crate::tell::tell;
 use crate::watch::{Watch, following};
-use crate::watched::{WatchedSink, WatchedSource};
 use crate::words::ServeWords;
 use serve_core::{Setup, StreamSpec};
 use serve_work::{Served, SessionFault, serve_session};
@@ -25,7 +26,7 @@ use std::io::{self, Write};
 use std::sync::Wait;
 use std::thread::Threads;
 use std::time::Clock;
-use y4m_stream::{OverWrite, Source};
+use y4m_stream::{Sink, Source};
 
 mod checks;
 mod clock;
@@ -35,9 +36,6 @@ mod ready;
 mod report;
 mod rows;
 mod stream_word;
-
-/// What a session leaves of a stream.
-type Left<'w, S, W, V> = Served<WatchedSource<'w, S, V>, WatchedSink<'w, OverWrite<W>, V>>;
 
 /// Why a run isn't reported.
 #[derive(Clone, Copy)]
@@ -91,7 +89,8 @@ where
     T: Threads + Wait + Clock + Copy + Drop + Send + Sync + 'static,
     ensures status { result ≤ 2 }
     ensures untouched { result ≡ 2 → Keeps (W.contents output.old) (W.contents output.new) }
-    ensures well { result ≡ 0 → ServesAll words.entry (W.contents output.old) (W.contents output.new) }
+    ensures well { result ≡ 0
+        → ServesAll F.was_opened F.was_made words.entry (W.contents output.old) (W.contents output.new) }
 {
     let checked = match check(alloc, &words) {
         Ok(checked) => checked,
@@ -126,7 +125,7 @@ where
     V: Watch + Sync,
     T: Threads + Wait + Clock + Copy + Drop + Send + Sync + 'static,
     ensures { IfOk result
-        (Reports checked.entry.streams.items (W.contents output.old) (W.contents output.new)) }
+        (Reports F.was_opened F.was_made checked.entry (W.contents output.old) (W.contents output.new)) }
 {
     let told = begun(alloc, &checked.streams, told);
     let rows = serve_files(rt, alloc, checked, files, told);
@@ -162,8 +161,7 @@ where
     F: Files + Sync,
     V: Watch + Sync,
     T: Threads + Wait + Clock + Copy + Drop + Send + Sync + 'static,
-    ensures { IfOk result (λ rows. map (λ row. row.name) rows.items
-        ≡ map (λ asked. asked.word.name) checked.entry.streams.items) }
+    ensures { IfOk result (λ rows. Serves F.was_opened F.was_made checked.entry rows.items) }
 {
     let Checked {
         workers,
@@ -172,11 +170,32 @@ where
         height,
         streams,
     } = checked;
+    let tried = open_all(rt, alloc, streams, height, files, told)?;
+    let rows = serve_tried(rt, alloc, workers, quantum, journal, tried)?;
+    Ok(rows)
+}
+
+/// Serves the streams by what came of opening them.
+fn serve_tried<'a, R, W, T>(
+    rt: &T,
+    alloc: Global,
+    workers: u64,
+    quantum: u64,
+    journal: usize,
+    tried: Vec<Tried<'a, R, W>>,
+) -> Result<Vec<StreamRow<'a>>, RunFault>
+where
+    R: Source + Drop + Send,
+    W: Sink + Drop + Send,
+    T: Threads + Wait + Sync,
+    ensures { IfOk result (λ rows.
+        Tells workers quantum journal (openings_of tried.entry.items) rows.items) }
+{
     let Opened {
         entrants,
         specs,
         inputs,
-    } = open_all(rt, alloc, streams, height, files, told)?;
+    } = all_tried(alloc, tried)?;
     // No memory is taken after the session, so that one that ended is reported.
     let rows = Vec::with_capacity(alloc, entrants.len())?;
     let left = serve_opened(rt, alloc, workers, quantum, journal, specs, inputs)?;
@@ -187,21 +206,23 @@ where
 }
 
 /// Serves the streams that were opened; none where there is none.
-fn serve_opened<'w, S, W, V, T>(
+fn serve_opened<R, W, T>(
     rt: &T,
     alloc: Global,
     workers: u64,
     quantum: u64,
     journal: usize,
     specs: Vec<StreamSpec>,
-    inputs: Vec<Input<'w, S, W, V>>,
-) -> Result<Vec<Left<'w, S, W, V>>, SessionFault>
+    inputs: Vec<Input<R, W>>,
+) -> Result<Vec<Served<R, W>>, SessionFault>
 where
-    S: Source + Drop + Send,
-    W: Write + Drop + Send,
-    V: Watch + Sync,
+    R: Source + Drop + Send,
+    W: Sink + Drop + Send,
     T: Threads + Wait + Sync,
     requires inputs { AreInputs specs.items inputs.items }
+    ensures { IfOk result (λ left. Leaves workers quantum specs.items
+        (starts_of W.contents W.failures (opened_streams journal 0 specs.items) inputs.items)
+        (map (served_of R.remaining R.failures W.contents W.failures W.is_flushed) left.items)) }
 {
     if specs.is_empty() {
         return Ok(Vec::new(alloc));
@@ -210,5 +231,6 @@ where
         return Err(SessionFault::Mismatch);
     };
     let clock = Counter::new(rt);
-    serve_session(rt, alloc, setup, inputs, journal, &PlainGate, &clock)
+    let left = serve_session(rt, alloc, setup, inputs, journal, &PlainGate, &clock)?;
+    Ok(left)
 }

@@ -1,10 +1,13 @@
 // The words of the command line.
 ghost use Rattle.std.specs.Prelude.{◌≤◌};
+ghost use Rattle.cbs_account.specs.declared.limits.TheConstants.{MOST_WORKERS};
 
 use crate::help;
+use cbs_account::limits::MOST_WORKERS;
 use clap::builder::ValueParser;
 use clap::error::ErrorKind;
 use clap::{Arg, ArgAction, ArgMatches, Command, value_parser};
+use row_bands::{FEWEST_BAND_ROWS, MOST_BAND_ROWS};
 use std::alloc::{AllocError, Global};
 
 /// What the words ask for.
@@ -44,7 +47,7 @@ pub struct ServeWords<'a> {
     pub is_quiet: bool,
     /// The words that name the streams.
     pub streams: Vec<&'a str>,
-    ghost in_range: { (1 ≤ workers) × (workers ≤ 16) × (1 ≤ quantum) × (quantum ≤ 64)
+    ghost in_range: { (1 ≤ workers) × (workers ≤ MOST_WORKERS) × (1 ≤ quantum) × (quantum ≤ 64)
         × (66 ≤ journal) × (journal ≤ 1048576) },
 }
 
@@ -80,7 +83,8 @@ fn number_option<'a>(
 }
 
 fn band_option<'a>(alloc: Global) -> Arg<'a> {
-    number_option(alloc, "band", "B", value_parser!(u32).range(2..=128))
+    let rows = i64::from(FEWEST_BAND_ROWS)..=i64::from(MOST_BAND_ROWS);
+    number_option(alloc, "band", "B", value_parser!(u32).range(rows))
         .default_value("16")
         .help(help::BAND)
         .long_help(help::BAND_LONG)
@@ -94,10 +98,15 @@ fn threads_option<'a>(alloc: Global) -> Arg<'a> {
 }
 
 fn workers_option<'a>(alloc: Global) -> Arg<'a> {
-    number_option(alloc, "workers", "N", value_parser!(u32).range(1..=16))
-        .default_value("2")
-        .help(help::WORKERS)
-        .long_help(help::WORKERS_LONG)
+    number_option(
+        alloc,
+        "workers",
+        "N",
+        value_parser!(u32).range(1..=MOST_WORKERS as i64),
+    )
+    .default_value("2")
+    .help(help::WORKERS)
+    .long_help(help::WORKERS_LONG)
 }
 
 fn quantum_option<'a>(alloc: Global) -> Arg<'a> {
@@ -211,7 +220,7 @@ fn request_of<'a>(alloc: Global, matches: &ArgMatches<'a>) -> Result<Request<'a>
             is_quiet: inner.get_flag("quiet"),
         })),
         Some(("serve", inner)) => Ok(Request::Serve(ServeWords {
-            workers: number_of(inner, "workers", 2).clamp(1, 16),
+            workers: number_of(inner, "workers", 2).clamp(1, MOST_WORKERS as u32),
             band: number_of(inner, "band", 16),
             quantum: number_of(inner, "quantum", 8).clamp(1, 64),
             journal: number_of(inner, "journal", 65_536).clamp(66, 1_048_576),

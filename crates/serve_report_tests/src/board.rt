@@ -1,4 +1,4 @@
-use serve_report::board::Board;
+use serve_report::board::{Board, Line};
 use std::process::Abort;
 use std::test::Fail;
 use test_tools::Room;
@@ -9,6 +9,69 @@ fn shows(rt: &impl Abort, screen: &mut Room, text: &str, writes: u64) {
     assert_eq!(rt; shown, (Some(text), writes), "was memory refused?");
     screen.taken.clear();
     screen.writes = 0;
+}
+
+/// Compares a line of 64 columns that was written in one write since the last time.
+fn shows_line(rt: &impl Abort, screen: &mut Room, line: &str) {
+    let text = str::from_utf8(&screen.taken)
+        .ok()
+        .map(|text| text.trim_end_matches(' '));
+    let shown = (text, screen.taken.len(), screen.writes);
+    assert_eq!(rt; shown, (Some(line), 64, 1), "was memory refused?");
+    screen.taken.clear();
+    screen.writes = 0;
+}
+
+/// 50 frames of 1920x1080 4:2:0, with their lines, at 25 a second, and then twenty more.
+#[test]
+fn the_line_of_a_stream_alone_has_the_frames_and_two_rates(rt: HostRuntime) -> Result<(), Fail> {
+    let line = Line::new();
+    let mut screen = Room::endless(rt.alloc());
+    line.add_written(50, 50 * 3_110_406);
+    line.draw(&mut screen, 700);
+    let text = "\r50 frames, 71.4 frames/s, 222 MB/s";
+    shows_line(&rt, &mut screen, text);
+    line.draw(&mut screen, 2_000);
+    let text = "\r50 frames, 25.0 frames/s, 77 MB/s";
+    shows_line(&rt, &mut screen, text);
+    line.add_written(20, 20 * 3_110_406);
+    line.draw(&mut screen, 2_800);
+    let text = "\r70 frames, 25.0 frames/s, 77 MB/s";
+    shows_line(&rt, &mut screen, text);
+    Ok(())
+}
+
+#[test]
+fn a_line_that_was_drawn_is_ended_by_a_last_one(rt: HostRuntime) -> Result<(), Fail> {
+    let line = Line::new();
+    let mut screen = Room::endless(rt.alloc());
+    line.draw_last(&mut screen, Some(99));
+    shows(&rt, &mut screen, "", 0);
+    line.draw(&mut screen, 100);
+    let text = "\r0 frames, 0.0 frames/s, 0 MB/s";
+    shows_line(&rt, &mut screen, text);
+    line.draw_last(&mut screen, None);
+    shows(&rt, &mut screen, "\n", 1);
+    line.draw_last(&mut screen, Some(0));
+    let text = "\r0 frames, 0.0 frames/s, 0 MB/s                                 \n";
+    shows(&rt, &mut screen, text, 2);
+    Ok(())
+}
+
+/// A moment, and how many writes of the line of a stream alone are made at it.
+const LINE_DUE: &[(u64, u64)] = &[(99, 0), (130, 1), (229, 0), (20, 0), (230, 1), (329, 0)];
+
+#[test]
+fn a_line_is_due_ten_times_a_second(rt: HostRuntime) -> Result<(), Fail> {
+    let line = Line::new();
+    let mut screen = Room::endless(rt.alloc());
+    line.add_written(1, 10);
+    for (time, writes) in LINE_DUE {
+        line.draw(&mut screen, *time);
+        assert_eq!(rt; screen.writes, *writes, "was memory refused?");
+        screen.writes = 0;
+    }
+    Ok(())
 }
 
 #[test]

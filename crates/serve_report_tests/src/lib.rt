@@ -5,8 +5,8 @@
 #[cfg(test)]
 mod board;
 #[cfg(test)]
+mod clock;
+#[cfg(test)]
 mod lookout;
 #[cfg(test)]
 mod program;
-#[cfg(test)]
-mod progress;

@@ -12,6 +12,7 @@ use test_tools::Tape;
 mod command_line;
 mod memory;
 mod serving;
+mod threads;
 mod watches;
 
 fn words_of(alloc: Global, line: &str) -> Result<Vec<String>, AllocError> {

@@ -9,7 +9,7 @@ use Rattle.serve_core.specs.Frames.{is_image, measures}
 use Rattle.serve_core.specs.Leads.{LeadsOn}
 use Rattle.serve_core.specs.Setup.{StreamSpec}
 use Rattle.serve_core.specs.States.{State, StreamState, after, did_any, held_at, map_at, new_stream}
-use Rattle.serve_core.proofs.Lists.{length_map_at}
+use Rattle.serve_core.proofs.Items.Lists.{length_map_at}
 use Rattle.serve_script.specs.ScriptFault as faults
 use Rattle.serve_script.specs.ScriptFault.{Fault}
 use Rattle.serve_script.specs.ScriptReport.{line_text}

@@ -1,5 +1,7 @@
 -- Frames that arrive in hexadecimal digits at a stream that has a name.
-use Rattle.std.proofs.Common.{◌≡◌, ℕ, ◌-◌, ◌/◌, ◌%◌, ◌<◌, ◌≤◌, ◌==◌, ◌&&◌, ◌||◌, ◌⊎◌, inl, inr, Bool, true, false, not, nat_eq, nat_le, List, length, slice_get, Option, Some, None, is_some, Ok, refl, sym, ap, ◌∙◌, arith}
+use Rattle.std.proofs.Common.{◌≡◌, ℕ, ◌-◌, ◌/◌, ◌%◌, ◌<◌, ◌≤◌, ◌==◌, ◌&&◌, ◌||◌, ◌⊎◌, inl, inr, Bool, true}
+use Rattle.std.proofs.Common.{false, not, nat_eq, nat_le, List, length, slice_get, Option, Some, None}
+use Rattle.std.proofs.Common.{is_some, Ok, refl, sym, ap, ◌∙◌, arith}
 use Rattle.std.specs.Prelude.{MatchBool, IsSomeAnd, nat_lt, if◌then◌else◌}
 use Rattle.std.specs.Char.{is_ascii_hexdigit}
 use Rattle.std.specs.List.{list_all}
@@ -10,6 +12,7 @@ use Rattle.std.proofs.lemmas.Bool.Decides.{nat_tests}
 use Rattle.std.proofs.lemmas.List.Elements.{All-weaker}
 use Rattle.std.proofs.lemmas.List.Sums.{AllPass-from_list_all, prefix_len-le-length}
 use Rattle.std.proofs.lemmas.Option.{slice_get-map}
+use Rattle.y4m_header.specs.declared.limits.TheConstants.{LONGEST_SIDE}
 use Rattle.hex.specs.Hex.{decode_of, is_hex_digit}
 use Rattle.hex.proofs.HexLemmas.{decode_of-digits, decode_of-ok}
 use Rattle.filters.specs.ChainImage.{FrameValue}
@@ -20,7 +23,8 @@ use Rattle.serve_core.specs.Setup.{StreamSpec}
 use Rattle.serve_script.specs.ScriptFault as faults
 use Rattle.serve_script.specs.ScriptFault.{Fault}
 use Rattle.serve_script.specs.ScriptState.{Given, Faults, MayFault, Session, TakesMemory}
-use Rattle.serve_script.specs.SessionInside.{AsksForNone, IsArrivalEvent, IsArriving, IsAt, IsFrameOf, IsNoFrame, IsTableOf, SessionValue, Streams, fills_geometry}
+use Rattle.serve_script.specs.SessionInside.{AsksForNone, IsArrivalEvent, IsArriving, IsAt, IsFrameOf}
+use Rattle.serve_script.specs.SessionInside.{IsNoFrame, IsTableOf, SessionValue, Streams, fills_geometry}
 use Rattle.serve_script.specs.SessionRun.{ArrivalGives, EventGives, IsArrival, IsSingleRow, fills, is_too_wide, stream_named, streams_in}
 use Rattle.serve_script.specs.SessionWords.{is_hex}
 
@@ -74,23 +78,23 @@ narrow_by false true (inr h) = h
 narrow_by false false h = refl
 
 -- samples that fill a frame of the stream or a row aren't too many
-pub narrow : (stream : Option StreamSpec) (n : ℕ) → (fills_geometry (geometry_in stream) n ≡ true) ⊎ (n ≤ 16384)
+pub narrow : (stream : Option StreamSpec) (n : ℕ) → (fills_geometry (geometry_in stream) n ≡ true) ⊎ (n ≤ LONGEST_SIDE)
     → is_too_wide stream n ≡ false
-narrow stream n (inl full) = narrow_by (fills stream n) (nat_lt 16384 n) (inl (sym (fills_same stream n) ∙ full))
+narrow stream n (inl full) = narrow_by (fills stream n) (nat_lt LONGEST_SIDE n) (inl (sym (fills_same stream n) ∙ full))
 narrow stream n (inr few) =
-    let none : nat_lt 16384 n ≡ false = grind (arith, nat_tests) in
-    narrow_by (fills stream n) (nat_lt 16384 n) (inr none)
+    let none : nat_lt LONGEST_SIDE n ≡ false = grind (arith, nat_tests) in
+    narrow_by (fills stream n) (nat_lt LONGEST_SIDE n) (inr none)
 
 wide_by : (filled wide : Bool) → filled ≡ false → wide ≡ true → (not filled && wide) ≡ true
 wide_by true wide h w = sym h
 wide_by false wide h w = w
 
 -- samples that fill neither are
-pub too_wide : (stream : Option StreamSpec) (n : ℕ) → fills_geometry (geometry_in stream) n ≡ false → 16384 < n
+pub too_wide : (stream : Option StreamSpec) (n : ℕ) → fills_geometry (geometry_in stream) n ≡ false → LONGEST_SIDE < n
     → is_too_wide stream n ≡ true
 too_wide stream n unfilled many =
-    let wide : nat_lt 16384 n ≡ true = grind (arith, nat_tests) in
-    wide_by (fills stream n) (nat_lt 16384 n) (sym (fills_same stream n) ∙ unfilled) wide
+    let wide : nat_lt LONGEST_SIDE n ≡ true = grind (arith, nat_tests) in
+    wide_by (fills stream n) (nat_lt LONGEST_SIDE n) (sym (fills_same stream n) ∙ unfilled) wide
 
 arriving_by : (filled : Bool) (spec : StreamSpec) (n : ℕ) (g : Geometry)
     → MatchBool filled (Some spec.geometry ≡ Some g) (IsSingleRow n g)
@@ -158,7 +162,8 @@ arrival_gives session name hex event is given gives =
 pub event_takes : (session : Session) (event : Event FrameValue) (given : Given) → EventGives session event given → TakesMemory given
 event_takes session event given gives = rw gives.2 tt
 
-arrival_takes : (session : Session) (stream : Option StreamSpec) (number : ℕ) (samples : List ℕ) (given : Given) (wide : Bool) → wide ≡ false
+arrival_takes : (session : Session) (stream : Option StreamSpec) (number : ℕ) (samples : List ℕ) (given : Given)
+    (wide : Bool) → wide ≡ false
     → MatchBool wide (given ≡ Faults faults.BadLine)
     ((frame : FrameValue) × IsArrival stream samples frame × EventGives session (Arrive number frame) given)
     → TakesMemory given

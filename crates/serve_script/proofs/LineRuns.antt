@@ -1,5 +1,7 @@
 -- The run of a script's lines, one after another, and the report behind them.
-use Rattle.std.proofs.Common.{◌≡◌, ℕ, ◌+◌, ◌≤◌, Bool, true, false, List, [], ◌∷◌, ◌++◌, length, take, Option, None, Some, IsSomeAnd, slice_get, refl, sym, ap, subst, ◌∙◌, arith, length-append, MatchBool}
+use Rattle.std.proofs.Common.{◌≡◌, ℕ, ◌+◌, ◌≤◌, Bool, true, false, List, [], ◌∷◌, ◌++◌, length, take, Option}
+use Rattle.std.proofs.Common.{None, Some, IsSomeAnd, slice_get, refl, sym, ap, subst, ◌∙◌, arith}
+use Rattle.std.proofs.Common.{length-append, MatchBool}
 use Rattle.std.proofs.Math.Seq.{take-append_seam}
 use Rattle.std.proofs.lemmas.List.{append_assoc, append-nil, take_all}
 use Rattle.std.proofs.lemmas.Grind.{flat_map-append}
@@ -15,7 +17,8 @@ one_more lines line = omega (arith, length-append lines (line ∷ []))
 -- the first of the lines that are left joins those before it
 pub split_next : (all lines : List (List ℕ)) (line : List ℕ) (rest more : List (List ℕ)) → all ≡ lines ++ rest → rest ≡ line ∷ more
     → all ≡ lines ++ line ∷ [] ++ more
-split_next all lines line rest more split next = split ∙ ap (λ (left : List (List ℕ)). lines ++ left) next ∙ sym (append_assoc lines (line ∷ []) more)
+split_next all lines line rest more split next = split ∙ ap (λ (left : List (List ℕ)). lines ++ left) next
+    ∙ sym (append_assoc lines (line ∷ []) more)
 
 -- nothing is left
 pub no_lines : (text : List ℕ) → length text ≤ 0 → script_lines text ≡ []
@@ -65,8 +68,11 @@ pub LeadTo-prints : (lines answers : List (List ℕ)) (line answer : List ℕ) (
     → LeadTo Fresh (lines ++ line ∷ []) (answers ++ answer ∷ []) end
 LeadTo-prints lines answers line answer middle end ran command gives =
     let given = Prints answer end in
-    let one : LeadTo middle (line ∷ []) (answer ∷ []) end =
-    (given, subst (λ (is : Bool). MatchBool is (given ≡ Silent) (CommandGives middle line given)) (sym command) gives, ([], refl, (refl, refl))) in
+    let one : LeadTo middle (line ∷ []) (answer ∷ []) end = (
+      given,
+      subst (λ (is : Bool). MatchBool is (given ≡ Silent) (CommandGives middle line given)) (sym command) gives,
+      ([], refl, (refl, refl)),
+    ) in
     LeadTo-append lines (line ∷ []) answers (answer ∷ []) Fresh middle end ran one
 
 -- all lines ran
@@ -84,7 +90,8 @@ at_seam [] line more = refl
 at_seam (first ∷ lines) line more = at_seam lines line more
 
 -- the lines before one with a fault ran
-pub lines_before : (all lines answers : List (List ℕ)) (line : List ℕ) (more : List (List ℕ)) (end : ScriptState) (number : ℕ) (fault : Fault)
+pub lines_before : (all lines answers : List (List ℕ)) (line : List ℕ) (more : List (List ℕ)) (end : ScriptState)
+    (number : ℕ) (fault : Fault)
     → all ≡ lines ++ line ∷ more → number ≡ length lines + 1 → LeadTo Fresh lines answers end
     → is_silent line ≡ false → MayFault (CommandGives end line) fault
     → IsOfLines all (report_of answers (Some (record { line = number; fault = fault })))

@@ -1,5 +1,7 @@
 -- What a replay's answer says of the report that it wrote.
-use Rattle.std.proofs.Common.{◌≡◌, ℕ, ◌<◌, ◌≤◌, ◌⊎◌, inl, inr, Bool, List, [], ◌++◌, drop, length, Option, Some, None, Result, Ok, Err, IfSome, OnOk, refl, sym, ap, subst, ◌∙◌, arith, length-append}
+use Rattle.std.proofs.Common.{◌≡◌, ℕ, ◌<◌, ◌≤◌, ◌⊎◌, inl, inr, Bool, List, [], ◌++◌, drop, length, Option}
+use Rattle.std.proofs.Common.{Some, None, Result, Ok, Err, IfSome, OnOk, refl, sym, ap, subst, ◌∙◌, arith}
+use Rattle.std.proofs.Common.{length-append}
 use Rattle.std.proofs.Math.Nat.{eq-or-lt_of_le}
 use Rattle.std.proofs.Math.Seq.{drop-append_seam}
 use Rattle.std.proofs.lemmas.List.{append-nil, drop_all}
@@ -42,7 +44,8 @@ report_of_front script rest report at_end (inl fits) =
     subst (λ (all : List ℕ). IsKeptReport all report) (sym (ap (λ (more : List ℕ). script ++ more) none ∙ append-nil script)) (inl fits)
 
 -- what a run printed was written
-pub replayed_input : (input later : Option (List ℕ)) (script printed : List ℕ) (stop : Option ScriptStop) (old new : Option (List ℕ)) (answer : Result Bool ReplayFault)
+pub replayed_input : (input later : Option (List ℕ)) (script printed : List ℕ) (stop : Option ScriptStop)
+    (old new : Option (List ℕ)) (answer : Result Bool ReplayFault)
     → Consumes input later script → (length script < 1048577 → IsAtEnd later) → Reports (IsKeptReport script) stop [] printed
     → IsWritten old new printed (option_map stop_told stop) answer → IfSome input (λ whole. IsReplay whole old new answer)
 replayed_input None later script printed stop old new answer consumed at_end reports wrote = tt
@@ -56,11 +59,13 @@ replayed_input (Some text) (Some rest) script printed stop old new answer consum
 -- a script that couldn't be kept
 pub replayed_unkept : (input old new : Option (List ℕ)) (printed : List ℕ) (answer : Result Bool ReplayFault) → printed ≡ []
     → IfSome input (λ whole. 0 < length whole)
-    → IsWritten old new printed (Some (record { line = 0; fault = faults.NoMemory })) answer → IfSome input (λ whole. IsReplay whole old new answer)
+    → IsWritten old new printed (Some (record { line = 0; fault = faults.NoMemory })) answer
+    → IfSome input (λ whole. IsReplay whole old new answer)
 replayed_unkept None old new printed answer none some wrote = tt
 replayed_unkept (Some text) old new printed answer none some wrote =
     let stop : Option Stop = Some (record { line = 0; fault = faults.NoMemory }) in
-    replayed text (report_of [] stop) old new printed answer (inr (some, refl)) (ap (λ (front : List ℕ). front ++ stop_text stop) none) wrote
+    replayed text (report_of [] stop) old new printed answer (inr (some, refl))
+    (ap (λ (front : List ℕ). front ++ stop_text stop) none) wrote
 
 -- the bytes that were read are those of a script and one more, or all of them
 taken_whole : (bytes rest : List ℕ) → (length bytes ≡ 1048577) ⊎ (length bytes < 1048577) → (length bytes < 1048577 → rest ≡ [])
@@ -69,7 +74,8 @@ taken_whole bytes rest (inl full) at_end =
     sym (subst (λ (count : ℕ). drop count (bytes ++ rest) ≡ rest) full (drop-append_seam bytes rest))
 taken_whole bytes rest (inr less) at_end =
     let none = at_end less in
-    let short : length (bytes ++ rest) ≤ 1048577 = omega (arith, length-append bytes rest, ap (λ (more : List ℕ). length more) none, less) in
+    let short : length (bytes ++ rest) ≤ 1048577 =
+    omega (arith, length-append bytes rest, ap (λ (more : List ℕ). length more) none, less) in
     none ∙ sym (drop_all 1048577 (bytes ++ rest) short)
 
 pub takes_script : (input later : Option (List ℕ)) (bytes : List ℕ) → Consumes input later bytes → length bytes ≤ 1048577
@@ -77,7 +83,8 @@ pub takes_script : (input later : Option (List ℕ)) (bytes : List ℕ) → Cons
 takes_script None later bytes consumed bound at_end = tt
 takes_script (Some whole) None bytes consumed bound at_end = absurd consumed
 takes_script (Some whole) (Some rest) bytes consumed bound at_end =
-    ap Some (rw consumed (taken_whole bytes rest (eq-or-lt_of_le bound) at_end))
+    ap Some (taken_whole bytes rest (eq-or-lt_of_le bound) at_end
+    ∙ ap (λ (text : List ℕ). drop 1048577 text) (sym consumed))
 
 -- what holds of each answer holds of those without a fault
 pub on_ok : {T E : Type 0} (answer : Result T E) (P : Type 0) → P → OnOk answer P

@@ -1,11 +1,15 @@
 -- The operations that a text says: they are some, and each blur's radius is one.
-use Rattle.std.proofs.Common.{◌≡◌, ℕ, suc, ◌≤◌, Bool, true, false, cond, ◌&&◌, ◌==◌, nat_le, if◌then◌else◌, All, List, [], ◌∷◌, length, bytes_eq, find, Option, Some, None, IfSome, option_and_then, option_map, refl, ap, subst, arith}
+use Rattle.std.proofs.Common.{◌≡◌, ℕ, suc, ◌≤◌, Bool, true, false, cond, ◌&&◌, ◌==◌, nat_le, if◌then◌else◌}
+use Rattle.std.proofs.Common.{All, List, [], ◌∷◌, length, bytes_eq, find, Option, Some, None, IfSome}
+use Rattle.std.proofs.Common.{option_and_then, option_map, refl, ap, subst, arith}
 use Rattle.std.proofs.lemmas.Bool.{leb-true}
 use Rattle.std.proofs.lemmas.List.Elements.{All-from_recursion}
 use Rattle.std.specs.List.{AllByRecursion, before_first}
 use Rattle.y4m_header.specs.Text.{parts, text_after}
 use Rattle.filters.specs.Image.{HasGoodRadius}
-use Rattle.filters.specs.OpsText.{NumberForm, all_ops, blur_of, clamp_of, crop_of, number_forms, numbered_op, numbers, op_of_part, op_said, ops_of, plain_forms, plain_op, threshold_of}
+use Rattle.filters.specs.declared.limits.TheConstants.{MOST_RADIUS}
+use Rattle.filters.specs.OpsText.{NumberForm, all_ops, blur_of, clamp_of, crop_of, number_forms, numbered_op}
+use Rattle.filters.specs.OpsText.{numbers, op_of_part, op_said, ops_of, plain_forms, plain_op, threshold_of}
 use Rattle.filters.specs.declared.op.Op.{Op}
 use Rattle.filters.specs.declared.op.Op.TheVariants.{Blur}
 use Rattle.serve_script.proofs.ScriptParts.{some_parts}
@@ -51,15 +55,15 @@ crop_good (x ∷ y ∷ width ∷ []) = tt
 crop_good (x ∷ y ∷ width ∷ height ∷ []) = tt
 crop_good (x ∷ y ∷ width ∷ height ∷ next ∷ more) = tt
 
-radius_good : (radius : ℕ) (some few : Bool) → nat_le 1 radius ≡ some → nat_le radius 8 ≡ few
+radius_good : (radius : ℕ) (some few : Bool) → nat_le 1 radius ≡ some → nat_le radius MOST_RADIUS ≡ few
     → IfSome (if some && few then Some (Blur (record { radius = radius })) else None) HasGoodRadius
-radius_good radius true true some few = (leb-true 1 radius some, leb-true radius 8 few)
+radius_good radius true true some few = (leb-true 1 radius some, leb-true radius MOST_RADIUS few)
 radius_good radius true false some few = tt
 radius_good radius false few some less = tt
 
 blur_good : (values : List ℕ) → IfSome (blur_of values) HasGoodRadius
 blur_good [] = tt
-blur_good (radius ∷ []) = radius_good radius (nat_le 1 radius) (nat_le radius 8) refl refl
+blur_good (radius ∷ []) = radius_good radius (nat_le 1 radius) (nat_le radius MOST_RADIUS) refl refl
 blur_good (radius ∷ next ∷ more) = tt
 
 abbrev GivesGood : NumberForm → Type 0
@@ -91,7 +95,8 @@ IsSaid texts ops = AllByRecursion HasGoodRadius ops × (length ops ≡ length te
 
 all_said : (texts : List (List ℕ)) → IfSome (all_ops texts) (IsSaid texts)
 all_said [] = (tt, refl)
-all_said (text ∷ more) = by (op_of_part text) (said_good (before_first (λ byte. byte == 58) text) (text_after 58 text)) (all_ops more) (all_said more)
+all_said (text ∷ more) =
+    by (op_of_part text) (said_good (before_first (λ byte. byte == 58) text) (text_after 58 text)) (all_ops more) (all_said more)
   where
     by : (op : Option Op) → IfSome op HasGoodRadius → (ops : Option (List Op)) → IfSome ops (IsSaid more)
         → IfSome (option_and_then (λ op. option_map (λ ops. op ∷ ops) ops) op) (IsSaid (text ∷ more))

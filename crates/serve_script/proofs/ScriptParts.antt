@@ -23,7 +23,8 @@ four_words name q t [] h = absurd (omega arith)
 four_words name q t (word ∷ more) h = refl
 
 -- no command has four words
-pub command_of-more : (line name first second a b c : List ℕ) → words line ≡ name ∷ words a → words a ≡ first ∷ words b → words b ≡ second ∷ words c
+pub command_of-more : (line name first second a b c : List ℕ) → words line ≡ name ∷ words a → words a ≡ first ∷ words b
+    → words b ≡ second ∷ words c
     → command_of line ≡ None
 command_of-more line name first second a b c one two three =
     let all : words line ≡ name ∷ first ∷ second ∷ words c = one ∙ ap (λ more. name ∷ more) (two ∙ ap (λ more. first ∷ more) three) in

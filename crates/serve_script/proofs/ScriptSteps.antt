@@ -1,15 +1,17 @@
 -- How the line of a command ends, by what the program keeps of a script.
-use Rattle.std.proofs.Common.{◌≡◌, ℕ, Bool, true, false, List, [], ◌++◌, ◌∙◌, Option, None, Some, Result, Ok, Err, IsErrAnd, refl, sym, ap, subst, MatchBool, MatchOption}
-use Rattle.std.specs.Option.{ok_or, option_map_or}
+use Rattle.std.proofs.Common.{◌≡◌, ℕ, Bool, true, false, List, [], ◌∷◌, ◌++◌, Option, None, Some, Result, Ok}
+use Rattle.std.proofs.Common.{Err, IsErrAnd, refl, sym, subst, MatchBool, MatchOption}
+use Rattle.std.specs.Option.{ok_or}
 use Rattle.cbs_account.specs.Balance.{Balance}
-use Rattle.serve_script.specs.AccountScript.{account_given, balance_line}
+use Rattle.serve_script.specs.AccountScript.{AccountGives, CanDo, balance_line}
 use Rattle.serve_script.specs.ScriptCommand.{command_of}
 use Rattle.serve_script.specs.ScriptFault as faults
 use Rattle.serve_script.specs.ScriptFault.{Fault, fault_told}
-use Rattle.serve_script.specs.LineEnds.{AccountGives, Ends, EndsFrom, IsPastOf, RunLineGives}
-use Rattle.serve_script.specs.ScriptInside.{Answers, MayEnd, Stands, outcome_by, outcome_of}
+use Rattle.serve_script.specs.LineEnds.{Ends, EndsFrom, IsPastOf, RunLineGives}
+use Rattle.serve_script.specs.ScriptInside.{PrintsAnswer, Stands, server_by}
 use Rattle.serve_script.specs.ScriptReport.{CommandGives, SetupLineGives, begins_account, line_text}
-use Rattle.serve_script.specs.ScriptState.{Given, Prints, Faults, Fresh, InSession, MayFault, OnAccount, Preparation, ScriptState, Session, unprepared}
+use Rattle.serve_script.specs.ScriptState.{Given, Prints, Faults, Fresh, InSession, MayFault, OnAccount}
+use Rattle.serve_script.specs.ScriptState.{Preparation, ScriptState, Session, unprepared}
 use Rattle.serve_script.specs.SessionCommand.{RunForm, run_of}
 use Rattle.serve_script.specs.SessionInside.{AnswersIn, IsAt, SessionValue}
 use Rattle.serve_script.specs.SessionRun.{RunGives}
@@ -18,7 +20,7 @@ use Rattle.serve_script.specs.declared.fault.ScriptFault.TheVariants as script_f
 use Rattle.serve_script.specs.declared.run.Script.{Script}
 use Rattle.serve_script.specs.declared.run.Script.TheVariants as scripts
 use Rattle.serve_script.specs.declared.command.AccountCommand.{AccountCommand}
-use Rattle.serve_script.proofs.AccountLines.{account_may_fault, account_prints}
+use Rattle.serve_script.proofs.AccountLines.{account_prints, server_left}
 
 -- a line that writes no command
 pub no_command : {F : Type 0} (found : Option F) (error : ScriptFault) → Err error ≡ ok_or found script_faults.BadLine
@@ -32,51 +34,29 @@ pub ends_faulty : (Gives : Given → Type 0) (r : Result Script ScriptFault) (be
 ends_faulty Gives (Ok kept) before after h may same = absurd h
 ends_faulty Gives (Err fault) before after h may same = (may fault h, same)
 
-pub from_faulty : {S : Type 0} (Is : S → Type 0) (Gives : S → Given → Type 0) (r : Result Script ScriptFault) (before after : List ℕ) {P : ScriptFault → Type 0}
+pub from_faulty : {S : Type 0} (Is : S → Type 0) (Gives : S → Given
+    → Type 0) (r : Result Script ScriptFault) (before after : List ℕ) {P : ScriptFault → Type 0}
     → IsErrAnd r P → ((fault : ScriptFault) → P fault → (from : S) → Is from → MayFault (Gives from) (fault_told fault)) → after ≡ before
     → EndsFrom Is Gives r before after
 from_faulty Is Gives (Ok kept) before after h may same = absurd h
 from_faulty Is Gives (Err fault) before after h may same = (may fault h, same)
 
-module _ (account : Option Balance) (line : List ℕ) where
-  -- from wherever this server stands, a line has such a fault
-  pub account_faulty : (fault : Fault) → MayEnd (outcome_of account line) fault → (past : List AccountCommand) → IsPastOf account past
-      → MayFault (AccountGives line past) fault
-  account_faulty fault may past there =
-      account_may_fault past line fault (subst (λ server. MayEnd (outcome_of server line) fault) (sym there) may)
-
-  -- such a fault ends the line
-  pub account_faulty_ends : (r : Result Script ScriptFault) (before after : List ℕ) {P : ScriptFault → Type 0} → IsErrAnd r P
-      → ((fault : ScriptFault) → P fault → MayEnd (outcome_of account line) (fault_told fault)) → after ≡ before
-      → EndsFrom (IsPastOf account) (AccountGives line) r before after
-  account_faulty_ends r before after h may same =
-      from_faulty _ _ r before after h (λ fault is. account_faulty (fault_told fault) (may fault is)) same
-
-  -- as where it writes no command
-  pub account_bad : command_of line ≡ None → MayEnd (outcome_of account line) faults.BadLine
-  account_bad none = ap (λ (found : Option AccountCommand). option_map_or (outcome_by account) found (Err faults.BadLine)) none
-
-  -- a line comes to what its command does
-  pub account_runs : (command : AccountCommand) (r : Result Balance Fault) → command_of line ≡ Some command → outcome_by account command ≡ r
-      → outcome_of account line ≡ r
-  account_runs command r is e = ap (λ (found : Option AccountCommand). option_map_or (outcome_by account) found (Err faults.BadLine)) is ∙ e
-
-  -- or is answered
-  pub account_answered : (next : Balance) (before after : List ℕ) → outcome_of account line ≡ Ok next → after ≡ before ++ line_text (balance_line next)
-      → (past : List AccountCommand) → IsPastOf account past → Answers (AccountGives line past) (scripts.Account next) before after
-  account_answered next before after ran printed past there =
-      let prints = account_prints past line next (ap (λ server. outcome_of server line) there ∙ ran) in
-      record {
-        answer = balance_line next;
-        next = OnAccount prints.past;
-        gives = sym prints.prints;
-        stands = (prints.past, refl, prints.server);
-        printed = printed;
-      }
+-- the line of an account script is answered
+pub account_answered : (account : Option Balance) (line : List ℕ) (command : AccountCommand) (next : Balance) (before after : List ℕ)
+    → command_of line ≡ Some command → CanDo account command → server_by account command ≡ Some next
+    → after ≡ before ++ line_text (balance_line next)
+    → (past : List AccountCommand) → IsPastOf account past → PrintsAnswer (AccountGives line past) (scripts.Account next) before after
+account_answered account line command next before after is can left printed past there = record {
+  answer = balance_line next;
+  next = OnAccount (command ∷ past);
+  gives = account_prints line past command account next is there can left;
+  stands = (command ∷ past, refl, server_left line past command account next there left);
+  printed = printed;
+}
 
 -- what the first command gives, where it opens an account or not
 abbrev FirstGives : List ℕ → Bool → Given → Type 0
-FirstGives line is_account given = MatchBool is_account (given ≡ account_given [] line) (SetupLineGives unprepared line given)
+FirstGives line is_account given = MatchBool is_account (AccountGives line [] given) (SetupLineGives unprepared line given)
 
 module _ (line before after : List ℕ) where
   -- what holds of the first command's line holds where no line was one
@@ -90,13 +70,14 @@ module _ (line before after : List ℕ) where
   pub first_ends : (r : Result Script ScriptFault) → begins_account line ≡ true
       → EndsFrom (IsPastOf None) (AccountGives line) r before after
       → EndsFrom (Stands scripts.Fresh) (λ state. CommandGives state line) r before after
-  first_ends (Ok kept) opens h = λ state fresh. first (λ Gives. Answers Gives kept before after) true state fresh opens (h [] refl)
-  first_ends (Err fault) opens h = (λ state fresh. first (λ Gives. MayFault Gives (fault_told fault)) true state fresh opens (h.0 [] refl), h.1)
+  first_ends (Ok kept) opens h = λ state fresh. first (λ Gives. PrintsAnswer Gives kept before after) true state fresh opens (h [] refl)
+  first_ends (Err fault) opens h =
+      (λ state fresh. first (λ Gives. MayFault Gives (fault_told fault)) true state fresh opens (h.0 [] refl), h.1)
 
   -- or sets up the first thing of a session
   pub unprepared_ends : (r : Result Script ScriptFault) → begins_account line ≡ false → Ends (SetupLineGives unprepared line) r before after
       → EndsFrom (Stands scripts.Fresh) (λ state. CommandGives state line) r before after
-  unprepared_ends (Ok kept) none h = λ state fresh. first (λ Gives. Answers Gives kept before after) false state fresh none h
+  unprepared_ends (Ok kept) none h = λ state fresh. first (λ Gives. PrintsAnswer Gives kept before after) false state fresh none h
   unprepared_ends (Err fault) none h = (λ state fresh. first (λ Gives. MayFault Gives (fault_told fault)) false state fresh none h.0, h.1)
 
   -- a line of an account script
@@ -104,7 +85,7 @@ module _ (line before after : List ℕ) where
       → EndsFrom (IsPastOf (Some account)) (AccountGives line) r before after
       → EndsFrom (Stands (scripts.Account account)) (λ state. CommandGives state line) r before after
   account_ends account (Ok kept) h = λ state (past, at, there).
-      subst (λ (from : ScriptState). Answers (CommandGives from line) kept before after) (sym at) (h past there)
+      subst (λ (from : ScriptState). PrintsAnswer (CommandGives from line) kept before after) (sym at) (h past there)
   account_ends account (Err fault) h = (
     λ state (past, at, there).
         subst (λ (from : ScriptState). MayFault (CommandGives from line) (fault_told fault)) (sym at) (h.0 past there),
@@ -114,14 +95,16 @@ module _ (line before after : List ℕ) where
   -- a line before `start`
   pub prepared_ends : (p : Preparation) (r : Result Script ScriptFault) → Ends (SetupLineGives p line) r before after
       → EndsFrom (Stands (scripts.Preparation p)) (λ state. CommandGives state line) r before after
-  prepared_ends p (Ok kept) h = λ state at. subst (λ (from : ScriptState). Answers (CommandGives from line) kept before after) (sym at) h
-  prepared_ends p (Err fault) h = (λ state at. subst (λ (from : ScriptState). MayFault (CommandGives from line) (fault_told fault)) (sym at) h.0, h.1)
+  prepared_ends p (Ok kept) h =
+      λ state at. subst (λ (from : ScriptState). PrintsAnswer (CommandGives from line) kept before after) (sym at) h
+  prepared_ends p (Err fault) h =
+      (λ state at. subst (λ (from : ScriptState). MayFault (CommandGives from line) (fault_told fault)) (sym at) h.0, h.1)
 
   -- a line behind it
   pub begun_ends : (kept : SessionValue) (r : Result Script ScriptFault) → EndsFrom (IsAt kept) (RunLineGives line) r before after
       → EndsFrom (Stands (scripts.Session kept)) (λ state. CommandGives state line) r before after
   begun_ends kept (Ok next) h = λ state (session, at, here).
-      subst (λ (from : ScriptState). Answers (CommandGives from line) next before after) (sym at) (h session here)
+      subst (λ (from : ScriptState). PrintsAnswer (CommandGives from line) next before after) (sym at) (h session here)
   begun_ends kept (Err fault) h = (
     λ state (session, at, here).
         subst (λ (from : ScriptState). MayFault (CommandGives from line) (fault_told fault)) (sym at) (h.0 session here),
@@ -139,8 +122,9 @@ pub run_may_fault : (session : Session) (line : List ℕ) (form : RunForm) (faul
     → MayFault (RunGives session form) fault → MayFault (RunLineGives line session) fault
 run_may_fault session line form fault is may = subst (λ (found : Option RunForm). MayFault (FormGives session found) fault) (sym is) may
 
-pub run_answers : (session : Session) (next : SessionValue) (line : List ℕ) (form : RunForm) (before after : List ℕ) → run_of line ≡ Some form
-    → AnswersIn (RunGives session form) next before after → Answers (RunLineGives line session) (scripts.Session next) before after
+pub run_answers : (session : Session) (next : SessionValue) (line : List ℕ) (form : RunForm) (before after : List ℕ)
+    → run_of line ≡ Some form
+    → AnswersIn (RunGives session form) next before after → PrintsAnswer (RunLineGives line session) (scripts.Session next) before after
 run_answers session next line form before after is answers = record {
   answer = answers.answer;
   next = InSession answers.next;

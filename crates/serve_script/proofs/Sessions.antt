@@ -1,5 +1,6 @@
 -- A session's lines: what is kept goes on by one event, and each line is answered by what it may give.
-use Rattle.std.proofs.Common.{◌≡◌, ◌≤◌, ℕ, List, [], ◌++◌, length, slice_get, Option, Some, None, Result, Ok, Err, OnOk, refl, sym, ap, subst, ◌∙◌, arith}
+use Rattle.std.proofs.Common.{◌≡◌, ◌≤◌, ℕ, List, [], ◌++◌, length, slice_get, Option, Some, None, Result, Ok}
+use Rattle.std.proofs.Common.{Err, OnOk, refl, sym, ap, subst, ◌∙◌, arith}
 use Rattle.std.specs.Option.{option_map}
 use Rattle.filters.specs.ChainImage.{FrameValue}
 use Rattle.serve_core.specs.Counts.{deed, specs}
@@ -12,8 +13,8 @@ use Rattle.serve_core.specs.Setup.{IsSetup, Setup}
 use Rattle.serve_core.specs.States.{State, StreamState, after, did_any, held_at, map_at, new_stream, state_of, stream_of}
 use Rattle.serve_core.specs.declared.counts.Counts.{Counts}
 use Rattle.serve_core.specs.declared.refusal.Refusal.TheVariants.{NoStream}
-use Rattle.serve_core.proofs.Lists.{length_map_at}
-use Rattle.serve_core.proofs.Newcomers.{length_admitted}
+use Rattle.serve_core.proofs.Events.Newcomers.{length_admitted}
+use Rattle.serve_core.proofs.Items.Lists.{length_map_at}
 use Rattle.serve_script.specs.ScriptReport.{line_text}
 use Rattle.serve_script.specs.ScriptState.{Given, Prints, InSession, Session}
 use Rattle.serve_script.specs.SessionCommand.{RunForm}

@@ -1,6 +1,6 @@
 -- A setup that is one has no fault.
 use Rattle.std.proofs.Common.{inl, inr, sym, subst}
-use Rattle.serve_core.proofs.Admissions.{not_refused}
+use Rattle.serve_core.proofs.Rules.Admissions.{not_refused}
 use Rattle.serve_core.specs.Admitted.{IsFault}
 use Rattle.serve_core.specs.Setup.{IsSetup, Setup}
 use Rattle.serve_core.specs.declared.setup.SetupError.{SetupError}

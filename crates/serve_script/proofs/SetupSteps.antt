@@ -24,7 +24,8 @@ pub setup_bad : (p : Preparation) (line : List ℕ) → setup_of line ≡ None �
 setup_bad p line none = subst (λ (found : Option SetupForm). FormGives p found (Faults faults.BadLine)) (sym none) refl
 
 -- a line ends as its command does
-pub setup_ends : (p : Preparation) (line : List ℕ) (form : SetupForm) (r : Result Script ScriptFault) (before after : List ℕ) → setup_of line ≡ Some form
+pub setup_ends : (p : Preparation) (line : List ℕ) (form : SetupForm) (r : Result Script ScriptFault)
+    (before after : List ℕ) → setup_of line ≡ Some form
     → Ends (SetupGives p form) r before after → Ends (SetupLineGives p line) r before after
 setup_ends p line form r before after is ends = subst (λ (found : Option SetupForm). Ends (FormGives p found) r before after) (sym is) ends
 
@@ -33,7 +34,8 @@ only_memory : (next : Preparation) (fault : Fault) → MayFault (λ given. given
 only_memory next faults.NoMemory may = refl
 only_memory next fault may = absurd (cc may)
 
-band_memory : (p next : Preparation) (rows : ℕ) → BandGives p rows (settled next) → (given : Given) → BandGives p rows given → TakesMemory given
+band_memory : (p next : Preparation) (rows : ℕ) → BandGives p rows (settled next) → (given : Given)
+    → BandGives p rows given → TakesMemory given
 band_memory p next rows made given (inl gives) = subst TakesMemory (sym gives.1) tt
 band_memory p next rows (inl made) given (inr none) = absurd (none.0 made.0)
 band_memory p next rows (inr made) given (inr none) = let is = made.1 in absurd cc
@@ -42,7 +44,13 @@ band_memory p next rows (inr made) given (inr none) = let is = made.1 in absurd 
 pub band_ends : (p next : Preparation) (rows : ℕ) (r : Result Script ScriptFault) (before after : List ℕ) → BandGives p rows (settled next)
     → Ends (λ given. given ≡ settled next) r before after → Ends (BandGives p rows) r before after
 band_ends p next rows (Ok kept) before after gives a =
-    record { answer = a.answer; next = a.next; gives = subst (BandGives p rows) (sym a.gives) gives; stands = a.stands; printed = a.printed }
+    record {
+      answer = a.answer;
+      next = a.next;
+      gives = subst (BandGives p rows) (sym a.gives) gives;
+      stands = a.stands;
+      printed = a.printed;
+    }
 band_ends p next rows (Err fault) before after gives (may, same) =
     (subst (MayFault (BandGives p rows)) (sym (only_memory next (fault_told fault) may)) (band_memory p next rows gives), same)
 

@@ -40,7 +40,8 @@ stop_pieces stop line number colon word a b c d =
 pub front_cut : (stop : Stop) (text pieces : List ℕ) (a b : Option (List ℕ)) → text ≡ stop_text (Some stop) → pieces ≡ stop_front stop
     → AppendsFront a b pieces → AppendsFront a b text
 front_cut stop text pieces a b whole front cut =
-    subst (AppendsFront a b) (sym (whole ∙ stop_apart stop)) (first_cut a b (stop_front stop) (stop_rest stop) (subst (AppendsFront a b) front cut))
+    subst (AppendsFront a b) (sym (whole ∙ stop_apart stop))
+    (first_cut a b (stop_front stop) (stop_rest stop) (subst (AppendsFront a b) front cut))
 
 -- it was cut short in the name
 pub name_cut : (stop : Stop) (text pieces name : List ℕ) (a b c : Option (List ℕ)) → text ≡ stop_text (Some stop) → pieces ≡ stop_front stop

@@ -1,7 +1,10 @@
 -- What a stream's line asks for by its operations, its header and its chain, and their faults.
-use Rattle.std.proofs.Common.{◌≡◌, ◌≢◌, ◌≤◌, ◌<◌, ◌⊎◌, ◌↔◌, inl, inr, Bool, true, false, nat_lt, List, length, Option, Some, None, Ok, Err, Result, IsErrOf, IsSomeAnd, ⊎_elim, refl, sym, subst}
+use Rattle.std.proofs.Common.{◌≡◌, ◌≢◌, ◌≤◌, ◌<◌, ◌⊎◌, ◌↔◌, inl, inr, Bool, true, false, nat_lt, List, length}
+use Rattle.std.proofs.Common.{Option, Some, None, Ok, Err, Result, IsErrOf, IsSomeAnd, ⊎_elim, refl, sym}
+use Rattle.std.proofs.Common.{subst}
 use Rattle.std.proofs.lemmas.Bool.{ltb-false, ltb-true, le-ltb, lt-ltb}
-use Rattle.serve_core.proofs.Options.{some_and}
+use Rattle.serve_core.proofs.Items.Options.{some_and}
+use Rattle.filters.specs.declared.limits.TheConstants.{MOST_OPS}
 use Rattle.filters.specs.Chain.{ChainValue, chain_of}
 use Rattle.filters.specs.OpsText.{ops_of}
 use Rattle.filters.specs.Refusal.{IsChain, IsChainRefusedAs}
@@ -26,19 +29,19 @@ use Rattle.serve_script.proofs.SaidOps.{AreSaid, said_ops}
 -- the operations of a line, which are few enough
 pub record Says (form : StreamForm) (ops : List Op) : Type 0 where
   pub said : ops_of form.operations ≡ Some ops
-  pub few : length ops ≤ 8
+  pub few : length ops ≤ MOST_OPS
 
 module _ (settings : Settings) (form : StreamForm) where
   -- the line asks for what its header and its chain come to
   pub asked_of : (ops : List Op) (asked : Result StreamSpec Fault) → Says form ops → AsksOfHeader settings form ops asked
       → AsksOfOps settings form asked
-  asked_of ops asked says h = rw (says.said, le-ltb 8 (length ops) says.few) h
+  asked_of ops asked says h = rw (says.said, le-ltb MOST_OPS (length ops) says.few) h
 
   pub asks_of : (ops : List Op) (asked : Result StreamSpec Fault) → Says form ops → AsksOfOps settings form asked
       → AsksOfHeader settings form ops asked
-  asks_of ops asked says h = rw (says.said, le-ltb 8 (length ops) says.few) at h
+  asks_of ops asked says h = rw (says.said, le-ltb MOST_OPS (length ops) says.few) at h
 
-  late_chain : (chain : ChainValue) (asked : Result StreamSpec Fault) → AreSaid chain.ops → length chain.ops ≤ 8
+  late_chain : (chain : ChainValue) (asked : Result StreamSpec Fault) → AreSaid chain.ops → length chain.ops ≤ MOST_OPS
       → AsksOfChain settings form chain asked → IsLate asked
   late_chain chain asked said few (inl made) = subst IsLate (sym made.1) tt
   late_chain chain asked said few (inr refused) = subst IsLate (sym refused.3) (by refused.0 refused.1 refused.2)
@@ -61,28 +64,28 @@ module _ (settings : Settings) (form : StreamForm) where
   -- operations that are none, or are too many, or can't be kept
   pub ops_fault : {T : Type 0} (error : FilterError) → let r : Result T FilterError = Err error in
       (IsErrOf r filter.BadOp ↔ (ops_of form.operations ≡ None))
-      → (IsErrOf r filter.TooManyOps ↔ IsSomeAnd (ops_of form.operations) (λ ops. 8 < length ops))
+      → (IsErrOf r filter.TooManyOps ↔ IsSomeAnd (ops_of form.operations) (λ ops. MOST_OPS < length ops))
       → (error ≡ filter.BadOp) ⊎ (error ≡ filter.TooManyOps) ⊎ (error ≡ filter.NoMemory)
       → MayLack (AsksOfOps settings form) (filter_fault error)
   ops_fault filter.BadOp bad many one = rw (bad.0 refl) refl
   ops_fault filter.TooManyOps bad many one =
-      let some = some_and (ops_of form.operations) (λ ops. 8 < length ops) (many.0 refl) in
-      rw (some.1, lt-ltb 8 (length some.0) some.2) refl
+      let some = some_and (ops_of form.operations) (λ ops. MOST_OPS < length ops) (many.0 refl) in
+      rw (some.1, lt-ltb MOST_OPS (length some.0) some.2) refl
   ops_fault filter.BadCrop bad many one = ⊎_elim (λ is. absurd cc) (⊎_elim (λ is. absurd cc) (λ is. absurd cc)) one
   ops_fault filter.TooManySteps bad many one = ⊎_elim (λ is. absurd cc) (⊎_elim (λ is. absurd cc) (λ is. absurd cc)) one
   ops_fault {T} filter.NoMemory bad many one = λ asked h. by asked h (ops_of form.operations) refl
     where
       counted : (asked : Result StreamSpec Fault) → AsksOfOps settings form asked → (ops : List Op) → ops_of form.operations ≡ Some ops
-          → (is_many : Bool) → nat_lt 8 (length ops) ≡ is_many → IsLate asked
+          → (is_many : Bool) → nat_lt MOST_OPS (length ops) ≡ is_many → IsLate asked
       counted asked h ops is true long =
-          let most = ltb-true 8 (length ops) long in
+          let most = ltb-true MOST_OPS (length ops) long in
           let other = many.1 (rw is most) in absurd cc
-      counted asked h ops is false short = late ops asked (record { said = is; few = ltb-false 8 (length ops) short }) h
+      counted asked h ops is false short = late ops asked (record { said = is; few = ltb-false MOST_OPS (length ops) short }) h
 
       by : (asked : Result StreamSpec Fault) → AsksOfOps settings form asked → (o : Option (List Op)) → ops_of form.operations ≡ o
           → IsLate asked
       by asked h None is = let other = bad.1 is in absurd cc
-      by asked h (Some ops) is = counted asked h ops is (nat_lt 8 (length ops)) refl
+      by asked h (Some ops) is = counted asked h ops is (nat_lt MOST_OPS (length ops)) refl
 
   -- a header that is refused
   pub header_refused : (ops : List Op) (error : HeaderError) → Says form ops → IsRefusedAs error form.header

@@ -1,7 +1,10 @@
 -- What the line of a stream gives, by what it asks for.
-use Rattle.std.proofs.Common.{◌≡◌, ℕ, ◌+◌, inl, inr, Bool, true, false, nat_lt, List, [], ◌∷◌, ◌++◌, length, Option, Some, None, Ok, Err, Result, IfOk, refl, sym, ap, ◌∙◌, subst, length-append}
+use Rattle.std.proofs.Common.{◌≡◌, ℕ, ◌+◌, inl, inr, Bool, true, false, nat_lt, List, [], ◌∷◌, ◌++◌, length}
+use Rattle.std.proofs.Common.{Option, Some, None, Ok, Err, Result, IfOk, refl, sym, ap, ◌∙◌, subst}
+use Rattle.std.proofs.Common.{length-append}
 use Rattle.std.proofs.lemmas.Bool.{ltb-false}
 use Rattle.std.proofs.lemmas.List.{map_push}
+use Rattle.filters.specs.declared.limits.TheConstants.{MOST_OPS}
 use Rattle.filters.specs.Chain.{ChainValue}
 use Rattle.filters.specs.OpsText.{ops_of}
 use Rattle.filters.specs.declared.op.Op.{Op}
@@ -38,14 +41,14 @@ module _ (names : List (List ℕ)) (settings : Settings) (form : StreamForm) whe
         asks_so : AsksOfOps settings form (Ok spec)
         asks_so = free_asks (Ok spec) is_free asks
 
-        counted : (ops : List Op) → ops_of form.operations ≡ Some ops → (is_many : Bool) → nat_lt 8 (length ops) ≡ is_many
+        counted : (ops : List Op) → ops_of form.operations ≡ Some ops → (is_many : Bool) → nat_lt MOST_OPS (length ops) ≡ is_many
             → (ops : List Op) × Says form ops
         counted ops is true long = let none = rw (is, long) at asks_so in absurd cc
-        counted ops is false short = (ops, record { said = is; few = ltb-false 8 (length ops) short })
+        counted ops is false short = (ops, record { said = is; few = ltb-false MOST_OPS (length ops) short })
 
         by : (o : Option (List Op)) → ops_of form.operations ≡ o → (ops : List Op) × Says form ops
         by None is = let none = rw is at asks_so in absurd cc
-        by (Some ops) is = counted ops is (nat_lt 8 (length ops)) refl
+        by (Some ops) is = counted ops is (nat_lt MOST_OPS (length ops)) refl
 
     -- a line that asks for a stream has no early fault
     pub asked_late : (asked : Result StreamSpec Fault) → AsksFor names settings form asked → IsLate asked

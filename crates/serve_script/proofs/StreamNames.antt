@@ -1,5 +1,7 @@
 -- Streams that stand in a table by their borrowed names.
-use Rattle.std.proofs.Common.{◌≡◌, ℕ, ◌+◌, Bool, true, false, true≢false, cond, not, ◌||◌, nat_lt, List, [], ◌∷◌, ◌++◌, map, length, take, position, bytes_eq, Option, unwrap_or, Some, None, refl, sym, ap, ◌∙◌, arith, Bor}
+use Rattle.std.proofs.Common.{◌≡◌, ℕ, ◌+◌, Bool, true, false, true≢false, cond, not, ◌||◌, nat_lt, List, []}
+use Rattle.std.proofs.Common.{◌∷◌, ◌++◌, map, length, take, position, bytes_eq, Option, unwrap_or, Some, None}
+use Rattle.std.proofs.Common.{refl, sym, ap, ◌∙◌, arith, Bor}
 use Rattle.std.proofs.lemmas.Bool.{ltb-false}
 use Rattle.std.proofs.lemmas.List.{length-map, map_push, take-map}
 use Rattle.std.proofs.lemmas.List.Sums.{prefix_len-le-length}

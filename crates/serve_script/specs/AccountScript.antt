@@ -1,9 +1,9 @@
 -- What the lines of an account script give.
-use Rattle.std.specs.Prelude.{ℕ, ◌^◌, Bool, if◌then◌else◌, ◌&&◌, nat_le, nat_lt, Option, Some, None}
+use Rattle.std.specs.Prelude.{ℕ, ◌≡◌, ◌⊎◌, ⊤, Option, Some, None, MatchOption}
 use Rattle.std.specs.Prelude.{List, [], ◌∷◌, ◌++◌, replicate, codes, decimal}
 use Rattle.std.specs.Option.{option_map, option_map_or}
-use Rattle.cbs_account.specs.Balance.{Balance}
-use Rattle.cbs_account.specs.Rules.{OwnEvent, UnitOfWork, Idle, after_units, cbs}
+use Rattle.cbs_account.specs.Balance.{Balance, IsBandwidth}
+use Rattle.cbs_account.specs.Rules.{OwnEvent, UnitOfWork, Idle, CanCharge, cbs}
 use Rattle.serve_script.specs.ScriptCommand.{command_of}
 use Rattle.serve_script.specs.ScriptFault as faults
 use Rattle.serve_script.specs.ScriptFault.{Fault}
@@ -29,35 +29,38 @@ last_bandwidth (Charge units ∷ past) = last_bandwidth past
 abbrev pub server_after : List AccountCommand → Option Balance
 server_after past = option_map (λ last. cbs last.0 last.1 (own_events past)) (last_bandwidth past)
 
--- a maximum budget and a period that a server may have
-abbrev pub is_bandwidth : ℕ → ℕ → Bool
-is_bandwidth q t = nat_le 1 q && nat_le q t && nat_le t 1048576
+-- a command can be done where the server stands here, or none was opened
+abbrev pub CanDo : Option Balance → AccountCommand → Type 0
+CanDo _ (Open q t) = IsBandwidth q t
+CanDo None _ = ⊥
+CanDo (Some server) (ArriveIdle moment) = ⊤
+CanDo (Some server) (Charge units) = CanCharge units server
 
--- units that can be charged: at most 2^40 of them, and a deadline below 2^62 afterwards
-abbrev pub is_in_range : ℕ → Balance → Bool
-is_in_range units server = nat_le units (2 ^ 40) && nat_lt (after_units units server).deadline (2 ^ 62)
-
--- the fault of a command, if it has one, where the server stands here, or none was opened
-abbrev pub fault_of : Option Balance → AccountCommand → Option Fault
-fault_of _ (Open q t) = if is_bandwidth q t then None else Some faults.BadBandwidth
-fault_of None _ = Some faults.BadLine
-fault_of (Some server) (ArriveIdle moment) = None
-fault_of (Some server) (Charge units) = if is_in_range units server then None else Some faults.Range
+-- the fault of one that can't
+abbrev pub fault_of : Option Balance → AccountCommand → Fault
+fault_of _ (Open q t) = faults.BadBandwidth
+fault_of None _ = faults.BadLine
+fault_of (Some server) _ = faults.Range
 
 -- `budget C deadline D`
+abbrev pub balance_text : ℕ × ℕ → List ℕ
+balance_text balance = codes "budget " ++ decimal balance.0 ++ codes " deadline " ++ decimal balance.1
+
 abbrev pub balance_line : Balance → List ℕ
-balance_line server =
-    codes "budget " ++ decimal server.budget ++ codes " deadline " ++ decimal server.deadline
+balance_line server = balance_text (server.budget, server.deadline)
 
 -- what a past of commands prints last
 abbrev pub account_answer : List AccountCommand → List ℕ
 account_answer past = option_map_or balance_line (server_after past) []
 
-abbrev pub command_given : List AccountCommand → AccountCommand → Given
-command_given past command =
-    option_map_or (λ fault. Faults fault) (fault_of (server_after past) command)
-    (Prints (account_answer (command ∷ past)) (OnAccount (command ∷ past)))
+-- a command that can be done is done, any other has its fault
+abbrev pub DoneOr : List AccountCommand → AccountCommand → Given → Type 0
+DoneOr past command given =
+    (CanDo (server_after past) command
+    × (given ≡ Prints (account_answer (command ∷ past)) (OnAccount (command ∷ past))))
+    ⊎ ((¬ CanDo (server_after past) command) × (given ≡ Faults (fault_of (server_after past) command)))
 
 -- what a line gives after a past of commands
-abbrev pub account_given : List AccountCommand → List ℕ → Given
-account_given past line = option_map_or (command_given past) (command_of line) (Faults faults.BadLine)
+abbrev pub AccountGives : List ℕ → List AccountCommand → Given → Type 0
+AccountGives line past given =
+    MatchOption (command_of line) (given ≡ Faults faults.BadLine) (λ command. DoneOr past command given)

@@ -1,19 +1,21 @@
-use Rattle.std.specs.Prelude.{ℕ, ◌^◌, ◌≤◌, nat_le, if◌then◌else◌, List, [], ◌∷◌, codes}
+use Rattle.std.specs.Prelude.{ℕ, ◌≤◌, nat_le, if◌then◌else◌, List, [], ◌∷◌, codes}
 use Rattle.std.specs.Prelude.{Option, Some, None, option_and_then}
 use Rattle.std.specs.Option.{option_map}
 use Rattle.std.specs.Str.{bytes_eq}
+use Rattle.cbs_account.specs.declared.limits.TheConstants.{LAST_MOMENT}
 use Rattle.y4m_header.specs.Text.{number_of}
+use Rattle.y4m_header.specs.declared.limits.TheConstants.{MOST_DIGITS}
 use Rattle.serve_script.specs.ScriptText.{words}
 use Rattle.serve_script.specs.declared.command.AccountCommand.{AccountCommand}
 use Rattle.serve_script.specs.declared.command.AccountCommand.TheVariants.{Open, ArriveIdle, Charge}
 
--- the number that a word of 1 to 19 digits writes
+-- the number that a word of digits writes
 abbrev pub word_number : List ℕ → Option ℕ
-word_number word = number_of 19 word
+word_number word = number_of MOST_DIGITS word
 
--- `idle`, at a moment of at most 2^60
+-- `idle`, at a moment up to the last one
 abbrev pub idle_at : ℕ → Option AccountCommand
-idle_at moment = if nat_le moment (2 ^ 60) then Some (ArriveIdle moment) else None
+idle_at moment = if nat_le moment LAST_MOMENT then Some (ArriveIdle moment) else None
 
 -- `idle R` and `charge K`
 abbrev pub command_of_one : List ℕ → List ℕ → Option AccountCommand
@@ -42,5 +44,5 @@ command_of line = command_of_words (words line)
 
 -- what a clock of an account can show
 abbrev pub IsOnClock : AccountCommand → Type 0
-IsOnClock (ArriveIdle moment) = moment ≤ 2 ^ 60
+IsOnClock (ArriveIdle moment) = moment ≤ LAST_MOMENT
 IsOnClock _ = Unit {0}

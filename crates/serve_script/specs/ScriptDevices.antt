@@ -1,6 +1,7 @@
 -- What a replay takes from its input, and how it counts the failures of its input and of its output.
-use Rattle.std.specs.Prelude.{ℕ, ◌≡◌, ⊤, List, drop, Option, Some, None, Result, Ok, Err}
+use Rattle.std.specs.Prelude.{ℕ, ◌≡◌, ◌+◌, ⊤, List, drop, Option, Some, None, Result, Ok, Err}
 use Rattle.y4m_stream.specs.Failures.{one_more}
+use Rattle.serve_script.specs.declared.TheConstants.{SCRIPT_LIMIT}
 use Rattle.serve_script.specs.declared.fault.ReplayFault.{ReplayFault}
 use Rattle.serve_script.specs.declared.fault.ReplayFault.TheVariants.{Read, Write, NoMemory}
 
@@ -29,7 +30,7 @@ writes_told (Err fault) n = writes_at fault n
 -- as many bytes were taken from the input as a script of the greatest size and one more has, or all of them
 abbrev pub TakesScript : (old new : Option (List ℕ)) → Type 0
 TakesScript None new = ⊤
-TakesScript (Some bytes) new = new ≡ Some (drop 1048577 bytes)
+TakesScript (Some bytes) new = new ≡ Some (drop (SCRIPT_LIMIT + 1) bytes)
 
 -- a report was told whole
 abbrev pub OnTold : {T : Type 0} → Result T ReplayFault → Type 0 → Type 0

@@ -1,14 +1,11 @@
 -- What the program keeps of a script, and what its private calls do.
-use Rattle.std.specs.Prelude.{ℕ, ◌≡◌, List, ◌++◌, Option, Some, None, Result, Ok, Err, IsOk}
-use Rattle.std.specs.Prelude.{if◌then◌else◌, Bool}
+use Rattle.std.specs.Prelude.{ℕ, ◌≡◌, List, ◌++◌, Option, Some, Result, Err, Bool}
 use Rattle.std.specs.Io.KnownBytes.{Appends}
-use Rattle.std.specs.Option.{option_map, option_map_or}
+use Rattle.std.specs.Option.{option_map}
 use Rattle.cbs_account.specs.Balance.{Balance, opened}
 use Rattle.cbs_account.specs.Rules.{after_idle, after_units}
-use Rattle.serve_script.specs.AccountScript.{is_bandwidth, is_in_range, server_after}
-use Rattle.serve_script.specs.ScriptCommand.{command_of}
-use Rattle.serve_script.specs.ScriptFault as faults
-use Rattle.serve_script.specs.ScriptFault.{Fault, fault_told}
+use Rattle.serve_script.specs.AccountScript.{server_after}
+use Rattle.serve_script.specs.ScriptFault.{fault_told}
 use Rattle.serve_script.specs.ScriptReplay.{answer_of}
 use Rattle.serve_script.specs.ScriptReport.{Report, Stop, line_text, report_of, stop_text, text_of_lines}
 use Rattle.serve_script.specs.ScriptState.{Given, Prints, ScriptState, Session}
@@ -27,22 +24,11 @@ use Rattle.serve_script.specs.declared.fault.ReplayFault.TheVariants.{Write}
 abbrev pub stop_told : ScriptStop → Stop
 stop_told stop = record { line = stop.line; fault = fault_told stop.fault }
 
--- where a command leaves the server that stands here, or its fault
-abbrev pub outcome_by : Option Balance → AccountCommand → Result Balance Fault
-outcome_by server (Open q t) = if is_bandwidth q t then Ok (opened q t) else Err faults.BadBandwidth
-outcome_by None _ = Err faults.BadLine
-outcome_by (Some server) (ArriveIdle moment) = Ok (after_idle moment server)
-outcome_by (Some server) (Charge units) =
-    if is_in_range units server then Ok (after_units units server) else Err faults.Range
-
--- the same of the line of a command
-abbrev pub outcome_of : Option Balance → List ℕ → Result Balance Fault
-outcome_of server line = option_map_or (outcome_by server) (command_of line) (Err faults.BadLine)
-
--- the fault of such an outcome, or want of memory for its answer
-abbrev pub MayEnd : Result Balance Fault → Fault → Type 0
-MayEnd outcome faults.NoMemory = IsOk outcome
-MayEnd outcome fault = outcome ≡ Err fault
+-- where a command that is done leaves the server
+abbrev pub server_by : Option Balance → AccountCommand → Option Balance
+server_by server (Open q t) = Some (opened q t)
+server_by server (ArriveIdle moment) = option_map (after_idle moment) server
+server_by server (Charge units) = option_map (after_units units) server
 
 -- what the program keeps of a script's lines so far
 abbrev pub Stands : Script → ScriptState → Type 0
@@ -53,7 +39,7 @@ Stands (scripts.Preparation preparation) state = state ≡ InSetup preparation
 Stands (scripts.Session kept) state = (session : Session) × (state ≡ InSession session) × IsAt kept session
 
 -- a line that gives such a thing was answered so, the answer was printed, and this is kept of what it led to
-pub record Answers (Gives : Given → Type 0) (kept : Script) (before after : List ℕ) : Type 0 where
+pub record PrintsAnswer (Gives : Given → Type 0) (kept : Script) (before after : List ℕ) : Type 0 where
   pub answer : List ℕ
   pub next : ScriptState
   pub gives : Gives (Prints answer next)

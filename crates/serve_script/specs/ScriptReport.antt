@@ -4,7 +4,7 @@ use Rattle.std.specs.Prelude.{codes, decimal, slice_get, Option, Some, None, IsS
 use Rattle.std.specs.Prelude.{MatchOption}
 use Rattle.std.specs.List.{flat_map}
 use Rattle.std.specs.Str.{bytes_eq}
-use Rattle.serve_script.specs.AccountScript.{account_given}
+use Rattle.serve_script.specs.AccountScript.{AccountGives}
 use Rattle.serve_script.specs.ScriptFault as faults
 use Rattle.serve_script.specs.ScriptFault.{Fault, fault_text}
 use Rattle.serve_script.specs.ScriptState.{Given, Silent, Prints, Faults, MayFault, unprepared}
@@ -14,6 +14,7 @@ use Rattle.serve_script.specs.SessionCommand.{run_of, setup_of}
 use Rattle.serve_script.specs.SessionRun.{RunGives}
 use Rattle.serve_script.specs.SessionSetup.{SetupGives}
 use Rattle.serve_script.specs.SessionWords.{first_word}
+use Rattle.serve_script.specs.declared.TheConstants.{SCRIPT_LIMIT}
 
 -- the first command decides what a script is: `account` begins an account script
 abbrev pub begins_account : List ℕ → Bool
@@ -26,8 +27,8 @@ SetupLineGives p line given =
 -- what the line of a command gives where the lines before it led here
 abbrev pub CommandGives : ScriptState → List ℕ → Given → Type 0
 CommandGives Fresh line given =
-    MatchBool (begins_account line) (given ≡ account_given [] line) (SetupLineGives unprepared line given)
-CommandGives (OnAccount past) line given = given ≡ account_given past line
+    MatchBool (begins_account line) (AccountGives line [] given) (SetupLineGives unprepared line given)
+CommandGives (OnAccount past) line given = AccountGives line past given
 CommandGives (InSetup preparation) line given = SetupLineGives preparation line given
 CommandGives (InSession session) line given =
     MatchOption (run_of line) (given ≡ Faults faults.BadLine) (λ form. RunGives session form given)
@@ -76,11 +77,11 @@ pub record IsOfLines (lines : List (List ℕ)) (report : Report) : Type 0 where
       (stop.line ≡ count + 1)
       × IsSomeAnd (slice_get lines count) (λ line. MayFault (Gives state line) stop.fault))
 
--- the report of a script that could be kept: one longer than 1,048,576 bytes isn't run
+-- the report of a script that could be kept: one longer than the limit isn't run
 abbrev pub IsKeptReport : List ℕ → Report → Type 0
 IsKeptReport script report =
-    ((length script ≤ 1048576) × IsOfLines (script_lines script) report)
-    ⊎ ((1048576 < length script) × (report ≡ stopped_whole faults.TooLong))
+    ((length script ≤ SCRIPT_LIMIT) × IsOfLines (script_lines script) report)
+    ⊎ ((SCRIPT_LIMIT < length script) × (report ≡ stopped_whole faults.TooLong))
 
 -- a report that a script may have: its own, or there is no memory to keep the script
 abbrev pub IsReport : List ℕ → Report → Type 0

@@ -2,6 +2,7 @@
 use Rattle.std.specs.Prelude.{ℕ, List, [], ⊤}
 use Rattle.filters.specs.ChainImage.{FrameValue}
 use Rattle.filters.specs.declared.error.FilterError.TheVariants.{BadCrop, TooManySteps}
+use Rattle.y4m_stream.specs.declared.passing.TheConstants.{MOST_FRAMES}
 use Rattle.serve_core.specs.Events.{Transcript}
 use Rattle.serve_core.specs.Setup.{Setup, StreamSpec}
 use Rattle.serve_script.specs.ScriptFault as faults
@@ -14,9 +15,9 @@ pub record Settings : Type 0 where
   pub band : ℕ
   pub frames : ℕ
 
--- before any command: bands of 16 rows, 2^24 frames
+-- before any command: bands of 16 rows, as many frames as a stream may have
 abbrev pub first_settings : Settings
-first_settings = record { band = 16; frames = 16777216 }
+first_settings = record { band = 16; frames = MOST_FRAMES }
 
 -- what a session script has set up before its `start`
 pub record Preparation : Type 0 where

@@ -8,6 +8,7 @@ use Rattle.std.specs.Option.{option_map_or}
 use Rattle.filters.specs.ChainImage.{FrameValue}
 use Rattle.frame_view.specs.Places.{frame_len}
 use Rattle.frame_view.specs.declared.geometry.Geometry.{Geometry}
+use Rattle.y4m_header.specs.declared.limits.TheConstants.{LONGEST_SIDE}
 use Rattle.serve_core.specs.Frames.{is_image, measures}
 use Rattle.serve_core.specs.Reached.{IsReached}
 use Rattle.serve_core.specs.Rules.{IsLegal}
@@ -111,16 +112,16 @@ IsArriving geometry count g =
 -- the frame of hexadecimal digits that arrives where frames have this geometry
 pub record IsFrameOf (served : Option Geometry) (hex : List ℕ) (frame : FrameValue) : Type 0 where
   pub decoded : decode_of hex ≡ Ok frame.samples
-  pub narrow : (fills_geometry served (length frame.samples) ≡ true) ⊎ (length frame.samples ≤ 16384)
+  pub narrow : (fills_geometry served (length frame.samples) ≡ true) ⊎ (length frame.samples ≤ LONGEST_SIDE)
   pub geometry : IsArriving served (length frame.samples) frame.geometry
   pub line : frame.line ≡ codes "FRAME"
 
 -- why there is no such frame: its samples are too many for a row, or there is no memory for one that isn't so
 abbrev pub IsNoFrame : Option Geometry → List ℕ → Fault → Type 0
 IsNoFrame geometry hex faults.BadLine =
-    (fills_geometry geometry (length hex / 2) ≡ false) × (16384 < length hex / 2)
+    (fills_geometry geometry (length hex / 2) ≡ false) × (LONGEST_SIDE < length hex / 2)
 IsNoFrame geometry hex faults.NoMemory =
-    (fills_geometry geometry (length hex / 2) ≡ true) ⊎ (length hex / 2 ≤ 16384)
+    (fills_geometry geometry (length hex / 2) ≡ true) ⊎ (length hex / 2 ≤ LONGEST_SIDE)
 IsNoFrame geometry hex fault = ⊥
 
 -- the event of a line `arrive NAME HEX`

@@ -10,6 +10,7 @@ use Rattle.filters.specs.ChainImage.{FrameValue}
 use Rattle.frame_view.specs.Places.{frame_len}
 use Rattle.frame_view.specs.declared.geometry.Geometry.{Geometry}
 use Rattle.y4m_header.specs.declared.chroma.Chroma.TheVariants.{Mono}
+use Rattle.y4m_header.specs.declared.limits.TheConstants.{LONGEST_SIDE}
 use Rattle.serve_core.specs.Counts.{specs}
 use Rattle.serve_core.specs.Events as events
 use Rattle.serve_core.specs.Events.{Admitted, Event, Leased, Reply, Then}
@@ -93,7 +94,7 @@ pub record IsArrival (stream : Option StreamSpec) (sent : List ℕ) (frame : Fra
 
 -- samples that fill no frame of the stream, and are too many for a row
 abbrev pub is_too_wide : Option StreamSpec → ℕ → Bool
-is_too_wide stream count = not (fills stream count) && nat_lt 16384 count
+is_too_wide stream count = not (fills stream count) && nat_lt LONGEST_SIDE count
 
 -- a frame arrives, in hexadecimal digits
 abbrev pub ArrivalGives : Session → List ℕ → List ℕ → Given → Type 0

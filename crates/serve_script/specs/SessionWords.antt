@@ -6,6 +6,7 @@ use Rattle.std.specs.List.{before_first, list_all}
 use Rattle.std.specs.Option.{option_map_or}
 use Rattle.y4m_header.specs.Text.{text_after}
 use Rattle.serve_script.specs.ScriptCommand.{word_number}
+use Rattle.serve_script.specs.declared.session.word.TheConstants.{NAME_LIMIT}
 
 -- what stands before a text's first space, or all of it
 abbrev pub first_word : List ℕ → List ℕ
@@ -23,9 +24,9 @@ cut_at_spaces (suc n) text = first_word text ∷ option_map_or (cut_at_spaces n)
 abbrev pub is_name_byte : ℕ → Bool
 is_name_byte byte = is_ascii_alphanumeric byte || byte == 95 || byte == 45
 
--- 1 to 32 letters, digits, `_` or `-`
+-- letters, digits, `_` or `-`: one at least, and as many as a name may have
 abbrev pub is_name : List ℕ → Bool
-is_name text = nat_le 1 (length text) && nat_le (length text) 32 && list_all is_name_byte text
+is_name text = nat_le 1 (length text) && nat_le (length text) NAME_LIMIT && list_all is_name_byte text
 
 -- one or more pairs of hexadecimal digits, of either case
 abbrev pub is_hex : List ℕ → Bool

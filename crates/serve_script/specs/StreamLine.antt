@@ -6,6 +6,7 @@ use Rattle.std.specs.Str.{bytes_eq}
 use Rattle.filters.specs.Chain.{ChainValue, chain_of}
 use Rattle.filters.specs.OpsText.{ops_of}
 use Rattle.filters.specs.Refusal.{IsChain, IsChainRefusedAs}
+use Rattle.filters.specs.declared.limits.TheConstants.{MOST_OPS}
 use Rattle.filters.specs.declared.error.FilterError.{FilterError}
 use Rattle.filters.specs.declared.error.FilterError.TheVariants as filter
 use Rattle.filters.specs.declared.op.Op.{Op}
@@ -54,7 +55,7 @@ AsksOfHeader settings form ops asked =
 abbrev pub AsksOfOps : Settings → StreamForm → Result StreamSpec Fault → Type 0
 AsksOfOps settings form asked =
     MatchOption (ops_of form.operations) (asked ≡ Err (faults.BadChain filter.BadOp)) (λ ops.
-    MatchBool (nat_lt 8 (length ops)) (asked ≡ Err (faults.BadChain filter.TooManyOps))
+    MatchBool (nat_lt MOST_OPS (length ops)) (asked ≡ Err (faults.BadChain filter.TooManyOps))
     (AsksOfHeader settings form ops asked))
 
 -- whether a stream has the name

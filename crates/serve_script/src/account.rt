@@ -1,9 +1,10 @@
 //! An account script: its commands are run in order on one account.
-ghost use Rattle.std.specs.Prelude.{◌≡◌, Ok, Err, IfErr, IfOk};
+ghost use Rattle.std.specs.Prelude.{◌≡◌, Some, IfErr, IfOk, OnErr, OnOk};
+ghost use Rattle.serve_script.specs.AccountScript.{AccountGives, CanDo, fault_of};
 ghost use Rattle.serve_script.specs.ScriptCommand.{IsOnClock};
 ghost use Rattle.serve_script.specs.ScriptFault.{fault_told};
-ghost use Rattle.serve_script.specs.LineEnds.{AccountGives, EndsFrom, IsPastOf};
-ghost use Rattle.serve_script.specs.ScriptInside.{outcome_by};
+ghost use Rattle.serve_script.specs.LineEnds.{EndsFrom, IsPastOf};
+ghost use Rattle.serve_script.specs.ScriptInside.{server_by};
 
 use super::command::{AccountCommand, parse_command};
 use super::fault::ScriptFault;
@@ -22,7 +23,8 @@ pub fn run_account_line<'a>(
 {
     let command = parse_command(line).ok_or(ScriptFault::BadLine)?;
     let next = run_command(account, command)?;
-    push_balance(printed, &next)?;
+    let balance = (next.budget(), next.deadline());
+    push_balance(printed, balance, b"\n".as_slice())?;
     Ok(Script::Account(next))
 }
 
@@ -32,8 +34,10 @@ fn run_command<'a>(
     command: AccountCommand,
 ) -> Result<Account, ScriptFault<'a>>
     requires { IsOnClock command }
-    ensures next { IfOk result (λ next. outcome_by account command ≡ Ok next) }
-    ensures fault { IfErr result (λ fault. outcome_by account command ≡ Err (fault_told fault)) }
+    ensures can { OnOk result (CanDo account command) }
+    ensures next { IfOk result (λ next. server_by account command ≡ Some next) }
+    ensures cannot { OnErr result (¬ CanDo account command) }
+    ensures fault { IfErr result (λ fault. fault_told fault ≡ fault_of account command) }
 {
     match (command, account) {
         (AccountCommand::Open { q, t }, _) => Ok(Account::new(q, t)?),

@@ -3,10 +3,8 @@ ghost use Rattle.std.specs.Prelude.{◌≡◌, IfSome};
 ghost use Rattle.serve_script.specs.ScriptCommand.{IsOnClock, command_of, command_of_one, command_of_two};
 ghost use Rattle.serve_script.specs.ScriptCommand.{idle_at, word_number};
 
+use cbs_account::limits::LAST_MOMENT;
 use y4m_header::text::{MOST_DIGITS, cut, decimal_number};
-
-/// The latest moment that a clock shows.
-const CLOCK_END: u64 = 1 << 60;
 
 /// A command of an account script.
 #[derive(Clone, Copy)]
@@ -56,7 +54,7 @@ fn idle_at(moment: u64) -> Option<AccountCommand>
     ensures command { result ≡ idle_at moment }
     ensures on_clock { IfSome result IsOnClock }
 {
-    if moment <= CLOCK_END {
+    if moment <= LAST_MOMENT {
         Some(AccountCommand::ArriveIdle { moment })
     } else {
         None

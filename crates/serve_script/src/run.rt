@@ -9,6 +9,7 @@ ghost use Rattle.serve_script.specs.SessionCommand.{setup_told, stream_told};
 ghost use Rattle.serve_script.specs.SessionInside.{IsAt};
 ghost use Rattle.serve_script.specs.SessionSetup.{BandGives, SetupGives, StartGives, StreamGives, settled};
 
+use super::SCRIPT_LIMIT;
 use super::account::run_account_line;
 use super::fault::{ScriptFault, ScriptStop};
 use super::lines::{first_line, is_silent};
@@ -43,7 +44,7 @@ pub fn run_lines<'a>(
     script: &'a [u8],
     printed: &mut Vec<u8>,
 ) -> Result<(), ScriptStop<'a>>
-    requires { length script.now ≤ 1048576 }
+    requires { length script.now ≤ SCRIPT_LIMIT }
     ensures { Reports (IsOfLines (script_lines script.now))
         (result_err result) printed.old.items printed.new.items }
 {

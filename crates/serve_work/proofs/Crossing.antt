@@ -7,10 +7,12 @@ use Rattle.y4m_stream.specs.Writer.{WriterState}
 use Rattle.serve_hub.specs.declared.entry.Act.{Act}
 use Rattle.serve_hub.specs.Seats.{StreamSeatValue}
 use Rattle.serve_work.specs.declared.stop.Stop.{Stop}
-use Rattle.serve_work.specs.Clients.{ClientEnds, ClientOutcome, ClientStart, CutsHeader, StopsAt, WroteNothing, collections_in, offers_in}
+use Rattle.serve_work.specs.Clients.{ClientEnds, ClientOutcome, ClientStart, ClientStopsAt, CutsHeader}
+use Rattle.serve_work.specs.Clients.{WroteNothing, collections_in, offers_in}
 use Rattle.serve_work.specs.ClientInside.{Feeds, IsCounted, IsUseful, Moves, Passes, Serves, Stays, texts_of}
 use Rattle.serve_work.specs.Epochs.{IsReopened, NewStreamIsUnbegun, StreamsCross}
-use Rattle.serve_work.specs.Rests.{Begun, CourseValue, Discarding, Draining, Feeding, Holding, IsAt, IsFresh, IsRestOf, Outset, RestValue, Unbegun, as_open}
+use Rattle.serve_work.specs.Rests.{Begun, CourseValue, Discarding, Draining, Feeding, Holding, IsAt, IsFresh}
+use Rattle.serve_work.specs.Rests.{IsRestOf, Outset, RestValue, Unbegun, as_open}
 use Rattle.serve_work.proofs.Staying.{Stays-same, Stays-trans}
 use Rattle.serve_work.proofs.Tallying.{collections_both, collections_counted}
 use Rattle.serve_work.proofs.Stopping.{moves_until, read_by, until_moves}
@@ -144,7 +146,7 @@ module _ (past : List Act) (old new : StreamSeatValue) (r : IsReopened old new) 
   }
 
   stops_across : (start : ClientStart) (end : ClientOutcome) (rest : Option (List ℕ))
-      → WroteNothing start end ⊎ CutsHeader start end ⊎ StopsAt end.stop (record {
+      → WroteNothing start end ⊎ CutsHeader start end ⊎ ClientStopsAt end.stop (record {
         len = data_len_of start.reader.header;
         count = end.accepted;
         most = start.seat.frames;
@@ -152,7 +154,7 @@ module _ (past : List Act) (old new : StreamSeatValue) (r : IsReopened old new) 
         left = end.left;
         calls = past ++ old.calls.list;
       })
-      → WroteNothing start end ⊎ CutsHeader start end ⊎ StopsAt end.stop (record {
+      → WroteNothing start end ⊎ CutsHeader start end ⊎ ClientStopsAt end.stop (record {
         len = data_len_of start.reader.header;
         count = end.accepted;
         most = start.seat.frames;
@@ -162,7 +164,7 @@ module _ (past : List Act) (old new : StreamSeatValue) (r : IsReopened old new) 
       })
   stops_across start end rest (inl a) = inl a
   stops_across start end rest (inr (inl a)) = inr (inl a)
-  stops_across start end rest (inr (inr a)) = inr (inr (subst (λ (calls : List Act). StopsAt end.stop (record {
+  stops_across start end rest (inr (inr a)) = inr (inr (subst (λ (calls : List Act). ClientStopsAt end.stop (record {
     len = data_len_of start.reader.header;
     count = end.accepted;
     most = start.seat.frames;

@@ -1,5 +1,7 @@
 -- What a client comes to.
-use Rattle.std.proofs.Common.{◌≡◌, ◌≢◌, ◌↔◌, ◌⊎◌, ℕ, ◌+◌, true, false, List, [], ◌∷◌, ◌++◌, length, take, Option, Result, Ok, Err, OnOk, IfErr, refl, sym, ap, ◌∙◌, append-nil, length-append, arith, subst, inl, inr, unwrap_or}
+use Rattle.std.proofs.Common.{◌≡◌, ◌≢◌, ◌↔◌, ◌⊎◌, ℕ, ◌+◌, true, false, List, [], ◌∷◌, ◌++◌, length, take}
+use Rattle.std.proofs.Common.{Option, Result, Ok, Err, OnOk, IfErr, refl, sym, ap, ◌∙◌, append-nil}
+use Rattle.std.proofs.Common.{length-append, arith, subst, inl, inr, unwrap_or}
 use Rattle.std.proofs.KnownBytes.{Appends-kept, Appends-trans, Consumes-nil}
 use Rattle.std.proofs.lemmas.List.{length-take-le}
 use Rattle.std.proofs.lemmas.List.Elements.{All-nil}
@@ -19,8 +21,8 @@ use Rattle.serve_hub.specs.Seats.{StreamSeatValue}
 use Rattle.serve_work.specs.declared.stop.Cause.TheVariants.{NoMemory}
 use Rattle.serve_work.specs.declared.stop.Stop.{Stop}
 use Rattle.serve_work.specs.declared.stop.Stop.TheVariants.{Whole, Read, Write, Refused, Torn}
-use Rattle.serve_work.specs.Clients.{ClientEnds, ClientOutcome, ClientStart, CutsHeader, Progress}
-use Rattle.serve_work.specs.Clients.{StopsAt, WroteImages, WroteNothing, reads_at}
+use Rattle.serve_work.specs.Clients.{ClientEnds, ClientOutcome, ClientProgress, ClientStart, CutsHeader}
+use Rattle.serve_work.specs.Clients.{ClientStopsAt, WroteImages, WroteNothing, reads_at}
 use Rattle.serve_work.specs.ClientInside.{BreaksOff, Flushes, IsSent, SendsWhole, Serves, TalliesSeat}
 use Rattle.serve_work.specs.Rests.{IsFresh, IsTallied, IsUnbegun}
 use Rattle.serve_work.proofs.Tallying.{counted_later}
@@ -68,14 +70,14 @@ module _ {T : Type 0} where
   whole_flush (Write f) flush told e is = let both : Write f ≡ Whole = sym e ∙ is in absurd (cc)
   whole_flush Torn flush told e is = let both : Torn ≡ Whole = sym e ∙ is in absurd (cc)
 
-  stops_flushed : (stop : Stop) (flush : Result T WriteFault) (told : Stop) (at : Progress) → Flushes stop flush told
-      → StopsAt stop at → StopsAt told at
-  stops_flushed Whole (Ok t) told at e a = subst (λ s. StopsAt s at) (sym e) a
-  stops_flushed Whole (Err f) told at e a = subst (λ s. StopsAt s at) (sym e) (inr a)
-  stops_flushed (Read f) flush told at e a = subst (λ s. StopsAt s at) (sym e) a
-  stops_flushed (Refused cause) flush told at e a = subst (λ s. StopsAt s at) (sym e) a
-  stops_flushed (Write f) flush told at e a = subst (λ s. StopsAt s at) (sym e) a
-  stops_flushed Torn flush told at e a = subst (λ s. StopsAt s at) (sym e) a
+  stops_flushed : (stop : Stop) (flush : Result T WriteFault) (told : Stop) (at : ClientProgress) → Flushes stop flush told
+      → ClientStopsAt stop at → ClientStopsAt told at
+  stops_flushed Whole (Ok t) told at e a = subst (λ s. ClientStopsAt s at) (sym e) a
+  stops_flushed Whole (Err f) told at e a = subst (λ s. ClientStopsAt s at) (sym e) (inr a)
+  stops_flushed (Read f) flush told at e a = subst (λ s. ClientStopsAt s at) (sym e) a
+  stops_flushed (Refused cause) flush told at e a = subst (λ s. ClientStopsAt s at) (sym e) a
+  stops_flushed (Write f) flush told at e a = subst (λ s. ClientStopsAt s at) (sym e) a
+  stops_flushed Torn flush told at e a = subst (λ s. ClientStopsAt s at) (sym e) a
 
   reads_flushed : (stop : Stop) (flush : Result T WriteFault) (told : Stop) (n : ℕ) → Flushes stop flush told
       → reads_at told n ≡ reads_at stop n
@@ -230,7 +232,7 @@ module _ (start : ClientStart) (end : ClientOutcome) (shown : HeaderValue) (writ
       → Flushes stop flush end.stop → end.accepted ≡ seat'.accepted → end.delivered ≡ writer'.frames
       → end.left ≡ reader'.left → end.read_failures ≡ reader'.failures → ClientEnds start past seat' end
   ClientEnds-served past stop reader' seat' writer' flush s fresh tally fin flushes accepted delivered left reads =
-      let at : ℕ → Option (List ℕ) → Progress = λ k l. record {
+      let at : ℕ → Option (List ℕ) → ClientProgress = λ k l. record {
         len = data_len_of start.reader.header;
         count = k;
         most = start.seat.frames;
@@ -246,7 +248,7 @@ module _ (start : ClientStart) (end : ClientOutcome) (shown : HeaderValue) (writ
         taken = s.read.taken;
         count = omega (arith, counted, fresh.accepted);
         stops = inr (inr (stops_flushed stop flush end.stop (at end.accepted end.left) flushes
-            (subst (StopsAt stop) (ap (λ k. at k reader'.left) counted ∙ ap (at end.accepted) (sym left)) s.read.stops)));
+            (subst (ClientStopsAt stop) (ap (λ k. at k reader'.left) counted ∙ ap (at end.accepted) (sym left)) s.read.stops)));
         reads = reads ∙ s.read.reads ∙ sym (reads_flushed stop flush end.stop start.reader.failures flushes);
         out = inr (inr (wrote_until s.frames stop writer' flush s.sent (λ is. (s.whole is).1) fin flushes delivered));
         whole = λ is.

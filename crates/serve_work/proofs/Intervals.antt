@@ -1,22 +1,34 @@
 -- How a session comes from one epoch to the next.
 use Rattle.std.specs.Prelude.{Bool, drop}
 use Rattle.std.specs.List.{AllByRecursion}
-use Rattle.std.proofs.Common.{◌≡◌, ℕ, suc, ◌≤◌, List, [], ◌∷◌, ◌++◌, Option, Result, Ok, Err, OnOk, length, get_or, map, refl, sym, ap, ◌∙◌, subst, arith}
+use Rattle.std.proofs.Common.{append-nil, append_assoc, inl, ◌≡◌, ◌≢◌, ℕ, zero, suc, ◌≤◌, List, [], ◌∷◌, ◌++◌}
+use Rattle.std.proofs.Common.{Option, Result, Ok, Err, OnOk, length, get_or, map, refl, sym, ap, ◌∙◌, subst}
+use Rattle.std.proofs.Common.{arith}
+use Rattle.std.proofs.Common.{length-append}
 use Rattle.y4m_stream.specs.Reader.{ReaderState}
-use Rattle.serve_core.specs.Setup.{StreamSpec}
+use Rattle.serve_core.specs.Desk.{desk_state}
+use Rattle.serve_core.specs.Schedule.{ScheduleValue, opened_schedule}
+use Rattle.serve_core.specs.Setup.{Setup, StreamSpec}
+use Rattle.serve_core.specs.Streams.{KeptStream, opened}
 use Rattle.serve_hub.specs.declared.entry.Act.{Act}
-use Rattle.serve_hub.specs.Books.{IsLimit}
-use Rattle.serve_hub.specs.Seats.{StreamRest, StreamSeatValue, left_by, opened_rest, opened_streams, seat_over}
+use Rattle.serve_hub.specs.declared.entry.Entry.{Entry}
+use Rattle.serve_hub.specs.Books.{BookValue, IsBook, IsLimit, book_transcript, specs_of}
+use Rattle.serve_hub.specs.Ends.{IsMissing}
+use Rattle.serve_hub.specs.Journal.{IsJournal}
+use Rattle.serve_hub.proofs.Journals.{joined_is}
+use Rattle.serve_hub.proofs.Specs.{added, specs_led}
+use Rattle.serve_hub.specs.Seats.{StreamRest, StreamSeatValue, hub_of, left_by, opened_rest, opened_streams, seat_over}
 use Rattle.serve_work.specs.declared.session.interval.Interval.{Interval}
 use Rattle.serve_work.specs.Clients.{ClientStart}
 use Rattle.serve_work.specs.Epochs.{IsReopened}
-use Rattle.serve_work.specs.Intervals.{AreBeginnings, IsBetween, IsSized}
+use Rattle.serve_work.specs.Intervals.{Beginning, IsBeginning, IsBetween, IsLater, IsSized, LeadsTo, beginning_of}
 use Rattle.serve_work.specs.Rests.{IsRestOf, Unbegun}
-use Rattle.serve_work.specs.Sessions.{AreInputs, IsInput, start_of, starts_of}
-use Rattle.serve_work.specs.SessionInside.{AllStand, HeldValue, IsReady, IsReadyAt, Over, StandsAt, StreamValue, Waiting, held_at, held_with, unread}
+use Rattle.serve_work.specs.Sessions.{AllAtMoments, AreInputs, IsInput, acts_in, start_of, starts_of}
+use Rattle.serve_work.specs.SessionInside.{AllBegin, AllStand, HeldValue, IsReady, IsReadyAt, Over, StandsAt}
+use Rattle.serve_work.specs.SessionInside.{StreamValue, Waiting, held_at, held_with, unread}
 use Rattle.serve_work.proofs.Crossing.{new_stream_is_unbegun, streams_cross}
-use Rattle.serve_work.proofs.SessionCharges.{are_from, opened_length}
-use Rattle.serve_work.proofs.SessionTurns.{rest_sized}
+use Rattle.serve_work.proofs.SessionCharges.{are_from}
+use Rattle.serve_work.proofs.SessionTurns.{both_given, none_yet, rest_sized, same_length}
 
 -- streams that are seen as the same, with the same seats
 held_same : {S T : Type 0} (f : S → StreamValue) (h : T → StreamValue) (seats : List StreamSeatValue) (xs : List S) (ys : List T)
@@ -47,20 +59,20 @@ module _ {W : Type 0} (contents : W → Option (List ℕ)) (failures : W → ℕ
       (record { calls = refl; accepted = refl; kept = refl; is_open = refl }) p.is_open
 
   all_begin : (first : ℕ) (specs : List StreamSpec) (inputs : List (ReaderState × W)) → AreInputs specs inputs
-      → AllStand (starts_of contents failures (opened_streams limit first specs) inputs)
+      → AllBegin [] (starts_of contents failures (opened_streams limit first specs) inputs)
       (held_with (unread contents failures) (opened_streams limit first specs) inputs)
   all_begin first [] [] p = tt
   all_begin first [] (input ∷ inputs) p = absurd p
   all_begin first (spec ∷ specs) [] p = absurd p
-  all_begin first (spec ∷ specs) (input ∷ inputs) p = (([], unbegun first spec input p.0), all_begin (suc first) specs inputs p.1)
+  all_begin first (spec ∷ specs) (input ∷ inputs) p = (unbegun first spec input p.0, all_begin (suc first) specs inputs p.1)
 
   -- new seats, and streams that are seen as these inputs, stand where they begin
   pub begins_at : {S : Type 0} (value : S → StreamValue) (specs : List StreamSpec) (inputs : List (ReaderState × W))
       (seats : List StreamSeatValue) (streams : List S) → AreInputs specs inputs → seats ≡ opened_streams limit 0 specs
       → map value streams ≡ map (unread contents failures) inputs
-      → AllStand (starts_of contents failures (opened_streams limit 0 specs) inputs) (held_with value seats streams)
+      → AllBegin [] (starts_of contents failures (opened_streams limit 0 specs) inputs) (held_with value seats streams)
   begins_at value specs inputs seats streams p e f =
-      subst (AllStand (starts_of contents failures (opened_streams limit 0 specs) inputs))
+      subst (AllBegin [] (starts_of contents failures (opened_streams limit 0 specs) inputs))
       (sym (ap (λ (these : List StreamSeatValue). held_with value these streams) e
       ∙ held_same value (unread contents failures) (opened_streams limit 0 specs) streams inputs f))
       (all_begin 0 specs inputs p)
@@ -72,19 +84,80 @@ module _ {W : Type 0} (contents : W → Option (List ℕ)) (failures : W → ℕ
   all_sized first (spec ∷ specs) [] p = absurd p
   all_sized first (spec ∷ specs) (input ∷ inputs) p = (p.0.header, all_sized (suc first) specs inputs p.1)
 
-  few_starts : (seats : List StreamSeatValue) (inputs : List (ReaderState × W))
-      → length (starts_of contents failures seats inputs) ≤ length seats
-  few_starts [] inputs = omega arith
-  few_starts (seat ∷ seats) [] = omega arith
-  few_starts (seat ∷ seats) (input ∷ inputs) = omega (arith, few_starts seats inputs)
+  all_starts : (first : ℕ) (specs : List StreamSpec) (inputs : List (ReaderState × W)) → AreInputs specs inputs
+      → length (starts_of contents failures (opened_streams limit first specs) inputs) ≡ length specs
+  all_starts first [] [] p = refl
+  all_starts first [] (input ∷ inputs) p = absurd p
+  all_starts first (spec ∷ specs) [] p = absurd p
+  all_starts first (spec ∷ specs) (input ∷ inputs) p = ap suc (all_starts (suc first) specs inputs p.1)
 
-  pub are_beginnings : (specs : List StreamSpec) (inputs : List (ReaderState × W)) → AreInputs specs inputs → IsLimit (length specs) limit
-      → AreBeginnings (starts_of contents failures (opened_streams limit 0 specs) inputs)
-  are_beginnings specs inputs p is = record {
-    numbers = are_from contents failures limit 0 specs inputs;
-    sized = all_sized 0 specs inputs p;
-    few = omega (arith, few_starts (opened_streams limit 0 specs) inputs, opened_length limit 0 specs, is.closes, is.most);
+  pub is_beginning : (setup : Setup) (inputs : List (ReaderState × W)) → AreInputs setup.streams inputs
+      → IsLimit (length setup.streams) limit → IsBeginning (beginning_of contents failures setup limit inputs)
+  is_beginning setup inputs p is = record {
+    numbers = are_from contents failures limit 0 setup.streams inputs;
+    sized = all_sized 0 setup.streams inputs p;
+    few = omega (arith, all_starts 0 setup.streams inputs p, is.closes, is.most);
+    each = all_starts 0 setup.streams inputs p ∙ sym (same_length opened setup.streams);
   }
+
+-- the journal of a session
+
+pub no_entry : (first last : ScheduleValue) → first ≡ last → LeadsTo first [] last
+no_entry first last same =
+    subst (λ (x : ScheduleValue). LeadsTo first [] x) same
+    (record { is_journal = record { entries = tt; leads = (tt, refl) }; specs = refl })
+
+equal : (m n : ℕ) → (m ≢ n → ⊥) → m ≡ n
+equal zero zero not = refl
+equal zero (suc n) not = absurd (not (λ e. omega (arith, e)))
+equal (suc m) zero not = absurd (not (λ e. omega (arith, e)))
+equal (suc m) (suc n) not = ap suc (equal m n (λ differs. not (λ e. differs (omega (arith, e)))))
+
+-- where no seat is missing, each stream has one
+pub all_back : (streams workers count most : ℕ) → ¬ IsMissing (hub_of count most) streams workers → streams ≡ count
+all_back streams workers count most not = equal streams count (λ differs. not (inl differs))
+
+none_more : (xs ys : List StreamSpec) → length (xs ++ ys) ≡ length xs → ys ≡ []
+none_more xs [] e = refl
+none_more xs (y ∷ ys) e = absurd (omega (arith, e, length-append xs (y ∷ ys)))
+
+-- behind a journal comes that of a book which opened where it leads to, and has as many streams
+pub leads_on : (first last : ScheduleValue) (journal : List Entry) (book : BookValue) → LeadsTo first journal last
+    → IsBook book → book.opening ≡ last → length book.desk.streams ≡ length first.streams → LeadsTo first (book.past ++ journal) book.desk
+leads_on first last journal book led is same few =
+    let more : List StreamSpec = added (book_transcript book) in
+    let specs : specs_of book.desk ≡ specs_of first ++ more =
+    specs_led book.opening book.desk (book_transcript book) is.journal.leads
+    ∙ ap (λ (x : ScheduleValue). specs_of x ++ more) same ∙ ap (λ (xs : List StreamSpec). xs ++ more) led.specs in
+    let none : more ≡ [] = none_more (specs_of first) more (omega (
+      arith,
+      few,
+      ap length specs,
+      same_length (λ (stream : KeptStream). stream.state.spec) book.desk.streams,
+      same_length (λ (stream : KeptStream). stream.state.spec) first.streams,
+    )) in
+    let all : specs_of first ++ more ≡ specs_of first =
+    ap (λ (xs : List StreamSpec). specs_of first ++ xs) none ∙ append-nil (specs_of first) in
+    let behind : IsJournal (specs_of first ++ more) (desk_state last) book.past (desk_state book.desk) =
+    subst (λ (x : ScheduleValue). IsJournal (specs_of first ++ more) (desk_state x) book.past (desk_state book.desk)) same
+    (subst (λ (xs : List StreamSpec). IsJournal xs (desk_state book.opening) book.past (desk_state book.desk)) specs is.journal) in
+    record {
+      is_journal = subst (λ (xs : List StreamSpec). IsJournal xs (desk_state first) (book.past ++ journal) (desk_state book.desk)) all
+          (joined_is (specs_of first) more (desk_state first) (desk_state last) (desk_state book.desk) journal book.past
+          led.is_journal behind).0;
+      specs = specs ∙ all;
+    }
+
+opened_specs : (specs : List StreamSpec) → map (λ (stream : KeptStream). stream.state.spec) (map opened specs) ≡ specs
+opened_specs [] = refl
+opened_specs (spec ∷ specs) = ap (λ (these : List StreamSpec). spec ∷ these) (opened_specs specs)
+
+-- a journal from where a setup opens is one of its streams
+pub from_setup : (setup : Setup) (journal : List Entry) (last : ScheduleValue) → LeadsTo (opened_schedule setup) journal last
+    → IsJournal setup.streams (desk_state (opened_schedule setup)) journal (desk_state last)
+from_setup setup journal last led =
+    subst (λ (specs : List StreamSpec). IsJournal specs (desk_state (opened_schedule setup)) journal (desk_state last))
+    (opened_specs setup.streams) led.is_journal
 
 -- where a stream stands, its client may go on
 
@@ -93,12 +166,13 @@ ready_at : (start : ClientStart) (past : List Act) (seat : StreamSeatValue) (str
 ready_at start past seat (Waiting rest) a is = (rest_sized start past seat rest a is, (start, past, a))
 ready_at start past seat (Over outcome) a is = tt
 
-pub all_ready : (starts : List ClientStart) (helds : List HeldValue) → AllStand starts helds → AllByRecursion IsSized starts
-    → AllByRecursion IsReady helds
-all_ready [] [] p is = tt
-all_ready [] (held ∷ helds) p is = absurd p
-all_ready (start ∷ starts) [] p is = absurd p
-all_ready (start ∷ starts) (held ∷ helds) p is = (ready_at start p.0.0 held.seat held.stream p.0.1 is.0, all_ready starts helds p.1 is.1)
+pub all_ready : (journal : List Entry) (starts : List ClientStart) (helds : List HeldValue) → AllBegin journal starts helds
+    → AllByRecursion IsSized starts → AllByRecursion IsReady helds
+all_ready journal [] [] p is = tt
+all_ready journal [] (held ∷ helds) p is = absurd p
+all_ready journal (start ∷ starts) [] p is = absurd p
+all_ready journal (start ∷ starts) (held ∷ helds) p is =
+    (ready_at start (acts_in journal start) held.seat held.stream p.0 is.0, all_ready journal starts helds p.1 is.1)
 
 -- the seats of the next epoch
 
@@ -126,45 +200,76 @@ rests_of helds = map left_by (map (λ (held : HeldValue). held.seat) helds)
 abbrev stream_in : HeldValue → StreamValue
 stream_in held = held.stream
 
-all_cross : (limit : ℕ) (starts : List ClientStart) (helds : List HeldValue) → AllStand starts helds
-    → AllStand starts (held_with stream_in (map (seat_over limit) (rests_of helds)) helds)
-all_cross limit [] [] p = tt
-all_cross limit [] (held ∷ helds) p = absurd p
-all_cross limit (start ∷ starts) [] p = absurd p
-all_cross limit (start ∷ starts) (held ∷ helds) p = (
-  (
-    p.0.0 ++ held.seat.calls.list,
-    stands_across start p.0.0 held.seat (seat_over limit (left_by held.seat)) held.stream (reopened limit held.seat) p.0.1,
-  ),
-  all_cross limit starts helds p.1,
-)
+all_cross : (limit : ℕ) (journal : List Entry) (starts : List ClientStart) (helds : List HeldValue) → AllStand journal starts helds
+    → AllBegin journal starts (held_with stream_in (map (seat_over limit) (rests_of helds)) helds)
+all_cross limit journal [] [] p = tt
+all_cross limit journal [] (held ∷ helds) p = absurd p
+all_cross limit journal (start ∷ starts) [] p = absurd p
+all_cross limit journal (start ∷ starts) (held ∷ helds) p =
+    let next : StreamSeatValue = seat_over limit (left_by held.seat) in (
+      subst (λ (past : List Act). StandsAt held.stream start past next) p.0.2
+          (stands_across start p.0.0 held.seat next held.stream (reopened limit held.seat) p.0.1),
+      all_cross limit journal starts helds p.1,
+    )
+
+-- new seats have made no call
+
+pub new_seats : (limit : ℕ) (rests : List StreamRest) → AllByRecursion (λ seat. seat.calls.list ≡ []) (map (seat_over limit) rests)
+new_seats limit [] = tt
+new_seats limit (rest ∷ rests) = (refl, new_seats limit rests)
+
+pub held_new : {S : Type 0} (value : S → StreamValue) (seats : List StreamSeatValue) (streams : List S)
+    → AllByRecursion (λ seat. seat.calls.list ≡ []) seats
+    → AllByRecursion (λ held. held.seat.calls.list ≡ []) (held_with value seats streams)
+held_new value [] streams none = tt
+held_new value (seat ∷ seats) [] none = tt
+held_new value (seat ∷ seats) (stream ∷ streams) none = (none.0, held_new value seats streams none.1)
 
 -- each stream stands with its seat of the next epoch where it stood
-pub stand_again : {S : Type 0} (value : S → StreamValue) (limit : ℕ) (starts : List ClientStart) (helds : List HeldValue)
-    (seats : List StreamSeatValue) (streams : List S) → AllStand starts helds → seats ≡ map (seat_over limit) (rests_of helds)
-    → map value streams ≡ map (λ held. held.stream) helds → AllStand starts (held_with value seats streams)
-stand_again value limit starts helds seats streams p e f =
-    subst (AllStand starts) (sym (ap (λ (these : List StreamSeatValue). held_with value these streams) e
+pub stand_again : {S : Type 0} (value : S → StreamValue) (limit : ℕ) (journal : List Entry) (starts : List ClientStart)
+    (helds : List HeldValue) (seats : List StreamSeatValue) (streams : List S) → AllStand journal starts helds
+    → seats ≡ map (seat_over limit) (rests_of helds)
+    → map value streams ≡ map (λ held. held.stream) helds → AllBegin journal starts (held_with value seats streams)
+stand_again value limit journal starts helds seats streams p e f =
+    subst (AllBegin journal starts) (sym (ap (λ (these : List StreamSeatValue). held_with value these streams) e
     ∙ held_same value stream_in (map (seat_over limit) (rests_of helds)) streams helds f))
-    (all_cross limit starts helds p)
+    (all_cross limit journal starts helds p)
 
 pub on_ok : {T E : Type 0} (r : Result T E) (P : Type 0) → P → OnOk r P
 on_ok (Ok t) P p = p
 on_ok (Err e) P p = tt
 
--- an interval that is left as it was
-pub still_between : {R W : Type 0} (left : R → Option (List ℕ)) (read_failures : R → ℕ) (after : W → Option (List ℕ)) (failures : W → ℕ)
-    (is_flushed : W → Bool) (starts : List ClientStart) (old new : Interval R W) → new.ended ≡ old.ended → new.streams ≡ old.streams
-    → new.served ≡ old.served → IsBetween left read_failures after failures is_flushed starts old
-    → IsBetween left read_failures after failures is_flushed starts new
-still_between left read_failures after failures is_flushed starts old new e f h at = record {
-  begun = at.begun;
-  helds = at.helds;
-  stand = at.stand;
-  streams = rw f at.streams;
-  seats = rw e at.seats;
-  lanes = rw e at.lanes;
-  charges = rw e at.charges;
-  untold = rw h at.untold;
-  places = rw h at.places;
-}
+module _ {R W : Type 0} (left : R → Option (List ℕ)) (read_failures : R → ℕ) (after : W → Option (List ℕ)) (failures : W → ℕ)
+    (is_flushed : W → Bool) (b : Beginning) (journal : List Entry) where
+  -- an interval that is left as it was
+  pub still_between : (old new : Interval R W) → new.ended ≡ old.ended → new.streams ≡ old.streams → new.served ≡ old.served
+      → IsBetween left read_failures after failures is_flushed b journal old
+      → IsBetween left read_failures after failures is_flushed b journal new
+  still_between old new e f h at = record {
+    begun = at.begun;
+    past = rw e at.past;
+    helds = at.helds;
+    stand = at.stand;
+    streams = rw f at.streams;
+    seats = rw e at.seats;
+    kept = rw e at.kept;
+    charges = rw e at.charges;
+    untold = rw h at.untold;
+    places = rw h at.places;
+  }
+
+  module _ (Gives : ℕ → Type 0) where
+    pub no_later : (now : Interval R W) → IsBetween left read_failures after failures is_flushed b journal now
+        → IsLater left read_failures after failures is_flushed Gives b journal now
+    no_later now at = record { more = []; between = at; moments = none_yet Gives b.starts }
+
+    -- what is later than what is later
+    pub later_on : (more : List Entry) (now : Interval R W) → AllAtMoments Gives more b.starts
+        → IsLater left read_failures after failures is_flushed Gives b (more ++ journal) now
+        → IsLater left read_failures after failures is_flushed Gives b journal now
+    later_on more now given l = record {
+      more = l.more ++ more;
+      between = subst (λ (j : List Entry). IsBetween left read_failures after failures is_flushed b j now)
+          (sym (append_assoc l.more more journal)) l.between;
+      moments = both_given Gives more l.more b.starts given l.moments;
+    }

@@ -1,5 +1,6 @@
 -- How frames move through a seat to a writer.
-use Rattle.std.proofs.Common.{◌≡◌, ℕ, ◌+◌, ◌≤◌, List, [], ◌∷◌, ◌++◌, length, false, refl, sym, ap, ◌∙◌, append_assoc, append-nil, length-append, arith, subst}
+use Rattle.std.proofs.Common.{◌≡◌, ℕ, ◌+◌, ◌≤◌, List, [], ◌∷◌, ◌++◌, length, false, refl, sym, ap, ◌∙◌}
+use Rattle.std.proofs.Common.{append_assoc, append-nil, length-append, arith, subst}
 use Rattle.std.proofs.KnownBytes.{Appends-trans, Appends-nil}
 use Rattle.std.proofs.lemmas.List.{map-append, length-map}
 use Rattle.frame_view.specs.declared.frame.Frame.{Frame}
@@ -16,7 +17,7 @@ use Rattle.y4m_stream.specs.Served.{AreImages, IsImageText}
 use Rattle.y4m_stream.specs.Writer.{FailsToPut, IsOfSize, IsWriterFor, PutsFrame, WriterState}
 use Rattle.y4m_stream.proofs.Filtered.{header_format}
 use Rattle.serve_core.specs.declared.collected.Collected.{Collected}
-use Rattle.serve_core.specs.Lanes.{IsImageOf, source_in}
+use Rattle.serve_core.specs.Streams.{IsImageOf, source_in}
 use Rattle.serve_hub.specs.Calls.{Accepts, Gives}
 use Rattle.serve_hub.specs.Seats.{StreamSeatValue}
 use Rattle.serve_work.specs.declared.stop.Halt.{Halt}
@@ -25,7 +26,8 @@ use Rattle.serve_work.specs.declared.stop.Stop.{Stop}
 use Rattle.serve_work.specs.declared.stop.Stop.TheVariants.{Whole, Read, Write, Refused, Torn}
 use Rattle.serve_work.specs.ClientInside.{Accounted, Cuts, HaltsWith}
 use Rattle.serve_work.specs.ClientInside.{Moves, StopsWith, texts_of}
-use Rattle.serve_work.proofs.Staying.{GivesUp-stays, Puts-writes, Stays-same, Stays-trans, Writes-trans, stays_chain, stays_closed, stays_frames, text_of_value}
+use Rattle.serve_work.proofs.Staying.{GivesUp-stays, Puts-writes, Stays-same, Stays-trans, Writes-trans}
+use Rattle.serve_work.proofs.Staying.{stays_chain, stays_closed, stays_frames, text_of_value}
 use Rattle.serve_work.proofs.Tallying.{Collects-up}
 
 pub frames_text-append : (xs ys : List FrameText) → frames_text (xs ++ ys) ≡ frames_text xs ++ frames_text ys

@@ -26,7 +26,7 @@ use Rattle.serve_work.specs.declared.stop.Halt.{Halt}
 use Rattle.serve_work.specs.declared.stop.Halt.TheVariants.{Full, Stopped}
 use Rattle.serve_work.specs.declared.stop.Stop.{Stop}
 use Rattle.serve_work.specs.declared.stop.Stop.TheVariants.{Whole, Read, Write, Refused, Torn}
-use Rattle.serve_work.specs.Clients.{Progress, StopsAt, reads_at}
+use Rattle.serve_work.specs.Clients.{ClientProgress, ClientStopsAt, reads_at}
 use Rattle.serve_work.specs.ClientInside.{AcceptsTorn, Feeds, FeedsOn, GivesUp, HaltsWith, HasInHand, HasPassed, Holds, IsCounted}
 use Rattle.serve_work.specs.ClientInside.{IsOfDelivery, IsOfSeat, IsSizedFed, IsUnread, Moves, Offers, Passes, Refuses, StopsReading, Takes}
 use Rattle.serve_work.specs.ClientInside.{TalliesSeat, Unfed, fed_before, text_in}
@@ -64,8 +64,8 @@ takes_of reader reader' seat seat' writer writer' frames p = record {
 }
 
 -- why a seat or a writer takes no more frames
-stops_of_seat : (stop : Stop) (at : Progress) → IsOfSeat stop → HasNext at.len at.rest at.left
-    → (stop ≡ Refused TooManyFrames → at.count ≡ at.most) → StopsAt stop at
+stops_of_seat : (stop : Stop) (at : ClientProgress) → IsOfSeat stop → HasNext at.len at.rest at.left
+    → (stop ≡ Refused TooManyFrames → at.count ≡ at.most) → ClientStopsAt stop at
 stops_of_seat Whole at own next limit = absurd own
 stops_of_seat (Read fault) at own next limit = absurd own
 stops_of_seat (Refused TooManyFrames) at own next limit = (limit refl, next)
@@ -296,7 +296,7 @@ pub read_behind : (past : List Act) (stop : Stop) (reader mid reader' : ReaderSt
     → between.accepted ≡ seat.accepted + length frames → between.frames ≡ seat.frames
     → StopsReading past stop mid reader' between seat' more → StopsReading past stop reader reader' seat seat' (frames ++ more)
 read_behind past stop reader mid reader' seat between seat' frames more a count most b =
-    let at : ℕ → ℕ → ℕ → Progress = λ len count most. record {
+    let at : ℕ → ℕ → ℕ → ClientProgress = λ len count most. record {
       len = len;
       count = count;
       most = most;
@@ -311,7 +311,8 @@ read_behind past stop reader mid reader' seat between seat' frames more a count 
       each = All-append (IsFrameOf (data_len_of reader.header)) frames more a.each (rw a.header at b.each);
       taken = rw (frames_text-append frames more)
           (Consumes-trans reader.rest mid.rest b.rest (frames_text frames) (frames_text more) a.taken b.taken);
-      stops = subst (StopsAt stop) (ap (λ (h : HeaderValue). at (data_len_of h) (between.accepted + length more) between.frames) a.header
+      stops = subst (ClientStopsAt stop)
+          (ap (λ (h : HeaderValue). at (data_len_of h) (between.accepted + length more) between.frames) a.header
           ∙ ap (λ k. at (data_len_of reader.header) k between.frames) both
           ∙ ap (at (data_len_of reader.header) (seat.accepted + length (frames ++ more))) most) b.stops;
       reads = rw a.no_failure at b.reads;

@@ -1,5 +1,6 @@
 -- How a client goes on from where it paused.
-use Rattle.std.proofs.Common.{All, ◌≡◌, ℕ, ◌≤◌, List, [], length, Option, IfSome, None, Some, refl, sym, ap, ◌∙◌, append-nil, arith, subst, inl, inr, false}
+use Rattle.std.proofs.Common.{All, ◌≡◌, ℕ, ◌≤◌, List, [], length, Option, IfSome, None, Some, refl, sym, ap}
+use Rattle.std.proofs.Common.{◌∙◌, append-nil, arith, subst, inl, inr, false}
 use Rattle.std.proofs.KnownBytes.{Appends-nil, Consumes-nil}
 use Rattle.std.proofs.lemmas.List.Elements.{All-nil}
 use Rattle.std.specs.declared.alloc.Global.{Global}

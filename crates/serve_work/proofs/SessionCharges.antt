@@ -1,21 +1,25 @@
 -- What the streams of a session are charged.
 use Rattle.std.specs.Prelude.{All, IsSomeAnd, drop, slice_get, slice_set, ⊤}
+use Rattle.std.specs.List.{AllZip}
 use Rattle.std.specs.Option.{option_map}
-use Rattle.std.proofs.Common.{◌≡◌, ℕ, suc, zero, ◌+◌, ◌*◌, ◌≤◌, ◌<◌, List, [], ◌∷◌, length, get_or, map, Option, Some, None, inl, inr, refl, sym, ap, ◌∙◌, subst, arith}
+use Rattle.std.proofs.Common.{◌≡◌, ℕ, suc, zero, ◌+◌, ◌*◌, ◌≤◌, ◌<◌, List, [], ◌∷◌, length, get_or, map}
+use Rattle.std.proofs.Common.{Option, Some, None, inl, inr, refl, sym, ap, ◌∙◌, subst, arith}
 use Rattle.std.proofs.lemmas.Nat.{mul-le}
 use Rattle.std.proofs.lemmas.Option.{slice_get_cases}
 use Rattle.filters.specs.Costs.{cost_of}
 use Rattle.y4m_stream.specs.Reader.{ReaderState}
 use Rattle.serve_core.specs.declared.counts.Counts.{Counts}
-use Rattle.serve_core.specs.Lanes.{Lane}
-use Rattle.serve_core.specs.Schedule.{HasLane, ScheduleValue, counts_of}
+use Rattle.serve_core.specs.Schedule.{HasStream, ScheduleValue, counts_of}
 use Rattle.serve_core.specs.Setup.{StreamSpec}
+use Rattle.serve_core.specs.Streams.{KeptStream}
 use Rattle.serve_hub.specs.declared.entry.Act.{Act}
-use Rattle.serve_hub.specs.Ends.{AreLanes, IsCharged, IsLaneOf}
+use Rattle.serve_hub.specs.declared.entry.Entry.{Entry}
+use Rattle.serve_hub.specs.Ends.{AreStreamsOf, IsCharged, IsStreamOf}
 use Rattle.serve_hub.specs.Seats.{StreamSeatValue, collected_by, opened_streams}
+use Rattle.serve_work.specs.declared.stop.Stop.TheVariants.{Whole}
 use Rattle.serve_work.specs.Clients.{ClientEnds, ClientOutcome, ClientStart}
 use Rattle.serve_work.specs.Intervals.{AreFrom}
-use Rattle.serve_work.specs.Sessions.{AreServed, IsServed, ServedValue, starts_of}
+use Rattle.serve_work.specs.Sessions.{AreServed, IsLaneTold, IsServedBy, ServedValue, starts_of}
 use Rattle.serve_work.specs.SessionInside.{AllLeave, ClientLeft}
 use Rattle.serve_work.proofs.Tallying.{collections_both, collections_counted}
 
@@ -28,10 +32,6 @@ are_from contents failures limit first (spec ∷ specs) [] = tt
 are_from contents failures limit first (spec ∷ specs) (input ∷ inputs) =
     (refl, are_from contents failures limit (suc first) specs inputs)
 
-pub opened_length : (limit first : ℕ) (specs : List StreamSpec) → length (opened_streams limit first specs) ≡ length specs
-opened_length limit first [] = refl
-opened_length limit first (spec ∷ specs) = ap suc (opened_length limit (suc first) specs)
-
 -- how much a stream was charged
 
 -- no more images were delivered than were collected, in all epochs
@@ -40,18 +40,24 @@ few_delivered : (start : ClientStart) (past : List Act) (seat : StreamSeatValue)
 few_delivered start past seat end ends =
     omega (arith, ends.collections, ends.before, collections_both past seat.calls.list, collections_counted seat.calls.list)
 
-cost_between : (start : ClientStart) (past : List Act) (seat : StreamSeatValue) (end : ClientOutcome) (charged : ℕ) (lane : Lane)
-    → ClientEnds start past seat end → IsLaneOf seat lane → charged ≡ lane.state.charged → IsCharged lane
-    → IsServed start (record { outcome = end; charged = charged })
-cost_between start past seat end charged lane ends of same bounds =
+-- what a stream was charged, by the images that were delivered and the frames that were accepted
+record Charges (start : ClientStart) (end : ClientOutcome) (charged : ℕ) : Type 0 where
+  least : end.delivered * cost_of start.seat.chain ≤ charged
+  most : charged ≤ end.accepted * cost_of start.seat.chain
+  whole : end.stop ≡ Whole → charged ≡ end.accepted * cost_of start.seat.chain
+
+cost_between : (start : ClientStart) (past : List Act) (seat : StreamSeatValue) (end : ClientOutcome) (charged : ℕ) (stream : KeptStream)
+    → ClientEnds start past seat end → IsStreamOf seat stream → charged ≡ stream.state.charged → IsCharged stream
+    → Charges start end charged
+cost_between start past seat end charged stream ends of same bounds =
     let cost : ℕ = cost_of start.seat.chain in
-    let own : cost_of lane.state.spec.chain ≡ cost = ap cost_of (of.chain ∙ ends.chain) in
+    let own : cost_of stream.state.spec.chain ≡ cost = ap cost_of (of.chain ∙ ends.chain) in
     let least : end.delivered * cost ≤ charged =
     omega (
       arith,
-      mul-le end.delivered cost lane.state.collected cost
+      mul-le end.delivered cost stream.state.collected cost
           (omega (arith, few_delivered start past seat end ends, of.collected)) (omega arith),
-      ap (λ n. lane.state.collected * n) own,
+      ap (λ n. stream.state.collected * n) own,
       bounds.least,
       same,
     ) in
@@ -60,33 +66,28 @@ cost_between start past seat end charged lane ends of same bounds =
       arith,
       bounds.most,
       same,
-      ap (λ n. lane.state.accepted * n) own,
+      ap (λ n. stream.state.accepted * n) own,
       ap (λ n. n * cost) (of.accepted ∙ ends.accepted),
     ) in
-    record {
-      past = past;
-      seat = seat;
-      ends = ends;
-      least = least;
-      most = most;
-      whole = λ is. omega (arith, least, most, ap (λ n. n * cost) (ends.whole is).all);
-    }
+    record { least = least; most = most; whole = λ is. omega (arith, least, most, ap (λ n. n * cost) (ends.whole is).all) }
 
-is_there : (o : Option Lane) (P : Lane → Type 0) → IsSomeAnd o P → IsSomeAnd o (λ _. ⊤)
+is_there : (o : Option KeptStream) (P : KeptStream → Type 0) → IsSomeAnd o P → IsSomeAnd o (λ _. ⊤)
 is_there None P p = absurd p
-is_there (Some lane) P p = tt
+is_there (Some stream) P p = tt
 
--- a lane of the desk, of which these are true
-record LaneAt (desk : ScheduleValue) (n : ℕ) (P Q : Lane → Type 0) : Type 0 where
-  lane : Lane
-  first : P lane
-  second : Q lane
-  among : All IsCharged desk.lanes → IsCharged lane
+-- a stream of the desk, of which these are true
+record StreamAt (desk : ScheduleValue) (n : ℕ) (P Q : KeptStream → Type 0) : Type 0 where
+  stream : KeptStream
+  here : slice_get desk.streams n ≡ Some stream
+  first : P stream
+  second : Q stream
+  among : All IsCharged desk.streams → IsCharged stream
 
-lane_at : (desk : ScheduleValue) (n : ℕ) (P Q : Lane → Type 0) → HasLane desk n P → HasLane desk n Q → LaneAt desk n P Q
-lane_at desk n P Q p q = elim (slice_get_cases desk.lanes n).1 [
+stream_at : (desk : ScheduleValue) (n : ℕ) (P Q : KeptStream → Type 0) → HasStream desk n P → HasStream desk n Q → StreamAt desk n P Q
+stream_at desk n P Q p q = elim (slice_get_cases desk.streams n).1 [
   | inl here ↦ record {
-    lane = here.0;
+    stream = here.0;
+    here = here.2;
     first = subst (λ o. IsSomeAnd o P) here.2 p;
     second = subst (λ o. IsSomeAnd o Q) here.2 q;
     among = λ all. subst IsCharged here.3 (all n here.0 here.1);
@@ -94,54 +95,77 @@ lane_at desk n P Q p q = elim (slice_get_cases desk.lanes n).1 [
   | inr past ↦ absurd (subst (λ o. IsSomeAnd o P) past.1 p)
 ]
 
-module _ {S : Type 0} (told : S → ServedValue) (desk : ScheduleValue) (all : All IsCharged desk.lanes) where
+module _ {S : Type 0} (told : S → ServedValue) (journal : List Entry) (desk : ScheduleValue) (all : All IsCharged desk.streams) where
   all_served_from : (first : ℕ) (starts : List ClientStart) (lefts : List ClientLeft) (served : List S)
-      → AllLeave starts lefts → AreFrom first starts → AreLanes desk (map (λ left. left.seat) lefts)
+      → AllLeave journal starts lefts → AreFrom first starts → AreStreamsOf desk (map (λ left. left.seat) lefts)
       → map (λ s. (told s).outcome) served ≡ map (λ left. left.outcome) lefts
       → ((k n : ℕ) (d : S) → n ≡ first + k → k < length served
-      → HasLane desk n (λ lane. (told (get_or served k d)).charged ≡ lane.state.charged))
-      → AreServed starts (map told served)
-  all_served_from first [] [] [] p from lanes e charges = tt
-  all_served_from first [] [] (s ∷ served) p from lanes e charges = absurd (omega (arith, ap length e))
-  all_served_from first [] (left ∷ lefts) served p from lanes e charges = absurd p
-  all_served_from first (start ∷ starts) [] served p from lanes e charges = absurd p
-  all_served_from first (start ∷ starts) (left ∷ lefts) [] p from lanes e charges = absurd (omega (arith, ap length e))
-  all_served_from first (start ∷ starts) (left ∷ lefts) (s ∷ served) p from lanes e charges =
+      → HasStream desk n (λ stream. (told (get_or served k d)).charged ≡ stream.state.charged))
+      → AllZip (IsServedBy journal desk) starts (map told served)
+  all_served_from first [] [] [] p from streams e charges = tt
+  all_served_from first [] [] (s ∷ served) p from streams e charges = absurd (omega (arith, ap length e))
+  all_served_from first [] (left ∷ lefts) served p from streams e charges = absurd p
+  all_served_from first (start ∷ starts) [] served p from streams e charges = absurd p
+  all_served_from first (start ∷ starts) (left ∷ lefts) [] p from streams e charges = absurd (omega (arith, ap length e))
+  all_served_from first (start ∷ starts) (left ∷ lefts) (s ∷ served) p from streams e charges =
       let outcome : (told s).outcome ≡ left.outcome = ap (λ os. get_or os 0 left.outcome) e in
-      let here = subst (λ n. HasLane desk n (IsLaneOf left.seat)) (p.0.1.number ∙ from.0) (lanes 0 left.seat (omega arith)) in
-      let at = lane_at desk first _ _ here (charges 0 first s (omega arith) (omega arith)) in (
-        cost_between start p.0.0 left.seat (told s).outcome (told s).charged at.lane
-            (subst (ClientEnds start p.0.0 left.seat) (sym outcome) p.0.1) at.first at.second (at.among all),
+      let ends : ClientEnds start p.0.0 left.seat (told s).outcome = subst (ClientEnds start p.0.0 left.seat) (sym outcome) p.0.1 in
+      let here = subst (λ n. HasStream desk n (IsStreamOf left.seat)) (ends.number ∙ from.0) (streams 0 left.seat (omega arith)) in
+      let at = stream_at desk first _ _ here (charges 0 first s (omega arith) (omega arith)) in
+      let cost = cost_between start p.0.0 left.seat (told s).outcome (told s).charged at.stream ends at.first at.second (at.among all) in
+      let is_told : IsLaneTold (told s) at.stream =
+      record { accepted = at.first.accepted ∙ ends.accepted; charged = sym at.second } in (
+        record {
+          is_served = record {
+            past = p.0.0;
+            seat = left.seat;
+            ends = ends;
+            least = cost.least;
+            most = cost.most;
+            whole = cost.whole;
+          };
+          calls = p.0.2;
+          stream = subst (λ n. HasStream desk n (IsLaneTold (told s))) (sym from.0)
+              (subst (λ o. IsSomeAnd o (IsLaneTold (told s))) (sym at.here) is_told);
+        },
         all_served_from (suc first) starts lefts served p.1 from.1
-            (λ k d less. lanes (suc k) d (omega (arith, less)))
+            (λ k d less. streams (suc k) d (omega (arith, less)))
             (ap (λ os. drop 1 os) e)
             (λ k n d same less. charges (suc k) n d (omega (arith, same)) (omega (arith, less))),
       )
 
-  -- each stream was served, where its lane has what its client left, and what it is told to be charged
+  -- each stream was served, where the desk has of it what its client left, and what it is told to be charged
   pub all_served : (starts : List ClientStart) (lefts : List ClientLeft) (served : List S)
-      → AllLeave starts lefts → AreFrom 0 starts → AreLanes desk (map (λ left. left.seat) lefts)
+      → AllLeave journal starts lefts → AreFrom 0 starts → AreStreamsOf desk (map (λ left. left.seat) lefts)
       → map (λ s. (told s).outcome) served ≡ map (λ left. left.outcome) lefts
       → ((k : ℕ) (d : S) → k < length served
-      → HasLane desk k (λ lane. (told (get_or served k d)).charged ≡ lane.state.charged))
-      → AreServed starts (map told served)
-  all_served starts lefts served p from lanes e charges =
-      all_served_from 0 starts lefts served p from lanes e
-      (λ k n d same less. subst (λ m. HasLane desk m (λ lane. (told (get_or served k d)).charged ≡ lane.state.charged))
+      → HasStream desk k (λ stream. (told (get_or served k d)).charged ≡ stream.state.charged))
+      → AllZip (IsServedBy journal desk) starts (map told served)
+  all_served starts lefts served p from streams e charges =
+      all_served_from 0 starts lefts served p from streams e
+      (λ k n d same less. subst (λ m. HasStream desk m (λ stream. (told (get_or served k d)).charged ≡ stream.state.charged))
       (omega (arith, same)) (charges k d less))
 
--- each stream has a lane
-pub have_lanes : (desk : ScheduleValue) (first : ℕ) (starts : List ClientStart) (lefts : List ClientLeft)
-    → AllLeave starts lefts → AreFrom first starts → AreLanes desk (map (λ left. left.seat) lefts)
-    → (k n : ℕ) → n ≡ first + k → k < length lefts → HasLane desk n (λ _. ⊤)
-have_lanes desk first starts [] p from lanes k n same less = absurd (omega (arith, less))
-have_lanes desk first [] (left ∷ lefts) p from lanes k n same less = absurd p
-have_lanes desk first (start ∷ starts) (left ∷ lefts) p from lanes zero n same less =
-    let here = subst (λ n. HasLane desk n (IsLaneOf left.seat)) (p.0.1.number ∙ from.0 ∙ (omega (arith, same)))
-    (lanes 0 left.seat (omega arith)) in
-    is_there (slice_get desk.lanes n) (IsLaneOf left.seat) here
-have_lanes desk first (start ∷ starts) (left ∷ lefts) p from lanes (suc k) n same less =
-    have_lanes desk (suc first) starts lefts p.1 from.1 (λ j d more. lanes (suc j) d (omega (arith, more)))
+-- each stream that is told was served
+pub are_served : (journal : List Entry) (last : ScheduleValue) (starts : List ClientStart) (served : List ServedValue)
+    → AllZip (IsServedBy journal last) starts served → AreServed starts served
+are_served journal last [] [] p = tt
+are_served journal last [] (s ∷ served) p = absurd p
+are_served journal last (start ∷ starts) [] p = absurd p
+are_served journal last (start ∷ starts) (s ∷ served) p = (p.0.is_served, are_served journal last starts served p.1)
+
+-- the desk has each stream
+pub each_kept : (journal : List Entry) (desk : ScheduleValue) (first : ℕ) (starts : List ClientStart) (lefts : List ClientLeft)
+    → AllLeave journal starts lefts → AreFrom first starts → AreStreamsOf desk (map (λ left. left.seat) lefts)
+    → (k n : ℕ) → n ≡ first + k → k < length lefts → HasStream desk n (λ _. ⊤)
+each_kept journal desk first starts [] p from streams k n same less = absurd (omega (arith, less))
+each_kept journal desk first [] (left ∷ lefts) p from streams k n same less = absurd p
+each_kept journal desk first (start ∷ starts) (left ∷ lefts) p from streams zero n same less =
+    let here = subst (λ n. HasStream desk n (IsStreamOf left.seat)) (p.0.1.number ∙ from.0 ∙ (omega (arith, same)))
+    (streams 0 left.seat (omega arith)) in
+    is_there (slice_get desk.streams n) (IsStreamOf left.seat) here
+each_kept journal desk first (start ∷ starts) (left ∷ lefts) p from streams (suc k) n same less =
+    each_kept journal desk (suc first) starts lefts p.1 from.1 (λ j d more. streams (suc j) d (omega (arith, more)))
     k n (omega (arith, same)) (omega (arith, less))
 
 -- what is told of the streams, one by one
@@ -153,15 +177,15 @@ map_set f [] n d x e = refl
 map_set f (y ∷ xs) zero d x e = ap (λ z. z ∷ map f xs) e
 map_set f (y ∷ xs) (suc n) d x e = ap (λ zs. f y ∷ zs) (map_set f xs n d x e)
 
--- a lane's counts are told
-pub charge_told : (o : Option Lane) (counts : Counts) → Some counts ≡ option_map (λ lane. counts_of lane.state) o
-    → IsSomeAnd o (λ lane. counts.charged ≡ lane.state.charged)
+-- a stream's counts are told
+pub charge_told : (o : Option KeptStream) (counts : Counts) → Some counts ≡ option_map (λ stream. counts_of stream.state) o
+    → IsSomeAnd o (λ stream. counts.charged ≡ stream.state.charged)
 charge_told None counts e = absurd (cc)
-charge_told (Some lane) counts e = let same : counts ≡ counts_of lane.state = cc in ap (λ (c : Counts). c.charged) same
+charge_told (Some stream) counts e = let same : counts ≡ counts_of stream.state = cc in ap (λ (c : Counts). c.charged) same
 
-pub no_lane : (o : Option Lane) → None ≡ option_map (λ lane. counts_of lane.state) o → IsSomeAnd o (λ _. ⊤) → ⊥
-no_lane None e p = absurd p
-no_lane (Some lane) e p = absurd (cc)
+pub no_stream : (o : Option KeptStream) → None ≡ option_map (λ stream. counts_of stream.state) o → IsSomeAnd o (λ _. ⊤) → ⊥
+no_stream None e p = absurd p
+no_stream (Some stream) e p = absurd (cc)
 
 -- one more is told
 pub told_more : {S : Type 0} (Told : ℕ → S → Type 0) (served : List S) (n : ℕ) (x : S) → n < length served

@@ -1,21 +1,31 @@
 -- What the streams of a session come to, turn by turn.
-use Rattle.std.specs.Prelude.{IsErrAnd, MatchOption, drop, take, unwrap_or, ⊤, Bool}
-use Rattle.std.specs.List.{AllByRecursion}
-use Rattle.std.proofs.Common.{append_assoc, ◌≡◌, ◌≢◌, IfErr, ℕ, suc, ◌<◌, List, [], ◌∷◌, ◌++◌, length, get_or, map, Option, Some, None, append-nil, take_all, Result, Ok, Err, inl, inr, ◌⊎◌, refl, sym, ap, ◌∙◌, subst, arith}
-use Rattle.std.proofs.lemmas.List.{drop_all}
+use Rattle.std.specs.Prelude.{IsErrAnd, MatchOption, drop, take, unwrap_or, ⊤, Bool, filter, reverse}
+use Rattle.std.specs.List.{AllByRecursion, AllZip}
+use Rattle.std.proofs.Common.{append_assoc, ◌≡◌, ◌≢◌, IfErr, ℕ, suc, ◌<◌, List, [], ◌∷◌, ◌++◌, length, get_or}
+use Rattle.std.proofs.Common.{map, Option, Some, None, append-nil, take_all, Result, Ok, Err, inl, inr, ◌⊎◌}
+use Rattle.std.proofs.Common.{refl, sym, ap, ◌∙◌, subst, arith}
+use Rattle.std.proofs.lemmas.List.{drop_all, map-append, reverse-append}
+use Rattle.std.proofs.lemmas.List.Elements.{filter-append}
 use Rattle.y4m_stream.specs.Reader.{IsOfHeader, ReaderState}
 use Rattle.serve_core.specs.Setup.{StreamSpec}
 use Rattle.serve_hub.specs.declared.entry.Act.{Act}
+use Rattle.serve_hub.specs.declared.entry.Entry.{Entry}
+use Rattle.serve_hub.specs.declared.entry.Seat.{Seat}
+use Rattle.serve_hub.specs.declared.entry.Seat.TheVariants as numbered
+use Rattle.serve_hub.specs.Ends.{AreStreamCalls, acts_of, is_same_seat}
 use Rattle.serve_hub.specs.Seats.{StreamSeatValue}
 use Rattle.serve_work.specs.declared.session.Served.{Served}
 use Rattle.serve_work.specs.declared.session.SessionFault.{SessionFault}
 use Rattle.serve_work.specs.declared.session.SessionFault.TheVariants.{BadLimit, NoMemory}
 use Rattle.serve_work.specs.declared.session.turn.Stream.{Stream}
-use Rattle.serve_work.specs.Clients.{ClientOutcome, ClientStart}
+use Rattle.serve_work.specs.Clients.{AreAtMoments, ClientOutcome, ClientStart, IsAtMoment}
 use Rattle.serve_work.specs.Intervals.{IsSized}
 use Rattle.serve_work.specs.Rests.{Begun, IsRestOf, RestValue, Unbegun, reader_in}
-use Rattle.serve_work.specs.Sessions.{AreInputs, outcome_of}
-use Rattle.serve_work.specs.SessionInside.{AllGoOn, AllLeave, AllRun, AllStand, AreOver, AreUnread, ClientLeft, GoesOn, HeldValue, IsReady, Runs, Stands, StreamValue, held_at, held_with, stream_of}
+use Rattle.serve_work.specs.Sessions.{AllAtMoments, AreInputs, acts_in, outcome_of}
+use Rattle.serve_work.specs.SessionInside.{AllBegin, AllGoOn, AllLeave, AllRun, AllStand, AreOver, AreUnread}
+use Rattle.serve_work.specs.SessionInside.{ClientLeft, GoesOn, HeldValue, IsReady, Over, Runs, Stands}
+use Rattle.serve_work.specs.SessionInside.{StandsAt, StreamValue, Waiting, held_at, held_with, stream_of}
+use Rattle.serve_work.proofs.Tallying.{all_both}
 
 -- a stream's chain and its reader's header stay
 rest_header : (start : ClientStart) (past : List Act) (seat : StreamSeatValue) (rest : RestValue) → IsRestOf start past seat rest
@@ -48,68 +58,130 @@ are_unread [] (input ∷ inputs) p = absurd p
 are_unread (spec ∷ specs) [] p = absurd p
 are_unread (spec ∷ specs) (input ∷ inputs) p = (p.0.is_open, are_unread specs inputs p.1)
 
--- where each stream stood and went on, it stands
-pub stand_on : (starts : List ClientStart) (helds after : List HeldValue) → AllStand starts helds → AllGoOn helds after
-    → AllStand starts after
-stand_on [] [] [] p q = tt
-stand_on [] [] (held ∷ after) p q = absurd q
-stand_on [] (held ∷ helds) after p q = absurd p
-stand_on (start ∷ starts) [] after p q = absurd p
-stand_on (start ∷ starts) (held ∷ helds) [] p q = absurd q
-stand_on (start ∷ starts) (held ∷ helds) (next ∷ after) p q =
-    ((p.0.0, q.0 start p.0.0 p.0.1), stand_on starts helds after p.1 q.1)
+-- the seat of a stream has its number
+pub seat_number : (start : ClientStart) (past : List Act) (seat : StreamSeatValue) (stream : StreamValue) → StandsAt stream start past seat
+    → seat.number ≡ start.seat.number
+seat_number start past seat (Waiting (Unbegun reader contents failures)) a = a.stays.number
+seat_number start past seat (Waiting (Begun begun)) a = a.tally.number
+seat_number start past seat (Over outcome) a = a.number
+
+-- what a seat did by two journals, one behind the other
+
+acts_both : (seat : Seat) (xs ys : List Entry) → acts_of seat (xs ++ ys) ≡ acts_of seat xs ++ acts_of seat ys
+acts_both seat xs ys =
+    ap (map (λ (e : Entry). e.act)) (filter-append (λ (e : Entry). is_same_seat seat e.seat) xs ys)
+    ∙ map-append (λ (e : Entry). e.act) (filter (λ (e : Entry). is_same_seat seat e.seat) xs)
+    (filter (λ (e : Entry). is_same_seat seat e.seat) ys)
+
+pub acts_behind : (start : ClientStart) (first second : List Entry)
+    → acts_in (second ++ first) start ≡ acts_in first start ++ acts_in second start
+acts_behind start first second =
+    ap (acts_of (numbered.Stream start.seat.number)) (reverse-append second first)
+    ∙ acts_both (numbered.Stream start.seat.number) (reverse first) (reverse second)
+
+-- where each stream began and went on, by calls that are its entries, it stands
+
+own_calls : (more : List Entry) (start : ClientStart) (past : List Act) (held : HeldValue) → Stands start past held
+    → acts_of (numbered.Stream held.seat.number) (reverse more) ≡ held.seat.calls.list → held.seat.calls.list ≡ acts_in more start
+own_calls more start past held at own =
+    sym own ∙ ap (λ (n : ℕ). acts_of (numbered.Stream n) (reverse more)) (seat_number start past held.seat held.stream at)
+
+module _ (Gives : ℕ → Type 0) (journal more : List Entry) where
+  pub stand_on : (starts : List ClientStart) (helds after : List HeldValue) → AllBegin journal starts helds → AllGoOn Gives helds after
+      → AreStreamCalls (reverse more) (map (λ held. held.seat) after) → AllStand (more ++ journal) starts after
+  stand_on [] [] [] p q calls = tt
+  stand_on [] [] (held ∷ after) p q calls = absurd q
+  stand_on [] (held ∷ helds) after p q calls = absurd p
+  stand_on (start ∷ starts) [] after p q calls = absurd p
+  stand_on (start ∷ starts) (held ∷ helds) [] p q calls = absurd q
+  stand_on (start ∷ starts) (held ∷ helds) (next ∷ after) p q calls =
+      let past : List Act = acts_in journal start in
+      let at : Stands start past next = q.0.0 start past p.0 in
+      let own = own_calls more start past next at (calls 0 next.seat (omega arith)) in (
+        (past, at, ap (λ (acts : List Act). past ++ acts) own ∙ sym (acts_behind start journal more)),
+        stand_on starts helds after p.1 q.1 (λ k d less. calls (suc k) d (omega (arith, less))),
+      )
+
+  -- and all its frames were offered at moments that the clock gave
+  pub all_given : (starts : List ClientStart) (helds after : List HeldValue) → AllBegin journal starts helds → AllGoOn Gives helds after
+      → AreStreamCalls (reverse more) (map (λ held. held.seat) after) → AllByRecursion (λ held. held.seat.calls.list ≡ []) helds
+      → AllAtMoments Gives more starts
+  all_given [] [] [] p q calls none = tt
+  all_given [] [] (held ∷ after) p q calls none = absurd q
+  all_given [] (held ∷ helds) after p q calls none = absurd p
+  all_given (start ∷ starts) [] after p q calls none = absurd p
+  all_given (start ∷ starts) (held ∷ helds) [] p q calls none = absurd q
+  all_given (start ∷ starts) (held ∷ helds) (next ∷ after) p q calls none =
+      let past : List Act = acts_in journal start in
+      let own = own_calls more start past next (q.0.0 start past p.0) (calls 0 next.seat (omega arith)) in (
+        subst (AreAtMoments Gives) own (q.0.1 (subst (AreAtMoments Gives) (sym none.0) tt)),
+        all_given starts helds after p.1 q.1 (λ k d less. calls (suc k) d (omega (arith, less))) none.1,
+      )
+
+pub none_yet : (Gives : ℕ → Type 0) (starts : List ClientStart) → AllAtMoments Gives [] starts
+none_yet Gives [] = tt
+none_yet Gives (start ∷ starts) = (tt, none_yet Gives starts)
+
+pub both_given : (Gives : ℕ → Type 0) (first second : List Entry) (starts : List ClientStart) → AllAtMoments Gives first starts
+    → AllAtMoments Gives second starts → AllAtMoments Gives (second ++ first) starts
+both_given Gives first second [] p q = tt
+both_given Gives first second (start ∷ starts) p q = (
+  subst (AreAtMoments Gives) (sym (acts_behind start first second))
+      (all_both (IsAtMoment Gives) (acts_in first start) (acts_in second start) p.0 q.0),
+  both_given Gives first second starts p.1 q.1,
+)
 
 pub same_length : {A B : Type 0} (f : A → B) (xs : List A) → length (map f xs) ≡ length xs
 same_length f [] = refl
 same_length f (x ∷ xs) = ap suc (same_length f xs)
 
-pub stand_length : (starts : List ClientStart) (helds : List HeldValue) → AllStand starts helds → length helds ≡ length starts
-stand_length [] [] p = refl
-stand_length [] (held ∷ helds) p = absurd p
-stand_length (start ∷ starts) [] p = absurd p
-stand_length (start ∷ starts) (held ∷ helds) p = ap suc (stand_length starts helds p.1)
+pub zip_length : {A B : Type 0} (P : A → B → Type 0) (xs : List A) (ys : List B) → AllZip P xs ys → length ys ≡ length xs
+zip_length P [] [] p = refl
+zip_length P [] (y ∷ ys) p = absurd p
+zip_length P (x ∷ xs) [] p = absurd p
+zip_length P (x ∷ xs) (y ∷ ys) p = ap suc (zip_length P xs ys p.1)
 
 -- where the stream of each turn went on, all did
-all_run_from : (helds : List HeldValue) (new : List (Option HeldValue)) → length new ≡ length helds
-    → ((i : ℕ) (d : Option HeldValue) → i < length helds → Runs (get_or (map Some helds) i d) (get_or new i d))
-    → (after : List HeldValue) × (new ≡ map Some after) × AllGoOn helds after
-all_run_from [] [] len each = ([], refl, tt)
-all_run_from [] (turn ∷ new) len each = absurd (omega (arith, len))
-all_run_from (held ∷ helds) [] len each = absurd (omega (arith, len))
-all_run_from (held ∷ helds) (None ∷ new) len each = absurd (each 0 None (omega arith) held refl)
-all_run_from (held ∷ helds) (Some next ∷ new) len each =
-    let here : GoesOn held next = each 0 None (omega arith) held refl in
-    let rest = all_run_from helds new (omega (arith, len)) (λ i d less. each (suc i) d (omega (arith, less))) in
+all_run_from : (Gives : ℕ → Type 0) (helds : List HeldValue) (new : List (Option HeldValue)) → length new ≡ length helds
+    → ((i : ℕ) (d : Option HeldValue) → i < length helds → Runs Gives (get_or (map Some helds) i d) (get_or new i d))
+    → (after : List HeldValue) × (new ≡ map Some after) × AllGoOn Gives helds after
+all_run_from Gives [] [] len each = ([], refl, tt)
+all_run_from Gives [] (turn ∷ new) len each = absurd (omega (arith, len))
+all_run_from Gives (held ∷ helds) [] len each = absurd (omega (arith, len))
+all_run_from Gives (held ∷ helds) (None ∷ new) len each = absurd (each 0 None (omega arith) held refl)
+all_run_from Gives (held ∷ helds) (Some next ∷ new) len each =
+    let here : GoesOn Gives held next = each 0 None (omega arith) held refl in
+    let rest = all_run_from Gives helds new (omega (arith, len)) (λ i d less. each (suc i) d (omega (arith, less))) in
     (next ∷ rest.0, ap (λ ts. Some next ∷ ts) rest.1, (here, rest.2))
 
-pub all_run : (old new : List (Option HeldValue)) → length new ≡ length old
-    → ((i : ℕ) (d : Option HeldValue) → i < length old → Runs (get_or old i d) (get_or new i d)) → AllRun old new
-all_run old new len each helds e = all_run_from helds new
+pub all_run : (Gives : ℕ → Type 0) (old new : List (Option HeldValue)) → length new ≡ length old
+    → ((i : ℕ) (d : Option HeldValue) → i < length old → Runs Gives (get_or old i d) (get_or new i d)) → AllRun Gives old new
+all_run Gives old new len each helds e = all_run_from Gives helds new
     (len ∙ ap length e ∙ same_length Some helds)
-    (λ i d less. subst (λ (turns : List (Option HeldValue)). Runs (get_or turns i d) (get_or new i d)) e
+    (λ i d less. subst (λ (turns : List (Option HeldValue)). Runs Gives (get_or turns i d) (get_or new i d)) e
     (each i d (omega (arith, less, ap length e, same_length Some helds))))
 
-pub all_went : (helds after : List HeldValue) → AllGoOn helds after → length after ≡ length helds
-all_went [] [] p = refl
-all_went [] (held ∷ after) p = absurd p
-all_went (held ∷ helds) [] p = absurd p
-all_went (held ∷ helds) (next ∷ after) p = ap suc (all_went helds after p.1)
+pub all_went : (Gives : ℕ → Type 0) (helds after : List HeldValue) → AllGoOn Gives helds after → length after ≡ length helds
+all_went Gives [] [] p = refl
+all_went Gives [] (held ∷ after) p = absurd p
+all_went Gives (held ∷ helds) [] p = absurd p
+all_went Gives (held ∷ helds) (next ∷ after) p = ap suc (all_went Gives helds after p.1)
 
 -- where none runs, all stay
-go_on_none : (helds : List HeldValue) → AllGoOn helds helds
-go_on_none [] = tt
-go_on_none (held ∷ helds) = ((λ start past at. at), go_on_none helds)
+go_on_none : (Gives : ℕ → Type 0) (helds : List HeldValue) → AllGoOn Gives helds helds
+go_on_none Gives [] = tt
+go_on_none Gives (held ∷ helds) = (((λ start past at. at), (λ m. m)), go_on_none Gives helds)
 
-pub all_stay : (items : List (Option HeldValue)) → AllRun items items
-all_stay items helds e = (helds, e, go_on_none helds)
+pub all_stay : (Gives : ℕ → Type 0) (items : List (Option HeldValue)) → AllRun Gives items items
+all_stay Gives items helds e = (helds, e, go_on_none Gives helds)
 
 -- turns that ran in the places of a list, which are all of it
-pub all_run_whole : (items new : List (Option HeldValue)) (len : ℕ) → len ≡ length items → AllRun items new
-    → AllRun items (take len (new ++ drop (length new) items))
-all_run_whole items new len is ran helds e =
+pub all_run_whole : (Gives : ℕ → Type 0) (items new : List (Option HeldValue)) (len : ℕ) → len ≡ length items → AllRun Gives items new
+    → AllRun Gives items (take len (new ++ drop (length new) items))
+all_run_whole Gives items new len is ran helds e =
     let run = ran helds e in
     let same : length new ≡ length items =
-    ap length run.1 ∙ same_length Some run.0 ∙ all_went helds run.0 run.2 ∙ sym (ap length e ∙ same_length Some helds) in
+    ap length run.1 ∙ same_length Some run.0 ∙ all_went Gives helds run.0 run.2 ∙ sym (ap length e ∙ same_length Some helds) in
     let whole : take len (new ++ drop (length new) items) ≡ new =
     ap (λ z. take len (new ++ z)) (drop_all (length new) items (omega (arith, same)))
     ∙ ap (take len) (append-nil new) ∙ take_all len new (omega (arith, is, same)) in
@@ -145,7 +217,8 @@ seated_more value turns turns' all seats seats' streams streams' seat s turn e f
     ∙ append_assoc turns (Some (held_at seat (value s)) ∷ []) (map Some (held_with value seats' streams')) ∙ now
 
 pub ready_more : {S : Type 0} (value : S → StreamValue) (seats seats' : List StreamSeatValue) (streams streams' : List S)
-    (seat : StreamSeatValue) (s : S) → seats ≡ seat ∷ seats' → streams ≡ s ∷ streams' → AllByRecursion IsReady (held_with value seats streams)
+    (seat : StreamSeatValue) (s : S) → seats ≡ seat ∷ seats' → streams ≡ s ∷ streams'
+    → AllByRecursion IsReady (held_with value seats streams)
     → AllByRecursion IsReady (held_with value seats' streams')
 ready_more value seats seats' streams streams' seat s e f ready =
     (subst (λ (these : List _). AllByRecursion IsReady (held_with value (seat ∷ seats') these)) f
@@ -241,28 +314,30 @@ no_bad_limit r e p other is = never_bad_limit r (fault_stays r e p other) is
 -- what the streams leave, where no epoch comes any more
 pub all_over : {R W : Type 0} (left : R → Option (List ℕ)) (read_failures : R → ℕ) (after : W → Option (List ℕ)) (failures : W
     → ℕ) (is_flushed : W → Bool)
-    (starts : List ClientStart) (helds : List HeldValue) (streams : List (Stream R W)) (served : List (Served R W)) → AllStand starts helds
+    (journal : List Entry) (starts : List ClientStart) (helds : List HeldValue) (streams : List (Stream R W)) (served : List (Served R W))
+    → AllStand journal starts helds
     → map (stream_of left read_failures after failures is_flushed) streams ≡ map (λ held. held.stream) helds
     → AreOver left read_failures after failures is_flushed streams served
     → (lefts : List ClientLeft) × (map (λ l. l.seat) lefts ≡ map (λ held. held.seat) helds)
-    × (map (outcome_of left read_failures after failures is_flushed) served ≡ map (λ l. l.outcome) lefts) × AllLeave starts lefts
-all_over left read_failures after failures is_flushed [] [] [] [] p e q = ([], refl, refl, tt)
-all_over left read_failures after failures is_flushed [] [] [] (s ∷ served) p e q = absurd q
-all_over left read_failures after failures is_flushed [] [] (stream ∷ streams) served p e q = absurd (omega (arith, ap length e))
-all_over left read_failures after failures is_flushed [] (held ∷ helds) streams served p e q = absurd p
-all_over left read_failures after failures is_flushed (start ∷ starts) [] streams served p e q = absurd p
-all_over left read_failures after failures is_flushed (start ∷ starts) (held ∷ helds) [] served p e q = absurd (omega (arith, ap length e))
-all_over left read_failures after failures is_flushed (start ∷ starts) (held ∷ helds) (stream ∷ streams) [] p e q = absurd q
-all_over left read_failures after failures is_flushed (start ∷ starts) (held ∷ helds) (stream ∷ streams) (s ∷ served) p e q =
+    × (map (outcome_of left read_failures after failures is_flushed) served ≡ map (λ l. l.outcome) lefts) × AllLeave journal starts lefts
+all_over left read_failures after failures is_flushed journal [] [] [] [] p e q = ([], refl, refl, tt)
+all_over left read_failures after failures is_flushed journal [] [] [] (s ∷ served) p e q = absurd q
+all_over left read_failures after failures is_flushed journal [] [] (stream ∷ streams) served p e q = absurd (omega (arith, ap length e))
+all_over left read_failures after failures is_flushed journal [] (held ∷ helds) streams served p e q = absurd p
+all_over left read_failures after failures is_flushed journal (start ∷ starts) [] streams served p e q = absurd p
+all_over left read_failures after failures is_flushed journal (start ∷ starts) (held ∷ helds) [] served p e q =
+    absurd (omega (arith, ap length e))
+all_over left read_failures after failures is_flushed journal (start ∷ starts) (held ∷ helds) (stream ∷ streams) [] p e q = absurd q
+all_over left read_failures after failures is_flushed journal (start ∷ starts) (held ∷ helds) (stream ∷ streams) (s ∷ served) p e q =
     let outcome : ClientOutcome = outcome_of left read_failures after failures is_flushed s in
     let here : stream_of left read_failures after failures is_flushed stream ≡ held.stream = ap (λ vs. get_or vs 0 held.stream) e in
-    let rest = all_over left read_failures after failures is_flushed starts helds streams served p.1 (ap (λ vs. drop 1 vs) e) q.1 in
+    let rest = all_over left read_failures after failures is_flushed journal starts helds streams served p.1 (ap (λ vs. drop 1 vs) e) q.1 in
     let stand : Stands start p.0.0 (record { seat = held.seat; stream = stream_of left read_failures after failures is_flushed stream }) =
     subst (λ (v : StreamValue). Stands start p.0.0 (record { seat = held.seat; stream = v })) (sym here) p.0.1 in (
       record { seat = held.seat; outcome = outcome } ∷ rest.0,
       ap (λ seats. held.seat ∷ seats) rest.1,
       ap (λ outcomes. outcome ∷ outcomes) rest.2,
-      ((p.0.0, q.0 start p.0.0 held.seat stand), rest.3),
+      ((p.0.0, q.0 start p.0.0 held.seat stand, p.0.2), rest.3),
     )
 
 pub over_length : {R W : Type 0} (left : R → Option (List ℕ)) (read_failures : R → ℕ) (after : W → Option (List ℕ)) (failures : W

@@ -14,7 +14,7 @@ use Rattle.serve_work.specs.declared.stop.Cause.TheVariants.{NoMemory}
 use Rattle.serve_work.specs.declared.stop.Halt.TheVariants.{Stopped}
 use Rattle.serve_work.specs.declared.stop.Stop.{Stop}
 use Rattle.serve_work.specs.declared.stop.Stop.TheVariants.{Whole, Read, Write, Refused, Torn}
-use Rattle.serve_work.specs.Clients.{HasMoreOrEnds, Progress, StopsAt, reads_at}
+use Rattle.serve_work.specs.Clients.{ClientProgress, ClientStopsAt, HasMoreOrEnds, reads_at}
 use Rattle.serve_work.specs.ClientInside.{Breaks, Feeds, HasInHand, Holds, IsFirst, IsNoWrite, IsOfCollection, IsSent, IsUseful}
 use Rattle.serve_work.specs.ClientInside.{SendsWhole, Serves, StopsReading, StopsWith, Takes}
 use Rattle.serve_work.specs.Rests.{IsOutset, Outset, Spoils}
@@ -68,7 +68,7 @@ module _ (chain : ChainValue) (frames more : List FrameText) (writer : WriterSta
   )
 
 -- a stop that is held
-held_at : (held : Stop) (at : Progress) → (IsUseful held → ⊥) → HasMoreOrEnds at → StopsAt held at
+held_at : (held : Stop) (at : ClientProgress) → (IsUseful held → ⊥) → HasMoreOrEnds at → ClientStopsAt held at
 held_at Whole at spoilt more = absurd (spoilt tt)
 held_at (Read fault) at spoilt more = absurd (spoilt tt)
 held_at (Refused cause) at spoilt more = absurd (spoilt tt)

@@ -1,5 +1,7 @@
 -- What a client's frames come to: those that are accepted, why there are no more, and what went out.
-use Rattle.std.proofs.Common.{◌≡◌, ◌≢◌, ◌+◌, ◌⊎◌, ◌≤◌, List, [], ◌∷◌, ◌++◌, length, refl, sym, ap, ◌∙◌, append-nil, append_assoc, arith, subst, inl, inr, false, Result, Ok, Err, OnOk, IfErr}
+use Rattle.std.proofs.Common.{ℕ, ◌≡◌, ◌≢◌, ◌+◌, ◌⊎◌, ◌≤◌, List, [], ◌∷◌, ◌++◌, length, refl, sym, ap, ◌∙◌}
+use Rattle.std.proofs.Common.{append-nil, append_assoc, arith, subst, inl, inr, false, Result, Ok, Err, OnOk}
+use Rattle.std.proofs.Common.{IfErr}
 use Rattle.filters.specs.ChainImage.{FrameValue}
 use Rattle.y4m_header.specs.StreamText.{FrameText}
 use Rattle.y4m_stream.specs.declared.fault.WriteFault.{WriteFault}
@@ -15,11 +17,11 @@ use Rattle.serve_work.specs.declared.stop.Cause.TheVariants.{TooManyFrames, Cloc
 use Rattle.serve_work.specs.declared.stop.Halt.TheVariants.{Stopped}
 use Rattle.serve_work.specs.declared.stop.Stop.{Stop}
 use Rattle.serve_work.specs.declared.stop.Stop.TheVariants.{Whole, Read, Write, Refused, Torn}
-use Rattle.serve_work.specs.Clients.{HasOtherNumber, IsDrained, Progress, StopsAt}
+use Rattle.serve_work.specs.Clients.{ClientProgress, ClientStopsAt, HasOtherNumber, IsDrained}
 use Rattle.serve_work.specs.ClientInside.{Accounted, BreaksOff, Cuts, Feeds, IsFirst, IsNoWrite, IsOfCollection, IsSent, IsUseful}
-use Rattle.serve_work.specs.ClientInside.{Moves, SendsWhole, Serves, StopsReading, StopsWith, TalliesSeat, texts_of}
+use Rattle.serve_work.specs.ClientInside.{KeepsMoments, Moves, SendsWhole, Serves, StopsReading, StopsWith, TalliesSeat, texts_of}
 use Rattle.serve_work.specs.Rests.{as_open}
-use Rattle.serve_work.proofs.Tallying.{TalliesSeat-same, collections_both, offers_both}
+use Rattle.serve_work.proofs.Tallying.{TalliesSeat-same, collections_both, none_accepted, offers_both}
 use Rattle.serve_work.proofs.Moving.{Accounted-later, Moves-trans, StopsWith-later, few_of, size_later}
 
 -- what went out
@@ -105,6 +107,11 @@ close_tally old new (Ok t) closed refused = rw closed (record {
   collections = omega (arith, collections_both old.calls.list (acts.Closed ∷ []));
 })
 close_tally old new (Err e) closed refused = rw refused.1 (TalliesSeat-same old old refl refl refl refl refl)
+
+pub close_moments : {T : Type 0} (Gives : ℕ → Type 0) (old new : StreamSeatValue) (result : Result T Refusal)
+    → OnOk result (Closes old new) → IfErr result (λ e. IsTold (AllowsClose old) e × (new ≡ old)) → KeepsMoments Gives old new
+close_moments Gives old new result closed refused = none_accepted Gives old new (close_tally old new result closed refused)
+    (ap (λ (s : StreamSeatValue). s.accepted) (may_close old new result closed refused))
 
 -- what a seat moves, it would move as an open one
 
@@ -282,8 +289,8 @@ other_later calls added a = record {
   whole = ap (λ l. l ++ added) a.whole ∙ append_assoc a.before (acts.Offered a.tick a.number ∷ a.later) added;
 }
 
-stops_later : (stop : Stop) (at : Progress) (added : List Act) → StopsAt stop at
-    → StopsAt stop (record at { calls = at.calls ++ added })
+stops_later : (stop : Stop) (at : ClientProgress) (added : List Act) → ClientStopsAt stop at
+    → ClientStopsAt stop (record at { calls = at.calls ++ added })
 stops_later Whole at added a = a
 stops_later (Read fault) at added a = a
 stops_later (Refused TooManyFrames) at added a = a
@@ -303,7 +310,7 @@ read_by past past' stop reader reader' seat mid seat' frames same a = record {
   rest = a.rest;
   each = a.each;
   taken = a.taken;
-  stops = subst (λ (calls : List Act). StopsAt stop (record {
+  stops = subst (λ (calls : List Act). ClientStopsAt stop (record {
     len = data_len_of reader.header;
     count = seat.accepted + length frames;
     most = seat.frames;

@@ -1,5 +1,7 @@
 -- How the calls of a seat add up.
-use Rattle.std.proofs.Common.{◌≡◌, ◌≢◌, ℕ, ◌+◌, List, [], ◌∷◌, ◌++◌, length, filter, sum_by, Bool, refl, sym, ap, ◌∙◌, append_assoc, append-nil, length-append, arith}
+use Rattle.std.proofs.Common.{◌≡◌, ◌≢◌, ℕ, ◌+◌, List, [], ◌∷◌, ◌++◌, length, filter, sum_by, Bool, refl, sym}
+use Rattle.std.proofs.Common.{ap, ◌∙◌, append_assoc, append-nil, length-append, arith, subst, inl, inr}
+use Rattle.std.specs.List.{AllByRecursion}
 use Rattle.std.proofs.lemmas.List.Elements.{filter-append}
 use Rattle.std.proofs.lemmas.List.Sums.{sum_by-cons}
 use Rattle.filters.specs.ChainImage.{FrameValue}
@@ -8,9 +10,10 @@ use Rattle.serve_core.specs.declared.collected.Collected.{Collected}
 use Rattle.serve_hub.specs.declared.entry.Act.{Act}
 use Rattle.serve_hub.specs.declared.entry.Act.TheVariants as acts
 use Rattle.serve_hub.specs.Calls.{Accepts, Collects}
+use Rattle.serve_hub.specs.Journal.{tick_of}
 use Rattle.serve_hub.specs.Seats.{CallsValue, StreamSeatValue, one_collection}
-use Rattle.serve_work.specs.Clients.{HasOtherNumber, collections_in, is_collection, is_offer, offers_in}
-use Rattle.serve_work.specs.ClientInside.{GivesUp, IsCounted, Tallies, TalliesSeat}
+use Rattle.serve_work.specs.Clients.{AreAtMoments, HasOtherNumber, IsAtMoment, collections_in, is_collection, is_offer, offers_in}
+use Rattle.serve_work.specs.ClientInside.{GivesUp, IsCounted, KeepsMoments, OffersAt, Tallies, TalliesSeat}
 
 -- so many of the calls are such
 such_among : (is : Act → Bool) (calls more : List Act)
@@ -136,3 +139,38 @@ other_number past frame n old new same other taken = record {
   whole = ap (λ (v : StreamSeatValue). past ++ v.calls.list) taken.seat
       ∙ sym (append_assoc past old.calls.list (acts.Offered taken.tick n ∷ []));
 }
+
+-- moments
+
+pub all_both : {A : Type 0} (P : A → Type 0) (xs ys : List A) → AllByRecursion P xs → AllByRecursion P ys → AllByRecursion P (xs ++ ys)
+all_both P [] ys p q = q
+all_both P (x ∷ xs) ys p q = (p.0, all_both P xs ys p.1 q)
+
+pub no_offers : (Gives : ℕ → Type 0) (calls : List Act) → offers_in calls ≡ 0 → AreAtMoments Gives calls
+no_offers Gives [] none = tt
+no_offers Gives (acts.Offered tick number ∷ calls) none = absurd (omega (arith, none))
+no_offers Gives (act ∷ calls) none = (tt, no_offers Gives calls none)
+
+-- where no frame was accepted, none was offered
+pub none_accepted : (Gives : ℕ → Type 0) (old new : StreamSeatValue) → TalliesSeat old new → new.accepted ≡ old.accepted
+    → KeepsMoments Gives old new
+none_accepted Gives old new t same moments =
+    subst (AreAtMoments Gives) (sym t.calls)
+    (all_both (IsAtMoment Gives) old.calls.list t.added moments (no_offers Gives t.added (omega (
+      arith,
+      t.offers,
+      same,
+      ap offers_in t.calls,
+      offers_both old.calls.list t.added,
+    ))))
+
+pub none_given : (Gives : ℕ → Type 0) (old new : StreamSeatValue) → TalliesSeat old new → GivesUp old new → KeepsMoments Gives old new
+none_given Gives old new t up = none_accepted Gives old new t (ap (λ (v : StreamSeatValue). v.accepted) up)
+
+pub offers_at : (Gives : ℕ → Type 0) (at : ℕ) (old new : StreamSeatValue) → Gives at → OffersAt at old new → KeepsMoments Gives old new
+offers_at Gives at old new gives (inl same) moments =
+    subst (λ (k : CallsValue). AreAtMoments Gives k.list) (sym same) moments
+offers_at Gives at old new gives (inr notes) moments =
+    subst (λ (k : CallsValue). AreAtMoments Gives k.list) (sym notes.1.calls)
+    (all_both (IsAtMoment Gives) old.calls.list (acts.Offered (tick_of notes.0 at) notes.1.number ∷ []) moments
+    ((notes.0, at, gives, refl), tt))

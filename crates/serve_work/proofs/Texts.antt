@@ -1,5 +1,6 @@
 -- From a reader's opening to a client's end.
-use Rattle.std.proofs.Common.{◌≡◌, ◌⊎◌, ℕ, List, [], ◌∷◌, ◌++◌, length, Option, Some, None, IfSome, refl, sym, ap, ◌∙◌, append-nil, length-append, arith, subst, inl, inr}
+use Rattle.std.proofs.Common.{◌≡◌, ◌⊎◌, ℕ, List, [], ◌∷◌, ◌++◌, length, Option, Some, None, IfSome, refl, sym}
+use Rattle.std.proofs.Common.{ap, ◌∙◌, append-nil, length-append, arith, subst, inl, inr}
 use Rattle.std.proofs.KnownBytes.{Consumes-trans, Consumes-whole}
 use Rattle.std.proofs.lemmas.List.{nil_from_length}
 use Rattle.std.specs.Io.KnownBytes.{Appends, Consumes, IsAtEnd, Keeps}
@@ -12,8 +13,8 @@ use Rattle.serve_hub.specs.declared.entry.Act.{Act}
 use Rattle.serve_hub.specs.Seats.{StreamSeatValue}
 use Rattle.serve_work.specs.declared.stop.Cause.TheVariants.{NoMemory}
 use Rattle.serve_work.specs.declared.stop.Stop.TheVariants.{Whole, Write, Refused}
-use Rattle.serve_work.specs.Clients.{ClientEnds, ClientOutcome, ClientStart, CutsHeader, EndsWithin, Progress}
-use Rattle.serve_work.specs.Clients.{StopsAt, WroteImages, WroteNothing}
+use Rattle.serve_work.specs.Clients.{ClientEnds, ClientOutcome, ClientProgress, ClientStart, CutsHeader, EndsWithin}
+use Rattle.serve_work.specs.Clients.{ClientStopsAt, WroteImages, WroteNothing}
 use Rattle.serve_work.specs.Laws.{InputIsServed, ServesAll}
 
 -- all known bytes were read, and none is left
@@ -31,7 +32,7 @@ no_part chain part old new (inr a) = let both : [] ≡ a.0.next ∷ a.0.later = 
 
 module _ (input : Option (List ℕ)) (text : List ℕ) (start : ClientStart) (past : List Act) (seat : StreamSeatValue) (end : ClientOutcome)
     (e : ClientEnds start past seat end) (taken : Consumes input e.rest text) (is : end.stop ≡ Whole) where
-  abbrev at : Progress
+  abbrev at : ClientProgress
   at = record {
     len = data_len_of start.reader.header;
     count = end.accepted;
@@ -41,10 +42,10 @@ module _ (input : Option (List ℕ)) (text : List ℕ) (start : ClientStart) (pa
     calls = past ++ seat.calls.list;
   }
 
-  whole_at : WroteNothing start end ⊎ CutsHeader start end ⊎ StopsAt end.stop at → IsAtEnd e.rest × Keeps e.rest end.left
+  whole_at : WroteNothing start end ⊎ CutsHeader start end ⊎ ClientStopsAt end.stop at → IsAtEnd e.rest × Keeps e.rest end.left
   whole_at (inl a) = let both : Whole ≡ Refused NoMemory = sym is ∙ a.stop in absurd (cc)
   whole_at (inr (inl a)) = let both : Whole ≡ Write a.fault = sym is ∙ a.stop in absurd (cc)
-  whole_at (inr (inr a)) = subst (λ s. StopsAt s at) is a
+  whole_at (inr (inr a)) = subst (λ s. ClientStopsAt s at) is a
 
   at_end : IsAtEnd e.rest × Keeps e.rest end.left
   at_end = whole_at e.stops

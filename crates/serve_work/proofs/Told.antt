@@ -13,7 +13,7 @@ use Rattle.serve_work.specs.declared.stop.Cause.TheVariants.{TooManyFrames, Cloc
 use Rattle.serve_work.specs.declared.stop.Stop.{Stop}
 use Rattle.serve_work.specs.declared.stop.Stop.TheVariants.{Whole, Read, Write, Refused, Torn}
 use Rattle.serve_work.specs.Clients.{HasMoreOrEnds, HasOtherNumber}
-use Rattle.serve_work.specs.Clients.{Progress, StopsAt}
+use Rattle.serve_work.specs.Clients.{ClientProgress, ClientStopsAt}
 use Rattle.serve_work.specs.Laws.{InputFaultIsTold, TellsFault}
 
 module _ (len : ℕ) (bytes : List ℕ) (fault : ReadFault) (left : Option (List ℕ)) (of_bytes : IsOfBytes fault)
@@ -39,14 +39,15 @@ module _ (len : ℕ) (bytes : List ℕ) (fault : ReadFault) (left : Option (List
       let both : first ≡ Err fault = one_answer len bytes first (Err fault) (of_told, (after, there)) (of_bytes, (left, stands)) in cc
 
   module _ (count most : ℕ) (rest after : Option (List ℕ)) (calls : List Act) (same : rest ≡ Some bytes) where
-    abbrev at : Progress
+    abbrev at : ClientProgress
     at = record { len = len; count = count; most = most; rest = rest; left = after; calls = calls }
 
     neither : HasMoreOrEnds at → ⊥
     neither (inl a) = no_next rest after same a
     neither (inr a) = not_at_end rest same a.0
 
-    told_at : (stop : Stop) → StopsAt stop at → TellsFault fault stop ⊎ (stop ≡ Torn) × HasOtherNumber calls ⊎ (stop ≡ Refused NoMemory)
+    told_at : (stop : Stop) → ClientStopsAt stop at
+        → TellsFault fault stop ⊎ (stop ≡ Torn) × HasOtherNumber calls ⊎ (stop ≡ Refused NoMemory)
     told_at Whole a = absurd (not_at_end rest same a.0)
     told_at (Read told) a = inl (told, refl, λ of_told. one_fault told after of_told (subst (λ r. StandsAtFrame len told r after) same a))
     told_at (Refused TooManyFrames) a = absurd (no_next rest after same a.1)

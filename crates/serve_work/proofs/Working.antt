@@ -1,5 +1,6 @@
 -- What a worker adds to its seat's calls.
-use Rattle.std.proofs.Common.{◌≡◌, ℕ, Bool, true, List, [], ◌∷◌, ◌++◌, Option, Some, None, MatchOption, refl, ap, ◌∙◌, append_assoc, inl, inr}
+use Rattle.std.proofs.Common.{◌≡◌, ℕ, Bool, true, List, [], ◌∷◌, ◌++◌, Option, Some, None, MatchOption, refl}
+use Rattle.std.proofs.Common.{ap, ◌∙◌, append_assoc, inl, inr}
 use Rattle.lease.specs.Lease.{LeaseValue}
 use Rattle.serve_hub.specs.declared.entry.Act.{Act}
 use Rattle.serve_hub.specs.declared.entry.Act.TheVariants.{Admitted, Closed, Collected, Leased, Offered, Settled}
@@ -10,22 +11,22 @@ use Rattle.serve_hub.specs.Calls.{FinishesOther}
 use Rattle.serve_hub.specs.Seats.{WorkSeatValue}
 use Rattle.serve_work.specs.Workers.{AreSpent, Works, adding}
 
-pub spent_then : (calls : List Act) (stream seq grant bands : ℕ) (finished : Bool) → AreSpent calls → bands ≡ grant
-    → AreSpent (calls ++ Leased stream seq grant ∷ Settled bands finished ∷ [])
-spent_then [] stream seq grant bands finished p e = (e, tt)
-spent_then (Leased a b c ∷ Settled n f ∷ calls) stream seq grant bands finished p e =
-    (p.0, spent_then calls stream seq grant bands finished p.1 e)
-spent_then (Leased a b c ∷ []) stream seq grant bands finished p e = absurd p
-spent_then (Leased a b c ∷ Leased x y z ∷ calls) stream seq grant bands finished p e = absurd p
-spent_then (Leased a b c ∷ Offered x y ∷ calls) stream seq grant bands finished p e = absurd p
-spent_then (Leased a b c ∷ Collected x ∷ calls) stream seq grant bands finished p e = absurd p
-spent_then (Leased a b c ∷ Closed ∷ calls) stream seq grant bands finished p e = absurd p
-spent_then (Leased a b c ∷ Admitted ∷ calls) stream seq grant bands finished p e = absurd p
-spent_then (Settled x y ∷ calls) stream seq grant bands finished p e = absurd p
-spent_then (Offered x y ∷ calls) stream seq grant bands finished p e = absurd p
-spent_then (Collected x ∷ calls) stream seq grant bands finished p e = absurd p
-spent_then (Closed ∷ calls) stream seq grant bands finished p e = absurd p
-spent_then (Admitted ∷ calls) stream seq grant bands finished p e = absurd p
+pub spent_then : (calls : List Act) (stream number grant bands : ℕ) (finished : Bool) → AreSpent calls → bands ≡ grant
+    → AreSpent (calls ++ Leased stream number grant ∷ Settled bands finished ∷ [])
+spent_then [] stream number grant bands finished p e = (e, tt)
+spent_then (Leased a b c ∷ Settled n f ∷ calls) stream number grant bands finished p e =
+    (p.0, spent_then calls stream number grant bands finished p.1 e)
+spent_then (Leased a b c ∷ []) stream number grant bands finished p e = absurd p
+spent_then (Leased a b c ∷ Leased x y z ∷ calls) stream number grant bands finished p e = absurd p
+spent_then (Leased a b c ∷ Offered x y ∷ calls) stream number grant bands finished p e = absurd p
+spent_then (Leased a b c ∷ Collected x ∷ calls) stream number grant bands finished p e = absurd p
+spent_then (Leased a b c ∷ Closed ∷ calls) stream number grant bands finished p e = absurd p
+spent_then (Leased a b c ∷ Admitted ∷ calls) stream number grant bands finished p e = absurd p
+spent_then (Settled x y ∷ calls) stream number grant bands finished p e = absurd p
+spent_then (Offered x y ∷ calls) stream number grant bands finished p e = absurd p
+spent_then (Collected x ∷ calls) stream number grant bands finished p e = absurd p
+spent_then (Closed ∷ calls) stream number grant bands finished p e = absurd p
+spent_then (Admitted ∷ calls) stream number grant bands finished p e = absurd p
 
 adding_more : (a b : List Act) (seat : WorkSeatValue) → adding b (adding a seat) ≡ adding (a ++ b) seat
 adding_more a b seat =
@@ -33,26 +34,26 @@ adding_more a b seat =
     ap with_list (append_assoc seat.calls.list a b)
 
 -- a lease and the settlement of its whole grant
-pub works_on : (seat s0 s1 s2 : WorkSeatValue) (added : List Act) (stream seq grant bands : ℕ) (finished : Bool)
-    → AreSpent added → s0 ≡ adding added seat → s1 ≡ adding (Leased stream seq grant ∷ []) s0
+pub works_on : (seat s0 s1 s2 : WorkSeatValue) (added : List Act) (stream number grant bands : ℕ) (finished : Bool)
+    → AreSpent added → s0 ≡ adding added seat → s1 ≡ adding (Leased stream number grant ∷ []) s0
     → s2 ≡ adding (Settled bands finished ∷ []) s1 → bands ≡ grant
     → (more : List Act) × AreSpent more × (s2 ≡ adding more seat)
-works_on seat s0 s1 s2 added stream seq grant bands finished spent p q r e = (
-  added ++ Leased stream seq grant ∷ Settled bands finished ∷ [],
-  spent_then added stream seq grant bands finished spent e,
-  r ∙ ap (adding (Settled bands finished ∷ [])) (q ∙ ap (adding (Leased stream seq grant ∷ [])) p)
-      ∙ adding_more (Leased stream seq grant ∷ []) (Settled bands finished ∷ []) (adding added seat)
-      ∙ adding_more added (Leased stream seq grant ∷ Settled bands finished ∷ []) seat,
+works_on seat s0 s1 s2 added stream number grant bands finished spent p q r e = (
+  added ++ Leased stream number grant ∷ Settled bands finished ∷ [],
+  spent_then added stream number grant bands finished spent e,
+  r ∙ ap (adding (Settled bands finished ∷ [])) (q ∙ ap (adding (Leased stream number grant ∷ [])) p)
+      ∙ adding_more (Leased stream number grant ∷ []) (Settled bands finished ∷ []) (adding added seat)
+      ∙ adding_more added (Leased stream number grant ∷ Settled bands finished ∷ []) seat,
 )
 
 -- a lease that isn't settled
-pub works_last : (seat s0 s1 s2 : WorkSeatValue) (added : List Act) (stream seq grant : ℕ)
-    → AreSpent added → s0 ≡ adding added seat → s1 ≡ adding (Leased stream seq grant ∷ []) s0 → s2 ≡ s1
+pub works_last : (seat s0 s1 s2 : WorkSeatValue) (added : List Act) (stream number grant : ℕ)
+    → AreSpent added → s0 ≡ adding added seat → s1 ≡ adding (Leased stream number grant ∷ []) s0 → s2 ≡ s1
     → Works seat s2
-works_last seat s0 s1 s2 added stream seq grant spent p q r = record {
-  added = added ++ Leased stream seq grant ∷ [];
-  seat = r ∙ q ∙ ap (adding (Leased stream seq grant ∷ [])) p ∙ adding_more added (Leased stream seq grant ∷ []) seat;
-  spent = inr (record { spent = added; stream = stream; seq = seq; grant = grant; are_spent = spent; last = refl });
+works_last seat s0 s1 s2 added stream number grant spent p q r = record {
+  added = added ++ Leased stream number grant ∷ [];
+  seat = r ∙ q ∙ ap (adding (Leased stream number grant ∷ [])) p ∙ adding_more added (Leased stream number grant ∷ []) seat;
+  spent = inr (record { spent = added; stream = stream; number = number; grant = grant; are_spent = spent; last = refl });
 }
 
 -- what is settled after all is settled whole
@@ -67,13 +68,13 @@ settled_other lease HistoryFull old new p = absurd p
 settled_other lease StrayLease old new p = absurd p
 
 -- a settlement that is refused: the lease comes back, or it was settled after all
-pub works_refused : (seat s0 s1 s2 : WorkSeatValue) (added : List Act) (stream seq grant : ℕ) (lease : LeaseValue)
+pub works_refused : (seat s0 s1 s2 : WorkSeatValue) (added : List Act) (stream number grant : ℕ) (lease : LeaseValue)
     (e : Refusal) (back : Option LeaseValue) → AreSpent added → s0 ≡ adding added seat
-    → s1 ≡ adding (Leased stream seq grant ∷ []) s0
+    → s1 ≡ adding (Leased stream number grant ∷ []) s0
     → MatchOption back (FinishesOther lease e s1 s2) (λ back. (back ≡ lease) × (s2 ≡ s1)) → lease.used ≡ grant
     → Works seat s2
-works_refused seat s0 s1 s2 added stream seq grant lease e None spent p q r used =
-    let more = works_on seat s0 s1 s2 added stream seq grant lease.used true spent p q (settled_other lease e s1 s2 r) used in
+works_refused seat s0 s1 s2 added stream number grant lease e None spent p q r used =
+    let more = works_on seat s0 s1 s2 added stream number grant lease.used true spent p q (settled_other lease e s1 s2 r) used in
     record { added = more.0; seat = more.2; spent = inl more.1 }
-works_refused seat s0 s1 s2 added stream seq grant lease e (Some back) spent p q r used =
-    works_last seat s0 s1 s2 added stream seq grant spent p q r.1
+works_refused seat s0 s1 s2 added stream number grant lease e (Some back) spent p q r used =
+    works_last seat s0 s1 s2 added stream number grant spent p q r.1

@@ -17,11 +17,11 @@ use Rattle.y4m_stream.specs.Reader.{FailsAtFrame, ReaderState, TakesFrame, data_
 use Rattle.y4m_stream.specs.Served.{AreImages, IsImageText}
 use Rattle.y4m_stream.specs.Writer.{FailsToPut, IsWriterFor, WriterState}
 use Rattle.serve_core.specs.declared.refusal.Refusal.TheVariants as cores
-use Rattle.serve_core.specs.Lanes.{IsImageOf}
+use Rattle.serve_core.specs.Streams.{IsImageOf}
 use Rattle.serve_hub.specs.declared.entry.Act.{Act}
 use Rattle.serve_hub.specs.declared.refusal.Refusal.{Refusal}
 use Rattle.serve_hub.specs.declared.refusal.Refusal.TheVariants.{Core, HistoryFull}
-use Rattle.serve_hub.specs.Calls.{Accepts}
+use Rattle.serve_hub.specs.Calls.{Accepts, Notes}
 use Rattle.serve_hub.specs.Seats.{StreamSeatValue}
 use Rattle.serve_work.specs.declared.buffers.Buffers.{Buffers}
 use Rattle.serve_work.specs.declared.feeding.Fed.{Fed}
@@ -35,7 +35,7 @@ use Rattle.serve_work.specs.declared.stop.Halt.{Halt}
 use Rattle.serve_work.specs.declared.stop.Halt.TheVariants.{Full, Stopped}
 use Rattle.serve_work.specs.declared.stop.Stop.{Stop}
 use Rattle.serve_work.specs.declared.stop.Stop.TheVariants.{Whole, Read, Write, Refused, Torn}
-use Rattle.serve_work.specs.Clients.{HasOtherNumber, IsDrained, StopsAt, collections_in, offers_in, reads_at}
+use Rattle.serve_work.specs.Clients.{AreAtMoments, ClientStopsAt, HasOtherNumber, IsDrained, collections_in, offers_in, reads_at}
 
 -- a refusal that isn't that of a full journal
 abbrev pub stop_of : Refusal → Stop
@@ -138,6 +138,14 @@ pub record Tallies (old new : StreamSeatValue) (writer writer' : WriterState) : 
   pub seat : TalliesSeat old new
   pub images : writer'.frames + collections_in old.calls.list ≤ writer.frames + collections_in new.calls.list
 
+-- no frame was offered, or one at this moment
+abbrev pub OffersAt : (at : ℕ) → (old new : StreamSeatValue) → Type 0
+OffersAt at old new = (new.calls ≡ old.calls) ⊎ Notes at old new
+
+-- where all frames were offered at moments that the clock gave, all still are
+abbrev pub KeepsMoments : (Gives : ℕ → Type 0) → (old new : StreamSeatValue) → Type 0
+KeepsMoments Gives old new = AreAtMoments Gives old.calls.list → AreAtMoments Gives new.calls.list
+
 -- nothing but the seat's calls and what it keeps may have changed
 abbrev pub GivesUp : StreamSeatValue → StreamSeatValue → Type 0
 GivesUp old new = new ≡ record old { calls = new.calls; kept = new.kept }
@@ -194,10 +202,10 @@ HaltsWith (Stopped stop) seat seat' writer writer' accepted =
     StopsWith stop seat seat' writer writer' accepted
 
 -- the frames were accepted, or none was and the client goes no further
-abbrev pub Answers : {T : Type 0} → Result T Halt → StreamSeatValue → StreamSeatValue → WriterState
+abbrev pub MovesOrHalts : {T : Type 0} → Result T Halt → StreamSeatValue → StreamSeatValue → WriterState
     → WriterState → List FrameText → Type 0
-Answers (Ok t) seat seat' writer writer' frames = Moves seat seat' writer writer' frames
-Answers (Err halt) seat seat' writer writer' frames = HaltsWith halt seat seat' writer writer' []
+MovesOrHalts (Ok t) seat seat' writer writer' frames = Moves seat seat' writer writer' frames
+MovesOrHalts (Err halt) seat seat' writer writer' frames = HaltsWith halt seat seat' writer writer' []
 
 -- a frame comes back, with the memory of an image if one was at hand
 abbrev pub ComesBack : Arc Frame Global → Option Frame → Frame → StreamSeatValue → StreamSeatValue → Type 0
@@ -331,7 +339,7 @@ pub record StopsReading (past : List Act) (stop : Stop) (reader reader' : Reader
   pub rest : Option (List ℕ)
   pub each : All (IsFrameOf (data_len_of reader.header)) frames
   pub taken : Consumes reader.rest rest (frames_text frames)
-  pub stops : StopsAt stop (record {
+  pub stops : ClientStopsAt stop (record {
     len = data_len_of reader.header;
     count = seat.accepted + length frames;
     most = seat.frames;

@@ -1,6 +1,7 @@
 -- What a client comes to.
-use Rattle.std.specs.Prelude.{ℕ, ◌+◌, ◌≡◌, ◌≢◌, ◌≤◌, ◌<◌, ◌⊎◌, Bool, IsTrue, true, false, List, [], ◌∷◌, ◌++◌}
-use Rattle.std.specs.Prelude.{All, Option, filter, length, take}
+use Rattle.std.specs.Prelude.{ℕ, ◌+◌, ◌≡◌, ◌≢◌, ◌≤◌, ◌<◌, ◌⊎◌, ⊤, Bool, IsTrue, true, false, List, []}
+use Rattle.std.specs.Prelude.{◌∷◌, ◌++◌, All, Option, filter, length, take}
+use Rattle.std.specs.List.{AllByRecursion}
 use Rattle.std.specs.Io.KnownBytes.{Appends, Consumes, IsAtEnd, Keeps}
 use Rattle.y4m_header.specs.StreamText.{FrameText, IsFrameOf, frames_text, text_of}
 use Rattle.filters.specs.Chain.{ChainValue}
@@ -14,6 +15,7 @@ use Rattle.y4m_stream.specs.Served.{IsImageText, IsServedText, served_header}
 use Rattle.y4m_stream.specs.Writer.{CutsShort, FlushesOrFails}
 use Rattle.serve_hub.specs.declared.entry.Act.{Act}
 use Rattle.serve_hub.specs.declared.entry.Act.TheVariants.{Collected, Offered}
+use Rattle.serve_hub.specs.Journal.{tick_of}
 use Rattle.serve_hub.specs.Seats.{StreamSeatValue}
 use Rattle.serve_work.specs.declared.stop.Cause.TheVariants.{NoMemory, TooManyFrames}
 use Rattle.serve_work.specs.declared.stop.Stop.{Stop}
@@ -70,6 +72,14 @@ pub record HasOtherNumber (calls : List Act) : Type 0 where
   pub other : number ≢ offers_in before
   pub whole : calls ≡ before ++ Offered tick number ∷ later
 
+-- a frame was offered at a moment that the clock gave: there it goes on to that moment, if it is later
+abbrev pub IsAtMoment : (Gives : ℕ → Type 0) → Act → Type 0
+IsAtMoment Gives (Offered tick number) = (clock : ℕ) × (at : ℕ) × Gives at × (tick ≡ tick_of clock at)
+IsAtMoment Gives act = ⊤
+
+abbrev pub AreAtMoments : (Gives : ℕ → Type 0) → List Act → Type 0
+AreAtMoments Gives calls = AllByRecursion (IsAtMoment Gives) calls
+
 -- the seat is closed, and keeps no frame
 pub record IsDrained (seat : StreamSeatValue) : Type 0 where
   pub closed : IsTrue seat.is_closed
@@ -77,7 +87,7 @@ pub record IsDrained (seat : StreamSeatValue) : Type 0 where
 
 -- how far an input was read: the bytes of a frame's data, how many frames were accepted and how many may be,
 -- what stands behind them, what the source has left, and the seat's calls
-pub record Progress : Type 0 where
+pub record ClientProgress : Type 0 where
   pub len : ℕ
   pub count : ℕ
   pub most : ℕ
@@ -86,23 +96,23 @@ pub record Progress : Type 0 where
   pub calls : List Act
 
 -- the input was read to its end
-abbrev pub HasEnded : Progress → Type 0
+abbrev pub HasEnded : ClientProgress → Type 0
 HasEnded at = IsAtEnd at.rest × Keeps at.rest at.left
 
 -- one frame more was read, and wasn't accepted; or the input was read to its end
-abbrev pub HasMoreOrEnds : Progress → Type 0
+abbrev pub HasMoreOrEnds : ClientProgress → Type 0
 HasMoreOrEnds at = HasNext at.len at.rest at.left ⊎ HasEnded at
 
 -- why no more frames were accepted; where one was accepted with another number, and where a stream was given
 -- up for want of memory, no frame behind them need have been read
-abbrev pub StopsAt : Stop → Progress → Type 0
-StopsAt Whole at = HasEnded at
-StopsAt (Read fault) at = StandsAtFrame at.len fault at.rest at.left
-StopsAt (Refused TooManyFrames) at = (at.count ≡ at.most) × HasNext at.len at.rest at.left
-StopsAt (Refused NoMemory) at = HasMoreOrEnds at ⊎ IsReadAhead at.rest at.left
-StopsAt (Refused cause) at = HasNext at.len at.rest at.left
-StopsAt (Write fault) at = HasMoreOrEnds at
-StopsAt Torn at = HasMoreOrEnds at ⊎ HasOtherNumber at.calls × IsReadAhead at.rest at.left
+abbrev pub ClientStopsAt : Stop → ClientProgress → Type 0
+ClientStopsAt Whole at = HasEnded at
+ClientStopsAt (Read fault) at = StandsAtFrame at.len fault at.rest at.left
+ClientStopsAt (Refused TooManyFrames) at = (at.count ≡ at.most) × HasNext at.len at.rest at.left
+ClientStopsAt (Refused NoMemory) at = HasMoreOrEnds at ⊎ IsReadAhead at.rest at.left
+ClientStopsAt (Refused cause) at = HasNext at.len at.rest at.left
+ClientStopsAt (Write fault) at = HasMoreOrEnds at
+ClientStopsAt Torn at = HasMoreOrEnds at ⊎ HasOtherNumber at.calls × IsReadAhead at.rest at.left
 
 -- a read failed where that is why the client stopped
 abbrev pub reads_at : Stop → ℕ → ℕ
@@ -177,7 +187,7 @@ pub record ClientEnds (start : ClientStart) (past : List Act) (seat : StreamSeat
   pub each : All (IsFrameOf (data_len_of start.reader.header)) frames
   pub taken : Consumes start.reader.rest rest (frames_text frames)
   pub count : length frames ≡ end.accepted
-  pub stops : WroteNothing start end ⊎ CutsHeader start end ⊎ StopsAt end.stop (record {
+  pub stops : WroteNothing start end ⊎ CutsHeader start end ⊎ ClientStopsAt end.stop (record {
     len = data_len_of start.reader.header;
     count = end.accepted;
     most = start.seat.frames;

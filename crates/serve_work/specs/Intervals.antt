@@ -1,15 +1,23 @@
 -- What contracts inside the crate say of a session from one epoch to the next.
-use Rattle.std.specs.Prelude.{ℕ, suc, ◌≡◌, ◌≤◌, ◌<◌, ◌^◌, ⊤, All, Bool, List, [], ◌∷◌, Option, length, map}
+use Rattle.std.specs.Prelude.{ℕ, suc, ◌≡◌, ◌≤◌, ◌<◌, ◌^◌, ⊤, All, Bool, List, [], ◌∷◌, ◌++◌, Option}
+use Rattle.std.specs.Prelude.{length, map}
 use Rattle.std.specs.List.{AllByRecursion}
 use Rattle.std.specs.Vec.{vec_capacity, vec_len}
-use Rattle.y4m_stream.specs.Reader.{IsOfHeader}
-use Rattle.serve_hub.specs.Ends.{AreLanes, IsCharged}
-use Rattle.serve_hub.specs.Seats.{left_by}
+use Rattle.y4m_stream.specs.Reader.{IsOfHeader, ReaderState}
+use Rattle.serve_core.specs.Desk.{desk_state}
+use Rattle.serve_core.specs.Schedule.{ScheduleValue, opened_schedule}
+use Rattle.serve_core.specs.Setup.{Setup}
+use Rattle.serve_hub.specs.declared.entry.Entry.{Entry}
+use Rattle.serve_hub.specs.Books.{specs_of}
+use Rattle.serve_hub.specs.Ends.{AreStreamsOf, IsCharged}
+use Rattle.serve_hub.specs.Journal.{IsJournal}
+use Rattle.serve_hub.specs.Seats.{left_by, opened_streams}
 use Rattle.serve_work.specs.declared.session.interval.Interval.{Interval}
 use Rattle.serve_work.specs.declared.session.opening.Opening.{Opening}
 use Rattle.serve_work.specs.declared.session.room.Room.{Room}
 use Rattle.serve_work.specs.Clients.{ClientStart}
-use Rattle.serve_work.specs.SessionInside.{AllStand, HeldValue, held_with, stream_of}
+use Rattle.serve_work.specs.Sessions.{AllAtMoments, starts_of}
+use Rattle.serve_work.specs.SessionInside.{AllBegin, AllStand, HeldValue, held_with, stream_of}
 
 -- streams whose seats have the numbers from this one on
 abbrev pub AreFrom : ℕ → List ClientStart → Type 0
@@ -20,27 +28,55 @@ AreFrom first (start ∷ starts) = (start.seat.number ≡ first) × AreFrom (suc
 abbrev pub IsSized : ClientStart → Type 0
 IsSized start = IsOfHeader start.reader.header start.seat.chain.geometry
 
--- what the streams of a session begin with
-pub record AreBeginnings (starts : List ClientStart) : Type 0 where
-  pub numbers : AreFrom 0 starts
-  pub sized : AllByRecursion IsSized starts
-  pub few : length starts < 2 ^ 32
+-- what a session begins with: the schedule that it opens, and its streams
+pub record Beginning : Type 0 where
+  pub schedule : ScheduleValue
+  pub starts : List ClientStart
 
--- a session that began so stands between two epochs: each stream where its client came to, with its seat of
--- the epoch that ended; none is told yet, and there is a place for each that is
+abbrev pub beginning_of : {W : Type 0} (contents : W → Option (List ℕ)) (failures : W → ℕ) → Setup
+    → (limit : ℕ) → List (ReaderState × W) → Beginning
+beginning_of contents failures setup limit inputs = record {
+  schedule = opened_schedule setup;
+  starts = starts_of contents failures (opened_streams limit 0 setup.streams) inputs;
+}
+
+pub record IsBeginning (b : Beginning) : Type 0 where
+  pub numbers : AreFrom 0 b.starts
+  pub sized : AllByRecursion IsSized b.starts
+  pub few : length b.starts < 2 ^ 32
+  pub each : length b.starts ≡ length b.schedule.streams
+
+-- a journal leads from one schedule to another, of the same streams
+pub record LeadsTo (first : ScheduleValue) (journal : List Entry) (last : ScheduleValue) : Type 0 where
+  pub is_journal : IsJournal (specs_of first) (desk_state first) journal (desk_state last)
+  pub specs : specs_of last ≡ specs_of first
+
+-- a session that began so stands between two epochs, with this journal of all until now: each stream where
+-- its client came to, with its seat of the epoch that ended; none is told yet, and there is a place for each
+-- that is
 pub record IsBetween {R W : Type 0} (left : R → Option (List ℕ)) (read_failures : R → ℕ)
-    (after : W → Option (List ℕ)) (failures : W → ℕ) (is_flushed : W → Bool) (starts : List ClientStart)
-    (now : Interval R W) : Type 0 where
-  pub begun : AreBeginnings starts
+    (after : W → Option (List ℕ)) (failures : W → ℕ) (is_flushed : W → Bool) (b : Beginning)
+    (journal : List Entry) (now : Interval R W) : Type 0 where
+  pub begun : IsBeginning b
+  pub past : LeadsTo b.schedule journal now.ended.book.desk
   pub helds : List HeldValue
-  pub stand : AllStand starts helds
+  pub stand : AllStand journal b.starts helds
   pub streams : map (stream_of left read_failures after failures is_flushed) now.streams.items
       ≡ map (λ held. held.stream) helds
   pub seats : now.ended.streams ≡ map left_by (map (λ held. held.seat) helds)
-  pub lanes : AreLanes now.ended.book.desk (map (λ held. held.seat) helds)
-  pub charges : All IsCharged now.ended.book.desk.lanes
+  pub kept : AreStreamsOf now.ended.book.desk (map (λ held. held.seat) helds)
+  pub charges : All IsCharged now.ended.book.desk.streams
   pub untold : now.served.items ≡ []
   pub places : length helds ≤ vec_capacity now.served
+
+-- the same, with more entries behind those of this journal, whose frames were offered at moments that the
+-- clock gave
+pub record IsLater {R W : Type 0} (left : R → Option (List ℕ)) (read_failures : R → ℕ)
+    (after : W → Option (List ℕ)) (failures : W → ℕ) (is_flushed : W → Bool) (Gives : ℕ → Type 0)
+    (b : Beginning) (journal : List Entry) (now : Interval R W) : Type 0 where
+  pub more : List Entry
+  pub between : IsBetween left read_failures after failures is_flushed b (more ++ journal) now
+  pub moments : AllAtMoments Gives more b.starts
 
 -- empty lists, with a place for each of so many streams
 pub record IsRoomFor {L R W : Type 0} (count : ℕ) (room : Room L R W) : Type 0 where
@@ -51,14 +87,16 @@ pub record IsRoomFor {L R W : Type 0} (count : ℕ) (room : Room L R W) : Type 0
   pub no_streams : room.places.streams.items ≡ []
   pub streams : count ≤ vec_capacity room.places.streams
 
--- an epoch of a session that began so can begin: each stream stands with its seat, and there is room for what
--- comes of all
+-- an epoch of a session that began so can begin from this schedule, behind this journal: each stream stands
+-- with its seat, and there is room for what comes of all
 pub record CanBegin {L R W : Type 0} (left : R → Option (List ℕ)) (read_failures : R → ℕ)
-    (after : W → Option (List ℕ)) (failures : W → ℕ) (is_flushed : W → Bool) (starts : List ClientStart)
-    (now : Opening L R W) : Type 0 where
-  pub begun : AreBeginnings starts
-  pub stand : AllStand starts (held_with (stream_of left read_failures after failures is_flushed)
+    (after : W → Option (List ℕ)) (failures : W → ℕ) (is_flushed : W → Bool) (b : Beginning)
+    (journal : List Entry) (from : ScheduleValue) (now : Opening L R W) : Type 0 where
+  pub begun : IsBeginning b
+  pub past : LeadsTo b.schedule journal from
+  pub stand : AllBegin journal b.starts (held_with (stream_of left read_failures after failures is_flushed)
       now.opened.1.items now.streams.items)
   pub room : IsRoomFor (vec_len now.streams) now.room
   pub untold : now.served.items ≡ []
   pub places : vec_len now.streams ≤ vec_capacity now.served
+  pub no_calls : AllByRecursion (λ seat. seat.calls.list ≡ []) now.opened.1.items

@@ -13,7 +13,7 @@ use Rattle.serve_work.specs.declared.stop.Stop.{Stop}
 use Rattle.serve_work.specs.declared.stop.Cause.TheVariants.{NoMemory}
 use Rattle.serve_work.specs.declared.stop.Stop.TheVariants.{Read, Refused, Torn, Whole}
 use Rattle.serve_work.specs.Clients.{ClientEnds, ClientOutcome, ClientStart, CutsHeader, HasOtherNumber}
-use Rattle.serve_work.specs.Clients.{StopsAt, WroteImages, WroteNothing}
+use Rattle.serve_work.specs.Clients.{ClientStopsAt, WroteImages, WroteNothing}
 
 -- the text is the whole input, all of it was read, and what it is served as was written
 pub record ServesAll (input : Option (List ℕ)) (text : List ℕ) (frames : List FrameText)
@@ -34,7 +34,7 @@ pub record ServesInput (input : Option (List ℕ)) (start : ClientStart) (past :
   pub is_text : IsStreamText text start.reader.header.line frames
   pub count : length frames ≡ end.accepted
   pub taken : Consumes input rest text
-  pub stops : WroteNothing start end ⊎ CutsHeader start end ⊎ StopsAt end.stop (record {
+  pub stops : WroteNothing start end ⊎ CutsHeader start end ⊎ ClientStopsAt end.stop (record {
     len = data_len_of start.reader.header;
     count = end.accepted;
     most = start.seat.frames;

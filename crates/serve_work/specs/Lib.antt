@@ -9,3 +9,4 @@ pub mod SessionInside
 pub mod Sessions
 pub mod Turns
 pub mod Workers
+pub mod Words

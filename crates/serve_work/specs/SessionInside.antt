@@ -1,17 +1,20 @@
 -- What contracts inside the crate say of the streams of a session, from epoch to epoch.
-use Rattle.std.specs.Prelude.{ℕ, ◌≡◌, ◌<◌, ⊤, Bool, List, [], ◌∷◌, Option, Some, IsSomeAnd, map, slice_index_or}
+use Rattle.std.specs.Prelude.{ℕ, ◌≡◌, ◌<◌, ⊤, Bool, List, [], ◌∷◌, ◌++◌, Option, Some, IsSomeAnd, map}
+use Rattle.std.specs.Prelude.{slice_index_or}
 use Rattle.std.specs.List.{AllByRecursion, AllZip}
 use Rattle.y4m_stream.specs.declared.reader.Phase.TheVariants.{Open}
 use Rattle.y4m_stream.specs.Reader.{IsOfHeader, ReaderState}
-use Rattle.serve_core.specs.Schedule.{HasLane, ScheduleValue}
+use Rattle.serve_core.specs.Schedule.{HasStream, ScheduleValue}
 use Rattle.serve_hub.specs.declared.entry.Act.{Act}
+use Rattle.serve_hub.specs.declared.entry.Entry.{Entry}
 use Rattle.serve_hub.specs.Seats.{StreamSeatValue}
 use Rattle.serve_work.specs.declared.session.Served.{Served}
 use Rattle.serve_work.specs.declared.session.turn.Stream.{Stream}
 use Rattle.serve_work.specs.declared.session.turn.Stream.TheVariants as streams
 use Rattle.serve_work.specs.Clients.{ClientEnds, ClientOutcome, ClientStart}
+use Rattle.serve_work.specs.ClientInside.{KeepsMoments}
 use Rattle.serve_work.specs.Rests.{IsRest, IsRestOf, RestValue, Unbegun, reader_in}
-use Rattle.serve_work.specs.Sessions.{outcome_of}
+use Rattle.serve_work.specs.Sessions.{acts_in, outcome_of}
 
 -- a stream of a session, whatever the epoch: what is left to do of it, or what it came to
 pub data StreamValue : Type 0 where
@@ -62,39 +65,52 @@ IsReadyAt (Over outcome) seat = ⊤
 abbrev pub IsReady : HeldValue → Type 0
 IsReady held = IsReadyAt held.stream held.seat
 
--- a stream went on in an epoch, whatever it began with
-abbrev pub GoesOn : HeldValue → HeldValue → Type 0
-GoesOn old new = (start : ClientStart) (past : List Act) → Stands start past old → Stands start past new
+-- a stream went on in an epoch, whatever it began with, with its frames at moments that the clock gave
+abbrev pub GoesOn : (Gives : ℕ → Type 0) → HeldValue → HeldValue → Type 0
+GoesOn Gives old new =
+    ((start : ClientStart) (past : List Act) → Stands start past old → Stands start past new)
+    × KeepsMoments Gives old.seat new.seat
 
-abbrev pub AllGoOn : List HeldValue → List HeldValue → Type 0
-AllGoOn old new = AllZip GoesOn old new
+abbrev pub AllGoOn : (Gives : ℕ → Type 0) → List HeldValue → List HeldValue → Type 0
+AllGoOn Gives old new = AllZip (GoesOn Gives) old new
 
--- each stream stands where its client came to, from the beginning at its place
-abbrev pub HasStand : ClientStart → HeldValue → Type 0
-HasStand start held = (past : List Act) × Stands start past held
+-- each stream stands where its client came to, from the beginning at its place, and its calls are its
+-- entries in this journal
+abbrev pub HasStand : List Entry → ClientStart → HeldValue → Type 0
+HasStand journal start held =
+    (past : List Act) × Stands start past held × (past ++ held.seat.calls.list ≡ acts_in journal start)
 
-abbrev pub AllStand : List ClientStart → List HeldValue → Type 0
-AllStand starts helds = AllZip HasStand starts helds
+abbrev pub AllStand : List Entry → List ClientStart → List HeldValue → Type 0
+AllStand journal starts helds = AllZip (HasStand journal) starts helds
+
+-- the same, where an epoch begins: the streams' entries in this journal are the calls of their seats before
+abbrev pub BeginsAgain : List Entry → ClientStart → HeldValue → Type 0
+BeginsAgain journal start held = Stands start (acts_in journal start) held
+
+abbrev pub AllBegin : List Entry → List ClientStart → List HeldValue → Type 0
+AllBegin journal starts helds = AllZip (BeginsAgain journal) starts helds
 
 -- what a stream leaves when it is over
 pub record ClientLeft : Type 0 where
   pub seat : StreamSeatValue
   pub outcome : ClientOutcome
 
-abbrev pub Leaves : ClientStart → ClientLeft → Type 0
-Leaves start left = (past : List Act) × ClientEnds start past left.seat left.outcome
+abbrev pub Leaves : List Entry → ClientStart → ClientLeft → Type 0
+Leaves journal start left =
+    (past : List Act) × ClientEnds start past left.seat left.outcome
+    × (past ++ left.seat.calls.list ≡ acts_in journal start)
 
-abbrev pub AllLeave : List ClientStart → List ClientLeft → Type 0
-AllLeave starts lefts = AllZip Leaves starts lefts
+abbrev pub AllLeave : List Entry → List ClientStart → List ClientLeft → Type 0
+AllLeave journal starts lefts = AllZip (Leaves journal) starts lefts
 
 -- a turn has its stream, which goes on
-abbrev pub Runs : Option HeldValue → Option HeldValue → Type 0
-Runs old new = (held : HeldValue) → old ≡ Some held → IsSomeAnd new (GoesOn held)
+abbrev pub Runs : (Gives : ℕ → Type 0) → Option HeldValue → Option HeldValue → Type 0
+Runs Gives old new = (held : HeldValue) → old ≡ Some held → IsSomeAnd new (GoesOn Gives held)
 
 -- the streams of all turns go on
-abbrev pub AllRun : List (Option HeldValue) → List (Option HeldValue) → Type 0
-AllRun old new = (helds : List HeldValue) → old ≡ map Some helds
-    → (after : List HeldValue) × (new ≡ map Some after) × AllGoOn helds after
+abbrev pub AllRun : (Gives : ℕ → Type 0) → List (Option HeldValue) → List (Option HeldValue) → Type 0
+AllRun Gives old new = (helds : List HeldValue) → old ≡ map Some helds
+    → (after : List HeldValue) × (new ≡ map Some after) × AllGoOn Gives helds after
 
 -- what is told of a stream is its end, from whatever it began with
 abbrev pub IsOver : {R W : Type 0} (left : R → Option (List ℕ)) (read_failures : R → ℕ)
@@ -114,4 +130,4 @@ AreOver left read_failures after failures is_flushed streams served =
 -- the first of these streams are told what they were charged
 abbrev pub AreTold : {R W : Type 0} → ScheduleValue → ℕ → List (Served R W) → Type 0
 AreTold {R} {W} desk count served = (k : ℕ) (d : Served R W) → k < count
-    → HasLane desk k (λ lane. (slice_index_or served k d).charged ≡ lane.state.charged)
+    → HasStream desk k (λ stream. (slice_index_or served k d).charged ≡ stream.state.charged)

@@ -1,15 +1,22 @@
 -- What the streams of a session come to.
-use Rattle.std.specs.Prelude.{ℕ, ◌*◌, ◌≡◌, ◌≤◌, Bool, List, [], ◌∷◌, Option}
-use Rattle.std.specs.List.{AllZip}
+use Rattle.std.specs.Prelude.{ℕ, ◌*◌, ◌≡◌, ◌≤◌, ◌++◌, Bool, List, [], ◌∷◌, Option, reverse}
+use Rattle.std.specs.List.{AllByRecursion, AllZip}
 use Rattle.filters.specs.Costs.{cost_of}
 use Rattle.y4m_stream.specs.declared.reader.Phase.TheVariants.{Open}
 use Rattle.y4m_stream.specs.Reader.{IsOfHeader, ReaderState}
-use Rattle.serve_core.specs.Setup.{StreamSpec}
+use Rattle.serve_core.specs.Desk.{desk_state}
+use Rattle.serve_core.specs.Schedule.{HasStream, ScheduleValue, opened_schedule}
+use Rattle.serve_core.specs.Setup.{Setup, StreamSpec}
+use Rattle.serve_core.specs.Streams.{KeptStream}
 use Rattle.serve_hub.specs.declared.entry.Act.{Act}
+use Rattle.serve_hub.specs.declared.entry.Entry.{Entry}
+use Rattle.serve_hub.specs.declared.entry.Seat.TheVariants.{Stream}
+use Rattle.serve_hub.specs.Ends.{acts_of}
+use Rattle.serve_hub.specs.Journal.{IsJournal}
 use Rattle.serve_hub.specs.Seats.{StreamSeatValue}
 use Rattle.serve_work.specs.declared.session.Served.{Served}
 use Rattle.serve_work.specs.declared.stop.Stop.TheVariants.{Whole}
-use Rattle.serve_work.specs.Clients.{ClientEnds, ClientOutcome, ClientStart}
+use Rattle.serve_work.specs.Clients.{AreAtMoments, ClientEnds, ClientOutcome, ClientStart}
 
 -- nothing was read of a stream's frames, and its header has the size of the stream's chain
 pub record IsInput {W : Type 0} (spec : StreamSpec) (input : ReaderState × W) : Type 0 where
@@ -76,3 +83,34 @@ pub record IsServed (start : ClientStart) (served : ServedValue) : Type 0 where
 -- each stream was served from the beginning at its place
 abbrev pub AreServed : List ClientStart → List ServedValue → Type 0
 AreServed starts served = AllZip IsServed starts served
+
+-- what a stream did, by a journal that has the latest entry first
+abbrev pub acts_in : List Entry → ClientStart → List Act
+acts_in journal start = acts_of (Stream start.seat.number) (reverse journal)
+
+-- of a stream as many frames were accepted as are told, and it was charged what is told
+pub record IsLaneTold (served : ServedValue) (stream : KeptStream) : Type 0 where
+  pub accepted : stream.state.accepted ≡ served.outcome.accepted
+  pub charged : stream.state.charged ≡ served.charged
+
+-- a stream was served by the calls that it made in this journal, and is told as it stood at last
+pub record IsServedBy (journal : List Entry) (last : ScheduleValue) (start : ClientStart)
+    (served : ServedValue) : Type 0 where
+  pub is_served : IsServed start served
+  pub calls : is_served.past ++ is_served.seat.calls.list ≡ acts_in journal start
+  pub stream : HasStream last start.seat.number (IsLaneTold served)
+
+-- each frame of these streams in the journal was offered at a moment that the clock gave
+abbrev pub AllAtMoments : (Gives : ℕ → Type 0) → List Entry → List ClientStart → Type 0
+AllAtMoments Gives journal starts =
+    AllByRecursion (λ start. AreAtMoments Gives (acts_in journal start)) starts
+
+-- one journal of all epochs, the latest entry first, leads from where the setup opens to where the session
+-- ended, and each stream was served by its calls in it, with its frames at moments that the clock gave
+pub record IsSession (Gives : ℕ → Type 0) (setup : Setup) (starts : List ClientStart)
+    (served : List ServedValue) : Type 0 where
+  pub journal : List Entry
+  pub last : ScheduleValue
+  pub leads : IsJournal setup.streams (desk_state (opened_schedule setup)) journal (desk_state last)
+  pub streams : AllZip (IsServedBy journal last) starts served
+  pub moments : AllAtMoments Gives journal starts

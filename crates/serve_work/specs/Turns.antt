@@ -1,6 +1,7 @@
 -- What a client comes to in an epoch.
 use Rattle.std.specs.Prelude.{ℕ, Bool, List, Option}
 use Rattle.serve_hub.specs.declared.entry.Act.{Act}
+use Rattle.serve_hub.specs.Seats.{StreamSeatValue}
 use Rattle.serve_work.specs.declared.clients.ClientEnd.{ClientEnd}
 use Rattle.serve_work.specs.declared.clients.ClientTurn.{ClientTurn}
 use Rattle.serve_work.specs.declared.clients.ClientTurn.TheVariants as turns
@@ -20,6 +21,11 @@ end_of left read_failures after failures is_flushed end = record {
   failures = failures end.writer;
   is_flushed = is_flushed end.writer;
 }
+
+-- the seat that a client gives back
+abbrev pub seat_in : {L R W : Type 0} → ClientTurn L R W → StreamSeatValue
+seat_in (turns.Ended end) = end.seat
+seat_in (turns.Paused seat rest) = seat
 
 -- what a client comes to in an epoch, from this beginning of its stream: its end, or what is left to do
 abbrev pub Turns : {L R W : Type 0} (left : R → Option (List ℕ)) (read_failures : R → ℕ)

@@ -7,17 +7,17 @@ use Rattle.serve_hub.specs.Seats.{WorkSeatValue}
 -- leases, each followed by the settlement of its whole grant
 abbrev pub AreSpent : List Act → Type 0
 AreSpent [] = ⊤
-AreSpent (Leased stream seq grant ∷ Settled bands finished ∷ calls) = (bands ≡ grant) × AreSpent calls
+AreSpent (Leased stream number grant ∷ Settled bands finished ∷ calls) = (bands ≡ grant) × AreSpent calls
 AreSpent calls = ⊥
 
 -- the same, and then one more lease, which wasn't settled
 pub record HasLast (calls : List Act) : Type 0 where
   pub spent : List Act
   pub stream : ℕ
-  pub seq : ℕ
+  pub number : ℕ
   pub grant : ℕ
   pub are_spent : AreSpent spent
-  pub last : calls ≡ spent ++ Leased stream seq grant ∷ []
+  pub last : calls ≡ spent ++ Leased stream number grant ∷ []
 
 -- a seat after these calls more
 abbrev pub adding : List Act → WorkSeatValue → WorkSeatValue

@@ -1,7 +1,7 @@
 //! The memory of frames and images that a stream is done with.
 ghost use Rattle.std.specs.Prelude.{◌≡◌, IfOk, IfSome};
 ghost use Rattle.std.specs.Arc.{arc_value};
-ghost use Rattle.serve_core.specs.Lanes.{IsImageOf, source_in};
+ghost use Rattle.serve_core.specs.Streams.{IsImageOf, source_in};
 ghost use Rattle.serve_work.specs.ClientInside.{AreBuffersFor};
 
 use frame_view::Frame;

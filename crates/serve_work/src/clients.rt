@@ -7,11 +7,12 @@ ghost use Rattle.y4m_stream.specs.declared.passing.TheConstants.{MOST_FRAMES};
 ghost use Rattle.y4m_stream.specs.Reader.{IsOfHeader};
 ghost use Rattle.y4m_stream.specs.Served.{IsHeaderOfImages};
 ghost use Rattle.y4m_stream.specs.Writer.{IsOpenedFor, WriterState};
-ghost use Rattle.serve_work.specs.ClientInside.{AreBuffersFor, Flushes, IsCounted, Serves, TalliesSeat};
+ghost use Rattle.serve_work.specs.ClientInside.{AreBuffersFor, Flushes, IsCounted, KeepsMoments, Serves};
+ghost use Rattle.serve_work.specs.ClientInside.{TalliesSeat};
 ghost use Rattle.serve_work.specs.Clients.{ClientEnds, ClientStart};
 ghost use Rattle.serve_work.specs.Rests.{CanGoOn, IsFresh, IsRest, IsRestOf, IsRunning, IsTallied, IsUnbegun};
 ghost use Rattle.serve_work.specs.Rests.{reader_in};
-ghost use Rattle.serve_work.specs.Turns.{Turns, end_of};
+ghost use Rattle.serve_work.specs.Turns.{Turns, end_of, seat_in};
 
 use crate::begun::{Begun, State};
 use crate::buffers::Buffers;
@@ -116,7 +117,8 @@ fn end<L: Epoch, R: Source + Drop, W: Sink>(
     writer: StreamWriter<W>,
     stop: Stop,
 ) -> ClientEnd<L, R, W>
-    ensures { (start : ClientStart) (past : List Act) (shown : HeaderValue) (opened : WriterState)
+    ensures seat { result.seat ≡ seat }
+    ensures ends { (start : ClientStart) (past : List Act) (shown : HeaderValue) (opened : WriterState)
         → IsHeaderOfImages start.seat.chain start.reader.header shown
         → IsOpenedFor shown start.before start.failures opened → IsFresh start.seat
         → Serves past stop start.reader reader start.seat seat opened writer
@@ -151,8 +153,9 @@ fn run<L: Epoch, R: Source + Drop, W: Sink, K: Clock, T: Wait>(
 ) -> ClientTurn<L, R, W>
     requires header { IsOfHeader reader.header seat.chain.geometry }
     requires can { CanGoOn course reader seat writer buffers }
-    ensures { (start : ClientStart) (past : List Act) → IsRunning course start past reader seat writer
+    ensures turn { (start : ClientStart) (past : List Act) → IsRunning course start past reader seat writer
         → Turns R.remaining R.failures W.contents W.failures W.is_flushed start past result }
+    ensures moments { KeepsMoments (K.gives clock.now) seat (seat_in result) }
 {
     match serve(
         rt,
@@ -201,9 +204,10 @@ fn begin<L: Epoch, R: Source + Drop, W: Sink, K: Clock, T: Wait>(
     requires counted { (past : List Act) × IsCounted past seat }
     requires open { reader.phase ≡ Phase.Open }
     requires most { seat.frames ≤ MOST_FRAMES }
-    ensures { (start : ClientStart) (past : List Act)
+    ensures turn { (start : ClientStart) (past : List Act)
         → IsUnbegun start past seat reader (W.contents writer) (W.failures writer)
         → Turns R.remaining R.failures W.contents W.failures W.is_flushed start past result }
+    ensures moments { KeepsMoments (K.gives clock.now) seat (seat_in result) }
 {
     let Ok((resized, buffers)) = prepare(alloc, &seat, reader.header()) else {
         let stop = Stop::Refused(Cause::NoMemory);
@@ -240,10 +244,11 @@ pub fn client<L: Epoch, R: Source + Drop, W: Sink, K: Clock, T: Wait>(
 ) -> ClientTurn<L, R, W>
     requires header { IsOfHeader (reader_in rest).header seat.chain.geometry }
     requires rest { IsRest seat rest }
-    ensures { (start : ClientStart) (past : List Act) → IsRestOf start past seat rest
+    ensures turn { (start : ClientStart) (past : List Act) → IsRestOf start past seat rest
         → Turns R.remaining R.failures W.contents W.failures W.is_flushed start past result }
+    ensures moments { KeepsMoments (K.gives clock.now) seat (seat_in result) }
 {
-    let _most = seat.frames();
+    let _recalled = seat.frames();
     match rest.state {
         State::Unbegun(reader, writer) => begin(rt, alloc, hub, seat, reader, writer, clock),
         State::Begun(begun) => {

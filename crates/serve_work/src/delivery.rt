@@ -1,13 +1,13 @@
 //! Images on their way from a seat to a writer.
 ghost use Rattle.std.specs.Prelude.{◌≡◌, ◌+◌, ◌≤◌, [], IfErr, IfOk, IfSome, IsFalse, length, false};
-ghost use Rattle.serve_core.specs.Lanes.{IsImageOf, source_in};
+ghost use Rattle.serve_core.specs.Streams.{IsImageOf, source_in};
 ghost use Rattle.y4m_stream.specs.Writer.{IsWriterFor};
 ghost use Rattle.y4m_stream.specs.declared.passing.TheConstants.{MOST_FRAMES};
 ghost use Rattle.serve_work.specs.declared.stop.Halt.TheVariants as halts;
 ghost use Rattle.serve_work.specs.declared.stop.Stop.TheVariants as stops;
 ghost use Rattle.serve_work.specs.Clients.{IsDrained};
 ghost use Rattle.serve_hub.specs.Calls.{Gives, IsCollectRefused};
-ghost use Rattle.serve_work.specs.ClientInside.{Answers, AreBuffersFor, GivesUp, HaltsWith, IsOfCollection};
+ghost use Rattle.serve_work.specs.ClientInside.{AreBuffersFor, GivesUp, HaltsWith, IsOfCollection, MovesOrHalts};
 ghost use Rattle.serve_work.specs.ClientInside.{IsOfDelivery, Tallies, TalliesSeat};
 
 use crate::buffers::Buffers;
@@ -27,7 +27,7 @@ pub(crate) fn deliver<L: Epoch, W: Sink, T: Wait>(
     requires size { IsWriterFor seat.old.chain writer.old }
     requires few { writer.old.frames + length seat.old.kept ≤ MOST_FRAMES }
     requires writing { writer.old.failed ≡ false }
-    ensures answer { Answers result seat.old seat.new writer.old writer.new [] }
+    ensures answer { MovesOrHalts result seat.old seat.new writer.old writer.new [] }
     ensures source { IfOk result (λ pair. (source_in pair).geometry ≡ seat.old.chain.geometry) }
     ensures image { IfOk result (λ pair. IsImageOf seat.old.chain pair.image) }
     ensures drained { IfErr result (λ halt. halt ≡ halts.Stopped stops.Whole
@@ -75,7 +75,7 @@ fn deliver_early<L: Epoch, W: Sink, T: Wait>(
     requires few { writer.old.frames + length seat.old.kept ≤ MOST_FRAMES }
     requires writing { writer.old.failed ≡ false }
     requires open { seat.old.is_closed ≡ false }
-    ensures answer { Answers result seat.old seat.new writer.old writer.new [] }
+    ensures answer { MovesOrHalts result seat.old seat.new writer.old writer.new [] }
     ensures source { IfOk result (λ next. IfSome next (λ pair.
         (source_in pair).geometry ≡ seat.old.chain.geometry)) }
     ensures image { IfOk result (λ next. IfSome next (λ pair. IsImageOf seat.old.chain pair.image)) }
@@ -109,7 +109,7 @@ pub(crate) fn deliver_ready<L: Epoch, W: Sink, T: Wait>(
     requires writing { writer.old.failed ≡ false }
     requires open { seat.old.is_closed ≡ false }
     requires buffers { AreBuffersFor seat.old.chain buffers.old }
-    ensures answer { Answers result seat.old seat.new writer.old writer.new [] }
+    ensures answer { MovesOrHalts result seat.old seat.new writer.old writer.new [] }
     ensures own { IfErr result IsOfDelivery }
     ensures tally { Tallies seat.old seat.new writer.old writer.new }
     ensures kept { GivesUp seat.old seat.new }

@@ -1,15 +1,16 @@
 //! Frames on their way from a reader to a seat.
 ghost use Rattle.std.specs.Prelude.{◌≡◌, ℕ, List, None, Ok, IfErr, IfOk, IfSome, OnOk};
 ghost use Rattle.std.specs.Arc.{arc_value};
-ghost use Rattle.serve_core.specs.Lanes.{IsImageOf};
+ghost use Rattle.serve_core.specs.Streams.{IsImageOf};
 ghost use Rattle.serve_hub.specs.declared.entry.Act.{Act};
 ghost use Rattle.serve_hub.specs.Calls.{AllowsOffer, IsTold};
 ghost use Rattle.serve_hub.specs.Seats.{StreamSeatValue};
 ghost use Rattle.y4m_stream.specs.Reader.{IsOfHeader, MeetsEnd, ReaderState, TakesFrame, frame_text_of};
 ghost use Rattle.y4m_stream.specs.Writer.{IsWriterFor};
 ghost use Rattle.serve_work.specs.ClientInside.{AreBuffersFor, Accounted, FeedsOn, HasPassed, Holds};
-ghost use Rattle.serve_work.specs.ClientInside.{IsCounted, IsOffered, IsSized, IsSizedFed, IsUnread, Offers};
-ghost use Rattle.serve_work.specs.ClientInside.{Tallies, fed_before, fed_of, text_in};
+ghost use Rattle.serve_work.specs.ClientInside.{IsCounted, IsOffered, IsSized, IsSizedFed, IsUnread};
+ghost use Rattle.serve_work.specs.ClientInside.{KeepsMoments, Offers, OffersAt, Tallies, fed_before};
+ghost use Rattle.serve_work.specs.ClientInside.{fed_of, text_in};
 
 use crate::buffers::Buffers;
 use crate::delivery::{deliver, deliver_ready};
@@ -142,7 +143,8 @@ pub(crate) fn offer_once<L: Epoch, T: Wait>(
 ) -> Offered
     requires image { IfSome image (IsImageOf seat.old.chain) }
     requires size { (arc_value frame).geometry ≡ seat.old.chain.geometry }
-    ensures { IsOffered result (arc_value frame) seat.old seat.new }
+    ensures answer { IsOffered result (arc_value frame) seat.old seat.new }
+    ensures moment { OffersAt at seat.old seat.new }
 {
     match image.or_else(|| new_image(alloc, seat, &frame)) {
         None => match hub.offer(rt, alloc, seat, at, frame) {
@@ -200,6 +202,7 @@ fn accept<L: Epoch, W: Sink, K: Clock, T: Wait>(
     ensures back { IfErr result (IsSizedFed seat.old.chain writer.new) }
     ensures buffers { AreBuffersFor seat.old.chain buffers.new }
     ensures tally { Tallies seat.old seat.new writer.old writer.new }
+    ensures moments { KeepsMoments (K.gives clock.now) seat.old seat.new }
 {
     let mut frame = frame;
     for _ in rt.forever() {
@@ -244,6 +247,7 @@ fn feed_once<L: Epoch, R: Source + Drop, W: Sink, K: Clock, T: Wait>(
     ensures answer { IfErr result (λ fed. (past : List Act) → IsCounted past seat.old
         → FeedsOn fed past reader.old reader.new seat.old seat.new writer.old writer.new) }
     ensures tally { Tallies seat.old seat.new writer.old writer.new }
+    ensures moments { KeepsMoments (K.gives clock.now) seat.old seat.new }
     ensures buffers { AreBuffersFor seat.old.chain buffers.new }
     ensures frame { IfErr result (IsSizedFed seat.old.chain writer.new) }
     ensures header { reader.new.header ≡ reader.old.header }
@@ -286,6 +290,7 @@ fn feed_on<L: Epoch, R: Source + Drop, W: Sink, K: Clock, T: Wait>(
     ensures answer { (past : List Act) → IsCounted past seat.old
         → FeedsOn result past reader.old reader.new seat.old seat.new writer.old writer.new }
     ensures tally { Tallies seat.old seat.new writer.old writer.new }
+    ensures moments { KeepsMoments (K.gives clock.now) seat.old seat.new }
     ensures buffers { AreBuffersFor seat.old.chain buffers.new }
     ensures frame { IsSizedFed seat.old.chain writer.new result }
     ensures header { reader.new.header ≡ reader.old.header }
@@ -321,6 +326,7 @@ pub(crate) fn feed<L: Epoch, R: Source + Drop, W: Sink, K: Clock, T: Wait>(
         → Holds before reader.old (text_in in_hand)
         → FeedsOn result past before reader.new seat.old seat.new writer.old writer.new }
     ensures tally { Tallies seat.old seat.new writer.old writer.new }
+    ensures moments { KeepsMoments (K.gives clock.now) seat.old seat.new }
     ensures buffers { AreBuffersFor seat.old.chain buffers.new }
     ensures frame { IsSizedFed seat.old.chain writer.new result }
     ensures header { reader.new.header ≡ reader.old.header }

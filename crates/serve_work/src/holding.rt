@@ -5,7 +5,7 @@ ghost use Rattle.serve_hub.specs.declared.entry.Act.{Act};
 ghost use Rattle.y4m_stream.specs.Reader.{IsOfHeader, ReaderState, frame_text_of};
 ghost use Rattle.y4m_stream.specs.Writer.{WriterState};
 ghost use Rattle.serve_work.specs.ClientInside.{Holds, IsCounted, IsSized, IsSizedOnward, OffersOn};
-ghost use Rattle.serve_work.specs.ClientInside.{OffersOnce, TalliesSeat, text_in};
+ghost use Rattle.serve_work.specs.ClientInside.{KeepsMoments, OffersOnce, TalliesSeat, text_in};
 
 use crate::feeding::{Offered, offer_once, read_new};
 use crate::gate::Clock;
@@ -42,6 +42,7 @@ fn offer_on<L: Epoch, K: Clock, T: Wait>(
         → IsCounted past seat.old → Holds before reader (Some (frame_text_of (arc_value frame)))
         → OffersOnce result past before reader seat.old seat.new writer }
     ensures tally { TalliesSeat seat.old seat.new }
+    ensures moments { KeepsMoments (K.gives clock.now) seat.old seat.new }
     ensures frame { IfErr result (IsSizedOnward seat.old.chain) }
 {
     match offer_once(rt, alloc, hub, seat, clock.moment(), frame, None) {
@@ -67,6 +68,7 @@ fn hold_once<L: Epoch, R: Source + Drop, K: Clock, T: Wait>(
         → OffersOnce result past reader.old reader.new seat.old seat.new writer }
     ensures open { OnOk result (reader.new.phase ≡ Phase.Open) }
     ensures tally { TalliesSeat seat.old seat.new }
+    ensures moments { KeepsMoments (K.gives clock.now) seat.old seat.new }
     ensures frame { IfErr result (IsSizedOnward seat.old.chain) }
     ensures header { reader.new.header ≡ reader.old.header }
 {
@@ -96,6 +98,7 @@ fn hold_on<L: Epoch, R: Source + Drop, K: Clock, T: Wait>(
     ensures answer { (past : List Act) (writer : WriterState) → IsCounted past seat.old
         → OffersOn result past reader.old reader.new seat.old seat.new writer }
     ensures tally { TalliesSeat seat.old seat.new }
+    ensures moments { KeepsMoments (K.gives clock.now) seat.old seat.new }
     ensures frame { IsSizedOnward seat.old.chain result }
     ensures header { reader.new.header ≡ reader.old.header }
 {
@@ -125,6 +128,7 @@ pub(crate) fn hold<L: Epoch, R: Source + Drop, K: Clock, T: Wait>(
         → Holds before reader.old (text_in in_hand)
         → OffersOn result past before reader.new seat.old seat.new writer }
     ensures tally { TalliesSeat seat.old seat.new }
+    ensures moments { KeepsMoments (K.gives clock.now) seat.old seat.new }
     ensures frame { IsSizedOnward seat.old.chain result }
     ensures header { reader.new.header ≡ reader.old.header }
 {

@@ -5,7 +5,8 @@ ghost use Rattle.y4m_stream.specs.Reader.{IsOfHeader, ReaderState};
 ghost use Rattle.y4m_stream.specs.Writer.{WriterState};
 ghost use Rattle.serve_work.specs.declared.stop.Stop.TheVariants as stops;
 ghost use Rattle.serve_work.specs.declared.buffers.Buffers.{Buffers};
-ghost use Rattle.serve_work.specs.ClientInside.{HasInHand, IsCounted, Serves, Tallies, TalliesSeat, text_in};
+ghost use Rattle.serve_work.specs.ClientInside.{HasInHand, IsCounted, KeepsMoments, Serves, Tallies};
+ghost use Rattle.serve_work.specs.ClientInside.{TalliesSeat, text_in};
 ghost use Rattle.serve_work.specs.Rests.{CanDrain, CanFeed, CanGoOn, CanHold, Comes, Draining, HasMemoryAt};
 ghost use Rattle.serve_work.specs.Rests.{IsAt, IsBefore, IsOutset, Outset, Spoils};
 
@@ -44,6 +45,7 @@ fn discard_left<L: Epoch, T: Wait>(
         → Serves past stop o.reader reader o.seat seat.old o.writer writer
         → Comes result past o reader seat.new writer }
     ensures tally { TalliesSeat seat.old seat.new }
+    ensures accepted { seat.new.accepted ≡ seat.old.accepted }
     ensures memory { (reader : ReaderState) (writer : WriterState) (buffers : Buffers)
         → HasMemoryAt reader writer buffers result }
 {
@@ -61,6 +63,7 @@ fn spoil_left<L: Epoch, T: Wait>(rt: &T, hub: &Hub<L>, seat: &mut StreamSeat<L>,
         → Serves past stop o.reader reader o.seat seat.old o.writer writer
         → Comes result past o reader seat.new writer }
     ensures tally { TalliesSeat seat.old seat.new }
+    ensures accepted { seat.new.accepted ≡ seat.old.accepted }
     ensures memory { (reader : ReaderState) (writer : WriterState) (buffers : Buffers)
         → HasMemoryAt reader writer buffers result }
 {
@@ -86,6 +89,7 @@ fn hold_left<L: Epoch, R: Source + Drop, K: Clock, T: Wait>(
         → IsCounted past seat.old → Spoils held o reader.old seat.old writer (text_in in_hand)
         → Comes result past o reader.new seat.new writer }
     ensures tally { TalliesSeat seat.old seat.new }
+    ensures moments { KeepsMoments (K.gives clock.now) seat.old seat.new }
     ensures memory { (writer : WriterState) (buffers : Buffers)
         → HasMemoryAt reader.new writer buffers result }
     ensures header { reader.new.header ≡ reader.old.header }
@@ -110,6 +114,7 @@ fn drain_left<L: Epoch, W: Sink, T: Wait>(
         → IsAt (Draining stop) past o reader seat.old writer.old
         → Comes result past o reader seat.new writer.new }
     ensures tally { Tallies seat.old seat.new writer.old writer.new }
+    ensures accepted { seat.new.accepted ≡ seat.old.accepted }
     ensures memory { (reader : ReaderState) (buffers : Buffers)
         → HasMemoryAt reader writer.new buffers result }
 {
@@ -144,6 +149,7 @@ fn feed_left<L: Epoch, R: Source + Drop, W: Sink, K: Clock, T: Wait>(
         → HasInHand o.reader reader.old o.seat seat.old o.writer writer.old (text_in in_hand)
         → Comes result past o reader.new seat.new writer.new }
     ensures tally { Tallies seat.old seat.new writer.old writer.new }
+    ensures moments { KeepsMoments (K.gives clock.now) seat.old seat.new }
     ensures memory { HasMemoryAt reader.new writer.new buffers.new result }
     ensures header { reader.new.header ≡ reader.old.header }
 {
@@ -182,6 +188,7 @@ pub(crate) fn serve<L: Epoch, R: Source + Drop, W: Sink, K: Clock, T: Wait>(
         → IsBefore course past o reader.old seat.old writer.old
         → Comes result past o reader.new seat.new writer.new }
     ensures tally { Tallies seat.old seat.new writer.old writer.new }
+    ensures moments { KeepsMoments (K.gives clock.now) seat.old seat.new }
     ensures memory { HasMemoryAt reader.new writer.new buffers.new result }
     ensures header { reader.new.header ≡ reader.old.header }
 {

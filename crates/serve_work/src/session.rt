@@ -2,7 +2,7 @@
 ghost use Rattle.std.specs.Prelude.{◌≡◌, ◌↔◌, IfOk, IsErrOf, length, map};
 ghost use Rattle.serve_hub.specs.Books.{IsLimit};
 ghost use Rattle.serve_hub.specs.Seats.{opened_streams};
-ghost use Rattle.serve_work.specs.Sessions.{AreInputs, AreServed, served_of, starts_of};
+ghost use Rattle.serve_work.specs.Sessions.{AreInputs, AreServed, IsSession, served_of, starts_of};
 
 mod epochs;
 mod interval;
@@ -18,6 +18,7 @@ use epochs::{first, go_on};
 use interval::report;
 use serve_core::Setup;
 use serve_hub::HubError;
+use serve_hub::limits::MOST_SEATS;
 use std::alloc::{AllocError, Global};
 use std::marker::Brand;
 use std::sync::Wait;
@@ -67,7 +68,7 @@ impl From<AllocError> for SessionFault {
 }
 
 impl From<HubError> for SessionFault {
-    ghost use Rattle.serve_hub.specs.declared.hub.HubError.{HubError};
+    ghost use Rattle.serve_hub.specs.declared.error.HubError.{HubError};
     ghost use Rattle.serve_work.specs.declared.session.SessionFault.{SessionFault};
 
     ghost from_gives = { λ refused e. (e ≡ SessionFault.BadLimit) ↔ (refused ≡ HubError.BadLimit) };
@@ -107,9 +108,12 @@ pub fn serve_session<
     ensures streams { IfOk result (λ served. AreServed
         (starts_of W.contents W.failures (opened_streams limit 0 setup.streams) inputs.items)
         (map (served_of R.remaining R.failures W.contents W.failures W.is_flushed) served.items)) }
+    ensures session { IfOk result (λ served. IsSession (K.gives clock.now) setup
+        (starts_of W.contents W.failures (opened_streams limit 0 setup.streams) inputs.items)
+        (map (served_of R.remaining R.failures W.contents W.failures W.is_flushed) served.items)) }
     ensures bad_limit { IsErrOf result SessionFault.BadLimit ↔ ¬ IsLimit (length setup.streams) limit }
 {
-    let blank = Blank::new(80);
+    let blank = Blank::new(MOST_SEATS);
     let opened = first::<Brand, R, W, G, K, T>(
         rt, alloc, blank, setup, inputs, limit, gate, clock,
     )?;

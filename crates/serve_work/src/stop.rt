@@ -4,6 +4,7 @@ ghost use Rattle.serve_work.specs.ClientInside.{IsFirst, IsUseful, halt_of, stop
 
 use serve_core::Refusal as Core;
 use serve_hub::Refusal;
+use std::fmt;
 use thiserror::Error;
 use y4m_stream::{ReadFault, WriteFault};
 
@@ -11,14 +12,37 @@ use y4m_stream::{ReadFault, WriteFault};
 #[derive(Clone, Copy, Debug, PartialEq, Eq, Error)]
 pub enum Cause {
     /// The stream has accepted as many frames as it may.
-    #[error("TooManyFrames")]
     TooManyFrames,
     /// The moment of the offer was past 2^60.
-    #[error("ClockEnd")]
     ClockEnd,
     /// Memory was refused for the frame, for its job, for the header of the images, or for the next epoch.
-    #[error("NoMemory")]
     NoMemory,
+}
+
+impl Cause {
+    ghost use Rattle.serve_work.specs.Words.{cause_word};
+
+    /// The word that it is told by, its own name.
+    pub fn word(&self) -> &'static str
+        ensures { result.now ≡ cause_word self.now }
+    {
+        match self {
+            Cause::TooManyFrames => "TooManyFrames",
+            Cause::ClockEnd => "ClockEnd",
+            Cause::NoMemory => "NoMemory",
+        }
+    }
+}
+
+impl fmt::Display for Cause {
+    ghost use Rattle.std.specs.Prelude.{Some};
+    ghost use Rattle.serve_work.specs.Words.{cause_word};
+
+    ghost output = { λ cause. Some (cause_word cause) };
+
+    fn fmt<W: fmt::Write>(&self, f: &mut fmt::Formatter<W>) -> fmt::Result {
+        f.write_str(self.word())
+    }
 }
 
 /// Why a client stopped: the first fault, or none.

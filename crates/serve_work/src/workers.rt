@@ -13,7 +13,7 @@ fn step<G: Gate + Sync, T: Threads>(rt: &T, worker: u32, lease: &mut Lease, gate
     requires { lease.old.used < lease.old.granted }
     ensures { lease.new ≡ record lease.old { job = lease.new.job; used = lease.old.used + 1 } }
 {
-    gate.before_band(worker, lease.stream(), lease.seq());
+    gate.before_band(worker, lease.stream(), lease.number());
     let samples = lease.spec().chain().geometry().bytes();
     if gate.in_halves(samples) {
         let _ = lease.step_halves(rt, &|half| gate.in_half(worker, half));

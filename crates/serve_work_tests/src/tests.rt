@@ -3,6 +3,7 @@ mod clients;
 mod epochs;
 mod gates;
 mod late;
+mod library;
 mod many;
 mod pauses;
 mod sessions;

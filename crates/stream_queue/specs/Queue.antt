@@ -32,7 +32,7 @@ module _ {X : Type 0} where
   out_count q = if q.is_out then 1 else 0
 
   -- the item that is out and those that wait are those accepted and not finished, and each has a place
-  pub record IsSound (q : Queue X) : Type 0 where
+  pub record IsQueue (q : Queue X) : Type 0 where
     pub unfinished : q.finished + out_count q + length q.waiting ≡ q.accepted
     pub within : q.accepted ≤ q.finished + q.capacity
 

@@ -1,7 +1,7 @@
 //! A queue whose front item may be out, and keeps its number and its place until it has finished.
 ghost use Rattle.std.specs.Prelude.{◌≡◌, ◌≤◌, ◌<◌, ◌↔◌, true, IsTrue, IsFalse, IsOk, IfOk, OnOk, OnErr};
 ghost use Rattle.std.specs.Prelude.{IsErrOf, IfSome, OnSome, IfNone, IsNone, [], ◌∷◌, option_copied};
-ghost use Rattle.stream_queue.specs.Queue.{HasRoom, IsFull, IsSound, front, opened, with_front};
+ghost use Rattle.stream_queue.specs.Queue.{HasRoom, IsFull, IsQueue, front, opened, with_front};
 ghost use Rattle.stream_queue.specs.Queue.{with_front_out, with_last, with_one_finished};
 
 use crate::limits::{MOST_ITEMS, MOST_PLACES};
@@ -41,7 +41,7 @@ pub struct FrameQueue<T> {
 }
 
 impl<T> Model for FrameQueue<T> {
-    ghost use Rattle.stream_queue.specs.Queue.{Queue, IsSound, queue_code};
+    ghost use Rattle.stream_queue.specs.Queue.{IsQueue, Queue, queue_code};
 
     ghost Value = { Queue T };
 
@@ -56,7 +56,7 @@ impl<T> Model for FrameQueue<T> {
       capacity = q.ring.capacity;
     } };
 
-    ghost invariant = { λ q. IsSound (record {
+    ghost invariant = { λ q. IsQueue (record {
       waiting = q.ring.items;
       is_out = q.is_out;
       accepted = q.accepted;
@@ -171,7 +171,7 @@ impl<T> FrameQueue<T> {
     /// How many items were accepted: the number of the next one.
     pub fn accepted(&self) -> u64
         ensures value { result ≡ self.now.accepted }
-        ensures sound { IsSound self.now }
+        ensures sound { IsQueue self.now }
     {
         self.accepted
     }
@@ -179,7 +179,7 @@ impl<T> FrameQueue<T> {
     /// How many items have finished: the number of the front one, or of the one that is out.
     pub fn finished(&self) -> u64
         ensures value { result ≡ self.now.finished }
-        ensures sound { IsSound self.now }
+        ensures sound { IsQueue self.now }
     {
         self.finished
     }

@@ -107,15 +107,19 @@ none_left (form ∷ forms) name zero h = absurd (omega arith)
 none_left (form ∷ forms) name (suc k) h = none_left forms name k (omega arith)
 
 -- a search through the texts, at its k-th
-pub other_text : (forms : List (Bor (List ℕ) × Chroma)) (name text : List ℕ) (k : ℕ) (d : Bor (List ℕ) × Chroma) (same : Bool) (form : Option Chroma)
-    → form ≡ form_of_texts (drop k forms) name → k < length forms → text ≡ (slice_index_or forms k d).0.now → same ≡ pointwise nat_eq name text
+pub other_text : (forms : List (Bor (List ℕ) × Chroma)) (name text : List ℕ) (k : ℕ) (d : Bor (List ℕ) × Chroma)
+    (same : Bool) (form : Option Chroma)
+    → form ≡ form_of_texts (drop k forms) name → k < length forms → text ≡ (slice_index_or forms k d).0.now
+    → same ≡ pointwise nat_eq name text
     → same ≡ false → form ≡ form_of_texts (drop (k + 1) forms) name
 other_text forms name text k d same form is h e s differs =
     let other : pointwise nat_eq name (slice_index_or forms k d).0.now ≡ false = ap (pointwise nat_eq name) (sym e) ∙ sym s ∙ differs in
     is ∙ first_left forms name k (k + 1) d (omega arith) h ∙ rw other refl
 
-pub same_text_found : (forms : List (Bor (List ℕ) × Chroma)) (name text : List ℕ) (k : ℕ) (d : Bor (List ℕ) × Chroma) (same : Bool) (form : Option Chroma)
-    → form ≡ form_of_texts (drop k forms) name → k < length forms → text ≡ (slice_index_or forms k d).0.now → same ≡ pointwise nat_eq name text
+pub same_text_found : (forms : List (Bor (List ℕ) × Chroma)) (name text : List ℕ) (k : ℕ) (d : Bor (List ℕ) × Chroma)
+    (same : Bool) (form : Option Chroma)
+    → form ≡ form_of_texts (drop k forms) name → k < length forms → text ≡ (slice_index_or forms k d).0.now
+    → same ≡ pointwise nat_eq name text
     → same ≡ true → Some (slice_index_or forms k d).1 ≡ form
 same_text_found forms name text k d same form is h e s agrees =
     let it : pointwise nat_eq name (slice_index_or forms k d).0.now ≡ true = ap (pointwise nat_eq name) (sym e) ∙ sym s ∙ agrees in

@@ -1,5 +1,6 @@
 -- Frames that pass from a reader to a writer, where each is read while the image before it is written.
-use Rattle.std.proofs.Common.{◌≡◌, ℕ, ◌+◌, ◌<◌, ◌≤◌, List, [], ◌∷◌, ◌++◌, length, Bool, true, false, Result, Ok, Err, IfErr, refl, ◌∙◌, ◌⊎◌, inl, inr, length-append, arith}
+use Rattle.std.proofs.Common.{◌≡◌, ℕ, ◌+◌, ◌<◌, ◌≤◌, List, [], ◌∷◌, ◌++◌, length, Bool, true, false, Result}
+use Rattle.std.proofs.Common.{Ok, Err, IfErr, refl, ◌∙◌, ◌⊎◌, inl, inr, length-append, arith}
 use Rattle.std.proofs.KnownBytes.{Consumes-kept, Consumes-nil, Consumes-trans}
 use Rattle.frame_view.specs.declared.frame.Frame.{Frame}
 use Rattle.y4m_header.specs.StreamText.{FrameText, IsFrameOf, text_of}
@@ -7,7 +8,8 @@ use Rattle.filters.specs.Chain.{ChainValue}
 use Rattle.filters.specs.declared.error.FilterError.{FilterError}
 use Rattle.filters.specs.declared.error.FilterError.TheVariants.{NoMemory}
 use Rattle.y4m_stream.specs.declared.fault.ReadFault.{ReadFault}
-use Rattle.y4m_stream.specs.declared.fault.ReadFault.TheVariants.{Device, LineTooLong, Header, NotFrame, Truncated, NoMemory as NoReadMemory, Failed}
+use Rattle.y4m_stream.specs.declared.fault.ReadFault.TheVariants.{Device, LineTooLong, Header, NotFrame}
+use Rattle.y4m_stream.specs.declared.fault.ReadFault.TheVariants.{Truncated, NoMemory as NoReadMemory, Failed}
 use Rattle.y4m_stream.specs.declared.fault.FilterFault.{FilterFault}
 use Rattle.y4m_stream.specs.declared.fault.FilterFault.TheVariants.{Read, Ops, Write, TooManyFrames}
 use Rattle.y4m_stream.specs.Filtered.{CountsReads, IsLineAhead}
@@ -19,31 +21,38 @@ use Rattle.y4m_stream.specs.Served.{IsImageText}
 use Rattle.y4m_stream.specs.Writer.{PutsFrame, WriterState}
 use Rattle.y4m_stream.specs.declared.lookahead.TheConstants.{LINE_LIMIT}
 use Rattle.y4m_stream.specs.declared.passing.TheConstants.{MOST_FRAMES}
-use Rattle.y4m_stream.proofs.MoreFrames.{CanPass-next, PassesFrames, PassesFrames-none, PassesFrames-push, HasPassed-all, HasPassed-cut, HasPassed-limit, HasPassed-memory, HasPassed-read}
+use Rattle.y4m_stream.proofs.MoreFrames.{CanPass-next, PassesFrames, PassesFrames-none, PassesFrames-push}
+use Rattle.y4m_stream.proofs.MoreFrames.{HasPassed-all, HasPassed-cut, HasPassed-limit, HasPassed-memory}
+use Rattle.y4m_stream.proofs.MoreFrames.{HasPassed-read}
 
 text_length : (len : ℕ) (frame : FrameText) → IsFrameOf len frame → length (text_of frame) ≤ LINE_LIMIT + len
 text_length len frame is = rw length-append (omega (arith, is.whole, is.is_line.is_line.short))
 
 -- one read was answered, whatever the answer
-pub read_once : (reader reader' : ReaderState) (frame : Frame) (answer : Result Bool ReadFault) → AnswersOpen reader reader' (answer_into frame answer)
-    → IfErr answer (λ _. IsFrameAhead (data_len_of reader.header) reader.rest reader'.left) → IsFrameAhead (data_len_of reader.header) reader.rest reader'.left
+pub read_once : (reader reader' : ReaderState) (frame : Frame) (answer : Result Bool ReadFault)
+    → AnswersOpen reader reader' (answer_into frame answer)
+    → IfErr answer (λ _. IsFrameAhead (data_len_of reader.header) reader.rest reader'.left)
+    → IsFrameAhead (data_len_of reader.header) reader.rest reader'.left
 read_once reader reader' frame (Ok true) one ahead =
     let text = text_of (frame_text_of frame) in (
       text ++ one.ahead.0,
       Consumes-trans reader.rest reader'.rest reader'.left text one.ahead.0 one.taken one.ahead.1,
       rw length-append (omega (arith, text_length (data_len_of reader.header) (frame_text_of frame) one.is_frame, one.ahead.2)),
     )
-read_once reader reader' frame (Ok false) met ahead = ([], Consumes-kept reader.rest reader.rest reader'.left [] (Consumes-nil reader.rest) met.all_read, omega arith)
+read_once reader reader' frame (Ok false) met ahead =
+    ([], Consumes-kept reader.rest reader.rest reader'.left [] (Consumes-nil reader.rest) met.all_read, omega arith)
 read_once reader reader' frame (Err fault) fails ahead = ahead
 
 -- and it failed once more at most
-pub reads_once : (reader reader' : ReaderState) (frame : Frame) (answer : Result Bool ReadFault) → AnswersOpen reader reader' (answer_into frame answer)
+pub reads_once : (reader reader' : ReaderState) (frame : Frame) (answer : Result Bool ReadFault)
+    → AnswersOpen reader reader' (answer_into frame answer)
     → (reader'.failures ≡ reader.failures) ⊎ (reader'.failures ≡ one_more reader.failures)
 reads_once reader reader' frame (Ok true) one = inl one.no_failure
 reads_once reader reader' frame (Ok false) met = inl met.no_failure
 reads_once reader reader' frame (Err fault) fails = once_more fault fails.told
   where
-    once_more : (fault : ReadFault) → reader'.failures ≡ failures_at fault reader.failures → (reader'.failures ≡ reader.failures) ⊎ (reader'.failures ≡ one_more reader.failures)
+    once_more : (fault : ReadFault) → reader'.failures ≡ failures_at fault reader.failures
+        → (reader'.failures ≡ reader.failures) ⊎ (reader'.failures ≡ one_more reader.failures)
     once_more Device told = inr told
     once_more LineTooLong told = inl told
     once_more (Header e) told = inl told
@@ -53,7 +62,8 @@ reads_once reader reader' frame (Err fault) fails = once_more fault fails.told
     once_more Failed told = inl told
 
 -- n frames passed; behind them one more was read, or the end was met
-pub record PassesAhead (chain : ChainValue) (reader reader' : ReaderState) (writer writer' : WriterState) (n : ℕ) (more : Bool) (next : FrameText) : Type 0 where
+pub record PassesAhead (chain : ChainValue) (reader reader' : ReaderState) (writer writer' : WriterState) (n : ℕ)
+    (more : Bool) (next : FrameText) : Type 0 where
   pub frames : List FrameText
   pub images : List FrameText
   pub mid : ReaderState
@@ -63,7 +73,8 @@ pub record PassesAhead (chain : ChainValue) (reader reader' : ReaderState) (writ
   pub taken : more ≡ true → TakesFrame mid reader' next
   pub met : more ≡ false → MeetsEnd mid reader'
 
-pub PassesAhead-first : (chain : ChainValue) (reader reader' : ReaderState) (writer : WriterState) (more : Bool) (frame : Frame) → writer.failed ≡ false → reader'.header ≡ reader.header
+pub PassesAhead-first : (chain : ChainValue) (reader reader' : ReaderState) (writer : WriterState) (more : Bool)
+    (frame : Frame) → writer.failed ≡ false → reader'.header ≡ reader.header
     → AnswersOpen reader reader' (answer_into frame (Ok more)) → PassesAhead chain reader reader' writer writer 0 more (frame_text_of frame)
 PassesAhead-first chain reader reader' writer more frame writing same answer = record {
   frames = [];
@@ -77,25 +88,33 @@ PassesAhead-first chain reader reader' writer more frame writing same answer = r
 }
 
 -- an image went out, and one read was answered
-pub put_beside : (reader reader' : ReaderState) (writer writer' : WriterState) (next : Frame) (image : FrameText) (more : Bool) → PutsFrame writer writer' image
-    → AnswersOpen reader reader' (answer_into next (Ok more)) → PutsBeside reader reader' writer writer' (frame_text_of next) (Ok more) image
+pub put_beside : (reader reader' : ReaderState) (writer writer' : WriterState) (next : Frame) (image : FrameText)
+    (more : Bool) → PutsFrame writer writer' image
+    → AnswersOpen reader reader' (answer_into next (Ok more))
+    → PutsBeside reader reader' writer writer' (frame_text_of next) (Ok more) image
 put_beside reader reader' writer writer' next image true put one = (put, one)
 put_beside reader reader' writer writer' next image false put met = (put, met)
 
-pub beside_put : (reader reader' : ReaderState) (writer writer' : WriterState) (next image : FrameText) (more : Bool) → PutsBeside reader reader' writer writer' next (Ok more) image → PutsFrame writer writer' image
+pub beside_put : (reader reader' : ReaderState) (writer writer' : WriterState) (next image : FrameText) (more : Bool)
+    → PutsBeside reader reader' writer writer' next (Ok more) image → PutsFrame writer writer' image
 beside_put reader reader' writer writer' next image true both = both.0
 beside_put reader reader' writer writer' next image false both = both.0
 
 -- the first image can be written, where a frame was read
-pub first_ready : (chain : ChainValue) (reader reader' : ReaderState) (writer : WriterState) (next : Frame) (more : Bool) → reader'.header ≡ reader.header
+pub first_ready : (chain : ChainValue) (reader reader' : ReaderState) (writer : WriterState) (next : Frame)
+    (more : Bool) → reader'.header ≡ reader.header
     → AnswersOpen reader reader' (answer_into next (Ok more)) → CanPass chain reader writer → more ≡ true → CanPass chain reader' writer
-first_ready chain reader reader' writer next true same one ready some = record { reading = one.stays_open; writing = ready.writing; header = rw same ready.header; size = ready.size }
+first_ready chain reader reader' writer next true same one ready some =
+    record { reading = one.stays_open; writing = ready.writing; header = rw same ready.header; size = ready.size }
 first_ready chain reader reader' writer next false same met ready some = absurd cc
 
 -- the next image can be written, where one more frame was read
-pub beside_ready : (chain : ChainValue) (reader reader' : ReaderState) (writer writer' : WriterState) (next image : FrameText) (more : Bool) → reader'.header ≡ reader.header
-    → PutsBeside reader reader' writer writer' next (Ok more) image → CanPass chain reader writer → more ≡ true → CanPass chain reader' writer'
-beside_ready chain reader reader' writer writer' next image true same both ready some = CanPass-next chain reader reader' writer writer' image same both.1.stays_open both.0 ready
+pub beside_ready : (chain : ChainValue) (reader reader' : ReaderState) (writer writer' : WriterState)
+    (next image : FrameText) (more : Bool) → reader'.header ≡ reader.header
+    → PutsBeside reader reader' writer writer' next (Ok more) image → CanPass chain reader writer → more ≡ true
+    → CanPass chain reader' writer'
+beside_ready chain reader reader' writer writer' next image true same both ready some =
+    CanPass-next chain reader reader' writer writer' image same both.1.stays_open both.0 ready
 beside_ready chain reader reader' writer writer' next image false same both ready some = absurd cc
 
 -- where no more than a line is read ahead, no more than a frame is
@@ -117,8 +136,10 @@ reads_ahead (Err (Write fault)) old new told = inl told
 reads_ahead (Err TooManyFrames) old new told = told
 
 pub HasPassed-ahead : (chain : ChainValue) (reader reader' : ReaderState) (writer writer' : WriterState) (answer : Result ℕ FilterFault)
-    → HasPassed IsLineAhead ReadsTold chain reader reader' writer writer' answer → HasPassed IsFrameAhead CountsReads chain reader reader' writer writer' answer
-HasPassed-ahead chain reader reader' writer writer' (Ok n) passed = record { outcome = passed.outcome; reads = passed.reads; writes = passed.writes }
+    → HasPassed IsLineAhead ReadsTold chain reader reader' writer writer' answer
+    → HasPassed IsFrameAhead CountsReads chain reader reader' writer writer' answer
+HasPassed-ahead chain reader reader' writer writer' (Ok n) passed =
+    record { outcome = passed.outcome; reads = passed.reads; writes = passed.writes }
 HasPassed-ahead chain reader reader' writer writer' (Err fault) passed = record {
   outcome = (Stops-ahead chain reader reader' writer writer' fault passed.outcome.0, passed.outcome.1);
   reads = reads_ahead (Err fault) _ _ passed.reads;
@@ -127,9 +148,11 @@ HasPassed-ahead chain reader reader' writer writer' (Err fault) passed = record 
 
 module _ (chain : ChainValue) (reader reader' : ReaderState) (writer writer' : WriterState) (n : ℕ) (more : Bool) (next : FrameText)
     (a : PassesAhead chain reader reader' writer writer' n more next) where
-  pub Ahead-all : (all : ℕ) → more ≡ false → n ≡ all → all ≤ MOST_FRAMES → HasPassed IsFrameAhead CountsReads chain reader reader' writer writer' (Ok all)
+  pub Ahead-all : (all : ℕ) → more ≡ false → n ≡ all → all ≤ MOST_FRAMES
+      → HasPassed IsFrameAhead CountsReads chain reader reader' writer writer' (Ok all)
   Ahead-all all none count few =
-      HasPassed-ahead chain reader reader' writer writer' (Ok all) (HasPassed-all chain reader a.mid writer writer' a.frames a.images a.so_far all reader' (a.count ∙ count) few (a.met none))
+      HasPassed-ahead chain reader reader' writer writer' (Ok all)
+      (HasPassed-all chain reader a.mid writer writer' a.frames a.images a.so_far all reader' (a.count ∙ count) few (a.met none))
 
   -- behind those one frame more was read
   module _ (some : more ≡ true) where
@@ -138,23 +161,30 @@ module _ (chain : ChainValue) (reader reader' : ReaderState) (writer writer' : W
 
     pub Ahead-limit : n ≡ MOST_FRAMES → HasPassed IsFrameAhead CountsReads chain reader reader' writer writer' (Err TooManyFrames)
     Ahead-limit full =
-        HasPassed-ahead chain reader reader' writer writer' (Err TooManyFrames) (HasPassed-limit chain reader a.mid writer writer' a.frames a.images a.so_far reader' next (a.count ∙ full) one)
+        HasPassed-ahead chain reader reader' writer writer' (Err TooManyFrames)
+        (HasPassed-limit chain reader a.mid writer writer' a.frames a.images a.so_far reader' next (a.count ∙ full) one)
 
-    pub Ahead-memory : (e : FilterError) → n < MOST_FRAMES → e ≡ NoMemory → HasPassed IsFrameAhead CountsReads chain reader reader' writer writer' (Err (Ops e))
+    pub Ahead-memory : (e : FilterError) → n < MOST_FRAMES → e ≡ NoMemory
+        → HasPassed IsFrameAhead CountsReads chain reader reader' writer writer' (Err (Ops e))
     Ahead-memory e few memory =
         HasPassed-ahead chain reader reader' writer writer' (Err (Ops e))
-        (HasPassed-memory chain reader a.mid writer writer' a.frames a.images a.so_far e reader' next (omega (arith, a.count, few)) memory one)
+        (HasPassed-memory chain reader a.mid writer writer' a.frames a.images a.so_far e reader' next
+        (omega (arith, a.count, few)) memory one)
 
     -- its image is written, while one more is read
-    module _ (few : n < MOST_FRAMES) (image : FrameText) (made : IsImageText chain next image) (reader'' : ReaderState) (writer'' : WriterState) where
-      pushed : PutsFrame writer' writer'' image → PassesFrames chain reader reader' writer writer'' (a.frames ++ next ∷ []) (a.images ++ image ∷ [])
-      pushed put = PassesFrames-push chain reader a.mid writer writer' a.frames a.images a.so_far reader' writer'' next image a.same (record { taken = one; made = made; put = put })
+    module _ (few : n < MOST_FRAMES) (image : FrameText) (made : IsImageText chain next image) (reader'' : ReaderState)
+        (writer'' : WriterState) where
+      pushed : PutsFrame writer' writer'' image
+          → PassesFrames chain reader reader' writer writer'' (a.frames ++ next ∷ []) (a.images ++ image ∷ [])
+      pushed put = PassesFrames-push chain reader a.mid writer writer' a.frames a.images a.so_far reader' writer'' next
+          image a.same (record { taken = one; made = made; put = put })
 
       longer : length (a.frames ++ next ∷ []) ≡ n + 1
       longer = omega (arith, length-append a.frames (next ∷ []), a.count)
 
       abbrev ahead_of : (more' : Bool) (next' : FrameText) → reader''.header ≡ reader'.header → PutsFrame writer' writer'' image
-          → (more' ≡ true → TakesFrame reader' reader'' next') → (more' ≡ false → MeetsEnd reader' reader'') → PassesAhead chain reader reader'' writer writer'' (n + 1) more' next'
+          → (more' ≡ true → TakesFrame reader' reader'' next') → (more' ≡ false → MeetsEnd reader' reader'')
+          → PassesAhead chain reader reader'' writer writer'' (n + 1) more' next'
       ahead_of more' next' same put taken met = record {
         frames = a.frames ++ next ∷ [];
         images = a.images ++ image ∷ [];
@@ -166,18 +196,22 @@ module _ (chain : ChainValue) (reader reader' : ReaderState) (writer writer' : W
         met = met;
       }
 
-      pub Ahead-next : (more' : Bool) (next' : FrameText) → reader''.header ≡ reader'.header → PutsBeside reader' reader'' writer' writer'' next' (Ok more') image
+      pub Ahead-next : (more' : Bool) (next' : FrameText) → reader''.header ≡ reader'.header
+          → PutsBeside reader' reader'' writer' writer'' next' (Ok more') image
           → PassesAhead chain reader reader'' writer writer'' (n + 1) more' next'
       Ahead-next true next' same both = ahead_of true next' same both.0 (λ _. both.1) (λ e. absurd cc)
       Ahead-next false next' same both = ahead_of false next' same both.0 (λ e. absurd cc) (λ _. both.1)
 
-      pub Ahead-fails : (fault : FilterFault) → FailsBeside reader' reader'' writer' writer'' image fault → HasPassed IsFrameAhead CountsReads chain reader reader'' writer writer'' (Err fault)
+      pub Ahead-fails : (fault : FilterFault) → FailsBeside reader' reader'' writer' writer'' image fault
+          → HasPassed IsFrameAhead CountsReads chain reader reader'' writer writer'' (Err fault)
       Ahead-fails (Read fault) fails =
           HasPassed-ahead chain reader reader'' writer writer'' (Err (Read fault))
-          (HasPassed-read chain reader reader' writer writer'' (a.frames ++ next ∷ []) (a.images ++ image ∷ []) (pushed fails.1) fault reader'' (omega (arith, longer, few)) fails.0)
+          (HasPassed-read chain reader reader' writer writer'' (a.frames ++ next ∷ []) (a.images ++ image ∷ [])
+          (pushed fails.1) fault reader'' (omega (arith, longer, few)) fails.0)
       Ahead-fails (Ops e) fails = absurd fails
       Ahead-fails (Write fault) fails =
           let reads = rw (one.no_failure ∙ a.so_far.reads) at fails.1 in
-          HasPassed-cut chain reader a.mid writer writer' a.frames a.images a.so_far IsFrameAhead CountsReads fault reader' reader'' writer'' (omega (arith, a.count, few))
+          HasPassed-cut chain reader a.mid writer writer' a.frames a.images a.so_far IsFrameAhead CountsReads fault
+          reader' reader'' writer'' (omega (arith, a.count, few))
           (record { frame = next; image = image; taken = one; made = made; fails = fails.2 }) (rw (a.same, a.so_far.same) at fails.0) reads
       Ahead-fails TooManyFrames fails = absurd fails

@@ -1,9 +1,12 @@
 -- What stays known of the bytes that are held and those that are still to come.
-use Rattle.std.proofs.Common.{◌≡◌, ℕ, ◌+◌, ◌-◌, ◌<◌, ◌≤◌, List, [], ◌++◌, length, take, drop, None, Some, refl, sym, ap, ◌∙◌, append_assoc, arith, length-append, Option, min, ◌⊎◌, inl, inr, append-nil}
+use Rattle.std.proofs.Common.{◌≡◌, ℕ, ◌+◌, ◌-◌, ◌<◌, ◌≤◌, List, [], ◌++◌, length, take, drop, None, Some}
+use Rattle.std.proofs.Common.{refl, sym, ap, ◌∙◌, append_assoc, arith, length-append, Option, min, ◌⊎◌, inl}
+use Rattle.std.proofs.Common.{inr, append-nil}
 use Rattle.std.proofs.Common.{zero, suc}
 use Rattle.std.specs.List.{copy_within}
 use Rattle.std.proofs.KnownBytes.{Consumes-kept, Consumes-trans}
-use Rattle.std.proofs.lemmas.List.{length-take, length-drop, length-take-le, take-append-le, take_at, take-append-drop, drop_all, nil_from_length}
+use Rattle.std.proofs.lemmas.List.{length-take, length-drop, length-take-le, take-append-le, take_at}
+use Rattle.std.proofs.lemmas.List.{take-append-drop, drop_all, nil_from_length}
 use borrow.Rule.Slice.PartMut.{put_mid, post_of}
 use Rattle.std.proofs.Math.Seq.{take-append-add}
 use Rattle.std.proofs.lemmas.Slice.{between_is}
@@ -12,13 +15,15 @@ use Rattle.std.specs.Prelude.{IfSome}
 use Rattle.y4m_stream.specs.Front.{HasGiven, HasNoLineFeed, IsLongLine}
 
 -- bytes that are read behind those that are held
-pub prepend_known-read : (a b : Option (List ℕ)) (held more now : List ℕ) → Consumes a b more → now ≡ held ++ more → Keeps (prepend_known held a) (prepend_known now b)
+pub prepend_known-read : (a b : Option (List ℕ)) (held more now : List ℕ) → Consumes a b more → now ≡ held ++ more
+    → Keeps (prepend_known held a) (prepend_known now b)
 prepend_known-read None b held more now p e = tt
 prepend_known-read (Some xs) None held more now p e = absurd p
 prepend_known-read (Some xs) (Some ys) held more now p e = ap (λ l. l ++ ys) e ∙ append_assoc held more ys ∙ ap (λ l. held ++ l) (sym p)
 
 -- 1,024 bytes without a line feed stand at the front
-pub IsLongLine-front : (a b : Option (List ℕ)) (held : List ℕ) → Keeps a (prepend_known held b) → length held ≡ 1024 → HasNoLineFeed held → IfSome a IsLongLine
+pub IsLongLine-front : (a b : Option (List ℕ)) (held : List ℕ) → Keeps a (prepend_known held b) → length held ≡ 1024
+    → HasNoLineFeed held → IfSome a IsLongLine
 IsLongLine-front None b held k full none = tt
 IsLongLine-front (Some xs) None held k full none = absurd k
 IsLongLine-front (Some xs) (Some ys) held k full none =
@@ -26,16 +31,19 @@ IsLongLine-front (Some xs) (Some ys) held k full none =
     record { long = rw (← k, length-append) (omega arith); no_feed = rw front none }
 
 -- the part after the front, cut short
-pub take-behind : (front read post : List ℕ) (n : ℕ) → n ≤ length read → take (length front + n) (front ++ (read ++ post)) ≡ front ++ take n read
+pub take-behind : (front read post : List ℕ) (n : ℕ) → n ≤ length read
+    → take (length front + n) (front ++ (read ++ post)) ≡ front ++ take n read
 take-behind front read post n k = rw (take-append-add, take-append-le) refl
 
 -- n bytes are read behind the first ones of a buffer
-pub take-put_mid_more : (bytes read : List ℕ) (len room n : ℕ) → len ≤ length bytes → n ≤ length read → take (len + n) (put_mid len room bytes read) ≡ take len bytes ++ take n read
+pub take-put_mid_more : (bytes read : List ℕ) (len room n : ℕ) → len ≤ length bytes → n ≤ length read
+    → take (len + n) (put_mid len room bytes read) ≡ take len bytes ++ take n read
 take-put_mid_more bytes read len room n h k =
     rw (length-take-le len bytes h) at (take-behind (take len bytes) read (post_of len room bytes) n k)
 
 -- the bytes from n on are moved to the front of a buffer
-pub take-moved : (bytes : List ℕ) (n len : ℕ) → n ≤ len → len ≤ length bytes → take (len - n) (copy_within bytes n len 0) ≡ drop n (take len bytes)
+pub take-moved : (bytes : List ℕ) (n len : ℕ) → n ≤ len → len ≤ length bytes
+    → take (len - n) (copy_within bytes n len 0) ≡ drop n (take len bytes)
 take-moved bytes n len h k =
     let moved = take (len - n) (drop n bytes) in
     let long : length moved ≡ len - n = simp (length-take, length-drop) (omega arith) in
@@ -57,7 +65,8 @@ none_between left more ys (inl e) = rw e refl
 none_between left more ys (inr e) = rw e refl
 
 -- what is held comes first, and the reader gives only what is then missing
-pub Consumes-both : (a b : Option (List ℕ)) (held left out more : List ℕ) (n : ℕ) → n ≡ min (length held) (length out) → take n out ≡ take n held → left ≡ drop n held
+pub Consumes-both : (a b : Option (List ℕ)) (held left out more : List ℕ) (n : ℕ) → n ≡ min (length held) (length out)
+    → take n out ≡ take n held → left ≡ drop n held
     → length more ≡ length out - n → Consumes a b more
     → Consumes (prepend_known held a) (prepend_known left b) (take n out ++ (more ++ post_of n (length out - n) out))
 Consumes-both None b held left out more n few same rest missing read = tt
@@ -99,5 +108,7 @@ Keeps-none (Some xs) None p = absurd p
 Keeps-none (Some xs) (Some ys) p = sym p
 
 -- fewer bytes came than were asked for
-pub given_so_far : (a b c : Option (List ℕ)) (bytes : List ℕ) (at len : ℕ) → Consumes a b (take at bytes) → Keeps b c → at < len → HasGiven a c (λ given. length given < len)
-given_so_far a b c bytes at len so_far kept few = (take at bytes, Consumes-kept a b c (take at bytes) so_far kept, rw length-take (omega (arith, few)))
+pub given_so_far : (a b c : Option (List ℕ)) (bytes : List ℕ) (at len : ℕ) → Consumes a b (take at bytes) → Keeps b c
+    → at < len → HasGiven a c (λ given. length given < len)
+given_so_far a b c bytes at len so_far kept few =
+    (take at bytes, Consumes-kept a b c (take at bytes) so_far kept, rw length-take (omega (arith, few)))

@@ -40,7 +40,7 @@ pub fn resized_header(
         IsHeaderOfImages chain.now header.now (unwrap_or resized header.now)) }
     ensures memory { IfErr result (λ e. e ≡ FilterError.NoMemory) }
 {
-    chain.is_chain_law();
+    chain.recall_is_chain();
     if !chain.has_crop() {
         return Ok(None);
     }

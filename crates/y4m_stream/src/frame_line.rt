@@ -54,7 +54,8 @@ pub fn find_frame_line<R: Source>(input: &mut Lookahead<R>) -> Result<Option<usi
     }
 }
 
-/// Takes a line of `end` bytes and its line feed off the front, and then the data of the frame, into it.
+/// Takes a line of `end` bytes and its line feed off the front, and then the data of the frame, into it; and
+/// tells the source that the frame ended.
 pub fn take_data<R: Source>(
     input: &mut Lookahead<R>,
     end: usize,
@@ -76,5 +77,7 @@ pub fn take_data<R: Source>(
     ensures told { input.new.failures ≡ failures_told result input.old.failures }
 {
     input.consume(end + 1);
-    input.take_exactly(frame.data_mut())
+    input.take_exactly(frame.data_mut())?;
+    input.frame_ended();
+    Ok(())
 }

@@ -116,6 +116,13 @@ impl<R: Source> Lookahead<R> {
         fill_exactly(&mut self.source, &mut out[taken..])
     }
 
+    /// Tells the source that a frame ended.
+    pub fn frame_ended(&mut self)
+        ensures { self.new ≡ self.old }
+    {
+        self.source.frame_ended();
+    }
+
     /// Gives the source up, and loses what is held.
     pub fn into_source(self) -> R
         ensures remaining { R.remaining result ≡ self.left }

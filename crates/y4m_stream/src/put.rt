@@ -46,7 +46,8 @@ pub fn put_line<W: Sink>(writer: &mut W, line: &[u8]) -> Result<(), usize>
     put_all(writer, &text[..line.len() + 1])
 }
 
-/// Writes a frame's line, a line feed and its data, or answers how many bytes went out.
+/// Writes a frame's line, a line feed and its data, and tells the writer that the image ended, or answers how
+/// many bytes went out.
 #[tactic(auto, using(crate::proofs::Puts::put_rules))]
 pub fn put_frame<W: Sink>(writer: &mut W, line: &[u8], bytes: &[u8]) -> Result<(), usize>
     requires line { length line.now < LINE_LIMIT }
@@ -57,7 +58,10 @@ pub fn put_frame<W: Sink>(writer: &mut W, line: &[u8], bytes: &[u8]) -> Result<(
 {
     put_line(writer, line)?;
     match put_all(writer, bytes) {
-        Ok(()) => Ok(()),
+        Ok(()) => {
+            writer.image_ended();
+            Ok(())
+        }
         Err(n) => Err(line.len() + 1 + n),
     }
 }

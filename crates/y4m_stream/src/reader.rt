@@ -75,9 +75,9 @@ fn begin_frame<R: Source>(
 /// The frames of a stream, read one after another.
 ///
 /// It reads again only while it lacks bytes for what it is asked, and keeps what came beyond that, at most
-/// 1,024 bytes, for the next call. No read that failed is tried again, an interrupted one neither: after its
-/// first fault every call answers `Failed`. The frames that were read before stay whole; `into_source` gives
-/// the source back.
+/// 1,024 bytes, for the next call. It tells its source of each frame that it has read whole. No read that
+/// failed is tried again, an interrupted one neither: after its first fault every call answers `Failed`. The
+/// frames that were read before stay whole; `into_source` gives the source back.
 #[derive(Drop)]
 pub struct StreamReader<R: Source> {
     input: Lookahead<R>,

@@ -18,8 +18,8 @@ use y4m_header::Header;
 ///
 /// Each call writes all of its text, one piece for a line and one for a frame's data: nothing is kept back
 /// between calls, and no memory is taken. No write or flush that failed is tried again: after its first fault
-/// every call answers `Failed`, and `finish` gives the sink back. It counts the frames and the bytes that
-/// went out.
+/// every call answers `Failed`, and `finish` gives the sink back. It tells its sink of each frame that went
+/// out whole, and counts the frames and the bytes that went out.
 #[derive(Drop)]
 pub struct StreamWriter<W: Sink> {
     sink: W,

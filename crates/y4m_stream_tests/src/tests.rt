@@ -20,6 +20,7 @@ mod prefixes;
 mod reader;
 mod readiness;
 mod sizes;
+mod told;
 mod writing;
 
 /// Compares what a call gave with what is wanted.

@@ -1,4 +1,6 @@
 // The files of the system.
+ghost use Rattle.std.specs.Prelude.{⊤};
+
 use serve_report::{Files, Inlet};
 use std::fs::{self, File};
 use std::io;
@@ -54,6 +56,10 @@ impl Files for HostFiles<'_> {
     type Slow = File;
 
     type Writer = File;
+
+    ghost was_opened = { λ _ _. ⊤ };
+
+    ghost was_made = { λ _ _. ⊤ };
 
     fn open(&self, name: &str) -> io::Result<Inlet<File, File>> {
         let file = fs::open(self.rt, name)?;

@@ -22,6 +22,7 @@ fn own_words(rt: &HostRuntime) -> Result<Vec<String>, AllocError> {
 }
 
 fn main(rt: HostRuntime) -> ExitCode {
+    // `lock` of a standard stream holds no lock here, so that others may call it while this one lives.
     let mut output = rt.stdout().lock();
     let mut errors = rt.stderr().lock();
     let Ok(words) = own_words(&rt) else {

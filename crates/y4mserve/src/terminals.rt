@@ -1,9 +1,8 @@
 // The terminals that the program's streams may be, and what the error stream's shows of a run.
 use serve_report::Watch;
-use serve_report::board::Board;
-use serve_report::progress::{Progress, ProgressLine, show};
-use std::io::{IsTerminal, Lock, Write};
-use std::sync::{Mutex, OnceLock};
+use serve_report::board::{Board, Line};
+use std::io::{IsTerminal, Lock};
+use std::sync::OnceLock;
 use std::time::Instant;
 
 /// The program's own streams. Where the error stream is a terminal, it shows how far a run has come.
@@ -12,9 +11,9 @@ pub struct Terminals<'a> {
     rt: &'a HostRuntime,
     /// None where nothing is shown: the error stream is no terminal, or there is no clock.
     start: Option<Instant>,
-    /// How far a stream that is alone has come. One thread tells of it, so that the lock is free.
-    progress: Mutex<Progress>,
-    /// How far streams that are served together have come.
+    /// What is shown of a stream that is alone.
+    line: Line,
+    /// What is shown of streams that are served together.
     board: OnceLock<Board>,
 }
 
@@ -29,7 +28,7 @@ impl<'a> Terminals<'a> {
         Terminals {
             rt,
             start,
-            progress: Mutex::new(Progress::new()),
+            line: Line::new(),
             board: OnceLock::new(),
         }
     }
@@ -40,46 +39,15 @@ impl<'a> Terminals<'a> {
         u64::try_from(passed.as_millis()).ok()
     }
 
-    fn show(&self, progress: Progress, time: u64) {
-        let mut errors = self.rt.stderr().lock();
-        show(&mut errors, &ProgressLine { progress, time });
-    }
-
-    /// Adds to what a stream that is alone has written, and shows it where that is due.
-    fn advance(&self, frames: u64, bytes: u64) {
-        let Some(mut kept) = self.progress.try_lock() else {
+    /// Draws what is shown, where that is due.
+    fn draw(&self) {
+        let Some(time) = self.time() else {
             return;
         };
-        let progress = kept.with(frames, bytes);
-        *kept = progress;
-        if let Some(time) = self.time() {
-            if progress.is_due(time) {
-                self.show(progress, time);
-                *kept = progress.shown_at(time);
-            }
-        }
-    }
-
-    /// Shows a stream that is alone a last time, where it was shown before.
-    fn end_line(&self) {
-        let Some(kept) = self.progress.try_lock() else {
-            return;
-        };
-        let progress = *kept;
-        if progress.shown == 0 {
-            return;
-        }
-        if let Some(time) = self.time() {
-            self.show(progress, time);
-        }
         let mut errors = self.rt.stderr().lock();
-        let _ = errors.write_all(b"\n");
-    }
-
-    fn draw(&self, board: &Board) {
-        if let Some(time) = self.time() {
-            let mut errors = self.rt.stderr().lock();
-            board.draw(&mut errors, time);
+        match self.board.get() {
+            Some(board) => board.draw(&mut errors, time),
+            None => self.line.draw(&mut errors, time),
         }
     }
 }
@@ -103,27 +71,26 @@ impl Watch for Terminals<'_> {
         }
     }
 
-    fn frames_read(&self, stream: usize, frames: u64) {
+    fn frame_read(&self, stream: usize) {
         if let Some(board) = self.board.get() {
-            board.add_read(stream, frames);
-            self.draw(board);
+            board.add_read(stream, 1);
+            self.draw();
         }
     }
 
-    fn frames_written(&self, stream: usize, frames: u64, bytes: u64) {
+    fn image_written(&self, stream: usize, bytes: u64) {
         match self.board.get() {
-            Some(board) => {
-                board.add_written(stream, frames);
-                self.draw(board);
-            }
-            None => self.advance(frames, bytes),
+            Some(board) => board.add_written(stream, 1),
+            None => self.line.add_written(1, bytes),
         }
+        self.draw();
     }
 
     fn ends(&self) {
+        let mut errors = self.rt.stderr().lock();
         match self.board.get() {
-            Some(board) => board.draw_last(&mut self.rt.stderr().lock()),
-            None => self.end_line(),
+            Some(board) => board.draw_last(&mut errors),
+            None => self.line.draw_last(&mut errors, self.time()),
         }
     }
 }

@@ -208,7 +208,7 @@ fn a_chain_is_made_for_the_frames_of_its_stream(rt: HostRuntime) -> Result<(), F
     let alloc = rt.alloc();
     let mut streams = Vec::new(alloc);
     let spec = spec_of(alloc, &PLAIN)?;
-    streams.push(StreamSpec::new(geometry_of(Pair), spec.spec().clone()?, 2, 10, 4, 4, 1))?;
+    streams.push(StreamSpec::new(geometry_of(Pair), spec.job().clone()?, 2, 10, 4, 4, 1))?;
     let fault = Setup::new(1, 4, streams).err();
     assert_eq!(rt; fault, Some(SetupError::BadLimits));
     Ok(())

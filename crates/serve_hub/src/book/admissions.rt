@@ -31,7 +31,7 @@ impl Book {
     /// The stream's memory is taken first.
     pub fn admit(&mut self, alloc: Global, spec: StreamSpec) -> Result<u32, (Refusal, StreamSpec)>
         ensures entry { IfOk result (λ s. Appends (Stream s) Admitted self.old self.new) }
-        ensures stream { IfOk result (λ s. (s ≡ length self.old.desk.lanes)
+        ensures stream { IfOk result (λ s. (s ≡ length self.old.desk.streams)
             × (self.new.desk ≡ with_stream spec self.old.desk)) }
         ensures answer { OnOk result (IsAdmitAnswer self.old spec None) }
         ensures refused { IfErr result (λ e. RefusesAdmission self.old spec e.0) }
@@ -61,7 +61,7 @@ impl Book {
     /// back.
     pub fn admit_newcomer(&mut self, newcomer: Newcomer) -> Result<u32, (Refusal, Newcomer)>
         ensures entry { IfOk result (λ s. Appends (Stream s) Admitted self.old self.new) }
-        ensures stream { IfOk result (λ s. (s ≡ length self.old.desk.lanes)
+        ensures stream { IfOk result (λ s. (s ≡ length self.old.desk.streams)
             × (self.new.desk ≡ with_stream newcomer self.old.desk)) }
         ensures answer { OnOk result (IsAdmitAnswer self.old newcomer None) }
         ensures refused { IfErr result (λ e. RefusesAdmission self.old newcomer e.0) }

@@ -30,7 +30,7 @@ impl<L: Epoch> Hub<L> {
         spec: StreamSpec,
     ) -> Result<StreamSeat<L>, AdmitRefused>
         ensures seat { IfOk result (Admits spec) }
-        ensures behind { IfOk result (λ seat. length L.opening.lanes ≤ seat.number) }
+        ensures behind { IfOk result (λ seat. length L.opening.streams ≤ seat.number) }
         ensures few { IfOk result (λ seat. seat.number < MOST_STREAMS) }
         ensures refused { IfErr result (IsAdmitRefused spec) }
     {

@@ -4,11 +4,12 @@ ghost use Rattle.std.specs.List.{range_with_len};
 ghost use Rattle.serve_hub.specs.Books.{IsLimit};
 ghost use Rattle.serve_hub.specs.Seats.{hub_of, opened_worker, seat_over};
 
-use super::{Hub, HubError};
+use super::Hub;
 use crate::ended::Ended;
 use crate::entry::Entry;
 use crate::epoch::Epoch;
-use crate::limit::is_limit;
+use crate::error::HubError;
+use crate::limits::{MOST_SEATS, is_limit};
 use crate::room::Room;
 use crate::stream_seat::StreamSeat;
 use crate::work_seat::WorkSeat;
@@ -42,7 +43,7 @@ impl<L: Epoch> Hub<L> {
     ) -> Result<Reopened<L>, ReopenRefused>
         requires name { blank.name ≡ L.name }
         requires parts { blank.parts ≡ L.parts }
-        requires enough { blank.parts ≡ 80 }
+        requires enough { blank.parts ≡ MOST_SEATS }
         requires opening { ended.book.desk ≡ L.opening }
         ensures hub { IfOk result (λ r.
             r.hub ≡ hub_of (length ended.streams) (length ended.book.desk.workers)) }

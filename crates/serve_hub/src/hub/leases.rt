@@ -73,7 +73,7 @@ impl<L: Epoch> Hub<L> {
         let stream = lease.stream();
         let mut shared = self.shared.lock(rt);
         let answer = seat.settle(&mut shared, lease);
-        let (is_full, is_over) = (shared.is_full(), shared.book.is_over());
+        let (is_full, is_over) = (shared.is_full(), shared.book.desk().is_over());
         drop(shared);
         if !matches!(answer, Ok(Settled::Returned)) {
             self.for_stream(stream).notify_all();

@@ -3,7 +3,7 @@ ghost use Rattle.std.specs.Prelude.{◌≡◌, ◌<◌, IfErr, IfNone, IfOk, IsE
 ghost use Rattle.std.specs.Arc.{arc_value};
 ghost use Rattle.filters.specs.ChainImage.{value_of};
 ghost use Rattle.serve_core.specs.declared.refusal.Refusal.TheVariants.{ClockEnd};
-ghost use Rattle.serve_core.specs.Lanes.{IsFresh, IsImageOf};
+ghost use Rattle.serve_core.specs.Streams.{IsFresh, IsImageOf};
 ghost use Rattle.serve_hub.specs.declared.refusal.Refusal.TheVariants.{Core};
 ghost use Rattle.serve_hub.specs.Calls.{Accepts, AcceptsOther, AllowsOffer, IsTold};
 ghost use Rattle.serve_hub.specs.Calls.{IsOfferRefused, IsOverRefused, Notes};
@@ -19,11 +19,6 @@ use lease::Job;
 use serve_core::Refusal as CoreRefusal;
 use std::alloc::Global;
 use std::sync::{Arc, Wait};
-
-/// No memory was granted for a job.
-const NO_MEMORY: Refusal = Refusal::Core(CoreRefusal::NoMemory);
-
-const CLOCK_END: Refusal = Refusal::Core(CoreRefusal::ClockEnd);
 
 impl<L: Epoch> Hub<L> {
     /// The seat's stream is offered a frame at a moment, or now if that is later. It answers the frame's
@@ -48,7 +43,7 @@ impl<L: Epoch> Hub<L> {
     {
         if at > LAST_MOMENT {
             return Err(OfferRefused {
-                refusal: CLOCK_END,
+                refusal: Refusal::Core(CoreRefusal::ClockEnd),
                 frame: Some(frame),
             });
         }
@@ -96,7 +91,7 @@ impl<L: Epoch> Hub<L> {
     {
         if at > LAST_MOMENT {
             return Err(OverRefused {
-                refusal: CLOCK_END,
+                refusal: Refusal::Core(CoreRefusal::ClockEnd),
                 back: Some((frame, image)),
             });
         }
@@ -152,6 +147,6 @@ impl<L: Epoch> Hub<L> {
         ensures { IsTold (AllowsOffer seat.now at frame.now.geometry) result }
     {
         let shared = self.shared.lock(rt);
-        seat.refusal(&shared, at, frame, NO_MEMORY)
+        seat.refusal(&shared, at, frame, Refusal::Core(CoreRefusal::NoMemory))
     }
 }

@@ -3,7 +3,7 @@ ghost use Rattle.std.specs.Prelude.{◌≡◌, ◌≢◌, Ok, None, IfErr, IfOk,
 ghost use Rattle.std.specs.Arc.{arc_value};
 ghost use Rattle.std.specs.Option.{option_map};
 ghost use Rattle.filters.specs.ChainImage.{value_of};
-ghost use Rattle.serve_core.specs.Lanes.{source_in};
+ghost use Rattle.serve_core.specs.Streams.{source_in};
 ghost use Rattle.serve_hub.specs.declared.refusal.Refusal.TheVariants.{HistoryFull};
 ghost use Rattle.serve_hub.specs.Calls.{AllowsClose, AllowsCollect, Closes, Collects, IsOldest, IsOther};
 ghost use Rattle.serve_hub.specs.Calls.{IsTold, after_refusal, gives_up};
@@ -12,9 +12,8 @@ use super::StreamSeat;
 use crate::epoch::Epoch;
 use crate::refusal::{Came, Refusal};
 use crate::refused::CollectRefused;
-use crate::same_frame::is_same_frame;
 use crate::shared::Shared;
-use frame_view::Frame;
+use frame_view::{Frame, is_same_frame};
 use serve_core::{Collected, Refusal as Core};
 use std::sync::Arc;
 

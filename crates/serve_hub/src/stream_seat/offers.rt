@@ -2,15 +2,14 @@
 ghost use Rattle.std.specs.Prelude.{◌≡◌, ◌↔◌, ◌<◌, IfErr, IfNone, IfOk, IsTrue, MatchOption, OnOk};
 ghost use Rattle.std.specs.Arc.{arc_value};
 ghost use Rattle.filters.specs.ChainImage.{value_of};
-ghost use Rattle.serve_core.specs.Lanes.{IsFresh, IsImageOf};
-ghost use Rattle.serve_core.specs.Schedule.{HasLane};
+ghost use Rattle.serve_core.specs.Schedule.{HasStream};
+ghost use Rattle.serve_core.specs.Streams.{IsFresh, IsImageOf};
 ghost use Rattle.serve_hub.specs.Calls.{Accepts, AcceptsOther, AllowsOffer, IsTold, NotesFrom};
 ghost use Rattle.serve_hub.specs.Seats.{HasPlace, kept_more};
 
 use super::StreamSeat;
 use crate::epoch::Epoch;
 use crate::refusal::{Came, Refusal};
-use crate::same_frame::is_same_geometry;
 use crate::shared::Shared;
 use cbs_account::limits::LAST_MOMENT;
 use frame_view::{Frame, Geometry};
@@ -109,8 +108,8 @@ impl<L: Epoch> StreamSeat<L> {
         requires fresh { IsFresh self.old.chain job }
         requires size { (arc_value frame).geometry ≡ self.old.chain.geometry }
         requires limit { self.old.calls.limit ≡ shared.old.book.limit }
-        requires chain { HasLane shared.old.book.desk self.old.number (λ lane.
-            lane.state.spec.chain ≡ self.old.chain) }
+        requires chain { HasStream shared.old.book.desk self.old.number (λ stream.
+            stream.state.spec.chain ≡ self.old.chain) }
         requires place { HasPlace self.old }
         ensures accepted { IfOk result (λ n. (n ≡ self.old.accepted)
             × Accepts (value_of (arc_value frame)) n self.old self.new) }
@@ -195,7 +194,7 @@ impl<L: Epoch> StreamSeat<L> {
     fn allows_offer(&self, at: u64, geometry: Geometry, refusal: Core) -> bool
         ensures { IsTrue result ↔ AllowsOffer self.now at geometry refusal }
     {
-        let is_sized = is_same_geometry(geometry, self.spec.chain().geometry());
+        let is_sized = self.spec.fits(geometry);
         match refusal {
             Core::ClockEnd => at > LAST_MOMENT,
             Core::Closed => self.is_closed,

@@ -38,19 +38,23 @@ const JOURNAL: [Entry; 5] = [
 /// What a book answers while its one frame is leased.
 fn works(rt: &impl Abort, book: &mut Book) {
     let lease = book.lease(0).expect(rt, "a lease");
-    same(rt, (told(&lease), book.is_out(0)), ((0, 0, 1), true));
+    same(rt, (told(&lease), book.desk().is_out(0)), ((0, 0, 1), true));
     let busy = Answer::Refused(Refusal::Core(Core::Busy));
     let empty = Answer::Refused(Refusal::Core(Core::Empty));
     same(rt, (worked(book, 0, 0), collected(book, 0)), (busy, empty));
     let done = settled(book, 0, stepped(lease, 1));
-    same(rt, (done, book.is_out(0)), (Ok(Done::Finished(0)), false));
+    same(
+        rt,
+        (done, book.desk().is_out(0)),
+        (Ok(Done::Finished(0)), false),
+    );
 }
 
 /// From the lease of the one frame on.
 fn goes_on(rt: &impl Abort, alloc: Global, book: &mut Book) -> Result<(), Fail> {
     works(rt, book);
     follow(rt, alloc, book, FIRST_IMAGE)?;
-    let closed = (book.is_over(), book.close(0), book.is_over());
+    let closed = (book.desk().is_over(), book.close(0), book.desk().is_over());
     same(rt, closed, (false, Ok(()), true));
     follow(rt, alloc, book, AFTER_CLOSE)
 }
@@ -69,7 +73,7 @@ fn a_frame_goes_through(rt: HostRuntime) -> Result<(), Fail> {
     same(&rt, book.latest(), JOURNAL.last().copied());
     let cost = (book.bands(0), book.units(0), book.units(1));
     same(&rt, cost, (1, Some(1), None));
-    let state = state_of(book.account(0), book.counts(0));
+    let state = state_of(book.desk().account(0), book.desk().counts(0));
     same(&rt, state, Some([1, 8, 1, 1, 1, 1]));
     same(&rt, book.room(), 11);
     Ok(())
@@ -83,7 +87,7 @@ fn an_entry_tells_the_tick(rt: HostRuntime) -> Result<(), Fail> {
     let mut book = book_of(alloc, &[PLAIN])?;
     match book.offer(alloc, 0, 7, frame) {
         Ok(number) => {
-            same(&rt, (number, book.clock()), (0, 7));
+            same(&rt, (number, book.desk().clock()), (0, 7));
             let entry = Entry {
                 seat: Stream(0),
                 act: Offered(Some(7), 0),
@@ -108,6 +112,6 @@ fn offers_in_vain(rt: &impl Abort, alloc: Global, book: &mut Book) -> Result<(),
     same(rt, nowhere, Answer::Refused(Refusal::Core(Core::NoStream)));
     let late = offered(alloc, book, 0, (1 << 60) + 1, &[0x5A])?;
     same(rt, late, Answer::Refused(Refusal::Core(Core::ClockEnd)));
-    same(rt, (book.clock(), book.latest()), (0, None));
+    same(rt, (book.desk().clock(), book.latest()), (0, None));
     Ok(())
 }

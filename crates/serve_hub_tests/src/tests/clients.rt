@@ -1,6 +1,6 @@
 //! Those who offer the frames of one stream, and check its images.
 ghost use Rattle.std.specs.Prelude.{◌≡◌, IfOk};
-ghost use Rattle.serve_core.specs.Lanes.{IsImageOf};
+ghost use Rattle.serve_core.specs.Streams.{IsImageOf};
 
 use super::{Core, frame_of};
 use frame_view::Frame;

@@ -1,7 +1,7 @@
 //! Journals up to their last entry.
 use super::steps::{Answer, FIFTEEN_FRAMES, SEVEN_LEASES, TWELVE_FRAMES, book_after};
 use super::{Core, PLAIN, collected, frame_of, same, settled, setup_of, state_of, stepped};
-use serve_hub::{Book, BookError, Refusal, Settled};
+use serve_hub::{Book, HubError, Refusal, Settled};
 use std::alloc::Global;
 use std::process::Abort;
 use std::test::Fail;
@@ -21,7 +21,7 @@ fn a_limit_has_limits(rt: HostRuntime) -> Result<(), Fail> {
     for limit in [0, 15, (1 << 20) + 1] {
         match Book::new(alloc, setup_of(alloc, 1, &[PLAIN])?, limit) {
             Ok(_) => assert!(rt; false, "limit {limit}"),
-            Err(e) => same(&rt, e, BookError::BadLimit),
+            Err(e) => same(&rt, e, HubError::BadLimit),
         }
     }
     Ok(())
@@ -31,7 +31,7 @@ fn a_limit_has_limits(rt: HostRuntime) -> Result<(), Fail> {
 fn leases_without_a_band_fill_the_journal(rt: HostRuntime) -> Result<(), Fail> {
     let mut book = book_after(&rt, rt.alloc(), &[PLAIN], SEVEN_LEASES)?;
     same(&rt, (book.close(0), book.journal().len()), (Ok(()), 16));
-    let state = state_of(book.account(0), book.counts(0));
+    let state = state_of(book.desk().account(0), book.desk().counts(0));
     same(&rt, state, Some([1, 4, 1, 0, 0, 0]));
     same(&rt, (book.bands(0), book.units(0)), (0, Some(0)));
     Ok(())
@@ -68,7 +68,7 @@ fn fill_beside_a_lease(rt: &impl Abort, alloc: Global, book: &mut Book) -> Resul
 fn ends_full(rt: &impl Abort, book: &mut Book) {
     let full = Answer::Refused(Refusal::HistoryFull);
     same(rt, (collected(book, 0), book.close(0)), (full, Ok(())));
-    let state = state_of(book.account(0), book.counts(0));
+    let state = state_of(book.desk().account(0), book.desk().counts(0));
     same(rt, state, Some([1, 8, 13, 1, 0, 1]));
     same(rt, (book.journal().len(), book.bands(0)), (16, 1));
 }

@@ -9,9 +9,9 @@ use super::steps::Call::{Close, Collect, Offer, OfferOver, Work};
 use super::steps::{Answer, Step, follow};
 use super::{Core, LINE, PLAIN, came_back, frame_of, same, setup_of};
 use frame_view::Frame;
-use lease::{Job, JobSpec};
+use lease::{Job, JobSpec, is_same_spec};
 use serve_core::Setup;
-use serve_hub::{Book, Ended, Epoch, Refusal, Settled, is_same_spec};
+use serve_hub::{Book, Ended, Epoch, Refusal, Settled};
 use std::alloc::Global;
 use std::marker::Brand;
 use std::process::Abort;
@@ -129,7 +129,7 @@ fn a_job_is_made_outside(rt: HostRuntime) -> Result<(), Fail> {
 /// The chain of the first stream.
 fn first_spec(setup: &Setup) -> Result<Arc<JobSpec>, Fail> {
     let stream = setup.streams().first().ok_or("no stream")?;
-    Ok(stream.spec().clone()?)
+    Ok(stream.job().clone()?)
 }
 
 /// A job is offered, and another one behind the close.

@@ -28,7 +28,7 @@ const TWO_TALL_FRAMES: &[Step] = &[
 ];
 
 /// A lease that no book gave, over the same frame and chain.
-fn stray(alloc: Global, seq: u64, grant: u32) -> Result<Lease, Fail> {
+fn stray(alloc: Global, number: u64, grant: u32) -> Result<Lease, Fail> {
     let spec = super::job_spec_of(alloc, &TALL)?;
     let scratch = lease::Scratch::new(alloc, &spec)?;
     let mut job = Job::new(alloc, spec, frame_of(alloc, &[1, 2, 3, 4])?)?;
@@ -36,7 +36,7 @@ fn stray(alloc: Global, seq: u64, grant: u32) -> Result<Lease, Fail> {
     if !(1..=job.steps()).contains(&grant) {
         return Err("no grant".into());
     }
-    Ok(Lease::new(job, 0, seq, grant))
+    Ok(Lease::new(job, 0, number, grant))
 }
 
 /// A lease of one band, and one of the second frame.
@@ -148,7 +148,7 @@ fn units_are_what_bands_cost(rt: HostRuntime) -> Result<(), Fail> {
     ];
     let book = book_after(&rt, rt.alloc(), &[blurred], &steps)?;
     same(&rt, (book.bands(0), book.units(0)), (1, Some(9)));
-    let state = state_of(book.account(0), book.counts(0));
+    let state = state_of(book.desk().account(0), book.desk().counts(0));
     same(&rt, state, Some([1, 40, 1, 1, 0, 9]));
     Ok(())
 }

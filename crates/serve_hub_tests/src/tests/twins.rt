@@ -69,7 +69,7 @@ fn a_hub_answers_as_its_book(rt: HostRuntime) -> Result<(), Fail> {
     same_list(&rt, ended.journal(), book.journal());
     same(&rt, (ended.bands(0), book.bands(0)), (1, 1));
     same(&rt, (ended.units(0), ended.clock()), (Some(1), 0));
-    same(&rt, ended.account(0), book.account(0));
-    same(&rt, ended.counts(0), book.counts(0));
+    same(&rt, ended.account(0), book.desk().account(0));
+    same(&rt, ended.counts(0), book.desk().counts(0));
     Ok(())
 }

@@ -2,9 +2,9 @@
 ghost use Rattle.std.specs.Prelude.{◌≡◌, ◌≤◌, [], Err, None, Ok, Some, IfErr, IfOk, MatchResult};
 ghost use Rattle.cbs_account.specs.Admission.{load_of};
 ghost use Rattle.filters.specs.OpsText.{ops_of};
-ghost use Rattle.serve_report.specs.ServeChecks.{AdmissionGives, AreSaid, ChecksGive, IsSaid, MayTell};
-ghost use Rattle.serve_report.specs.ServeChecks.{all_told, asked_told, fault_told, is_named, ops_given};
-ghost use Rattle.serve_report.specs.ServeChecks.{word_given, words_asked, words_given};
+ghost use Rattle.serve_report.specs.ServeChecks.{AdmissionGives, AreSaid, ChecksGive, HasOptions, IsSaid};
+ghost use Rattle.serve_report.specs.ServeChecks.{MayTell, all_told, asked_told, fault_told, is_named};
+ghost use Rattle.serve_report.specs.ServeChecks.{ops_given, word_given, words_asked, words_given};
 
 use super::stream_word::{StreamWord, parse_stream_word};
 use crate::words::ServeWords;
@@ -91,9 +91,7 @@ impl<'a, T: Drop> From<AllocFailed<T>> for WordFault<'a> {
 /// other, and then of the shares that the streams ask of the workers.
 pub fn check<'a>(alloc: Global, words: &ServeWords<'a>) -> Result<Checked<'a>, WordFault<'a>>
     ensures passed { IfOk result (λ checked. ChecksGive words.now (Ok (all_told checked.streams.items))) }
-    ensures kept { IfOk result (λ checked. (checked.workers ≡ words.now.workers)
-        × (checked.quantum ≡ words.now.quantum) × (checked.journal ≡ words.now.journal)
-        × (checked.height.rows ≡ words.now.band)) }
+    ensures options { IfOk result (HasOptions words.now) }
     ensures ops { IfOk result (λ checked. AreSaid checked.streams.items) }
     ensures fault { IfErr result (λ fault. MayTell fault (λ told. ChecksGive words.now (Err told))) }
 {

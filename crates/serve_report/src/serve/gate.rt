@@ -7,7 +7,7 @@ use serve_work::Gate;
 pub struct PlainGate;
 
 impl Gate for PlainGate {
-    fn before_band(&self, _worker: u32, _stream: u32, _seq: u64) {}
+    fn before_band(&self, _worker: u32, _stream: u32, _number: u64) {}
 
     fn in_halves(&self, _samples: usize) -> bool {
         false

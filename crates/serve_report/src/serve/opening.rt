@@ -1,39 +1,42 @@
 //! Opening the streams of a run, side by side.
-ghost use Rattle.std.specs.Prelude.{ℕ, ◌≡◌, ◌<◌, ◌^◌, ◌++◌, ◌∷◌, [], IfOk, OnOk, length, map};
+ghost use Rattle.std.specs.Prelude.{ℕ, ◌≡◌, ◌<◌, ◌++◌, ◌∷◌, [], IfOk, OnOk, length, map};
 ghost use Rattle.std.specs.Prelude.{slice_index_or, vec_len};
 ghost use Rattle.std.specs.Arc.{arc_value};
+ghost use Rattle.std.specs.List.{AllZip};
 ghost use Rattle.filters.specs.Chain.{chain_of};
+ghost use Rattle.y4m_stream.specs.Failures.{one_more};
+ghost use Rattle.y4m_stream.specs.Reader.{IsOpened};
 ghost use Rattle.serve_work.specs.Sessions.{AreInputs};
-ghost use Rattle.serve_report.specs.Entrants.{IsAsked, entered, stopped};
+ghost use Rattle.serve_report.specs.Entrants.{entered, stopped};
+ghost use Rattle.serve_report.specs.Inlets.{inlet_remaining};
+ghost use Rattle.serve_report.specs.Openings.{IsEntry, IsOpening, entrant_of, entry_of, input_of, inputs_in};
+ghost use Rattle.serve_report.specs.Openings.{made_after, opening_of, openings_of, specs_in};
 
 use super::checks::Asked;
 use super::ready::{Input, Ready};
 use super::report::StreamStop;
 use super::stream_word::StreamWord;
-use crate::files::Files;
-use crate::inlet::{OverInflow, inflow_of};
-use crate::watch::Watch;
-use crate::watched::{WatchedSink, WatchedSource};
+use crate::files::{Files, StreamFiles};
+use crate::inlet::{Inlet, OverInflow, inflow_of};
+use crate::watch::{Watch, WatchedSink, WatchedSource};
 use filters::{Chain, FilterError, Op};
 use frame_view::Geometry;
 use lease::JobSpec;
 use row_bands::BandHeight;
 use serve_core::StreamSpec;
+use serve_core::limits::MOST_FRAMES;
 use std::alloc::{AllocError, Global};
-use std::io::Write;
+use std::io::Read;
 use std::sync::{Arc, Wait};
 use std::thread::{self, Threads};
 use std::time::Clock;
-use y4m_stream::{OverWrite, Source, StreamReader};
+use y4m_stream::{OverWrite, ReadFault, Sink, Source, StreamReader};
 
 /// The most frames of a stream that may be unfinished.
 const QUEUE: u64 = 4;
 
 /// The most images of a stream that may wait to be written.
 const OUTBOX: u64 = 4;
-
-/// The most frames of a stream.
-const FRAMES: u64 = 1 << 24;
 
 /// A stream of a run: its name, and why it takes no part in the session, if it doesn't.
 #[derive(Clone, Copy)]
@@ -42,16 +45,23 @@ pub struct Entrant<'a> {
     pub stop: Option<StreamStop>,
 }
 
-/// What is read of the files of a run.
-pub type Inflows<F, T> = OverInflow<<F as Files>::Reader, <F as Files>::Slow, T>;
+/// What the streams of a run are read from.
+pub type Inflows<'w, F, V, T> = WatchedSource<
+    'w,
+    OverInflow<<F as Files>::Reader, <F as Files>::Slow, T>,
+    V,
+>;
+
+/// What they are written to.
+pub type Outflows<'w, F, V> = WatchedSink<'w, OverWrite<<F as Files>::Writer>, V>;
 
 /// The streams of a run, and of those that take part in the session what they are served with, and their
 /// files.
 #[derive(Drop)]
-pub struct Opened<'a, 'w, S: Source, W: Write, V: Watch> {
+pub struct Opened<'a, R: Source, W: Sink> {
     pub entrants: Vec<Entrant<'a>>,
     pub specs: Vec<StreamSpec>,
-    pub inputs: Vec<Input<'w, S, W, V>>,
+    pub inputs: Vec<Input<R, W>>,
 }
 
 /// A stream that is to be opened, and its place among all of them.
@@ -63,12 +73,16 @@ struct Placed<'a> {
 
 /// What came of opening a stream.
 #[derive(Drop)]
-struct Tried<'a, 'w, S: Source, W: Write, V: Watch> {
+pub struct Tried<'a, R: Source, W: Sink> {
     name: &'a str,
-    opened: Result<Ready<'w, S, W, V>, StreamStop>,
+    /// How many files were opened for it.
+    opened: u64,
+    /// How many were made.
+    made: u64,
+    ready: Result<Ready<R, W>, StreamStop>,
 }
 
-impl<'a, 'w, S: Source, W: Write, V: Watch> Opened<'a, 'w, S, W, V> {
+impl<'a, R: Source, W: Sink> Opened<'a, R, W> {
     /// A stream of which nothing was opened, or which stopped there.
     fn add_stopped(&mut self, name: &'a str, stop: StreamStop) -> Result<(), AllocError>
         ensures entrants { OnOk result
@@ -81,14 +95,14 @@ impl<'a, 'w, S: Source, W: Write, V: Watch> Opened<'a, 'w, S, W, V> {
     }
 
     /// A stream that takes part.
-    fn add_open(&mut self, name: &'a str, ready: Ready<'w, S, W, V>) -> Result<(), AllocError>
+    fn add_open(&mut self, name: &'a str, ready: Ready<R, W>) -> Result<(), AllocError>
     where
-        S: Drop,
+        R: Drop,
         W: Drop,
         ensures entrants { OnOk result
             (self.new.entrants.items ≡ self.old.entrants.items ++ entered name.entry ∷ []) }
-        ensures specs { OnOk result (self.new.specs.items ≡ self.old.specs.items ++ ready.entry.spec ∷ []) }
-        ensures inputs { OnOk result (self.new.inputs.items ≡ self.old.inputs.items ++ ready.entry.input ∷ []) }
+        ensures specs { OnOk result (self.new.specs.items ≡ self.old.specs.items ++ ready.spec ∷ []) }
+        ensures inputs { OnOk result (self.new.inputs.items ≡ self.old.inputs.items ++ ready.input ∷ []) }
     {
         let Ready { spec, input } = ready;
         self.specs.push(spec)?;
@@ -108,17 +122,15 @@ pub fn open_all<'a, 'w, F: Files + Sync, V: Watch + Sync, T>(
     height: BandHeight,
     files: &F,
     told: Option<&'w V>,
-) -> Result<Opened<'a, 'w, Inflows<F, T>, F::Writer, V>, AllocError>
+) -> Result<Vec<Tried<'a, Inflows<'w, F, V, T>, Outflows<'w, F, V>>>, AllocError>
 where
     T: Threads + Wait + Clock + Copy + Drop + Send + Sync + 'static,
-    ensures inputs { IfOk result (λ opened. AreInputs opened.specs.items opened.inputs.items) }
-    ensures names { IfOk result (λ opened. map (λ entrant. entrant.name) opened.entrants.items
-        ≡ map (λ asked. asked.word.name) streams.entry.items) }
+    ensures { IfOk result (λ tried. AllZip (IsOpening F.was_opened F.was_made height) streams.entry.items
+        (openings_of tried.items)) }
 {
     let placed = with_places(alloc, streams)?;
     let tried = try_all(rt, alloc, placed, height, files, told)?;
-    let opened = all_tried(alloc, tried)?;
-    Ok(opened)
+    Ok(tried)
 }
 
 /// The streams with their places, which begin at 0.
@@ -141,16 +153,17 @@ fn try_all<'a, 'w, F: Files + Sync, V: Watch + Sync, T>(
     height: BandHeight,
     files: &F,
     told: Option<&'w V>,
-) -> Result<Vec<Tried<'a, 'w, Inflows<F, T>, F::Writer, V>>, AllocError>
+) -> Result<Vec<Tried<'a, Inflows<'w, F, V, T>, Outflows<'w, F, V>>>, AllocError>
 where
     T: Threads + Wait + Clock + Copy + Drop + Send + Sync + 'static,
     ensures count { IfOk result (λ tried. vec_len tried ≡ vec_len placed.entry) }
     ensures each { IfOk result (λ tried. (i : ℕ) (job : _) (given : _) → i < length placed.entry.items
-        → (slice_index_or tried.items i given).name
-        ≡ (slice_index_or placed.entry.items i job).asked.word.name) }
+        → IsOpening F.was_opened F.was_made height (slice_index_or placed.entry.items i job).asked
+        (opening_of (slice_index_or tried.items i given))) }
 {
     let open = move |placed| try_stream(rt, alloc, placed, height, files, told);
-    thread::map_vec(rt, placed, &open)
+    let tried = thread::map_vec(rt, placed, &open)?;
+    Ok(tried)
 }
 
 /// Opens a stream.
@@ -161,26 +174,36 @@ fn try_stream<'a, 'w, F: Files, V: Watch, T>(
     height: BandHeight,
     files: &F,
     told: Option<&'w V>,
-) -> Tried<'a, 'w, Inflows<F, T>, F::Writer, V>
+) -> Tried<'a, Inflows<'w, F, V, T>, Outflows<'w, F, V>>
 where
     T: Threads + Wait + Clock + Copy + Drop + Send + 'static,
-    ensures { result.name ≡ placed.entry.asked.word.name }
+    ensures { IsOpening F.was_opened F.was_made height placed.entry.asked
+        (opening_of result) }
 {
     let Placed { stream, asked } = placed;
+    let name = asked.word.name;
+    let mut files = StreamFiles::new(files);
+    let ready = open_stream(rt, alloc, asked, height, &mut files, stream, told);
     Tried {
-        name: asked.word.name,
-        opened: open_stream(rt, alloc, asked, height, files, stream, told),
+        name,
+        opened: files.opened,
+        made: files.made,
+        ready,
     }
 }
 
 /// The streams, by what came of opening them.
-fn all_tried<'a, 'w, S: Source + Drop, W: Write + Drop, V: Watch>(
+pub fn all_tried<'a, R: Source + Drop, W: Sink + Drop>(
     alloc: Global,
-    tried: Vec<Tried<'a, 'w, S, W, V>>,
-) -> Result<Opened<'a, 'w, S, W, V>, AllocError>
-    ensures inputs { IfOk result (λ opened. AreInputs opened.specs.items opened.inputs.items) }
-    ensures names { IfOk result (λ opened. map (λ entrant. entrant.name) opened.entrants.items
-        ≡ map (λ tried. tried.name) tried.entry.items) }
+    tried: Vec<Tried<'a, R, W>>,
+) -> Result<Opened<'a, R, W>, AllocError>
+    ensures valid { IfOk result (λ opened. AreInputs opened.specs.items opened.inputs.items) }
+    ensures entrants { IfOk result (λ opened. opened.entrants.items
+        ≡ map entrant_of (openings_of tried.entry.items)) }
+    ensures specs { IfOk result (λ opened. opened.specs.items
+        ≡ specs_in (openings_of tried.entry.items)) }
+    ensures inputs { IfOk result (λ opened. map (input_of W.contents W.failures) opened.inputs.items
+        ≡ inputs_in (openings_of tried.entry.items)) }
 {
     let mut opened = Opened {
         entrants: Vec::new(alloc),
@@ -189,7 +212,7 @@ fn all_tried<'a, 'w, S: Source + Drop, W: Write + Drop, V: Watch>(
     };
     for stream in tried {
         let name = stream.name;
-        match stream.opened {
+        match stream.ready {
             Ok(ready) => opened.add_open(name, ready)?,
             Err(stop) => opened.add_stopped(name, stop)?,
         }
@@ -203,13 +226,16 @@ fn open_stream<'w, F: Files, V: Watch, T>(
     alloc: Global,
     asked: Asked<'_>,
     height: BandHeight,
-    files: &F,
+    files: &mut StreamFiles<'_, F>,
     stream: usize,
     told: Option<&'w V>,
-) -> Result<Ready<'w, Inflows<F, T>, F::Writer, V>, StreamStop>
+) -> Result<Ready<Inflows<'w, F, V, T>, Outflows<'w, F, V>>, StreamStop>
 where
     T: Threads + Wait + Clock + Copy + Drop + Send + 'static,
-    ensures spec { IfOk result (λ ready. IsAsked height asked.entry ready.spec) }
+    ensures opened { files.new.opened ≡ one_more files.old.opened }
+    ensures made { files.new.made ≡ made_after result files.old.made }
+    ensures ready { IfOk result (λ ready. IsEntry F.was_opened F.was_made height asked.entry
+        (entry_of ready)) }
     ensures stream { IfOk result (λ ready. ready.input.1.stream ≡ stream) }
 {
     let word = asked.word;
@@ -217,9 +243,7 @@ where
         Ok(inlet) => inlet,
         Err(_) => return Err(StreamStop::Open),
     };
-    let inflow = OverInflow::new(inflow_of(rt, alloc, inlet));
-    let source = WatchedSource::new(alloc, inflow, stream, told);
-    let reader = match StreamReader::open(alloc, source) {
+    let reader = match open_reader(rt, alloc, inlet, stream, told) {
         Ok(reader) => reader,
         Err(fault) => return Err(StreamStop::Read(fault)),
     };
@@ -233,18 +257,39 @@ where
         Err(_) => return Err(StreamStop::Create),
     };
     let spec = spec_of(word, geometry, spec);
-    let sink = WatchedSink::new(alloc, OverWrite::new(output), stream, told);
+    let sink = WatchedSink::new(OverWrite::new(output), stream, told);
     let input = (reader, sink);
     Ok(Ready { spec, input })
+}
+
+/// Reads the header of an input.
+fn open_reader<'w, R, S, V, T>(
+    rt: &T,
+    alloc: Global,
+    inlet: Inlet<R, S>,
+    stream: usize,
+    told: Option<&'w V>,
+) -> Result<StreamReader<WatchedSource<'w, OverInflow<R, S, T>, V>>, ReadFault>
+where
+    R: Read + Drop + Send,
+    S: Read + Drop + Send + 'static,
+    V: Watch,
+    T: Threads + Wait + Clock + Copy + Drop + Send + 'static,
+    ensures { IfOk result (IsOpened (inlet_remaining R.remaining inlet) 0) }
+{
+    let over = OverInflow::new(inflow_of(rt, alloc, inlet));
+    let source = WatchedSource::new(over, stream, told);
+    let reader = StreamReader::open(alloc, source)?;
+    Ok(reader)
 }
 
 /// What a stream of this word is served with.
 fn spec_of(word: StreamWord<'_>, geometry: Geometry, spec: Arc<JobSpec>) -> StreamSpec
     ensures share { (result.maximum ≡ word.entry.q) × (result.period ≡ word.entry.t) }
-    ensures places { (result.queue ≡ 4) × (result.outbox ≡ 4) × (result.frames ≡ 2 ^ 24) }
+    ensures places { (result.queue ≡ 4) × (result.outbox ≡ 4) × (result.frames ≡ MOST_FRAMES) }
     ensures chain { (result.geometry ≡ geometry) × (result.chain ≡ arc_value spec) }
 {
-    StreamSpec::new(geometry, spec, word.q, word.t, QUEUE, OUTBOX, FRAMES)
+    StreamSpec::new(geometry, spec, word.q, word.t, QUEUE, OUTBOX, MOST_FRAMES)
 }
 
 /// What is done to each frame of this geometry.

@@ -1,6 +1,5 @@
 //! What is reported of the streams of a run.
 ghost use Rattle.std.specs.Prelude.{◌≡◌};
-ghost use Rattle.serve_report.specs.ServeReport.{cause_word};
 
 use filters::FilterError;
 use serve_work::{Cause, Stop};
@@ -58,23 +57,9 @@ impl fmt::Display for StreamStop {
             StreamStop::Ops(error) => write!(f, "ops {error}"),
             StreamStop::Create => write!(f, "create"),
             StreamStop::Write(fault) => write!(f, "write {fault}"),
-            StreamStop::Refused(cause) => {
-                let word = cause_word(cause);
-                write!(f, "refused {word}")
-            }
+            StreamStop::Refused(cause) => write!(f, "refused {cause}"),
             StreamStop::Torn => write!(f, "torn"),
         }
-    }
-}
-
-/// The word of a refusal.
-fn cause_word(cause: Cause) -> &'static str
-    ensures { result.now ≡ cause_word cause }
-{
-    match cause {
-        Cause::TooManyFrames => "TooManyFrames",
-        Cause::ClockEnd => "ClockEnd",
-        Cause::NoMemory => "NoMemory",
     }
 }
 

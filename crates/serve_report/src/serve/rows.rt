@@ -23,7 +23,7 @@ pub fn rows_of<'a, R: Source, W: Sink>(
 ) -> Option<Vec<StreamRow<'a>>>
     requires none { rows.items ≡ [] }
     requires room { length entrants.now ≤ vec_capacity rows }
-    ensures { option_map vec_items result ≡ rows_given entrants.now left.now }
+    ensures { option_map vec_items result ≡ rows_given served_row entrants.now left.now }
 {
     let mut rows = rows;
     let mut left = left;
@@ -40,7 +40,7 @@ fn next_row<'a, 's, R: Source, W: Sink>(
     entrant: Entrant<'a>,
     left: &'s [Served<R, W>],
 ) -> Option<(StreamRow<'a>, &'s [Served<R, W>])>
-    ensures { option_map row_told result ≡ next_given entrant.entry left.now }
+    ensures { option_map row_told result ≡ next_given served_row entrant.entry left.now }
 {
     let name = entrant.name;
     let Some(stop) = entrant.stop else {

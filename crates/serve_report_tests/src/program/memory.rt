@@ -1,4 +1,6 @@
 //! Files in memory, which a run opens and makes by name.
+ghost use Rattle.std.specs.Prelude.{⊤};
+
 use serve_report::{Files, Inlet};
 use std::alloc::Global;
 use std::io::{self, ErrorKind, Write};
@@ -98,6 +100,10 @@ impl<'a, T: Wait + Sync> Files for Memory<'a, T> {
 
     type Writer = Output<'a, T>;
 
+    ghost was_opened = { λ _ _. ⊤ };
+
+    ghost was_made = { λ _ _. ⊤ };
+
     fn open(&self, name: &str) -> io::Result<Inlet<Tape<'a>, Tape<'static>>> {
         count(self.rt, &self.asked);
         for file in self.given {
@@ -135,6 +141,10 @@ impl Files for NoFiles {
     type Slow = io::Empty;
 
     type Writer = io::Sink;
+
+    ghost was_opened = { λ _ _. ⊤ };
+
+    ghost was_made = { λ _ _. ⊤ };
 
     fn open(&self, _name: &str) -> io::Result<Inlet<io::Empty, io::Empty>> {
         Err(io::Error::from(ErrorKind::NotFound))

@@ -14,6 +14,7 @@ mod faults;
 mod growths;
 mod many;
 mod openings;
+mod shares;
 mod slow;
 mod watched;
 

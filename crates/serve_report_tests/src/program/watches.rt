@@ -121,15 +121,15 @@ impl Watch for Told<'_> {
         }
     }
 
-    fn frames_read(&self, stream: usize, frames: u64) {
+    fn frame_read(&self, stream: usize) {
         if let Some(counted) = self.streams.get(stream) {
-            counted.read.fetch_add(frames, SeqCst);
+            counted.read.fetch_add(1, SeqCst);
         }
     }
 
-    fn frames_written(&self, stream: usize, frames: u64, bytes: u64) {
+    fn image_written(&self, stream: usize, bytes: u64) {
         if let Some(counted) = self.streams.get(stream) {
-            counted.written.fetch_add(frames, SeqCst);
+            counted.written.fetch_add(1, SeqCst);
             counted.bytes.fetch_add(bytes, SeqCst);
         }
     }

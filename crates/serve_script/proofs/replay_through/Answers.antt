@@ -8,7 +8,8 @@ use Rattle.serve_script.proofs.replay_through.Goals as goal
 
 pub returns-in-Err-NoMemory-clause-replay : goal.returns-in-Err-NoMemory-clause-replay
 returns-in-Err-NoMemory-clause-replay g c =
-    replayed_unkept (g.R.Source.remaining c.args.input.now) _ _ _ c.tell.result c.as_slice.ensures (c.read_front.ensures.some (search rules)) c.tell.ensures.written
+    replayed_unkept (g.R.Source.remaining c.args.input.now) _ _ _ c.tell.result c.as_slice.ensures
+    (c.read_front.ensures.some (search rules)) c.tell.ensures.written
 
 pub returns-clause-replay : goal.returns-clause-replay
 returns-clause-replay g c =
@@ -18,7 +19,8 @@ returns-clause-replay g c =
     let consumed : Consumes (g.R.Source.remaining c.args.input.now) (g.R.Source.remaining c.read_front.new.input) script = search rules in
     let at_end : length script < 1048577 → IsAtEnd (g.R.Source.remaining c.read_front.new.input) = search rules in
     let reports : Reports (IsKeptReport script) stop [] printed = search rules in
-    let wrote : IsWritten (g.W.Sink.contents c.args.output.now) (g.W.Sink.contents c.tell-2.new.output) printed (option_map stop_told stop) c.tell-2.result = search rules in
+    let wrote : IsWritten (g.W.Sink.contents c.args.output.now) (g.W.Sink.contents c.tell-2.new.output) printed
+    (option_map stop_told stop) c.tell-2.result = search rules in
     replayed_input _ _ script printed stop _ _ c.tell-2.result consumed at_end reports wrote
 
 pub returns-clause-taken : goal.returns-clause-taken

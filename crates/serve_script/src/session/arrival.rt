@@ -10,10 +10,7 @@ use super::digits::decode_digits;
 use crate::fault::ScriptFault;
 use frame_view::{Frame, Geometry};
 use std::alloc::Global;
-use y4m_header::{Chroma, check_frame_line};
-
-/// The most samples of a frame that is a single row.
-const WIDEST: usize = 16_384;
+use y4m_header::{Chroma, LONGEST_SIDE, check_frame_line};
 
 /// The frame of hexadecimal digits where frames have this geometry: of that, or where the samples don't fill
 /// it a single row of luma.
@@ -43,14 +40,14 @@ fn arriving(geometry: Option<Geometry>, count: usize) -> Option<Geometry>
     requires { 1 ≤ count }
     ensures some { IfSome result (IsArriving geometry count) }
     ensures filled { IfSome result (λ g. frame_len g ≡ count) }
-    ensures none { IfNone result ((fills_geometry geometry count ≡ false) × (16384 < count)) }
+    ensures none { IfNone result ((fills_geometry geometry count ≡ false) × (LONGEST_SIDE < count)) }
 {
     if let Some(geometry) = geometry
         && geometry.bytes() == count
     {
         return Some(geometry);
     }
-    if count > WIDEST {
+    if count > LONGEST_SIDE as usize {
         return None;
     }
     Some(Geometry {

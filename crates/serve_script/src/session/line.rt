@@ -2,12 +2,12 @@
 ghost use Rattle.std.specs.Prelude.{◌≡◌, ◌++◌, OnErr, OnOk, decimal, take, vec_len};
 ghost use Rattle.serve_core.specs.Seen.{heard};
 ghost use Rattle.serve_script.specs.ScriptReport.{line_text};
-ghost use Rattle.serve_script.specs.SessionLine.{account_text, counts_text, image_line, leased_line};
-ghost use Rattle.serve_script.specs.SessionLine.{refusal_number, refusal_word, refused_line, reply_line};
-ghost use Rattle.serve_script.specs.SessionLine.{state_line};
+ghost use Rattle.serve_script.specs.SessionLine.{counts_text, image_line, leased_line, refused_line};
+ghost use Rattle.serve_script.specs.SessionLine.{reply_line, state_line};
 ghost use Rattle.serve_script.specs.SessionSetup.{stream_line};
 
 use super::pieces::{push_line, push_pieces};
+use crate::print::push_balance;
 use itoa::Buffer;
 use serve_core::{Counts, Refusal, Reply};
 use std::alloc::{AllocError, Global};
@@ -97,68 +97,12 @@ pub fn push_refusal(printed: &mut Vec<u8>, refusal: Refusal) -> Result<(), Alloc
     let mut digits = Buffer::new();
     let pieces = [
         b"refused ".as_slice(),
-        digits.format(number_of(refusal)).as_bytes(),
+        digits.format(refusal.code()).as_bytes(),
         b" ".as_slice(),
-        word_of(refusal).as_bytes(),
+        refusal.word().as_bytes(),
         b"\n".as_slice(),
     ];
     push_pieces(printed, &pieces)
-}
-
-/// The number that is printed for a refusal.
-fn number_of(refusal: Refusal) -> u32
-    ensures { result ≡ refusal_number refusal }
-{
-    match refusal {
-        Refusal::NoStream => 1,
-        Refusal::Closed => 2,
-        Refusal::WrongSize => 3,
-        Refusal::TooManyFrames => 4,
-        Refusal::Full => 5,
-        Refusal::NoMemory => 6,
-        Refusal::NoWorker => 7,
-        Refusal::Busy => 8,
-        Refusal::NoneReady => 9,
-        Refusal::NoLease => 10,
-        Refusal::GrantSpent => 11,
-        Refusal::Past => 12,
-        Refusal::ClockEnd => 13,
-        Refusal::AlreadyClosed => 14,
-        Refusal::Empty => 15,
-        Refusal::Drained => 16,
-        Refusal::TooManyStreams => 20,
-        Refusal::BadLimits => 21,
-        Refusal::BadBandwidth => 22,
-        Refusal::Overload => 23,
-    }
-}
-
-/// The word that is printed for a refusal.
-fn word_of(refusal: Refusal) -> &'static str
-    ensures { result.now ≡ refusal_word refusal }
-{
-    match refusal {
-        Refusal::NoStream => "NoStream",
-        Refusal::Closed => "Closed",
-        Refusal::WrongSize => "WrongSize",
-        Refusal::TooManyFrames => "TooManyFrames",
-        Refusal::Full => "Full",
-        Refusal::NoMemory => "NoMemory",
-        Refusal::NoWorker => "NoWorker",
-        Refusal::Busy => "Busy",
-        Refusal::NoneReady => "NoneReady",
-        Refusal::NoLease => "NoLease",
-        Refusal::GrantSpent => "GrantSpent",
-        Refusal::Past => "Past",
-        Refusal::ClockEnd => "ClockEnd",
-        Refusal::AlreadyClosed => "AlreadyClosed",
-        Refusal::Empty => "Empty",
-        Refusal::Drained => "Drained",
-        Refusal::TooManyStreams => "TooManyStreams",
-        Refusal::BadLimits => "BadLimits",
-        Refusal::BadBandwidth => "BadBandwidth",
-        Refusal::Overload => "Overload",
-    }
 }
 
 /// Appends the line of a stream's state, or nothing: its budget and deadline, and what is counted of it.
@@ -179,7 +123,7 @@ pub fn push_state(
     pushed
 }
 
-/// The same. Where a growth is refused, the account may be left.
+/// The same. Where a growth is refused, the balance may be left.
 fn push_state_parts(
     printed: &mut Vec<u8>,
     account: (u64, u64),
@@ -189,24 +133,8 @@ fn push_state_parts(
         (printed.new.items ≡ printed.old.items ++ line_text (state_line account counts)) }
     ensures err { OnErr result (take (vec_len printed.old) printed.new.items ≡ printed.old.items) }
 {
-    push_account(printed, account)?;
+    push_balance(printed, account, b"".as_slice())?;
     push_counts(printed, counts)
-}
-
-/// Appends an account as a state has it, or nothing.
-fn push_account(printed: &mut Vec<u8>, account: (u64, u64)) -> Result<(), AllocError>
-    ensures ok { OnOk result (printed.new.items ≡ printed.old.items ++ account_text account) }
-    ensures err { OnErr result (printed.new.items ≡ printed.old.items) }
-{
-    let mut budget = Buffer::new();
-    let mut deadline = Buffer::new();
-    let pieces = [
-        b"budget ".as_slice(),
-        budget.format(account.0).as_bytes(),
-        b" deadline ".as_slice(),
-        deadline.format(account.1).as_bytes(),
-    ];
-    push_pieces(printed, &pieces)
 }
 
 /// Appends counts as a state has them, and the line's end, or nothing.

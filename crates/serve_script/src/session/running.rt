@@ -62,7 +62,7 @@ impl<'a> Session<'a> {
         ensures machine { IfOk result (λ session.
             session.machine ≡ opening_state FrameValue FrameValue setup) }
     {
-        setup.limits_law();
+        setup.recall_limits();
         let machine = Machine::new(alloc, setup)?;
         Ok(Session {
             streams,

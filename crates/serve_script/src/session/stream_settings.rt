@@ -17,6 +17,7 @@ use serve_core::StreamSpec;
 use std::alloc::Global;
 use std::sync::Arc;
 use y4m_header::Header;
+use y4m_stream::MOST_FRAMES;
 
 /// What `band` and `frames` have set for the streams that follow.
 #[derive(Clone, Copy)]
@@ -27,13 +28,13 @@ pub struct StreamSettings {
 }
 
 impl StreamSettings {
-    /// Bands of 16 rows, and 2^24 frames.
+    /// Bands of 16 rows, and as many frames as a stream may have.
     pub fn new() -> StreamSettings
         ensures { settings_told result ≡ first_settings }
     {
         StreamSettings {
             height: BandHeight::new(16).unwrap(),
-            frames: 1 << 24,
+            frames: MOST_FRAMES,
         }
     }
 

@@ -109,7 +109,7 @@ impl<'a> StreamTable<'a> {
             return Err(ScriptFault::BadName);
         }
         let spec = settings.spec_of(alloc, stream)?;
-        self.push(stream.name, spec.spec().chain().geometry())?;
+        self.push(stream.name, spec.job().chain().geometry())?;
         Ok(spec)
     }
 

@@ -1,11 +1,10 @@
 //! The epochs of a session, each with a journal of its own.
-ghost use Rattle.std.specs.Prelude.{◌≡◌, ◌≢◌, ◌↔◌, List, IfErr, IfOk, IsErrOf, OnOk, length};
+ghost use Rattle.std.specs.Prelude.{◌≡◌, ◌≢◌, ◌↔◌, List, [], IfErr, IfOk, IsErrOf, OnOk, length};
 ghost use Rattle.serve_core.specs.Schedule.{opened_schedule};
 ghost use Rattle.serve_hub.specs.Books.{IsLimit};
-ghost use Rattle.serve_hub.specs.Seats.{opened_streams};
-ghost use Rattle.serve_work.specs.Clients.{ClientStart};
-ghost use Rattle.serve_work.specs.Intervals.{IsBetween, CanBegin};
-ghost use Rattle.serve_work.specs.Sessions.{AreInputs, starts_of};
+ghost use Rattle.serve_hub.specs.declared.entry.Entry.{Entry};
+ghost use Rattle.serve_work.specs.Intervals.{Beginning, CanBegin, IsBetween, IsLater, beginning_of};
+ghost use Rattle.serve_work.specs.Sessions.{AreInputs};
 
 use super::SessionFault;
 use super::interval::Interval;
@@ -17,6 +16,7 @@ use super::turn::{Stream, seated};
 use crate::gate::{Clock, Gate};
 use serve_core::Setup;
 use serve_hub::Epoch;
+use serve_hub::limits::MOST_SEATS;
 use std::alloc::Global;
 use std::marker::Brand;
 use std::sync::Wait;
@@ -46,11 +46,12 @@ fn epoch<
     gate: &G,
     clock: &K,
 ) -> Result<Interval<R, W>, SessionFault>
-    requires at { (starts : List ClientStart)
-        × CanBegin R.remaining R.failures W.contents W.failures W.is_flushed starts opening }
-    ensures between { (starts : List ClientStart)
-        → CanBegin R.remaining R.failures W.contents W.failures W.is_flushed starts opening
-        → IfOk result (IsBetween R.remaining R.failures W.contents W.failures W.is_flushed starts) }
+    requires at { (b : Beginning) × (journal : List Entry)
+        × CanBegin R.remaining R.failures W.contents W.failures W.is_flushed b journal L.opening opening }
+    ensures between { (b : Beginning) (journal : List Entry)
+        → CanBegin R.remaining R.failures W.contents W.failures W.is_flushed b journal L.opening opening
+        → IfOk result (IsLater R.remaining R.failures W.contents W.failures W.is_flushed
+        (K.gives clock.now) b journal) }
     ensures fault { IfErr result (λ e. e ≢ SessionFault.BadLimit) }
 {
     let Opening {
@@ -106,11 +107,11 @@ pub(super) fn first<
 ) -> Result<Interval<R, W>, SessionFault>
     requires name { blank.name ≡ L.name }
     requires parts { blank.parts ≡ L.parts }
-    requires enough { blank.parts ≡ 80 }
+    requires enough { blank.parts ≡ MOST_SEATS }
     requires opening { opened_schedule setup ≡ L.opening }
     requires inputs { AreInputs setup.streams inputs.items }
-    ensures between { IfOk result (IsBetween R.remaining R.failures W.contents W.failures W.is_flushed
-        (starts_of W.contents W.failures (opened_streams limit 0 setup.streams) inputs.items)) }
+    ensures between { IfOk result (IsLater R.remaining R.failures W.contents W.failures W.is_flushed
+        (K.gives clock.now) (beginning_of W.contents W.failures setup limit inputs.items) []) }
     ensures limit { OnOk result (IsLimit (length setup.streams) limit) }
     ensures bad_limit { IsErrOf result SessionFault.BadLimit ↔ ¬ IsLimit (length setup.streams) limit }
 {
@@ -137,13 +138,14 @@ fn later<
 ) -> Result<Interval<R, W>, SessionFault>
     requires name { blank.name ≡ L.name }
     requires parts { blank.parts ≡ L.parts }
-    requires enough { blank.parts ≡ 80 }
+    requires enough { blank.parts ≡ MOST_SEATS }
     requires opening { interval.ended.book.desk ≡ L.opening }
-    requires at { (starts : List ClientStart)
-        × IsBetween R.remaining R.failures W.contents W.failures W.is_flushed starts interval }
-    ensures between { (starts : List ClientStart)
-        → IsBetween R.remaining R.failures W.contents W.failures W.is_flushed starts interval
-        → IfOk result (IsBetween R.remaining R.failures W.contents W.failures W.is_flushed starts) }
+    requires at { (b : Beginning) × (journal : List Entry)
+        × IsBetween R.remaining R.failures W.contents W.failures W.is_flushed b journal interval }
+    ensures between { (b : Beginning) (journal : List Entry)
+        → IsBetween R.remaining R.failures W.contents W.failures W.is_flushed b journal interval
+        → IfOk result (IsLater R.remaining R.failures W.contents W.failures W.is_flushed
+        (K.gives clock.now) b journal) }
     ensures fault { IfErr result (λ e. e ≢ SessionFault.BadLimit) }
 {
     match reopened::<L, R, W>(alloc, blank, interval, limit) {
@@ -167,11 +169,12 @@ pub(super) fn go_on<
     gate: &G,
     clock: &K,
 ) -> Result<Interval<R, W>, SessionFault>
-    requires at { (starts : List ClientStart)
-        × IsBetween R.remaining R.failures W.contents W.failures W.is_flushed starts interval }
-    ensures between { (starts : List ClientStart)
-        → IsBetween R.remaining R.failures W.contents W.failures W.is_flushed starts interval
-        → IfOk result (IsBetween R.remaining R.failures W.contents W.failures W.is_flushed starts) }
+    requires at { (b : Beginning) × (journal : List Entry)
+        × IsBetween R.remaining R.failures W.contents W.failures W.is_flushed b journal interval }
+    ensures between { (b : Beginning) (journal : List Entry)
+        → IsBetween R.remaining R.failures W.contents W.failures W.is_flushed b journal interval
+        → IfOk result (IsLater R.remaining R.failures W.contents W.failures W.is_flushed
+        (K.gives clock.now) b journal) }
     ensures fault { IfErr result (λ e. e ≢ SessionFault.BadLimit) }
 {
     let mut interval = interval;
@@ -180,7 +183,7 @@ pub(super) fn go_on<
         if !goes_on {
             return Ok(interval);
         }
-        let blank = Blank::new(80);
+        let blank = Blank::new(MOST_SEATS);
         interval = later::<Brand, R, W, G, K, T>(rt, alloc, blank, interval, limit, gate, clock)?;
     }
     unreachable!()

@@ -1,10 +1,11 @@
 //! A session between two epochs.
 ghost use Rattle.std.specs.Prelude.{◌≡◌, ◌<◌, ◌≤◌, ◌^◌, ℕ, ⊤, List, [], map, vec_capacity, vec_len};
-ghost use Rattle.serve_core.specs.Schedule.{HasLane};
-ghost use Rattle.serve_work.specs.Clients.{ClientStart};
-ghost use Rattle.serve_work.specs.Intervals.{IsBetween};
+ghost use Rattle.std.specs.List.{AllZip};
+ghost use Rattle.serve_core.specs.Schedule.{HasStream};
+ghost use Rattle.serve_hub.specs.declared.entry.Entry.{Entry};
+ghost use Rattle.serve_work.specs.Intervals.{Beginning, IsBetween};
 ghost use Rattle.serve_work.specs.SessionInside.{AreOver, AreTold};
-ghost use Rattle.serve_work.specs.Sessions.{AreServed, outcome_of, served_of};
+ghost use Rattle.serve_work.specs.Sessions.{IsServedBy, outcome_of, served_of};
 
 use super::Served;
 use super::turn::{Stream, told};
@@ -28,11 +29,11 @@ pub(super) struct Interval<R: Source, W: Sink> {
 pub(super) fn report<R: Source + Drop, W: Sink + Drop>(
     interval: Interval<R, W>,
 ) -> Vec<Served<R, W>>
-    requires at { (starts : List ClientStart)
-        × IsBetween R.remaining R.failures W.contents W.failures W.is_flushed starts interval }
-    ensures { (starts : List ClientStart)
-        → IsBetween R.remaining R.failures W.contents W.failures W.is_flushed starts interval
-        → AreServed starts
+    requires at { (b : Beginning) × (journal : List Entry)
+        × IsBetween R.remaining R.failures W.contents W.failures W.is_flushed b journal interval }
+    ensures { (b : Beginning) (journal : List Entry)
+        → IsBetween R.remaining R.failures W.contents W.failures W.is_flushed b journal interval
+        → AllZip (IsServedBy journal interval.ended.book.desk) b.starts
         (map (served_of R.remaining R.failures W.contents W.failures W.is_flushed) result.items) }
 {
     let Interval {
@@ -64,7 +65,7 @@ fn tell<R: Source + Drop, W: Sink + Drop>(
 /// Tells what each stream was charged.
 fn charge<R: Source, W: Sink>(ended: &Ended, served: &mut Vec<Served<R, W>>)
     requires few { vec_len served.old < 2 ^ 32 }
-    requires lanes { (n : ℕ) → n < vec_len served.old → HasLane ended.now.book.desk n (λ _. ⊤) }
+    requires kept { (n : ℕ) → n < vec_len served.old → HasStream ended.now.book.desk n (λ _. ⊤) }
     ensures outcomes { map (outcome_of R.remaining R.failures W.contents W.failures W.is_flushed)
         served.new.items
         ≡ map (outcome_of R.remaining R.failures W.contents W.failures W.is_flushed) served.old.items }

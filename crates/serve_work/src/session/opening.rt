@@ -1,17 +1,17 @@
 //! What an epoch begins with.
-ghost use Rattle.std.specs.Prelude.{◌≡◌, ◌↔◌, List, IfErr, IfOk, IsErrOf, OnOk, length};
+ghost use Rattle.std.specs.Prelude.{◌≡◌, ◌↔◌, List, [], IfErr, IfOk, IsErrOf, OnOk, length};
 ghost use Rattle.serve_core.specs.Schedule.{opened_schedule};
 ghost use Rattle.serve_hub.specs.Books.{IsLimit};
-ghost use Rattle.serve_hub.specs.Seats.{opened_streams};
-ghost use Rattle.serve_work.specs.Clients.{ClientStart};
-ghost use Rattle.serve_work.specs.Intervals.{IsBetween, CanBegin};
-ghost use Rattle.serve_work.specs.Sessions.{AreInputs, starts_of};
+ghost use Rattle.serve_hub.specs.declared.entry.Entry.{Entry};
+ghost use Rattle.serve_work.specs.Intervals.{Beginning, CanBegin, IsBetween, beginning_of};
+ghost use Rattle.serve_work.specs.Sessions.{AreInputs};
 
 use super::interval::Interval;
 use super::room::Room;
 use super::turn::{Stream, waiting};
 use super::{Served, SessionFault};
 use serve_core::Setup;
+use serve_hub::limits::MOST_SEATS;
 use serve_hub::{Epoch, Hub, Opened};
 use std::alloc::Global;
 use std::sync::ledger::Blank;
@@ -36,11 +36,11 @@ pub(super) fn opened<L: Epoch, R: Source + Drop, W: Sink + Drop>(
 ) -> Result<Opening<L, R, W>, SessionFault>
     requires name { blank.name ≡ L.name }
     requires parts { blank.parts ≡ L.parts }
-    requires enough { blank.parts ≡ 80 }
+    requires enough { blank.parts ≡ MOST_SEATS }
     requires opening { opened_schedule setup ≡ L.opening }
     requires inputs { AreInputs setup.streams inputs.items }
     ensures at { IfOk result (CanBegin R.remaining R.failures W.contents W.failures W.is_flushed
-        (starts_of W.contents W.failures (opened_streams limit 0 setup.streams) inputs.items)) }
+        (beginning_of W.contents W.failures setup limit inputs.items) [] L.opening) }
     ensures limit { OnOk result (IsLimit (length setup.streams) limit) }
     ensures bad_limit { IsErrOf result SessionFault.BadLimit ↔ ¬ IsLimit (length setup.streams) limit }
 {
@@ -66,14 +66,14 @@ pub(super) fn reopened<L: Epoch, R: Source + Drop, W: Sink + Drop>(
 ) -> Result<Opening<L, R, W>, Interval<R, W>>
     requires name { blank.name ≡ L.name }
     requires parts { blank.parts ≡ L.parts }
-    requires enough { blank.parts ≡ 80 }
+    requires enough { blank.parts ≡ MOST_SEATS }
     requires opening { interval.ended.book.desk ≡ L.opening }
-    ensures at { (starts : List ClientStart)
-        → IsBetween R.remaining R.failures W.contents W.failures W.is_flushed starts interval
-        → IfOk result (CanBegin R.remaining R.failures W.contents W.failures W.is_flushed starts) }
-    ensures back { (starts : List ClientStart)
-        → IsBetween R.remaining R.failures W.contents W.failures W.is_flushed starts interval
-        → IfErr result (IsBetween R.remaining R.failures W.contents W.failures W.is_flushed starts) }
+    ensures at { (b : Beginning) (journal : List Entry)
+        → IsBetween R.remaining R.failures W.contents W.failures W.is_flushed b journal interval → IfOk result
+        (CanBegin R.remaining R.failures W.contents W.failures W.is_flushed b journal L.opening) }
+    ensures back { (b : Beginning) (journal : List Entry)
+        → IsBetween R.remaining R.failures W.contents W.failures W.is_flushed b journal interval
+        → IfErr result (IsBetween R.remaining R.failures W.contents W.failures W.is_flushed b journal) }
 {
     let Interval {
         ended,

@@ -25,10 +25,10 @@ pub(super) fn run_clients<
     T: Threads + Wait + Sync,
 >(rt: &T, alloc: Global, hub: &Hub<L>, turns: &mut [Turn<L, R, W>], clock: &K)
     requires sharing { IsSync T.row × IsSync K.row × IsSync L.row × IsSend L.row }
-    ensures { AllRun turns.old turns.new }
+    ensures { AllRun (K.gives clock.now) turns.old turns.new }
 {
     let serve = move |_: usize, turn: &mut Turn<L, R, W>|
-        ensures { Runs turn.old turn.new }
+        ensures { Runs (K.gives clock.entry.now) turn.old turn.new }
     { turn.run(rt, alloc, hub, clock) };
     thread::for_each_mut(rt, turns, MOST_STREAMS, &serve);
 }
@@ -50,7 +50,7 @@ fn run_beside<
 ) -> Vec<Turn<L, R, W>>
     requires sharing { IsSync T.row × IsSync K.row × IsSync L.row × IsSend L.row }
     ensures count { vec_len result ≡ vec_len turns }
-    ensures run { AllRun turns.items result.items }
+    ensures run { AllRun (K.gives clock.now) turns.items result.items }
 {
     if !any_works {
         return turns;
@@ -107,7 +107,7 @@ pub(super) fn run_threads<
     clock: &K,
 ) -> Result<(bool, Vec<Turn<L, R, W>>), SessionFault>
     ensures count { IfOk result (λ r. vec_len r.1 ≡ vec_len turns) }
-    ensures run { IfOk result (λ r. AllRun turns.items r.1.items) }
+    ensures run { IfOk result (λ r. AllRun (K.gives clock.now) turns.items r.1.items) }
     ensures refused { IfErr result (λ e. e ≡ SessionFault.NoMemory) }
 {
     thread::scope(
@@ -117,7 +117,7 @@ pub(super) fn run_threads<
             requires { IsSync T.row × IsSync G.row × IsSync K.row × IsSync L.row × IsSend L.row
                 × IsSend R.row × IsSend W.row }
             ensures count { IfOk result (λ r. vec_len r.1 ≡ vec_len turns) }
-            ensures run { IfOk result (λ r. AllRun turns.items r.1.items) }
+            ensures run { IfOk result (λ r. AllRun (K.gives clock.entry.now) turns.items r.1.items) }
             ensures refused { IfErr result (λ e. e ≡ SessionFault.NoMemory) }
         {
             let mut any_works = false;

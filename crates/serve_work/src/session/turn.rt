@@ -93,7 +93,7 @@ impl<L: Epoch, R: Source + Drop, W: Sink + Drop> Held<L, R, W> {
         hub: &Hub<L>,
         clock: &K,
     ) -> Held<L, R, W>
-        ensures { GoesOn self result }
+        ensures { GoesOn (K.gives clock.now) self result }
     {
         let Held { seat, stream } = self;
         match stream {
@@ -184,7 +184,7 @@ impl<L: Epoch, R: Source + Drop, W: Sink + Drop> Turn<L, R, W> {
 
     /// The stream's client goes on, if it waits.
     pub(super) fn run<K: Clock, T: Wait>(&mut self, rt: &T, alloc: Global, hub: &Hub<L>, clock: &K)
-        ensures { Runs self.old self.new }
+        ensures { Runs (K.gives clock.now) self.old self.new }
     {
         if let Some(held) = self.held.take() {
             self.held.insert(held.go_on(rt, alloc, hub, clock));

@@ -22,7 +22,7 @@ fn both_met(rt: &impl Abort, parts: &Parts) {
 struct Workers(Parts);
 
 impl Gate for Workers {
-    fn before_band(&self, worker: u32, _stream: u32, _seq: u64) {
+    fn before_band(&self, worker: u32, _stream: u32, _number: u64) {
         if worker < 2 {
             self.0.meet(worker);
         }
@@ -40,7 +40,7 @@ impl Gate for Workers {
 struct Halves(Parts);
 
 impl Gate for Halves {
-    fn before_band(&self, _worker: u32, _stream: u32, _seq: u64) {}
+    fn before_band(&self, _worker: u32, _stream: u32, _number: u64) {}
 
     fn in_halves(&self, _samples: usize) -> bool {
         true

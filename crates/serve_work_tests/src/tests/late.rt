@@ -16,8 +16,12 @@ use test_tools::streams::{CUT, HEADER, ONE, ONE_INVERTED, THREE, THREE_INVERTED}
 use test_tools::{Room, Tape};
 use y4m_stream::{OverRead, OverWrite, ReadFault, Sink, Source, StreamReader, WriteFault};
 
-/// When the bytes of a stream come: so many at first, and then ten at a time, where so many bytes were written
-/// by then, and so many more for each ten of them.
+/// How often a source is asked at most whether it is ready. Then it says so, and its read fails: what it waits
+/// for doesn't come any more, as where another stream had no memory.
+const PATIENCE: u64 = 100_000_000;
+
+/// When the bytes of a stream come: so many at first, and then ten at a time, where so many bytes were
+/// written by then, and so many more for each ten of them.
 #[derive(Clone, Copy)]
 struct Pace<'a> {
     first: usize,
@@ -52,12 +56,13 @@ impl Read for Paced<'_> {
     }
 }
 
-/// A source that is ready by a pace, and counts how often it was read.
+/// A source that is ready by a pace, and counts how often it was read and asked.
 #[derive(Drop)]
 struct Late<'a, S: Source> {
     source: S,
     pace: Pace<'a>,
     reads: u64,
+    asked: AtomicU64,
 }
 
 impl<'a, S: Source> Source for Late<'a, S> {
@@ -71,7 +76,7 @@ impl<'a, S: Source> Source for Late<'a, S> {
     }
 
     fn is_ready(&self, _milliseconds: u64) -> bool {
-        self.pace.has_come(self.reads)
+        self.pace.has_come(self.reads) || self.asked.fetch_add(1, Ordering::SeqCst) > PATIENCE
     }
 }
 
@@ -130,6 +135,7 @@ fn opened<'a>(alloc: Global, side: Side<'a>) -> Result<(StreamSpec, (Reader<'a>,
             source,
             pace,
             reads: 0,
+            asked: AtomicU64::new(0),
         },
     )?;
     let spec = stream_of(alloc, reader.header(), side.plan)?;

@@ -1,5 +1,5 @@
 //! One stream, which one worker and one client serve.
-ghost use Rattle.std.specs.Prelude.{◌≡◌, [], ◌∷◌, IfOk};
+ghost use Rattle.std.specs.Prelude.{◌≡◌, ⊤, [], ◌∷◌, IfOk};
 ghost use Rattle.std.specs.Thread.{IsSend, IsSync};
 ghost use Rattle.y4m_stream.specs.Reader.{IsOfHeader};
 ghost use Rattle.serve_core.specs.Schedule.{opened_schedule};
@@ -60,7 +60,7 @@ pub(super) struct Told {
 pub(super) struct Open;
 
 impl Gate for Open {
-    fn before_band(&self, _worker: u32, _stream: u32, _seq: u64) {}
+    fn before_band(&self, _worker: u32, _stream: u32, _number: u64) {}
 
     fn in_halves(&self, _samples: usize) -> bool {
         false
@@ -74,6 +74,8 @@ impl Gate for Open {
 pub(super) struct Still(pub(super) u64);
 
 impl Clock for Still {
+    ghost gives = { λ _ _. ⊤ };
+
     fn moment(&self) -> u64 {
         self.0
     }

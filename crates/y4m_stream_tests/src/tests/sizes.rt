@@ -19,7 +19,7 @@ struct Streams {
 
 /// The header line of such frames, their columns and rows; where each of the two frames ends; and of how many
 /// bytes all that is whole in so many has.
-struct Size {
+pub(super) struct Size {
     header: &'static [u8],
     columns: u16,
     rows: u16,
@@ -48,7 +48,7 @@ const GREATEST_IN_TURN: Size = Size {
 };
 
 /// The least frames that are read on a thread of their own.
-const LEAST_BESIDE: Size = Size {
+pub(super) const LEAST_BESIDE: Size = Size {
     header: b"YUV4MPEG2 W512 H512 F25:1 Cmono\n",
     columns: 512,
     rows: 512,
@@ -91,7 +91,7 @@ fn append_frame(text: &mut Vec<u8>, size: &Size, n: u8, is_image: bool) -> Resul
     Ok(())
 }
 
-fn stream_of(alloc: Global, size: &Size, is_image: bool) -> Result<Vec<u8>, AllocError> {
+pub(super) fn stream_of(alloc: Global, size: &Size, is_image: bool) -> Result<Vec<u8>, AllocError> {
     let mut text = size.header.to_vec(alloc)?;
     append_frame(&mut text, size, 0, is_image)?;
     append_frame(&mut text, size, 1, is_image)?;

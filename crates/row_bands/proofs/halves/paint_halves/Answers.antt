@@ -10,6 +10,7 @@ returns-clause-painted g c =
       from = refl;
       to = refl;
       height = refl;
-      band = both_parts (g.P.Painter.picture c.args.painter.now) (g.P.Painter.paint_gives c.args.painter.now) band.from c.args.row band.to (band_frame band)
+      band = both_parts (g.P.Painter.picture c.args.painter.now) (g.P.Painter.paint_gives c.args.painter.now) band.from
+          c.args.row band.to (band_frame band)
           c.paint_parts.new.samples c.requires.from c.requires.to band.inside (search rules) (search rules);
     }

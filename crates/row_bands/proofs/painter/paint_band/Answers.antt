@@ -14,5 +14,6 @@ loop-p-preserved g c =
       from = c.paint_plane.ensures.from ∙ c.loop-p.invariant.from;
       to = c.paint_plane.ensures.to ∙ c.loop-p.invariant.to;
       height = c.paint_plane.ensures.height ∙ c.loop-p.invariant.height;
-      rows = one_more_plane _ _ _ _ _ _ _ (λ q. inside (band_geometry band) q old.to low) c.loop-p.invariant.rows (rw (← c.loop-p.invariant.from, ← c.loop-p.invariant.to) c.paint_plane.ensures.rows);
+      rows = one_more_plane _ _ _ _ _ _ _ (λ q. inside (band_geometry band) q old.to low) c.loop-p.invariant.rows
+          (rw (← c.loop-p.invariant.from, ← c.loop-p.invariant.to) c.paint_plane.ensures.rows);
     }

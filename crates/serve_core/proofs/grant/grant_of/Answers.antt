@@ -1,6 +1,6 @@
 use Rattle.std.proofs.Common.{arith, drop, length-drop}
 use Rattle.filters.specs.Costs.{step_costs}
-use Rattle.serve_core.proofs.Grants.{paid_left}
+use Rattle.serve_core.proofs.Bands.Grants.{paid_left}
 use Rattle.serve_core.proofs.grant.grant_of.Goals as goal
 
 pub overflow_cast-result : goal.overflow_cast-result

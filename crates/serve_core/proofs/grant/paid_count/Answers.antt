@@ -1,7 +1,7 @@
 use Rattle.std.proofs.Common.{◌+◌, min, ◌/◌, drop, sym, ◌∙◌, ap, arith}
 use Rattle.filters.specs.Costs.{step_costs}
 use Rattle.serve_core.specs.Grants.{paid_count}
-use Rattle.serve_core.proofs.Paying.{paid_past, turn_all, turn_some}
+use Rattle.serve_core.proofs.Bands.Paying.{paid_past, turn_all, turn_some}
 use Rattle.serve_core.proofs.grant.paid_count.Goals as goal
 
 pub returns-then-fitting-count : goal.returns-then-fitting-count

@@ -1,9 +1,9 @@
 use Rattle.std.proofs.Common.{◌≡◌, Some, slice_get, ◌∙◌, sym, ap, subst, arith, take_all}
 use Rattle.cbs_account.specs.Admission.{Fits}
 use Rattle.serve_core.specs.Released.{with_held}
-use Rattle.serve_core.specs.Schedule.{held_of_lanes}
-use Rattle.serve_core.proofs.Holdings.{fits_first, held_more}
-use Rattle.serve_core.proofs.Lists.{slice_get_here}
+use Rattle.serve_core.specs.Schedule.{held_of_streams}
+use Rattle.serve_core.proofs.Items.Lists.{slice_get_here}
+use Rattle.serve_core.proofs.Schedules.Holdings.{fits_first, held_more}
 use Rattle.serve_core.proofs.schedule.held.Goals as goal
 
 pub hold-requires : goal.hold-requires
@@ -28,5 +28,5 @@ loop-stream-preserved c =
 pub returns : goal.returns
 returns c =
     c.loop-stream.invariant
-    ∙ ap (held_of_lanes c.args.workers c.args.moment)
+    ∙ ap (held_of_streams c.args.workers c.args.moment)
     (take_all c.loop-stream.stream-index c.args.streams.now (omega arith))

@@ -1,7 +1,7 @@
 use Rattle.std.proofs.Common.{◌≡◌, take}
-use Rattle.serve_core.specs.Schedule.{held_of_lanes}
+use Rattle.serve_core.specs.Schedule.{held_of_streams}
 use Rattle.serve_core.proofs.schedule.held.Given as goal
 
 abbrev pub invariant-loop-stream : goal.invariant-loop-stream
 invariant-loop-stream l =
-    l.admission ≡ held_of_lanes l.fn.workers l.fn.moment (take l.stream-index l.fn.streams)
+    l.admission ≡ held_of_streams l.fn.workers l.fn.moment (take l.stream-index l.fn.streams)

@@ -1,9 +1,9 @@
 use Rattle.std.proofs.Common.{Err, Some, slice_get, refl, sym, ◌∙◌, ap, subst, arith}
 use Rattle.cbs_account.specs.Admission.{Fits, with_share}
 use Rattle.serve_core.specs.Setup.{HasBandwidth}
-use Rattle.serve_core.proofs.Admissions.{all_more, load_more}
-use Rattle.serve_core.proofs.Lists.{slice_get_here}
-use Rattle.serve_core.proofs.Options.{and_some}
+use Rattle.serve_core.proofs.Items.Lists.{slice_get_here}
+use Rattle.serve_core.proofs.Items.Options.{and_some}
+use Rattle.serve_core.proofs.Rules.Admissions.{all_more, load_more}
 use Rattle.serve_core.proofs.setup.admit_all.Goals as goal
 
 pub returns-in-Err-Overload-clause-err : goal.returns-in-Err-Overload-clause-err

@@ -1,7 +1,7 @@
 use Rattle.std.proofs.Common.{◌≡◌, All, Some, slice_get, refl, subst, arith, take_all}
 use Rattle.serve_core.specs.Setup.{IsWithinLimits}
-use Rattle.serve_core.proofs.Admissions.{all_more}
-use Rattle.serve_core.proofs.Lists.{slice_get_here}
+use Rattle.serve_core.proofs.Items.Lists.{slice_get_here}
+use Rattle.serve_core.proofs.Rules.Admissions.{all_more}
 use Rattle.serve_core.proofs.setup.are_within_limits.Goals as goal
 
 pub loop-stream-preserved : goal.loop-stream-preserved

@@ -1,6 +1,6 @@
 use Rattle.std.proofs.Common.{arith, rules}
 use Rattle.std.proofs.lemmas.Grind.{common_steps}
-use Rattle.serve_core.proofs.Lists.{slice_get_here}
+use Rattle.serve_core.proofs.Items.Lists.{slice_get_here}
 use Rattle.serve_hub.proofs.Seating.{one_more_rest}
 use Rattle.serve_hub.proofs.hub.rests_of.Goals as goal
 

@@ -1,6 +1,7 @@
-use Rattle.std.proofs.Common.{◌^◌, ◌≤◌, ◌∷◌, [], ◌++◌, ◌∙◌, List, length, map, sym, ap, arith}
+use Rattle.std.proofs.Common.{◌≤◌, ◌∷◌, [], ◌++◌, ◌∙◌, List, length, map, sym, ap, arith}
 use Rattle.std.proofs.lemmas.List.{length-append}
 use Rattle.std.specs.Vec.Iter.{into_iter_items}
+use Rattle.serve_core.specs.declared.limits.TheConstants.{MOST_FRAMES}
 use Rattle.serve_hub.specs.Seats.{StreamRest, StreamSeatValue, collected_by, left_by}
 use Rattle.serve_hub.proofs.Moving.{All-behind, one_moved, sum_more}
 use Rattle.serve_hub.proofs.shared.merge_streams.Goals as goal
@@ -34,5 +35,5 @@ loop-seat-preserved g c =
           ∙ inv.rests;
       left = omega (arith, inv.left, ap length steps.0, steps.1);
       room = omega (arith, inv.room, steps.1, c.push_reserved.ensures.len, c.push_reserved.ensures.capacity);
-      few = All-behind (λ s. collected_by s ≤ 2 ^ 24) _ left seat steps.0 inv.few;
+      few = All-behind (λ s. collected_by s ≤ MOST_FRAMES) _ left seat steps.0 inv.few;
     }

@@ -1,6 +1,7 @@
-use Rattle.std.proofs.Common.{◌≡◌, ◌+◌, ◌≤◌, ◌^◌, ◌++◌, All, length, map, sum_by}
+use Rattle.std.proofs.Common.{◌≡◌, ◌+◌, ◌≤◌, ◌++◌, All, length, map, sum_by}
 use Rattle.std.specs.Vec.{vec_capacity, vec_len}
 use Rattle.std.specs.Vec.Iter.{into_iter_items, into_iter_len}
+use Rattle.serve_core.specs.declared.limits.TheConstants.{MOST_FRAMES}
 use Rattle.serve_hub.specs.Seats.{collected_by, left_by}
 use Rattle.serve_hub.proofs.shared.merge_streams.Given as goal
 
@@ -12,5 +13,5 @@ invariant-loop-seat g l = record {
   rests : l.rests.items ++ map left_by (into_iter_items l.seat-iterator) ≡ map left_by l.fn.seats.items;
   left : length (into_iter_items l.seat-iterator) ≡ into_iter_len l.seat-iterator;
   room : vec_len l.rests + into_iter_len l.seat-iterator ≤ vec_capacity l.rests;
-  few : All (λ s. collected_by s ≤ 2 ^ 24) (into_iter_items l.seat-iterator);
+  few : All (λ s. collected_by s ≤ MOST_FRAMES) (into_iter_items l.seat-iterator);
 }

@@ -1,8 +1,9 @@
-use Rattle.std.proofs.Common.{◌∙◌, sym}
-use Rattle.serve_report.proofs.Reporting.{rows_named}
+use Rattle.serve_report.specs.Openings.{openings_of}
 use Rattle.serve_report.proofs.serve.serve_files.Goals as goal
 
 pub returns : goal.returns
-returns g c =
-    let given = rw c.deref.ensures.value at c.in-Some.ensures in
-    rows_named c.in_ok-entrants.field-0.entrants.items _ c.in-Some.rows.items (sym given) ∙ c.in_ok-entrants.ensures.names
+returns g c = record {
+  openings = openings_of c.in_ok-tried.tried.items;
+  opened = c.in_ok-tried.ensures;
+  tells = c.in_ok-rows.ensures;
+}

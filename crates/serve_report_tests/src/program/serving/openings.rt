@@ -1,4 +1,6 @@
 //! Streams that are opened side by side.
+ghost use Rattle.std.specs.Prelude.{⊤};
+
 use super::{A, A_INVERTED, B, B_TURNED, TWO, given, holds};
 use crate::program::memory::{Made, Memory, Output};
 use crate::program::{words_of, written};
@@ -21,6 +23,10 @@ impl<'a, T: Wait + Sync> Files for Meeting<'a, T> {
     type Slow = Tape<'static>;
 
     type Writer = Output<'a, T>;
+
+    ghost was_opened = { λ _ _. ⊤ };
+
+    ghost was_made = { λ _ _. ⊤ };
 
     fn open(&self, name: &str) -> io::Result<Inlet<Tape<'a>, Tape<'static>>> {
         self.parts.meet(if name == "a.y4m" { 0 } else { 1 });

@@ -11,14 +11,16 @@ pub returns-in_err-put_pieces-clause-text : goal.returns-in_err-put_pieces-claus
 returns-in_err-put_pieces-clause-text g c =
     let stop = stop_told c.in-Some.stop in
     let text = ap (λ told. stop_text (option_map stop_told told)) c.in-Some.is in
-    let front = stop_pieces stop _ _ _ _ c.as_slice.ensures (c.as_bytes.ensures.value ∙ c.format.ensures.text) c.as_slice-2.ensures (c.as_bytes-2.ensures.value ∙ c.word.ensures) in
+    let front = stop_pieces stop _ _ _ _ c.as_slice.ensures (c.as_bytes.ensures.value ∙ c.format.ensures.text)
+    c.as_slice-2.ensures (c.as_bytes-2.ensures.value ∙ c.word.ensures) in
     not_written _ _ _ c.from_residual.result c.from_residual.ensures.0 (front_cut stop _ _ _ _ text front c.in_err-put_pieces.ensures.text)
 
 pub returns-in_err-put_name-clause-text : goal.returns-in_err-put_name-clause-text
 returns-in_err-put_name-clause-text g c =
     let stop = stop_told c.in-Some.stop in
     let text = ap (λ told. stop_text (option_map stop_told told)) c.in-Some.is in
-    let front = stop_pieces stop _ _ _ _ c.as_slice.ensures (c.as_bytes.ensures.value ∙ c.format.ensures.text) c.as_slice-2.ensures (c.as_bytes-2.ensures.value ∙ c.word.ensures) in
+    let front = stop_pieces stop _ _ _ _ c.as_slice.ensures (c.as_bytes.ensures.value ∙ c.format.ensures.text)
+    c.as_slice-2.ensures (c.as_bytes-2.ensures.value ∙ c.word.ensures) in
     not_written _ _ _ c.from_residual-in_err-put_name.result c.from_residual-in_err-put_name.ensures.0
     (name_cut stop _ _ _ _ _ _ text front (ap name_text c.name.ensures) c.in_ok-put_pieces.ensures.text c.in_err-put_name.ensures.text)
 
@@ -26,6 +28,7 @@ pub returns-clause-text : goal.returns-clause-text
 returns-clause-text g c =
     let stop = stop_told c.in-Some.stop in
     let text = ap (λ told. stop_text (option_map stop_told told)) c.in-Some.is in
-    let front = stop_pieces stop _ _ _ _ c.as_slice.ensures (c.as_bytes.ensures.value ∙ c.format.ensures.text) c.as_slice-2.ensures (c.as_bytes-2.ensures.value ∙ c.word.ensures) in
+    let front = stop_pieces stop _ _ _ _ c.as_slice.ensures (c.as_bytes.ensures.value ∙ c.format.ensures.text)
+    c.as_slice-2.ensures (c.as_bytes-2.ensures.value ∙ c.word.ensures) in
     stop_written stop _ _ _ _ _ _ _ _ c.put.result text front (ap name_text c.name.ensures) c.as_slice-3.ensures
     c.in_ok-put_pieces.ensures.text c.in_ok-put_name.ensures.text c.put.ensures.text

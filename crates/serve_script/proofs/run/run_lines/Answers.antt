@@ -4,7 +4,8 @@ use Rattle.serve_script.specs.ScriptFault.{fault_told}
 use Rattle.serve_script.specs.ScriptReport.{line_text}
 use Rattle.serve_script.specs.ScriptState.{Fresh}
 use Rattle.serve_script.specs.ScriptText.{is_silent, script_lines}
-use Rattle.serve_script.proofs.LineRuns.{LeadTo-prints, LeadTo-silent, all_lines, lines_before, no_lines, one_more, printed_next, split_next}
+use Rattle.serve_script.proofs.LineRuns.{LeadTo-prints, LeadTo-silent, all_lines, lines_before, no_lines}
+use Rattle.serve_script.proofs.LineRuns.{one_more, printed_next, split_next}
 use Rattle.serve_script.proofs.run.run_lines.Goals as goal
 
 pub loop-rest-init : goal.loop-rest-init
@@ -33,7 +34,8 @@ returns-in-Err c =
     record {
       answers = run.answers;
       printed = c.in-Err.ensures.1 ∙ run.printed;
-      report = lines_before _ run.lines run.answers line more run.led (c.loop-rest.number + 1) (fault_told c.in-Err.fault) split at run.ran command may;
+      report = lines_before _ run.lines run.answers line more run.led (c.loop-rest.number + 1)
+          (fault_told c.in-Err.fault) split at run.ran command may;
     }
 
 pub loop-rest-preserved-in-Ok : goal.loop-rest-preserved-in-Ok

@@ -15,7 +15,8 @@ returns-in_err-session c =
 pub returns-in_err-push_line : goal.returns-in_err-push_line
 returns-in_err-push_line c =
     ends_faulty _ c.from_residual-in_err-push_line.result _ _ c.from_residual-in_err-push_line.ensures.1 (λ fault none.
-    subst (MayFault (StartGives c.args.preparation)) (sym none) (start_unkept c.args.preparation c.in_ok-session.ensures.ok)) c.in_err-push_line.ensures.err
+    subst (MayFault (StartGives c.args.preparation)) (sym none)
+    (start_unkept c.args.preparation c.in_ok-session.ensures.ok)) c.in_err-push_line.ensures.err
 
 pub returns : goal.returns
 returns c = record {

@@ -11,7 +11,8 @@ use Rattle.serve_script.proofs.run.run_stream.Goals as goal
 pub returns-in_err-next : goal.returns-in_err-next
 returns-in_err-next c =
     ends_faulty _ c.from_residual.result _ _ c.from_residual.ensures.1 (λ fault same.
-    subst (λ own. MayFault (StreamGives c.args.preparation (stream_told c.args.stream)) (fault_told own)) (sym same) c.in_err-next.ensures.fault) refl
+    subst (λ own. MayFault (StreamGives c.args.preparation (stream_told c.args.stream)) (fault_told own)) (sym same)
+    c.in_err-next.ensures.fault) refl
 
 pub returns-in_err-push_stream : goal.returns-in_err-push_stream
 returns-in_err-push_stream c =
@@ -25,5 +26,6 @@ returns c = record {
   next = InSetup c.in_ok-next.next;
   gives = c.in_ok-next.ensures.ok;
   stands = refl;
-  printed = c.in_ok-push_stream.ensures.ok ∙ ap (λ number. c.args.printed.now.items ++ line_text (stream_line number)) c.count-number.ensures;
+  printed = c.in_ok-push_stream.ensures.ok
+      ∙ ap (λ number. c.args.printed.now.items ++ line_text (stream_line number)) c.count-number.ensures;
 }

@@ -8,7 +8,8 @@ use Rattle.serve_script.proofs.run.settled.Goals as goal
 pub returns-in_err-push_line : goal.returns-in_err-push_line
 returns-in_err-push_line c =
     ends_faulty _ c.from_residual.result _ _ c.from_residual.ensures.1 (λ fault none.
-    subst (MayFault (λ given. given ≡ settled c.args.preparation)) (sym none) (λ given gives. subst TakesMemory (sym gives) tt)) c.in_err-push_line.ensures.err
+    subst (MayFault (λ given. given ≡ settled c.args.preparation)) (sym none)
+    (λ given gives. subst TakesMemory (sym gives) tt)) c.in_err-push_line.ensures.err
 
 pub returns : goal.returns
 returns c = record {

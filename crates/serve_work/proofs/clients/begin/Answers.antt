@@ -8,10 +8,11 @@ use Rattle.y4m_stream.specs.Served.{IsHeaderOfImages}
 use Rattle.y4m_stream.specs.Writer.{CutsShort, IsOpenedFor}
 use Rattle.serve_work.proofs.Ending.{ClientEnds-unopened, shown_for}
 use Rattle.serve_work.proofs.Resting.{can_begin, feeding_first, opened_size}
+use Rattle.serve_work.proofs.Tallying.{none_accepted}
 use Rattle.serve_work.proofs.clients.begin.Goals as goal
 
-pub returns-in_default : goal.returns-in_default
-returns-in_default g c = λ start past is.
+pub returns-in_default-clause-turn : goal.returns-in_default-clause-turn
+returns-in_default-clause-turn g c = λ start past is.
     let u = c.unopened.ensures in
     ClientEnds-unopened start _ past c.args.seat _ _ _ _ is u.tally u.accepted u.none.0
     (u.failures ∙ ap (λ (r : ReaderState). r.failures) is.same_reader) (inl (record {
@@ -24,8 +25,8 @@ returns-in_default g c = λ start past is.
       no_failure = ap (g.W.Sink.failures) u.writer ∙ is.same_failures;
     }))
 
-pub returns-in-Err : goal.returns-in-Err
-returns-in-Err g c = λ start past is.
+pub returns-in-Err-clause-turn : goal.returns-in-Err-clause-turn
+returns-in-Err-clause-turn g c = λ start past is.
     let u = c.unopened-in-Err.ensures in
     let before = g.W.Sink.contents c.args.writer in
     let h = c.shown_header.result.now in
@@ -62,14 +63,14 @@ run-requires-clause-can g c =
     opened.writing opened.frames c.requires.counted.1
     (opened_size c.args.seat.chain c.args.reader.header _ _ _ c.in-Ok-open.output own opened) c.in-Ok.ensures.buffers
 
-pub returns : goal.returns
-returns g c = λ start past is.
+pub returns-clause-turn : goal.returns-clause-turn
+returns-clause-turn g c = λ start past is.
     let h = c.shown_header.result.now in
     let own : IsHeaderOfImages c.args.seat.chain c.args.reader.header h = shown_for c.args.seat.chain c.args.reader.header _ _ _
     c.in-Ok.resized
     c.header.ensures c.header-2.ensures c.shown_header.ensures c.in-Ok.ensures.shown in
     let opened = c.in-Ok-open.ensures.opened in
-    c.run.ensures start past (record {
+    c.run.ensures.turn start past (record {
       shown = h;
       opened = c.in-Ok-open.output;
       header = subst (λ (r : ReaderState). IsHeaderOfImages start.seat.chain r.header h) is.same_reader
@@ -88,3 +89,13 @@ returns g c = λ start past is.
         before = is.before;
       };
     })
+
+pub returns-in_default-clause-moments : goal.returns-in_default-clause-moments
+returns-in_default-clause-moments g c =
+    let gives = g.K.Clock.gives c.args.clock.now in
+    none_accepted gives _ _ c.unopened.ensures.tally c.unopened.ensures.accepted
+
+pub returns-in-Err-clause-moments : goal.returns-in-Err-clause-moments
+returns-in-Err-clause-moments g c =
+    let gives = g.K.Clock.gives c.args.clock.now in
+    none_accepted gives _ _ c.unopened-in-Err.ensures.tally c.unopened-in-Err.ensures.accepted

@@ -1,8 +1,8 @@
 use Rattle.serve_work.proofs.Ending.{ClientEnds-served}
 use Rattle.serve_work.proofs.clients.end.Goals as goal
 
-pub returns : goal.returns
-returns g c = λ start past shown opened header is_opened fresh serves tally.
+pub returns-clause-ends : goal.returns-clause-ends
+returns-clause-ends g c = λ start past shown opened header is_opened fresh serves tally.
     let finish = c.finish-writer.ensures in
     ClientEnds-served start _ shown opened header is_opened past c.args.stop c.args.reader c.args.seat c.args.writer _ serves fresh tally
     (record {

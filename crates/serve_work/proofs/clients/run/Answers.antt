@@ -1,17 +1,19 @@
-use Rattle.std.proofs.Common.{◌∙◌, arith}
+use Rattle.std.proofs.Common.{◌∙◌, arith, subst, sym}
+use Rattle.serve_hub.specs.Seats.{StreamSeatValue}
+use Rattle.serve_work.specs.Clients.{AreAtMoments}
 use Rattle.serve_work.proofs.Resting.{outset_of, tallied_later}
 use Rattle.serve_work.proofs.clients.run.Goals as goal
 
-pub returns-in-Done : goal.returns-in-Done
-returns-in-Done g c = λ start past running.
+pub returns-in-Done-clause-turn : goal.returns-in-Done-clause-turn
+returns-in-Done-clause-turn g c = λ start past running.
     let o = outset_of start running.shown running.opened running.first running.is_opened in
     let serves = c.in-Done.ensures.answer past (record { reader = start.reader; seat = start.seat; writer = running.opened }) o
     running.tally.offers running.before in
-    c.end.ensures start past running.shown running.opened running.header running.is_opened running.first serves
+    c.end.ensures.ends start past running.shown running.opened running.header running.is_opened running.first serves
     (tallied_later past start.seat c.args.seat c.serve.new.seat c.args.writer c.serve.new.writer running.tally c.serve.ensures.tally)
 
-pub returns-in-Paused : goal.returns-in-Paused
-returns-in-Paused g c = λ start past running.
+pub returns-in-Paused-clause-turn : goal.returns-in-Paused-clause-turn
+returns-in-Paused-clause-turn g c = λ start past running.
     let o = outset_of start running.shown running.opened running.first running.is_opened in
     record {
       shown = running.shown;
@@ -27,3 +29,8 @@ returns-in-Paused g c = λ start past running.
       accepted = c.accepted-accepted.ensures;
       collected = omega (arith, c.saturating_sub.ensures, c.accepted-accepted.ensures, c.kept.ensures);
     }
+
+pub returns-in-Done-clause-moments : goal.returns-in-Done-clause-moments
+returns-in-Done-clause-moments g c = λ m.
+    subst (λ (seat : StreamSeatValue). AreAtMoments (g.K.Clock.gives c.args.clock.now) seat.calls.list) (sym c.end.ensures.seat)
+    (c.serve.ensures.moments m)

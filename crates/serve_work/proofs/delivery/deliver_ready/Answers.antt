@@ -1,5 +1,5 @@
 use Rattle.std.proofs.Common.{◌≡◌, ◌∙◌, [], refl}
-use Rattle.serve_core.specs.Lanes.{IsImageOf, source_in}
+use Rattle.serve_core.specs.Streams.{IsImageOf, source_in}
 use Rattle.serve_work.proofs.Staying.{GivesUp-trans, stays_chain, stays_closed}
 use Rattle.serve_work.proofs.Tallying.{Tallies-none, Tallies-trans}
 use Rattle.serve_work.proofs.Moving.{HaltsWith-later, Moves-none, Moves-trans, few_later, size_later, writing_later}

@@ -1,9 +1,9 @@
 use Rattle.std.proofs.Common.{◌≡◌, [], IfSome, refl, ◌∙◌}
 use Rattle.std.specs.Arc.{arc_value}
-use Rattle.serve_core.specs.Lanes.{IsImageOf}
+use Rattle.serve_core.specs.Streams.{IsImageOf}
 use Rattle.serve_work.specs.ClientInside.{AreBuffersFor}
 use Rattle.serve_work.proofs.Staying.{GivesUp-at, GivesUp-trans, stays_chain}
-use Rattle.serve_work.proofs.Tallying.{Tallies-none, Tallies-seat, Tallies-trans}
+use Rattle.serve_work.proofs.Tallying.{Tallies-none, Tallies-seat, Tallies-trans, none_given, offers_at}
 use Rattle.serve_work.proofs.Moving.{Accounted-later, Moves-at, Moves-none, Moves-trans, few_of}
 use Rattle.serve_work.proofs.Offering.{collection_halted, offer_stopped, offered_tally}
 use Rattle.serve_work.proofs.feeding.accept.Goals as goal
@@ -14,6 +14,7 @@ loop-init g c = record {
   up = refl;
   frame = refl;
   tally = Tallies-none _ _;
+  moments = λ m. m;
   buffers = c.requires.buffers;
 }
 
@@ -24,7 +25,7 @@ pub returns-in-Stopped-clause-answer : goal.returns-in-Stopped-clause-answer
 returns-in-Stopped-clause-answer g c =
     offer_stopped c.in-Stopped.stop _ c.args.seat.now c.loop.seat c.offer_once.new.seat c.args.writer.now c.loop.writer
     c.loop.invariant.moved c.loop.invariant.up c.loop.invariant.tally.seat
-    (rw c.loop.invariant.frame at c.in-Stopped.ensures)
+    (rw c.loop.invariant.frame at c.in-Stopped.ensures.answer)
 
 pub returns-in-Stopped-clause-buffers : goal.returns-in-Stopped-clause-buffers
 returns-in-Stopped-clause-buffers g c = c.take_image-image.ensures.kept _ c.loop.invariant.buffers
@@ -32,34 +33,37 @@ returns-in-Stopped-clause-buffers g c = c.take_image-image.ensures.kept _ c.loop
 pub returns-in-Stopped-clause-tally : goal.returns-in-Stopped-clause-tally
 returns-in-Stopped-clause-tally g c =
     Tallies-trans c.args.seat.now c.loop.seat c.offer_once.new.seat c.args.writer.now c.loop.writer c.loop.writer c.loop.invariant.tally
-    (Tallies-seat _ _ _ _ (offered_tally _ _ _ _ c.offer_once.ensures) refl)
+    (Tallies-seat _ _ _ _ (offered_tally _ _ _ _ c.offer_once.ensures.answer) refl)
 
 pub deliver-requires-clause-few : goal.deliver-requires-clause-few
 deliver-requires-clause-few g c =
-    let moved = Moves-at c.args.seat.now c.loop.seat c.offer_once.new.seat c.args.writer.now c.loop.writer c.in-QueueFull.ensures.2
+    let moved = Moves-at c.args.seat.now c.loop.seat c.offer_once.new.seat c.args.writer.now c.loop.writer c.in-QueueFull.ensures.answer.2
     c.loop.invariant.moved in
     few_of _ _ (Accounted-later _ _ _ _ [] moved c.requires.accounted)
 
 pub loop-preserved : goal.loop-preserved
 loop-preserved g c =
+    let gives = g.K.Clock.gives c.args.clock.now in
     let so_far = c.loop.invariant in
     let seat = c.args.seat.now in
     let at = c.offer_once.new.seat in
-    let moved = Moves-at seat c.loop.seat at c.args.writer.now c.loop.writer c.in-QueueFull.ensures.2 so_far.moved in
-    let up = GivesUp-at seat c.loop.seat at c.in-QueueFull.ensures.2 so_far.up in
+    let moved = Moves-at seat c.loop.seat at c.args.writer.now c.loop.writer c.in-QueueFull.ensures.answer.2 so_far.moved in
+    let up = GivesUp-at seat c.loop.seat at c.in-QueueFull.ensures.answer.2 so_far.up in
     let chain : at.chain ≡ seat.chain = stays_chain seat at moved.seat_stays in
     let taken : AreBuffersFor seat.chain c.take_image-image.new.self = c.take_image-image.ensures.kept _ so_far.buffers in
     let there : IfSome c.in-QueueFull.image (IsImageOf seat.chain) = rw (stays_chain seat c.loop.seat so_far.moved.seat_stays) at
-    c.in-QueueFull.ensures.1 in
+    c.in-QueueFull.ensures.answer.1 in
     let kept = c.keep_image-in-QueueFull.ensures seat.chain taken there in
     record {
       moved = Moves-trans seat at c.deliver.new.seat c.args.writer.now c.loop.writer c.deliver.new.writer [] [] moved
           c.in-Ok.ensures.answer;
       up = GivesUp-trans seat at c.deliver.new.seat up c.deliver.ensures.kept;
-      frame = c.in-QueueFull.ensures.0 ∙ so_far.frame;
+      frame = c.in-QueueFull.ensures.answer.0 ∙ so_far.frame;
       tally = Tallies-trans seat at c.deliver.new.seat c.args.writer.now c.loop.writer c.deliver.new.writer
           (Tallies-trans seat c.loop.seat at c.args.writer.now c.loop.writer c.loop.writer so_far.tally
-          (Tallies-seat _ _ _ _ (offered_tally _ _ _ _ c.offer_once.ensures) refl)) c.deliver.ensures.tally;
+          (Tallies-seat _ _ _ _ (offered_tally _ _ _ _ c.offer_once.ensures.answer) refl)) c.deliver.ensures.tally;
+      moments = λ m. none_given gives at c.deliver.new.seat c.deliver.ensures.tally.seat c.deliver.ensures.kept
+          (offers_at gives c.moment.result c.loop.seat at c.moment.ensures c.offer_once.ensures.moment (so_far.moments m));
       buffers = c.keep.ensures seat.chain kept (rw chain at c.in-Ok.ensures.source) (rw chain at c.in-Ok.ensures.image);
     }
 
@@ -69,7 +73,7 @@ returns-in-JournalFull-clause-buffers g c =
     let seat = c.args.seat.now in
     let taken : AreBuffersFor seat.chain c.take_image-image.new.self = c.take_image-image.ensures.kept _ so_far.buffers in
     let there : IfSome c.in-JournalFull.image (IsImageOf seat.chain) = rw (stays_chain seat c.loop.seat so_far.moved.seat_stays) at
-    c.in-JournalFull.ensures.1 in
+    c.in-JournalFull.ensures.answer.1 in
     c.keep_image.ensures seat.chain taken there
 
 pub returns-in-Err-clause-answer : goal.returns-in-Err-clause-answer
@@ -77,11 +81,11 @@ returns-in-Err-clause-answer g c =
     let so_far = c.loop.invariant in
     let seat = c.args.seat.now in
     let at = c.offer_once.new.seat in
-    let moved = Moves-at seat c.loop.seat at c.args.writer.now c.loop.writer c.in-QueueFull.ensures.2 so_far.moved in
-    let up = GivesUp-at seat c.loop.seat at c.in-QueueFull.ensures.2 so_far.up in
+    let moved = Moves-at seat c.loop.seat at c.args.writer.now c.loop.writer c.in-QueueFull.ensures.answer.2 so_far.moved in
+    let up = GivesUp-at seat c.loop.seat at c.in-QueueFull.ensures.answer.2 so_far.up in
     rw c.of.ensures (collection_halted c.in-Err.halt c.in-QueueFull.back (arc_value c.args.frame) seat at c.deliver.new.seat
     c.args.writer.now c.loop.writer c.deliver.new.writer
-    (c.in-QueueFull.ensures.0 ∙ so_far.frame) moved up c.in-Err.ensures.own c.in-Err.ensures.drained c.requires.accounted.is_open
+    (c.in-QueueFull.ensures.answer.0 ∙ so_far.frame) moved up c.in-Err.ensures.own c.in-Err.ensures.drained c.requires.accounted.is_open
     c.in-Err.ensures.answer c.deliver.ensures.kept)
 
 pub returns-in-Err-clause-buffers : goal.returns-in-Err-clause-buffers
@@ -90,5 +94,31 @@ returns-in-Err-clause-buffers g c =
     let seat = c.args.seat.now in
     let taken : AreBuffersFor seat.chain c.take_image-image.new.self = c.take_image-image.ensures.kept _ so_far.buffers in
     let there : IfSome c.in-QueueFull.image (IsImageOf seat.chain) = rw (stays_chain seat c.loop.seat so_far.moved.seat_stays) at
-    c.in-QueueFull.ensures.1 in
+    c.in-QueueFull.ensures.answer.1 in
     c.keep_image-in-QueueFull.ensures seat.chain taken there
+
+pub returns-in-Accepted-clause-moments : goal.returns-in-Accepted-clause-moments
+returns-in-Accepted-clause-moments g c =
+    let gives = g.K.Clock.gives c.args.clock.now in
+    let at = c.offer_once.new.seat in
+    λ m. offers_at gives c.moment.result c.loop.seat at c.moment.ensures c.offer_once.ensures.moment (c.loop.invariant.moments m)
+
+pub returns-in-Stopped-clause-moments : goal.returns-in-Stopped-clause-moments
+returns-in-Stopped-clause-moments g c =
+    let gives = g.K.Clock.gives c.args.clock.now in
+    let at = c.offer_once.new.seat in
+    λ m. offers_at gives c.moment.result c.loop.seat at c.moment.ensures c.offer_once.ensures.moment (c.loop.invariant.moments m)
+
+pub returns-in-JournalFull-clause-moments : goal.returns-in-JournalFull-clause-moments
+returns-in-JournalFull-clause-moments g c =
+    let gives = g.K.Clock.gives c.args.clock.now in
+    let at = c.offer_once.new.seat in
+    λ m. offers_at gives c.moment.result c.loop.seat at c.moment.ensures c.offer_once.ensures.moment (c.loop.invariant.moments m)
+
+pub returns-in-Err-clause-moments : goal.returns-in-Err-clause-moments
+returns-in-Err-clause-moments g c =
+    let gives = g.K.Clock.gives c.args.clock.now in
+    let at = c.offer_once.new.seat in
+    λ m.
+    none_given gives at c.deliver.new.seat c.deliver.ensures.tally.seat c.deliver.ensures.kept
+    (offers_at gives c.moment.result c.loop.seat at c.moment.ensures c.offer_once.ensures.moment (c.loop.invariant.moments m))

@@ -69,3 +69,6 @@ returns-in-Err-clause-answer g c = λ past before counted h.
     (text_in o)) c.in-Some.is h in
     Feeds-unfed before before seat seat writer writer [] (Passes-none before seat writer) past c.in-Err.fed reader c.accept.new.seat
     c.accept.new.writer (arc_value c.in-Some.frame) counted some.0 some.1 c.in-Err.ensures.answer
+
+pub returns-in-Ok-clause-moments : goal.returns-in-Ok-clause-moments
+returns-in-Ok-clause-moments g c = λ m. c.feed_on-in-Ok.ensures.moments (c.accept.ensures.moments m)

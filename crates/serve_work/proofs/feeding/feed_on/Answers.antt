@@ -13,6 +13,7 @@ loop-init g c = record {
     is_open = c.requires.open;
   };
   tally = Tallies-none _ _;
+  moments = λ m. m;
   buffers = c.requires.buffers;
 }
 
@@ -36,6 +37,7 @@ loop-preserved g c =
       passed = HasPassed-behind c.args.reader.now c.loop.reader c.args.seat.now c.loop.seat c.args.writer.now c.loop.writer so_far.frames
           so_far.passed c.feed_once.new.reader c.feed_once.new.seat c.feed_once.new.writer c.in-Ok.ensures.passed;
       tally = Tallies-trans _ _ _ _ _ _ c.loop.invariant.tally c.feed_once.ensures.tally;
+      moments = λ m. c.feed_once.ensures.moments (c.loop.invariant.moments m);
       buffers = rw chain at c.feed_once.ensures.buffers;
     }
 
@@ -49,6 +51,7 @@ returns-in-Err g c =
           so_far.passed past c.in-Err.fed c.feed_once.new.reader c.feed_once.new.seat c.feed_once.new.writer
           (c.in-Err.ensures.answer past (counted_later past c.args.seat.now c.loop.seat c.loop.invariant.tally.seat counted));
       tally = Tallies-trans _ _ _ _ _ _ c.loop.invariant.tally c.feed_once.ensures.tally;
+      moments = λ m. c.feed_once.ensures.moments (c.loop.invariant.moments m);
       buffers = rw chain at c.feed_once.ensures.buffers;
       frame = rw chain at c.in-Err.ensures.frame;
       header = c.feed_once.ensures.header ∙ so_far.passed.header;

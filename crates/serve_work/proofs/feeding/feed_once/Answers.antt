@@ -6,6 +6,7 @@ use Rattle.serve_work.proofs.Staying.{stays_chain}
 use Rattle.serve_work.proofs.Moving.{Accounted-later, few_of, one_size, size_later}
 use Rattle.serve_work.proofs.Passing.{Feeds-end, Feeds-unread, Passes-none, Passes-still, fed_broken, fed_once, passed_once, sized_before}
 use Rattle.serve_work.proofs.Passing.{sized_memory, sized_still}
+use Rattle.serve_work.proofs.Tallying.{none_given}
 use Rattle.serve_work.proofs.feeding.feed_once.Goals as goal
 
 pub deliver_ready-requires-clause-few : goal.deliver_ready-requires-clause-few
@@ -111,3 +112,34 @@ returns-in-Ok-None-clause-buffers g c = c.take_source-memory.ensures.kept _ c.de
 
 pub returns-in-Err-read_into-clause-buffers : goal.returns-in-Err-read_into-clause-buffers
 returns-in-Err-read_into-clause-buffers g c = c.take_source-memory.ensures.kept _ c.deliver_ready.ensures.buffers
+
+pub returns-in-Err-clause-moments : goal.returns-in-Err-clause-moments
+returns-in-Err-clause-moments g c =
+    let gives = g.K.Clock.gives c.args.clock.now in
+    none_given gives _ _ c.deliver_ready.ensures.tally.seat c.deliver_ready.ensures.kept
+
+pub returns-in-Silent-clause-moments : goal.returns-in-Silent-clause-moments
+returns-in-Silent-clause-moments g c =
+    let gives = g.K.Clock.gives c.args.clock.now in
+    none_given gives _ _ c.deliver_ready.ensures.tally.seat c.deliver_ready.ensures.kept
+
+pub returns-in-JournalFull-clause-moments : goal.returns-in-JournalFull-clause-moments
+returns-in-JournalFull-clause-moments g c =
+    let gives = g.K.Clock.gives c.args.clock.now in
+    none_given gives _ _ c.deliver_ready.ensures.tally.seat c.deliver_ready.ensures.kept
+
+pub returns-in-Ok-None-clause-moments : goal.returns-in-Ok-None-clause-moments
+returns-in-Ok-None-clause-moments g c =
+    let gives = g.K.Clock.gives c.args.clock.now in
+    none_given gives _ _ c.deliver_ready.ensures.tally.seat c.deliver_ready.ensures.kept
+
+pub returns-in-Err-read_into-clause-moments : goal.returns-in-Err-read_into-clause-moments
+returns-in-Err-read_into-clause-moments g c =
+    let gives = g.K.Clock.gives c.args.clock.now in
+    none_given gives _ _ c.deliver_ready.ensures.tally.seat c.deliver_ready.ensures.kept
+
+pub returns-in-Ok-Some-clause-moments : goal.returns-in-Ok-Some-clause-moments
+returns-in-Ok-Some-clause-moments g c =
+    let gives = g.K.Clock.gives c.args.clock.now in
+    λ m.
+    c.accept.ensures.moments (none_given gives _ _ c.deliver_ready.ensures.tally.seat c.deliver_ready.ensures.kept m)

@@ -42,3 +42,6 @@ returns-in-Err-clause-answer g c = λ past before writer counted h.
     let reader = c.args.reader.now in
     c.in-Err.ensures.answer past before reader writer counted
     (subst (λ (o : Option (Arc Frame Global)). Holds before reader (text_in o)) c.in-Some.is h)
+
+pub returns-in-Ok-clause-moments : goal.returns-in-Ok-clause-moments
+returns-in-Ok-clause-moments g c = λ m. c.hold_on-in-Ok.ensures.moments (c.offer_on.ensures.moments m)

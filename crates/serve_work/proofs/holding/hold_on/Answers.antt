@@ -14,6 +14,7 @@ loop-init g c = record {
   header = refl;
   is_open = c.requires.open;
   tally = seat_same _ _ refl;
+  moments = λ m. m;
 }
 
 pub hold_once-requires-clause-header : goal.hold_once-requires-clause-header
@@ -31,6 +32,7 @@ loop-preserved g c =
       header = c.hold_once.ensures.header ∙ inv.header;
       is_open = c.in-Ok.ensures.open;
       tally = TalliesSeat-trans _ _ _ inv.tally c.hold_once.ensures.tally;
+      moments = λ m. c.hold_once.ensures.moments (inv.moments m);
     }
 
 pub returns-in-Err : goal.returns-in-Err
@@ -43,6 +45,7 @@ returns-in-Err g c =
           so_far.frames so_far.passed past c.in-Err.onward
           (c.in-Err.ensures.answer past writer (counted_later past c.args.seat.now c.loop.seat inv.tally counted));
       tally = TalliesSeat-trans _ _ _ inv.tally c.hold_once.ensures.tally;
+      moments = λ m. c.hold_once.ensures.moments (inv.moments m);
       frame = rw inv.tally.chain at c.in-Err.ensures.frame;
       header = c.hold_once.ensures.header ∙ inv.header;
     }

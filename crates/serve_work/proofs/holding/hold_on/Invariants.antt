@@ -2,7 +2,7 @@ use Rattle.std.proofs.Common.{◌≡◌, List}
 use Rattle.y4m_stream.specs.Writer.{WriterState}
 use Rattle.y4m_stream.specs.declared.reader.Phase.TheVariants.{Open}
 use Rattle.serve_hub.specs.declared.entry.Act.{Act}
-use Rattle.serve_work.specs.ClientInside.{HasPassed, IsCounted, TalliesSeat}
+use Rattle.serve_work.specs.ClientInside.{HasPassed, IsCounted, KeepsMoments, TalliesSeat}
 use Rattle.serve_work.proofs.holding.hold_on.Given as goal
 
 abbrev pub invariant-loop : goal.invariant-loop
@@ -12,4 +12,5 @@ invariant-loop g l = record {
   header : l.reader.header ≡ l.initial.reader.header;
   is_open : l.reader.phase ≡ Open;
   tally : TalliesSeat l.initial.seat l.seat;
+  moments : KeepsMoments (g.K.Clock.gives l.fn.clock) l.initial.seat l.seat;
 }

@@ -48,3 +48,15 @@ returns-in-Err-clause-answer g c = λ past writer counted. (
   Feeds-unread c.args.reader.now c.args.reader.now c.args.seat.now c.args.seat.now writer writer []
       (Passes-none c.args.reader.now c.args.seat.now writer) past c.in-Err.stop c.read_new.new.reader c.in-Err.ensures.fault,
 )
+
+pub returns-in-Silent-clause-moments : goal.returns-in-Silent-clause-moments
+returns-in-Silent-clause-moments g c = λ m. m
+
+pub returns-in-JournalFull-clause-moments : goal.returns-in-JournalFull-clause-moments
+returns-in-JournalFull-clause-moments g c = λ m. m
+
+pub returns-in-Ok-None-clause-moments : goal.returns-in-Ok-None-clause-moments
+returns-in-Ok-None-clause-moments g c = λ m. m
+
+pub returns-in-Err-clause-moments : goal.returns-in-Err-clause-moments
+returns-in-Err-clause-moments g c = λ m. m

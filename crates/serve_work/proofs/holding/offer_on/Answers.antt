@@ -1,24 +1,41 @@
 use Rattle.std.specs.Arc.{arc_value}
 use Rattle.serve_work.proofs.OfferingOn.{offered_in_vain, offered_last, offered_well}
+use Rattle.serve_work.proofs.Tallying.{offers_at}
 use Rattle.serve_work.proofs.holding.offer_on.Goals as goal
 
 pub returns-in-Accepted-clause-answer : goal.returns-in-Accepted-clause-answer
 returns-in-Accepted-clause-answer g c = λ past before reader writer counted taken.
-    offered_well before reader (arc_value c.args.frame) taken c.args.seat.now c.offer_once.new.seat writer c.in-Accepted.ensures
+    offered_well before reader (arc_value c.args.frame) taken c.args.seat.now c.offer_once.new.seat writer c.in-Accepted.ensures.answer
 
 pub returns-in-QueueFull-clause-answer : goal.returns-in-QueueFull-clause-answer
 returns-in-QueueFull-clause-answer g c = λ past before reader writer counted taken. (
   _,
   offered_in_vain before reader (arc_value c.args.frame) taken c.args.seat.now c.offer_once.new.seat writer c.in-QueueFull.field-0
-      c.in-QueueFull.ensures.0 c.in-QueueFull.ensures.2,
+      c.in-QueueFull.ensures.answer.0 c.in-QueueFull.ensures.answer.2,
 )
 
 pub returns-in-JournalFull-clause-answer : goal.returns-in-JournalFull-clause-answer
 returns-in-JournalFull-clause-answer g c = λ past before reader writer counted taken.
     offered_in_vain before reader (arc_value c.args.frame) taken c.args.seat.now c.offer_once.new.seat writer c.in-JournalFull.back
-    c.in-JournalFull.ensures.0 c.in-JournalFull.ensures.2
+    c.in-JournalFull.ensures.answer.0 c.in-JournalFull.ensures.answer.2
 
 pub returns-clause-answer : goal.returns-clause-answer
 returns-clause-answer g c = λ past before reader writer counted taken.
     offered_last before reader (arc_value c.args.frame) taken c.args.seat.now c.offer_once.new.seat writer past c.in-Stopped.stop counted
-    c.in-Stopped.ensures
+    c.in-Stopped.ensures.answer
+
+pub returns-in-Accepted-clause-moments : goal.returns-in-Accepted-clause-moments
+returns-in-Accepted-clause-moments g c =
+    offers_at (g.K.Clock.gives c.args.clock.now) c.moment.result _ _ c.moment.ensures c.offer_once.ensures.moment
+
+pub returns-in-QueueFull-clause-moments : goal.returns-in-QueueFull-clause-moments
+returns-in-QueueFull-clause-moments g c =
+    offers_at (g.K.Clock.gives c.args.clock.now) c.moment.result _ _ c.moment.ensures c.offer_once.ensures.moment
+
+pub returns-in-JournalFull-clause-moments : goal.returns-in-JournalFull-clause-moments
+returns-in-JournalFull-clause-moments g c =
+    offers_at (g.K.Clock.gives c.args.clock.now) c.moment.result _ _ c.moment.ensures c.offer_once.ensures.moment
+
+pub returns-clause-moments : goal.returns-clause-moments
+returns-clause-moments g c =
+    offers_at (g.K.Clock.gives c.args.clock.now) c.moment.result _ _ c.moment.ensures c.offer_once.ensures.moment

@@ -1,4 +1,4 @@
-use Rattle.std.proofs.Common.{ap}
+use Rattle.std.proofs.Common.{ap, ◌∙◌}
 use Rattle.serve_hub.specs.Seats.{StreamSeatValue}
 use Rattle.serve_work.specs.declared.stop.Halt.TheVariants.{Stopped}
 use Rattle.serve_work.proofs.Stopping.{Feeds-drained, Serves-drained}
@@ -33,3 +33,13 @@ returns-else-is_spoilt-clause-answer g c = λ past o reader is at.
     (λ e. c.in-Stopped.ensures.drained (ap Stopped e)) (ap (λ (s : StreamSeatValue). s.accepted) c.drain.ensures.kept)
     c.drain.ensures.tally.seat
     c.or-told.ensures
+
+pub returns-in-Full-clause-accepted : goal.returns-in-Full-clause-accepted
+returns-in-Full-clause-accepted g c = ap (λ (s : StreamSeatValue). s.accepted) c.drain.ensures.kept
+
+pub returns-then-is_spoilt-clause-accepted : goal.returns-then-is_spoilt-clause-accepted
+returns-then-is_spoilt-clause-accepted g c =
+    c.discard_left.ensures.accepted ∙ ap (λ (s : StreamSeatValue). s.accepted) c.drain.ensures.kept
+
+pub returns-else-is_spoilt-clause-accepted : goal.returns-else-is_spoilt-clause-accepted
+returns-else-is_spoilt-clause-accepted g c = ap (λ (s : StreamSeatValue). s.accepted) c.drain.ensures.kept

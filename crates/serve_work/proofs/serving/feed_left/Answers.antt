@@ -2,10 +2,11 @@ use Rattle.std.proofs.Common.{◌≡◌, true, false, ap, refl, sym, ◌∙◌}
 use Rattle.serve_hub.specs.Seats.{StreamSeatValue}
 use Rattle.serve_work.specs.declared.feeding.Fed.TheVariants as feds
 use Rattle.serve_work.specs.ClientInside.{text_in}
-use Rattle.serve_work.proofs.Tallying.{Tallies-seat, Tallies-trans, TalliesSeat-trans, counted_later}
+use Rattle.serve_work.proofs.Tallying.{Tallies-seat, Tallies-trans, TalliesSeat-trans, counted_later, none_accepted}
 use Rattle.serve_work.proofs.Resting.{fed_from}
 use Rattle.serve_work.proofs.Spoiling.{spoilt_from}
-use Rattle.serve_work.proofs.Stopping.{Feeds-closed, Serves-spoilt, close_tally, drain_few, drain_size, drain_writing, may_close}
+use Rattle.serve_work.proofs.Stopping.{Feeds-closed, Serves-spoilt, close_moments, close_tally, drain_few}
+use Rattle.serve_work.proofs.Stopping.{drain_size, drain_writing, may_close}
 use Rattle.serve_work.proofs.serving.feed_left.Goals as goal
 
 pub drain_left-requires : goal.drain_left-requires
@@ -116,3 +117,22 @@ returns-else-is_spoilt-clause-tally g c =
 
 pub returns-else-is_spoilt-clause-memory : goal.returns-else-is_spoilt-clause-memory
 returns-else-is_spoilt-clause-memory g c = c.drain_left.ensures.memory c.feed.new.reader c.feed.new.buffers
+
+pub returns-in-Held-clause-moments : goal.returns-in-Held-clause-moments
+returns-in-Held-clause-moments g c = λ m. c.hold_left.ensures.moments (c.feed.ensures.moments m)
+
+pub returns-then-is_spoilt-clause-moments : goal.returns-then-is_spoilt-clause-moments
+returns-then-is_spoilt-clause-moments g c =
+    let gives = g.K.Clock.gives c.args.clock.now in
+    λ m.
+    none_accepted gives _ _ c.discard_left.ensures.tally c.discard_left.ensures.accepted
+    (close_moments gives c.feed.new.seat c.close.new.seat c.close.result c.close.ensures.closed c.close.ensures.refused
+    (c.feed.ensures.moments m))
+
+pub returns-else-is_spoilt-clause-moments : goal.returns-else-is_spoilt-clause-moments
+returns-else-is_spoilt-clause-moments g c =
+    let gives = g.K.Clock.gives c.args.clock.now in
+    λ m.
+    none_accepted gives _ _ c.drain_left.ensures.tally.seat c.drain_left.ensures.accepted
+    (close_moments gives c.feed.new.seat c.close.new.seat c.close.result c.close.ensures.closed c.close.ensures.refused
+    (c.feed.ensures.moments m))

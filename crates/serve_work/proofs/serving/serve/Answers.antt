@@ -1,6 +1,7 @@
 use Rattle.std.proofs.Common.{◌∙◌, Option, Some, ap, subst}
 use Rattle.serve_work.specs.declared.course.Course as code
 use Rattle.serve_work.specs.Rests.{IsBefore}
+use Rattle.serve_work.proofs.Tallying.{none_accepted}
 use Rattle.serve_work.proofs.serving.serve.Goals as goal
 
 pub returns-in-Some-Feeding-clause-answer : goal.returns-in-Some-Feeding-clause-answer
@@ -23,3 +24,13 @@ returns-in-Some-Draining-clause-memory g c = c.drain_left.ensures.memory _ _
 
 pub returns-in-Some-Discarding-clause-memory : goal.returns-in-Some-Discarding-clause-memory
 returns-in-Some-Discarding-clause-memory g c = c.discard_left.ensures.memory _ _ _
+
+pub returns-in-Some-Draining-clause-moments : goal.returns-in-Some-Draining-clause-moments
+returns-in-Some-Draining-clause-moments g c =
+    let gives = g.K.Clock.gives c.args.clock.now in
+    none_accepted gives _ _ c.drain_left.ensures.tally.seat c.drain_left.ensures.accepted
+
+pub returns-in-Some-Discarding-clause-moments : goal.returns-in-Some-Discarding-clause-moments
+returns-in-Some-Discarding-clause-moments g c =
+    let gives = g.K.Clock.gives c.args.clock.now in
+    none_accepted gives _ _ c.discard_left.ensures.tally c.discard_left.ensures.accepted

@@ -1,4 +1,4 @@
-use Rattle.std.proofs.Common.{ap}
+use Rattle.std.proofs.Common.{ap, ◌∙◌}
 use Rattle.serve_hub.specs.Seats.{StreamSeatValue}
 use Rattle.serve_work.proofs.Tallying.{TalliesSeat-trans}
 use Rattle.serve_work.proofs.Stopping.{Serves-later, close_tally, may_close}
@@ -18,3 +18,8 @@ returns-clause-tally g c =
     TalliesSeat-trans c.args.seat.now c.close.new.seat c.discard_left.new.seat
     (close_tally c.args.seat.now c.close.new.seat c.close.result c.close.ensures.closed c.close.ensures.refused)
     c.discard_left.ensures.tally
+
+pub returns-clause-accepted : goal.returns-clause-accepted
+returns-clause-accepted g c =
+    c.discard_left.ensures.accepted ∙ ap (λ (s : StreamSeatValue). s.accepted)
+    (may_close c.args.seat.now c.close.new.seat c.close.result c.close.ensures.closed c.close.ensures.refused)

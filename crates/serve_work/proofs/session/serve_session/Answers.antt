@@ -1,23 +1,44 @@
-use Rattle.serve_hub.specs.Seats.{opened_streams}
-use Rattle.serve_work.specs.Sessions.{starts_of}
-use Rattle.serve_work.proofs.SessionTurns.{no_bad_limit}
+use Rattle.std.proofs.Common.{[], ◌++◌}
+use Rattle.serve_work.specs.Intervals.{beginning_of}
+use Rattle.serve_work.proofs.Intervals.{from_setup}
+use Rattle.serve_work.proofs.SessionCharges.{are_served}
+use Rattle.serve_work.proofs.SessionTurns.{both_given, no_bad_limit, none_yet}
 use Rattle.serve_work.proofs.session.serve_session.Goals as goal
 
 pub go_on-requires-clause-at : goal.go_on-requires-clause-at
-go_on-requires-clause-at g c κs within = (
-  starts_of g.W.Sink.contents g.W.Sink.failures (opened_streams c.args.limit 0 c.args.setup.streams) c.args.inputs.items,
-  c.in_ok-opened.ensures.between,
-)
+go_on-requires-clause-at g c κs within =
+    let first = c.in_ok-opened.ensures.between in
+    (beginning_of g.W.Sink.contents g.W.Sink.failures c.args.setup c.args.limit c.args.inputs.items, first.more ++ [], first.between)
 
 pub report-requires : goal.report-requires
 report-requires g c =
-    let starts = starts_of g.W.Sink.contents g.W.Sink.failures (opened_streams c.args.limit 0 c.args.setup.streams) c.args.inputs.items in
-    record { at = (starts, c.in_ok-ended.ensures.between starts c.in_ok-opened.ensures.between) }
+    let b = beginning_of g.W.Sink.contents g.W.Sink.failures c.args.setup c.args.limit c.args.inputs.items in
+    let first = c.in_ok-opened.ensures.between in
+    let last = c.in_ok-ended.ensures.between b (first.more ++ []) first.between in
+    record { at = (b, last.more ++ (first.more ++ []), last.between) }
 
 pub returns-clause-streams : goal.returns-clause-streams
 returns-clause-streams g c =
-    let starts = starts_of g.W.Sink.contents g.W.Sink.failures (opened_streams c.args.limit 0 c.args.setup.streams) c.args.inputs.items in
-    c.report.ensures starts (c.in_ok-ended.ensures.between starts c.in_ok-opened.ensures.between)
+    let b = beginning_of g.W.Sink.contents g.W.Sink.failures c.args.setup c.args.limit c.args.inputs.items in
+    let first = c.in_ok-opened.ensures.between in
+    let last = c.in_ok-ended.ensures.between b (first.more ++ []) first.between in
+    are_served _ _ b.starts _ (c.report.ensures b (last.more ++ (first.more ++ [])) last.between)
+
+pub returns-clause-session : goal.returns-clause-session
+returns-clause-session g c =
+    let gives = g.K.Clock.gives c.args.clock.now in
+    let b = beginning_of g.W.Sink.contents g.W.Sink.failures c.args.setup c.args.limit c.args.inputs.items in
+    let first = c.in_ok-opened.ensures.between in
+    let last = c.in_ok-ended.ensures.between b (first.more ++ []) first.between in
+    let journal = last.more ++ (first.more ++ []) in
+    record {
+      journal = journal;
+      last = c.in_ok-ended.ended.ended.book.desk;
+      leads = from_setup c.args.setup journal _ last.between.past;
+      streams = c.report.ensures b journal last.between;
+      moments = both_given gives (first.more ++ []) last.more b.starts
+          (both_given gives [] first.more b.starts (none_yet gives b.starts) first.moments) last.moments;
+    }
 
 pub returns-clause-bad_limit : goal.returns-clause-bad_limit
 returns-clause-bad_limit g c = (λ is limit. absurd (cc), λ not. absurd (not c.in_ok-opened.ensures.limit))

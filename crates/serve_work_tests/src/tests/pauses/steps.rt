@@ -119,7 +119,7 @@ impl<R: Source + Drop> Came<R> {
 /// A stream of the same frames, of which many may be unfinished. Any other stream is leased first.
 fn other_of(alloc: Global, header: &Header) -> Result<StreamSpec, Fail> {
     let stream = stream_of(alloc, header, PLAIN)?;
-    let spec = Arc::try_clone(stream.spec())?;
+    let spec = Arc::try_clone(stream.job())?;
     Ok(StreamSpec::new(Geometry::of(header), spec, 1, 64, 64, 4, 1 << 24))
 }
 
@@ -146,17 +146,17 @@ fn header_of(alloc: Global) -> Result<Header, Fail> {
 }
 
 /// A lease with this number and grant, over another frame.
-fn forged(alloc: Global, seq: u64, grant: u32) -> Result<Lease, Fail> {
+fn forged(alloc: Global, number: u64, grant: u32) -> Result<Lease, Fail> {
     let header = header_of(alloc)?;
     let stream = stream_of(alloc, &header, PLAIN)?;
-    let spec = Arc::try_clone(stream.spec())?;
+    let spec = Arc::try_clone(stream.job())?;
     let scratch = Scratch::new(alloc, &spec)?;
     let mut job = Job::new(alloc, spec, strange(alloc, &header)?)?;
     job.start(scratch);
     if !(1..=job.steps()).contains(&grant) {
         return Err("no grant".into());
     }
-    Ok(Lease::new(job, 0, seq, grant))
+    Ok(Lease::new(job, 0, number, grant))
 }
 
 /// The lease, or a forged one in place of it.
@@ -164,9 +164,9 @@ fn exchanged(alloc: Global, lease: Lease, is_forged: bool) -> Result<Lease, Fail
     if !is_forged {
         return Ok(lease);
     }
-    let (seq, grant) = (lease.seq(), lease.granted());
+    let (number, grant) = (lease.number(), lease.granted());
     let _job = lease.into_job();
-    forged(alloc, seq, grant)
+    forged(alloc, number, grant)
 }
 
 /// Finishes the oldest frame of the stream that is leased first.

@@ -7,11 +7,13 @@ loop-value-init c = refl
 
 pub loop-value-preserved : goal.loop-value-preserved
 loop-value-preserved c =
-    other_text _ _ c.as_bytes.result.now _ _ c.eq.result _ c.loop-value.invariant c.loop-value-test.true c.as_bytes.ensures.value c.eq.ensures c.if-eq.false
+    other_text _ _ c.as_bytes.result.now _ _ c.eq.result _ c.loop-value.invariant c.loop-value-test.true
+    c.as_bytes.ensures.value c.eq.ensures c.if-eq.false
 
 pub returns-then-eq : goal.returns-then-eq
 returns-then-eq c =
-    names_form _ _ (same_text_found _ _ c.as_bytes.result.now _ _ c.eq.result _ c.loop-value.invariant c.loop-value-test.true c.as_bytes.ensures.value c.eq.ensures c.if-eq.true)
+    names_form _ _ (same_text_found _ _ c.as_bytes.result.now _ _ c.eq.result _ c.loop-value.invariant
+    c.loop-value-test.true c.as_bytes.ensures.value c.eq.ensures c.if-eq.true)
 
 pub returns : goal.returns
 returns c = names_form _ _ (no_text_found _ _ _ _ c.loop-value.invariant c.loop-value-test.false)

@@ -24,7 +24,8 @@ pub returns-clause-answer : goal.returns-clause-answer
 returns-clause-answer g c = λ input opened.
     let filter = rw c.header.ensures at c.in-Ok.ensures.filter in
     let writer = rw c.header.ensures at c.in-Ok.ensures.opened in
-    filtered_once_begun IsLineAhead (λ len rest left ahead. ahead) _ _ input c.args.reader.now opened c.in-Ok.begun.0 c.pass_frames-passed.new.reader _ _ _ c.in-Ok.begun.1 _
+    filtered_once_begun IsLineAhead (λ len rest left ahead. ahead) _ _ input c.args.reader.now opened c.in-Ok.begun.0
+    c.pass_frames-passed.new.reader _ _ _ c.in-Ok.begun.1 _
     filter writer c.close.ensures.kept _ _ c.close.ensures.answer c.pass_frames-passed.ensures.outcome
 
 pub returns-clause-reads : goal.returns-clause-reads
@@ -32,8 +33,10 @@ returns-clause-reads g c = closed_reads _ _ _ _ _ _ _ _ c.close.ensures.answer c
 
 pub returns-clause-writes : goal.returns-clause-writes
 returns-clause-writes g c =
-    closed_writes _ _ _ _ _ _ _ _ _ c.in-Ok.ensures.opened.no_failure _ _ c.close.ensures.answer c.close.ensures.counted c.pass_frames-passed.ensures
+    closed_writes _ _ _ _ _ _ _ _ _ c.in-Ok.ensures.opened.no_failure _ _ c.close.ensures.answer c.close.ensures.counted
+    c.pass_frames-passed.ensures
 
 pub returns-clause-closed : goal.returns-clause-closed
 returns-clause-closed g c =
-    inr (closed_flushes _ _ _ _ _ _ _ _ _ c.in-Ok.ensures.opened.no_failure _ _ _ c.close.ensures.counted c.close.ensures.closed c.pass_frames-passed.ensures)
+    inr (closed_flushes _ _ _ _ _ _ _ _ _ c.in-Ok.ensures.opened.no_failure _ _ _ c.close.ensures.counted
+    c.close.ensures.closed c.pass_frames-passed.ensures)

@@ -8,7 +8,8 @@ use Rattle.y4m_stream.proofs.overlapped.filter_images.Goals as goal
 pub returns-in-Err-clause-answer : goal.returns-in-Err-clause-answer
 returns-in-Err-clause-answer g c = λ input opened.
     let fails = rw c.header.ensures at c.in-Err.ensures.fault in
-    stopped_at_header IsFrameAhead (λ len rest left ahead. (ahead.0, ahead.1, omega (arith, ahead.2))) _ _ input c.args.reader.now opened c.in-Err.fault _ _ fails
+    stopped_at_header IsFrameAhead (λ len rest left ahead. (ahead.0, ahead.1, omega (arith, ahead.2))) _ _ input
+    c.args.reader.now opened c.in-Err.fault _ _ fails
 
 pub returns-in-Err-clause-reads : goal.returns-in-Err-clause-reads
 returns-in-Err-clause-reads g c = reads_ahead (Err c.in-Err.fault) _ _ (reads_at_header _ _ _ _ _ c.in-Err.fault _ c.in-Err.ensures.fault)
@@ -25,7 +26,8 @@ pub returns-clause-answer : goal.returns-clause-answer
 returns-clause-answer g c = λ input opened.
     let filter = rw c.header.ensures at c.in-Ok.ensures.filter in
     let writer = rw c.header.ensures at c.in-Ok.ensures.opened in
-    filtered_once_begun IsFrameAhead (λ len rest left ahead. (ahead.0, ahead.1, omega (arith, ahead.2))) _ _ input c.args.reader.now opened c.in-Ok.begun.0 c.pass_beside-passed.new.reader _ _ _ c.in-Ok.begun.1 _
+    filtered_once_begun IsFrameAhead (λ len rest left ahead. (ahead.0, ahead.1, omega (arith, ahead.2))) _ _ input
+    c.args.reader.now opened c.in-Ok.begun.0 c.pass_beside-passed.new.reader _ _ _ c.in-Ok.begun.1 _
     filter writer c.close.ensures.kept _ _ c.close.ensures.answer c.pass_beside-passed.ensures.outcome
 
 pub returns-clause-reads : goal.returns-clause-reads
@@ -33,8 +35,10 @@ returns-clause-reads g c = closed_counts _ _ _ _ _ _ _ _ c.close.ensures.answer 
 
 pub returns-clause-writes : goal.returns-clause-writes
 returns-clause-writes g c =
-    closed_writes _ _ _ _ _ _ _ _ _ c.in-Ok.ensures.opened.no_failure _ _ c.close.ensures.answer c.close.ensures.counted c.pass_beside-passed.ensures
+    closed_writes _ _ _ _ _ _ _ _ _ c.in-Ok.ensures.opened.no_failure _ _ c.close.ensures.answer c.close.ensures.counted
+    c.pass_beside-passed.ensures
 
 pub returns-clause-closed : goal.returns-clause-closed
 returns-clause-closed g c =
-    inr (closed_flushes _ _ _ _ _ _ _ _ _ c.in-Ok.ensures.opened.no_failure _ _ _ c.close.ensures.counted c.close.ensures.closed c.pass_beside-passed.ensures)
+    inr (closed_flushes _ _ _ _ _ _ _ _ _ c.in-Ok.ensures.opened.no_failure _ _ _ c.close.ensures.counted
+    c.close.ensures.closed c.pass_beside-passed.ensures)

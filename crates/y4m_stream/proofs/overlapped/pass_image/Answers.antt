@@ -26,4 +26,8 @@ pub returns-clause-answer : goal.returns-clause-answer
 returns-clause-answer g c =
     let both = c.read_and_put-read.ensures in
     let put = rw c.in_ok-put.was at both.put in
-    record { image = put.image; made = put.made; holds = put_beside _ _ _ _ c.read_and_put-read.new.next _ _ put.holds (rw c.in_ok-read.was at both.read) }
+    record {
+      image = put.image;
+      made = put.made;
+      holds = put_beside _ _ _ _ c.read_and_put-read.new.next _ _ put.holds (rw c.in_ok-read.was at both.read);
+    }

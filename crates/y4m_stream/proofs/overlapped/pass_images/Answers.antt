@@ -1,7 +1,8 @@
 use Rattle.std.proofs.Common.{◌+◌, ◌∙◌, ap, arith, refl}
 use Rattle.std.proofs.lemmas.Result.{err_from_is_err_and}
 use Rattle.y4m_stream.proofs.MoreFrames.{PassesFrames-none, HasPassed-read}
-use Rattle.y4m_stream.proofs.Ahead.{Ahead-all, Ahead-fails, Ahead-limit, Ahead-memory, Ahead-next, HasPassed-ahead, PassesAhead-first, beside_put, beside_ready, first_ready}
+use Rattle.y4m_stream.proofs.Ahead.{Ahead-all, Ahead-fails, Ahead-limit, Ahead-memory, Ahead-next}
+use Rattle.y4m_stream.proofs.Ahead.{HasPassed-ahead, PassesAhead-first, beside_put, beside_ready, first_ready}
 use Rattle.y4m_stream.proofs.overlapped.pass_images.Goals as goal
 
 pub read_frame-requires : goal.read_frame-requires
@@ -12,7 +13,8 @@ returns-in_err-more g c =
     let passed = err_from_is_err_and c.from_residual.result c.from_residual.ensures.1 in
     let none = PassesFrames-none c.args.images.now.chain c.args.reader.now c.args.writer.now c.requires.ready.writing in
     rw (passed.1, passed.2)
-    (HasPassed-ahead _ _ _ _ _ _ (HasPassed-read _ _ _ _ _ _ _ none _ _ (omega arith) (c.in_err-more.ensures.answer.is_open c.requires.ready.reading)))
+    (HasPassed-ahead _ _ _ _ _ _
+    (HasPassed-read _ _ _ _ _ _ _ none _ _ (omega arith) (c.in_err-more.ensures.answer.is_open c.requires.ready.reading)))
 
 pub loop-count-init : goal.loop-count-init
 loop-count-init g c =
@@ -61,7 +63,8 @@ loop-count-preserved g c =
       frame = one.geometry ∙ ap (λ frame. frame.geometry) c.swap.ensures.x_after ∙ so_far.next;
       ready = beside_ready _ _ _ _ _ _ _ _ one.header both.holds (so_far.ready c.if-not-more.false);
       put = ap (λ w. w.frames) (beside_put _ _ _ _ _ _ _ both.holds).counted ∙ ap (λ n. n + 1) so_far.put;
-      passed = Ahead-next _ _ _ _ _ _ _ _ so_far.passed c.if-not-more.false (omega arith) both.image both.made _ _ _ _ one.header both.holds;
+      passed = Ahead-next _ _ _ _ _ _ _ _ so_far.passed c.if-not-more.false (omega arith) both.image both.made _ _ _ _
+          one.header both.holds;
     }
 
 pub returns-then-more : goal.returns-then-more

@@ -1,6 +1,7 @@
 use Rattle.std.proofs.Common.{◌+◌, arith, [], ◌∷◌, ◌++◌, length-append, refl, ◌∙◌, ap}
 use Rattle.std.proofs.lemmas.Result.{err_from_is_err_and}
-use Rattle.y4m_stream.proofs.MoreFrames.{CanPass-next, PassesFrames-none, PassesFrames-push, HasPassed-all, HasPassed-fault, HasPassed-limit, HasPassed-read}
+use Rattle.y4m_stream.proofs.MoreFrames.{CanPass-next, PassesFrames-none, PassesFrames-push, HasPassed-all}
+use Rattle.y4m_stream.proofs.MoreFrames.{HasPassed-fault, HasPassed-limit, HasPassed-read}
 use Rattle.y4m_stream.proofs.passing.pass_frames.Goals as goal
 
 pub loop-count-init : goal.loop-count-init
@@ -42,7 +43,8 @@ returns-in_err-pass_frame g c =
     let so_far = c.loop-count.invariant in
     let passed = err_from_is_err_and c.from_residual.result c.from_residual.ensures.1 in
     rw (passed.1, passed.2)
-    (HasPassed-fault _ _ _ _ _ _ _ so_far.passed.3 _ _ _ (omega (arith, so_far.passed.2)) (rw so_far.same at c.in_err-pass_frame.ensures.answer))
+    (HasPassed-fault _ _ _ _ _ _ _ so_far.passed.3 _ _ _ (omega (arith, so_far.passed.2))
+    (rw so_far.same at c.in_err-pass_frame.ensures.answer))
 
 pub returns-then-not-branch : goal.returns-then-not-branch
 returns-then-not-branch g c =
@@ -58,7 +60,8 @@ returns-in_err-read_frame g c =
     let so_far = c.loop-count.invariant in
     let passed = err_from_is_err_and c.from_residual-in_err-read_frame.result c.from_residual-in_err-read_frame.ensures.1 in
     rw (passed.1, passed.2)
-    (HasPassed-read _ _ _ _ _ _ _ so_far.passed.3 _ _ (omega (arith, so_far.passed.2)) (c.in_err-read_frame.ensures.answer.is_open so_far.ready.reading))
+    (HasPassed-read _ _ _ _ _ _ _ so_far.passed.3 _ _ (omega (arith, so_far.passed.2))
+    (c.in_err-read_frame.ensures.answer.is_open so_far.ready.reading))
 
 pub returns-then-branch : goal.returns-then-branch
 returns-then-branch g c =

@@ -16,7 +16,8 @@ returns-in_err-put_line-clause-text g c =
 
 pub returns-in-Ok-clause-text : goal.returns-in-Ok-clause-text
 returns-in-Ok-clause-text g c =
-    put_both _ _ _ c.args.line.now c.args.bytes.now c.in_ok-put_line.ensures.text c.in-Ok.ensures.text
+    rw c.image_ended.ensures.bytes
+    (put_both _ _ _ c.args.line.now c.args.bytes.now c.in_ok-put_line.ensures.text c.in-Ok.ensures.text)
 
 pub returns-in-Err-clause-text : goal.returns-in-Err-clause-text
 returns-in-Err-clause-text g c =

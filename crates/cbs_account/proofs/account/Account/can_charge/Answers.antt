@@ -14,4 +14,5 @@ pub returns : goal.returns
 returns c =
     let limits : IsInLimits c.args.self.now = rw (← c.self.view_is) c.self.invariant in
     let enough : c.args.self.now.budget ≤ c.args.k = rw (← c.self.view_is) c.if-k-self.false in
-    rw (after_units-from c.args.k c.args.self.now limits.positive limits.within_maximum enough, ← c.self.view_is) (search (rules, nat_tests))
+    rw (after_units-from c.args.k c.args.self.now limits.positive limits.within_maximum enough, ← c.self.view_is)
+    (search (rules, nat_tests))

@@ -8,7 +8,11 @@ use Rattle.row_bands.proofs.band.Band.rows_mut.Goals as goal
 pub returns : goal.returns
 returns c =
     let band = c.args.self.now in (
-      (refl, λ w. same_band _ _ _ _ _ _ _ ∙ ap (λ z. band_with band (row_start (band_geometry band) c.args.p z) w) c.rows-from.ensures.from),
+      (
+        refl,
+        λ w. same_band _ _ _ _ _ _ _
+            ∙ ap (λ z. band_with band (row_start (band_geometry band) c.args.p z) w) c.rows-from.ensures.from,
+      ),
       record {
         writes_back = tt;
         value = search rules;

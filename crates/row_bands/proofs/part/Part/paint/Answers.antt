@@ -11,6 +11,7 @@ returns-clause-rows g c =
     let at = part.geometry in
     record {
       rows = each_plane (plane_count at.chroma) (counts at.chroma)
-          (λ p. GivesRows (g.P.Painter.picture c.args.painter.now) (g.P.Painter.paint_gives c.args.painter.now) at p (rows_above at p part.from) (rows_above at p part.to))
+          (λ p. GivesRows (g.P.Painter.picture c.args.painter.now) (g.P.Painter.paint_gives c.args.painter.now) at p
+          (rows_above at p part.from) (rows_above at p part.to))
           _ _ _ _ c.paint_plane.ensures c.paint_plane-2.ensures c.paint_plane-3.ensures c.paint_plane-4.ensures;
     }

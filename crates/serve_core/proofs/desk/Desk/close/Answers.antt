@@ -1,4 +1,4 @@
-use Rattle.serve_core.proofs.Desks.{closed}
+use Rattle.serve_core.proofs.Calls.Desks.{closed}
 use Rattle.serve_core.proofs.desk.Desk.close.Goals as goal
 
 pub invariant_of-self : goal.invariant_of-self

@@ -1,4 +1,4 @@
-use Rattle.serve_core.proofs.Desks.{collected}
+use Rattle.serve_core.proofs.Calls.Desks.{collected}
 use Rattle.serve_core.proofs.desk.Desk.collect.Goals as goal
 
 pub invariant_of-self : goal.invariant_of-self

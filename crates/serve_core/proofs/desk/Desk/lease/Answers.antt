@@ -1,8 +1,8 @@
 use Rattle.std.proofs.Common.{subst}
-use Rattle.serve_core.specs.Desk.{Answers, GivesJob, SomeReady, one}
+use Rattle.serve_core.specs.Desk.{GivesJob, LeadsDesk, SomeReady, one}
 use Rattle.serve_core.specs.Events.{Lease, Leased}
 use Rattle.serve_core.specs.Schedule.{ScheduleValue}
-use Rattle.serve_core.proofs.Lendings.{Gives, given_away, given_left, lent_job}
+use Rattle.serve_core.proofs.Calls.Lendings.{Gives, given_away, given_left, lent_job}
 use Rattle.serve_core.proofs.desk.Desk.lease.Goals as goal
 
 pub hand_over-job-requires : goal.hand_over-job-requires
@@ -32,8 +32,8 @@ invariant_of-self-2 c = (given c).2
 
 pub returns-clause-events : goal.returns-clause-events
 returns-clause-events c =
-    subst (λ (x : ScheduleValue). Answers x (one (Lease c.args.w)
-    (Leased c.new.result.stream c.new.result.seq c.new.result.granted)) c.hand_over-job.new.self) c.self.view_is
+    subst (λ (x : ScheduleValue). LeadsDesk x (one (Lease c.args.w)
+    (Leased c.new.result.stream c.new.result.number c.new.result.granted)) c.hand_over-job.new.self) c.self.view_is
     (given c).0
 
 pub returns-clause-job : goal.returns-clause-job

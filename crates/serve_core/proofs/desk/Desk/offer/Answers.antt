@@ -1,7 +1,7 @@
 use Rattle.std.proofs.Common.{subst}
 use Rattle.serve_core.specs.Desk.{IsFreshFor}
 use Rattle.serve_core.specs.Schedule.{ScheduleValue}
-use Rattle.serve_core.proofs.Offers.{fresh_for}
+use Rattle.serve_core.proofs.Calls.Offers.{fresh_for}
 use Rattle.serve_core.proofs.desk.Desk.offer.Goals as goal
 
 pub returns-in-Ok-clause-job : goal.returns-in-Ok-clause-job

@@ -1,7 +1,7 @@
 use Rattle.std.proofs.Common.{◌≤◌, IsSome, MatchOption, arith, subst}
-use Rattle.serve_core.specs.Desk.{Answers, IsHeldBy, TakesBack, TakesImage, settlement}
+use Rattle.serve_core.specs.Desk.{IsHeldBy, LeadsDesk, TakesBack, TakesImage, settlement}
 use Rattle.serve_core.specs.Schedule.{HasLease, ScheduleValue}
-use Rattle.serve_core.proofs.Settlements.{BringsJob, Settles, brings, brought_leased, settles}
+use Rattle.serve_core.proofs.Calls.Settlements.{BringsJob, Settles, brings, brought_leased, settles}
 use Rattle.serve_core.proofs.desk.Desk.take_back.Goals as goal
 
 pub bring-requires : goal.bring-requires
@@ -14,8 +14,8 @@ bring-requires c =
     c.spent-units.result c.args.held c.args.lease c.self.invariant holds known within started
     c.spent-units.ensures)
 
-pub settle-requires-clause-lane : goal.settle-requires-clause-lane
-settle-requires-clause-lane c =
+pub settle-requires-clause-stream : goal.settle-requires-clause-stream
+settle-requires-clause-stream c =
     brought_leased c.self.inside.schedule c.bring.new.self c.args.held.stream c.used-bands.result
     c.into_job-job.result c.bring.ensures
 
@@ -37,7 +37,7 @@ invariant_of-self c = (settled c).2
 
 pub returns-clause-events : goal.returns-clause-events
 returns-clause-events c =
-    subst (λ (x : ScheduleValue). Answers x (settlement c.args.w c.args.lease.used c.settle.result) c.settle.new.self)
+    subst (λ (x : ScheduleValue). LeadsDesk x (settlement c.args.w c.args.lease.used c.settle.result) c.settle.new.self)
     c.self.view_is (settled c).0
 
 pub returns-clause-job : goal.returns-clause-job

@@ -1,6 +1,6 @@
 use Rattle.serve_core.specs.Bare.{measures_any, is_any_image}
 use Rattle.serve_core.specs.Frames.{measures, is_image}
-use Rattle.serve_core.proofs.Releases.{released_is}
+use Rattle.serve_core.proofs.Events.Releases.{released_is}
 use Rattle.serve_core.proofs.laws.admissions.released_law.Goals as goal
 
 pub returns : goal.returns

@@ -1,6 +1,6 @@
 use Rattle.serve_core.specs.Bare.{measures_any, is_any_image}
 use Rattle.serve_core.specs.Frames.{measures, is_image}
-use Rattle.serve_core.proofs.Pasts.{charge_is}
+use Rattle.serve_core.proofs.Transcripts.Pasts.{charge_is}
 use Rattle.serve_core.proofs.laws.charges.charge_law.Goals as goal
 
 pub returns : goal.returns

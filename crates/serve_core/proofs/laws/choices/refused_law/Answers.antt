@@ -1,6 +1,6 @@
 use Rattle.filters.specs.ChainImage.{FrameValue}
 use Rattle.serve_core.specs.Bare.{Blank}
-use Rattle.serve_core.proofs.Changes.{refusals_leave}
+use Rattle.serve_core.proofs.Events.Changes.{refusals_leave}
 use Rattle.serve_core.proofs.laws.choices.refused_law.Goals as goal
 
 pub returns : goal.returns

@@ -1,5 +1,5 @@
 use Rattle.serve_core.specs.Frames.{measures, is_image}
-use Rattle.serve_core.proofs.Bares.{bare_from, bare_is}
+use Rattle.serve_core.proofs.Rules.Bares.{bare_from, bare_is}
 use Rattle.serve_core.proofs.laws.leads.bare_law.Goals as goal
 
 pub returns : goal.returns

@@ -1,5 +1,5 @@
 use Rattle.serve_core.specs.Bare.{measures_any, is_any_image}
-use Rattle.serve_core.proofs.Reached.{few_is, over_is, over_join_is, reached_is}
+use Rattle.serve_core.proofs.Transcripts.Reached.{few_is, over_is, over_join_is, reached_is}
 use Rattle.serve_core.proofs.laws.leads.reached_law.Goals as goal
 
 pub returns : goal.returns

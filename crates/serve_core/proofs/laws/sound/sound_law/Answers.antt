@@ -1,6 +1,6 @@
 use Rattle.serve_core.specs.Bare.{measures_any, is_any_image}
 use Rattle.serve_core.specs.Frames.{measures, is_image}
-use Rattle.serve_core.proofs.Kept.{sound}
+use Rattle.serve_core.proofs.Events.Kept.{sound}
 use Rattle.serve_core.proofs.laws.sound.sound_law.Goals as goal
 
 pub returns : goal.returns

@@ -1,6 +1,6 @@
 use Rattle.serve_core.specs.Bare.{measures_any, is_any_image}
 use Rattle.serve_core.specs.Frames.{measures, is_image}
-use Rattle.serve_core.proofs.Kept.{step_sound}
+use Rattle.serve_core.proofs.Events.Kept.{step_sound}
 use Rattle.serve_core.proofs.laws.sound.sound_step_law.Goals as goal
 
 pub returns : goal.returns

@@ -6,8 +6,8 @@ use Rattle.serve_core.specs.Events.{Admit, Reply, SpecBack}
 use Rattle.serve_core.specs.Schedule.{IsAdmitAnswer}
 use Rattle.serve_core.specs.Seen.{heard}
 use Rattle.serve_core.specs.Setup.{StreamSpec}
-use Rattle.serve_core.proofs.Changes.{after_spec_back}
-use Rattle.serve_core.proofs.Machines.{Goes, admit_goes, admit_unfed_goes, allowed_of, state_of}
+use Rattle.serve_core.proofs.Calls.Machines.{Goes, admit_goes, admit_unfed_goes, allowed_of, state_of}
+use Rattle.serve_core.proofs.Events.Changes.{after_spec_back}
 use Rattle.serve_core.proofs.machine.Machine.admit.Goals as goal
 use Rattle.serve_core.proofs.machine.Machine.admit.Goals.{in-Ok, in-Err}
 

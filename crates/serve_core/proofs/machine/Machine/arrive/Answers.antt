@@ -8,8 +8,8 @@ use Rattle.serve_core.specs.Events.{Accepted, Arrive, GivenBack}
 use Rattle.serve_core.specs.Frames.{measures, is_image}
 use Rattle.serve_core.specs.Rules.{Allows}
 use Rattle.serve_core.specs.States.{State}
-use Rattle.serve_core.proofs.Changes.{after_given_back}
-use Rattle.serve_core.proofs.Machines.{Goes, allowed_of, arrive_goes, no_memory_allowed, state_of}
+use Rattle.serve_core.proofs.Calls.Machines.{Goes, allowed_of, arrive_goes, no_memory_allowed, state_of}
+use Rattle.serve_core.proofs.Events.Changes.{after_given_back}
 use Rattle.serve_core.proofs.machine.Machine.arrive.Goals as goal
 
 went : (c : goal.After-accept) → Goes c.self.inside.schedule c.accept.new.self

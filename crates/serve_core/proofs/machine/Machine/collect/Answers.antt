@@ -2,7 +2,7 @@ use Rattle.std.proofs.Common.{sym, subst, ap}
 use Rattle.filters.specs.ChainImage.{FrameValue}
 use Rattle.serve_core.specs.Events.{Collect, Reply}
 use Rattle.serve_core.specs.Seen.{heard}
-use Rattle.serve_core.proofs.Machines.{Goes, allowed_of, collect_goes, collect_not, state_of}
+use Rattle.serve_core.proofs.Calls.Machines.{Goes, allowed_of, collect_goes, collect_not, state_of}
 use Rattle.serve_core.proofs.machine.Machine.collect.Goals as goal
 use Rattle.serve_core.proofs.machine.Machine.collect.Goals.{in-Ok, in-Err}
 

@@ -2,7 +2,7 @@ use Rattle.std.proofs.Common.{sym, subst, ap}
 use Rattle.filters.specs.ChainImage.{FrameValue}
 use Rattle.serve_core.specs.Events.{Lease, Reply}
 use Rattle.serve_core.specs.Seen.{heard}
-use Rattle.serve_core.proofs.Machines.{Goes, allowed_of, lease_not, lending_goes, state_of}
+use Rattle.serve_core.proofs.Calls.Machines.{Goes, allowed_of, lease_not, lending_goes, state_of}
 use Rattle.serve_core.proofs.machine.Machine.lease.Goals as goal
 use Rattle.serve_core.proofs.machine.Machine.lease.Goals.{in-Ok, in-Err}
 

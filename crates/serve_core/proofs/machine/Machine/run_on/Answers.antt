@@ -5,7 +5,7 @@ use Rattle.serve_core.specs.Events.{Start, told}
 use Rattle.serve_core.specs.Frames.{measures, is_image}
 use Rattle.serve_core.specs.Leads.{Leads}
 use Rattle.serve_core.specs.Seen.{heard, seen}
-use Rattle.serve_core.proofs.Runs.{turn}
+use Rattle.serve_core.proofs.Transcripts.Runs.{turn}
 use Rattle.serve_core.proofs.machine.Machine.run_on.Goals as goal
 
 pub loop-event-preserved : goal.loop-event-preserved

@@ -2,8 +2,8 @@ use Rattle.std.proofs.Common.{sym, subst, ap}
 use Rattle.filters.specs.ChainImage.{FrameValue}
 use Rattle.serve_core.specs.Events.{Reply, Settle}
 use Rattle.serve_core.specs.Seen.{heard}
-use Rattle.serve_core.proofs.Changes.{after_refused}
-use Rattle.serve_core.proofs.Machines.{Goes, allowed_of, can_settle, finished_goes, returned_goes, state_of}
+use Rattle.serve_core.proofs.Calls.Machines.{Goes, allowed_of, can_settle, finished_goes, returned_goes, state_of}
+use Rattle.serve_core.proofs.Events.Changes.{after_refused}
 use Rattle.serve_core.proofs.machine.Machine.settle.Goals as goal
 use Rattle.serve_core.proofs.machine.Machine.settle.Goals.{in-None, in-Some}
 
@@ -23,8 +23,8 @@ went c =
           w.in-Some.ensures.finished)
     ]
 
-pub settle-requires-clause-lane : goal.settle-requires-clause-lane
-settle-requires-clause-lane c =
+pub settle-requires-clause-stream : goal.settle-requires-clause-stream
+settle-requires-clause-stream c =
     can_settle c.self.inside.schedule c.args.w c.in-Ok.held c.self.invariant c.in-Ok.ensures.ok
 
 pub returns-in-Err-clause-state : goal.returns-in-Err-clause-state

@@ -1,6 +1,6 @@
 use Rattle.serve_core.specs.Frames.{measures, is_image}
 use Rattle.serve_core.specs.Seen.{heard, seen}
-use Rattle.serve_core.proofs.Openings.{leads_on}
+use Rattle.serve_core.proofs.Transcripts.Openings.{leads_on}
 use Rattle.serve_core.proofs.machine.Machine.step.Goals as goal
 
 pub returns-clause-transcript : goal.returns-clause-transcript

@@ -1,8 +1,8 @@
 use Rattle.std.proofs.Common.{sym, ◌∙◌}
 use Rattle.filters.specs.ChainImage.{FrameValue}
 use Rattle.serve_core.specs.Events.{Tick, Ticked}
-use Rattle.serve_core.proofs.Changes.{after_refused}
-use Rattle.serve_core.proofs.Machines.{Goes, state_of, tick_goes}
+use Rattle.serve_core.proofs.Calls.Machines.{Goes, state_of, tick_goes}
+use Rattle.serve_core.proofs.Events.Changes.{after_refused}
 use Rattle.serve_core.proofs.machine.Machine.tick.Goals as goal
 
 went : (c : goal.After-tick) → Goes c.self.inside.schedule c.tick.new.self (Tick c.args.to) Ticked

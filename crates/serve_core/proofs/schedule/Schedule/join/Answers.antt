@@ -1,15 +1,15 @@
 use Rattle.std.proofs.Common.{◌≡◌, None, ◌∙◌, ap, sym}
-use Rattle.serve_core.specs.Lanes.{Lane}
 use Rattle.serve_core.specs.Schedule.{deadlines}
 use Rattle.serve_core.specs.States.{ready_deadline}
-use Rattle.serve_core.proofs.Holdings.{shown_more}
+use Rattle.serve_core.specs.Streams.{KeptStream}
+use Rattle.serve_core.proofs.Schedules.Holdings.{shown_more}
 use Rattle.serve_core.proofs.schedule.Schedule.join.Goals as goal
 
 pub invariant_of-self : goal.invariant_of-self
 invariant_of-self c =
     let stream = c.into_stream.result in
     let idle : ready_deadline stream.state ≡ None =
-    ap (λ (lane : Lane). ready_deadline lane.state) c.into_stream.ensures in
+    ap (λ (stream : KeptStream). ready_deadline stream.state) c.into_stream.ensures in
     record {
       clock = c.self.invariant.clock;
       pool = c.grow.ensures ∙ shown_more c.self.inside.pool c.self.inside.streams.items stream c.self.invariant.pool idle

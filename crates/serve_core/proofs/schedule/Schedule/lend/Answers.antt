@@ -1,8 +1,8 @@
 use Rattle.std.proofs.Common.{refl, ◌∙◌}
 use Rattle.edf_pool.specs.Earliest.{IsEarliest}
 use Rattle.serve_core.specs.Schedule.{deadlines}
-use Rattle.serve_core.proofs.Lists.{slice_get_here}
-use Rattle.serve_core.proofs.Schedules.{earliest_within, shown_again}
+use Rattle.serve_core.proofs.Items.Lists.{slice_get_here}
+use Rattle.serve_core.proofs.Schedules.Shown.{earliest_within, shown_again}
 use Rattle.serve_core.proofs.schedule.Schedule.lend.Goals as goal
 
 pub invariant_of-self : goal.invariant_of-self
@@ -14,20 +14,20 @@ invariant_of-self c = record {
 
 pub returns : goal.returns
 returns c =
-    let lanes = c.self.inside.streams.items in
-    let first : IsEarliest (deadlines lanes) c.args.s = rw (← c.self.view_is) at c.requires.earliest in
-    let here = slice_get_here lanes c.args.s c.index_mut-stream.result.now (earliest_within lanes c.args.s first)
+    let streams = c.self.inside.streams.items in
+    let first : IsEarliest (deadlines streams) c.args.s = rw (← c.self.view_is) at c.requires.earliest in
+    let here = slice_get_here streams c.args.s c.index_mut-stream.result.now (earliest_within streams c.args.s first)
     c.index_mut-stream.ensures.value in
     rw (← c.self.view_is) (record {
       earliest = first;
-      old_lane = c.index_mut-stream.result.now;
-      new_lane = c.lend-number.new.self;
+      stream_before = c.index_mut-stream.result.now;
+      stream_after = c.lend-number.new.self;
       here = here;
       number = c.lend-number.ensures.number;
       grant = c.lend-number.ensures.grant;
       none_used = refl;
       lent = record {
-        lane = c.lend-number.ensures.lent;
+        stream = c.lend-number.ensures.lent;
         job = c.lend-number.ensures.job;
         started = c.lend-number.ensures.started;
       };

@@ -1,5 +1,5 @@
 use Rattle.std.proofs.Common.{◌≡◌, map}
-use Rattle.serve_core.specs.Lanes.{opened}
+use Rattle.serve_core.specs.Streams.{opened}
 use Rattle.serve_core.proofs.schedule.Schedule.new.Given as goal
 
 abbrev pub invariant-loop-spec : goal.invariant-loop-spec

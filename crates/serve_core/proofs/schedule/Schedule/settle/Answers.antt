@@ -1,11 +1,11 @@
 use Rattle.std.proofs.Common.{IsSome, None, slice_get, slice_set, ◌∙◌, ap}
 use Rattle.std.proofs.lemmas.Option.{IfSome_then, slice_get_within}
-use Rattle.serve_core.specs.Lanes.{Lane}
-use Rattle.serve_core.specs.Schedule.{with_held, with_lane}
+use Rattle.serve_core.specs.Schedule.{with_held, with_stream_at}
 use Rattle.serve_core.specs.ScheduleInside.{schedule}
-use Rattle.serve_core.proofs.Lists.{slice_get_set_same}
-use Rattle.serve_core.proofs.Options.{and_some, none_then}
-use Rattle.serve_core.proofs.Schedules.{item_here, shown_again}
+use Rattle.serve_core.specs.Streams.{KeptStream}
+use Rattle.serve_core.proofs.Items.Lists.{slice_get_set_same}
+use Rattle.serve_core.proofs.Items.Options.{and_some, none_then}
+use Rattle.serve_core.proofs.Schedules.Shown.{item_here, shown_again}
 use Rattle.serve_core.proofs.schedule.Schedule.settle.Goals as goal
 
 pub invariant_of-self : goal.invariant_of-self
@@ -17,25 +17,25 @@ invariant_of-self c = record {
 
 pub returns-clause-back : goal.returns-clause-back
 returns-clause-back c =
-    let lanes = c.self.inside.streams.items in
+    let streams = c.self.inside.streams.items in
     let s = c.args.held.stream in
-    let lane = c.index_mut-stream.result.now in
-    let here = item_here (λ (lane : Lane). IsSome lane.leased) lanes s lane
-    (rw (← c.self.view_is) at c.requires.lane) c.index_mut-stream.ensures.value in
-    let change = λ (lane : Lane). with_held c.args.w None (with_lane s lane (schedule c.self.inside)) in
+    let stream = c.index_mut-stream.result.now in
+    let here = item_here (λ (stream : KeptStream). IsSome stream.leased) streams s stream
+    (rw (← c.self.view_is) at c.requires.stream) c.index_mut-stream.ensures.value in
+    let change = λ (stream : KeptStream). with_held c.args.w None (with_stream_at s stream (schedule c.self.inside)) in
     rw (← c.self.view_is) (none_then c.settle-number.result c.settle-number.ensures.back (λ told.
-    and_some (slice_get lanes s) _ lane here.0 (told.0, ap change told.1)))
+    and_some (slice_get streams s) _ stream here.0 (told.0, ap change told.1)))
 
 pub returns-clause-finished : goal.returns-clause-finished
 returns-clause-finished c =
-    let lanes = c.self.inside.streams.items in
+    let streams = c.self.inside.streams.items in
     let s = c.args.held.stream in
-    let lane = c.index_mut-stream.result.now in
+    let stream = c.index_mut-stream.result.now in
     let after = c.settle-number.new.self in
-    let here = item_here (λ (lane : Lane). IsSome lane.leased) lanes s lane
-    (rw (← c.self.view_is) at c.requires.lane) c.index_mut-stream.ensures.value in
-    let there = slice_get_set_same lanes s after (slice_get_within lanes s lane here.0) in
-    let change = λ (lane : Lane). with_held c.args.w None (with_lane s lane (schedule c.self.inside)) in
+    let here = item_here (λ (stream : KeptStream). IsSome stream.leased) streams s stream
+    (rw (← c.self.view_is) at c.requires.stream) c.index_mut-stream.ensures.value in
+    let there = slice_get_set_same streams s after (slice_get_within streams s stream here.0) in
+    let change = λ (stream : KeptStream). with_held c.args.w None (with_stream_at s stream (schedule c.self.inside)) in
     rw (← c.self.view_is) (IfSome_then c.settle-number.result c.settle-number.ensures.finished (λ number told.
-    and_some (slice_get lanes s) _ lane here.0 (and_some (slice_get (slice_set lanes s after) s) _ after there
+    and_some (slice_get streams s) _ stream here.0 (and_some (slice_get (slice_set streams s after) s) _ after there
     (told.0, told.1, told.3, ap change told.2))))

@@ -1,12 +1,12 @@
 use Rattle.std.proofs.Common.{Some, slice_get, slice_set, ◌∙◌, ap}
 use Rattle.std.proofs.lemmas.Option.{slice_get_within}
 use Rattle.serve_core.specs.AtOnce.{with_used}
-use Rattle.serve_core.specs.Lanes.{Lane}
-use Rattle.serve_core.specs.Schedule.{CanStep, with_held, with_lane}
+use Rattle.serve_core.specs.Schedule.{CanStep, with_held, with_stream_at}
 use Rattle.serve_core.specs.ScheduleInside.{schedule}
-use Rattle.serve_core.proofs.Lists.{slice_get_set_same}
-use Rattle.serve_core.proofs.Options.{and_some}
-use Rattle.serve_core.proofs.Schedules.{item_here, shown_again}
+use Rattle.serve_core.specs.Streams.{KeptStream}
+use Rattle.serve_core.proofs.Items.Lists.{slice_get_set_same}
+use Rattle.serve_core.proofs.Items.Options.{and_some}
+use Rattle.serve_core.proofs.Schedules.Shown.{item_here, shown_again}
 use Rattle.serve_core.proofs.schedule.Schedule.step.Goals as goal
 
 pub invariant_of-self : goal.invariant_of-self
@@ -18,14 +18,14 @@ invariant_of-self c = record {
 
 pub returns : goal.returns
 returns c =
-    let lanes = c.self.inside.streams.items in
+    let streams = c.self.inside.streams.items in
     let s = c.args.held.stream in
-    let lane = c.index_mut-stream.result.now in
-    let here = item_here CanStep lanes s lane (rw (← c.self.view_is) at c.requires.lane)
+    let stream = c.index_mut-stream.result.now in
+    let here = item_here CanStep streams s stream (rw (← c.self.view_is) at c.requires.stream)
     c.index_mut-stream.ensures.value in
-    let there = slice_get_set_same lanes s c.step.new.self (slice_get_within lanes s lane here.0) in
-    let change = λ (lane : Lane). with_held c.args.w (Some (with_used 1 c.args.held))
-    (with_lane s lane (schedule c.self.inside)) in
-    rw (← c.self.view_is) (and_some (slice_get lanes s) _ lane here.0
-    (and_some (slice_get (slice_set lanes s c.step.new.self) s) _ c.step.new.self there
+    let there = slice_get_set_same streams s c.step.new.self (slice_get_within streams s stream here.0) in
+    let change = λ (stream : KeptStream). with_held c.args.w (Some (with_used 1 c.args.held))
+    (with_stream_at s stream (schedule c.self.inside)) in
+    rw (← c.self.view_is) (and_some (slice_get streams s) _ stream here.0
+    (and_some (slice_get (slice_set streams s c.step.new.self) s) _ c.step.new.self there
     (c.step.ensures.leased, ap change c.step.ensures.worked)))

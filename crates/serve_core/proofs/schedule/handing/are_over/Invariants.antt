@@ -1,5 +1,5 @@
 use Rattle.std.proofs.Common.{All, take}
-use Rattle.serve_core.specs.Lanes.{IsOver}
+use Rattle.serve_core.specs.Streams.{IsOver}
 use Rattle.serve_core.proofs.schedule.handing.are_over.Given as goal
 
 abbrev pub invariant-loop-stream : goal.invariant-loop-stream

@@ -1,6 +1,6 @@
 use Rattle.std.proofs.Common.{IsOk, IsErr, Result, Ok, Err, subst}
 use Rattle.serve_core.specs.Admitted.{IsRefusal}
-use Rattle.serve_core.proofs.Admissions.{not_refused}
+use Rattle.serve_core.proofs.Rules.Admissions.{not_refused}
 use Rattle.serve_core.proofs.setup.Setup.new.Goals as goal
 
 not_both : {T E : Type 0} (r : Result T E) → IsOk r → IsErr r → ⊥

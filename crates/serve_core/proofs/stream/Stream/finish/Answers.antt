@@ -1,8 +1,8 @@
 use Rattle.std.proofs.Common.{[], ◌∷◌, ◌++◌, sym, ◌∙◌, ap}
 use Rattle.serve_core.specs.declared.collected.Collected.{Collected}
-use Rattle.serve_core.specs.Lanes.{GainsImage, Lane}
-use Rattle.serve_core.proofs.Lanes.{gains}
-use Rattle.serve_core.proofs.Options.{and_some}
+use Rattle.serve_core.specs.Streams.{GainsImage, KeptStream}
+use Rattle.serve_core.proofs.Items.Options.{and_some}
+use Rattle.serve_core.proofs.Schedules.Jobs.{gains}
 use Rattle.serve_core.proofs.stream.Stream.finish.Goals as goal
 
 pub returns-clause-image : goal.returns-clause-image
@@ -11,8 +11,8 @@ returns-clause-image c =
     let pair : Collected = record { source = made.result.0; image = made.result.1 } in
     let old = c.args.self.now.images in
     let new = c.try_push_back.new.self.items in
-    let lent = sym (ap (λ (l : Lane). l.leased) c.self.view_is) ∙ sym c.take.ensures.value ∙ c.in-Some.is in
+    let lent = sym (ap (λ (l : KeptStream). l.leased) c.self.view_is) ∙ sym c.take.ensures.value ∙ c.in-Some.is in
     let behind = ap (λ b. b.items) c.in-Ok.ensures.ok
-    ∙ ap (λ (l : Lane). l.images ++ pair ∷ []) c.self.view_is in
+    ∙ ap (λ (l : KeptStream). l.images ++ pair ∷ []) c.self.view_is in
     and_some c.args.self.now.leased (λ job. GainsImage job old new) c.in-Some.job lent
     (gains c.in-Some.job old new pair made.ensures.source behind)

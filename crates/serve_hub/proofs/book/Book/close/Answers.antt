@@ -12,13 +12,13 @@ pub push_reserved-requires : goal.push_reserved-requires
 push_reserved-requires c =
     let k = c.self.invariant in
     let h = close_entered (book c.self.inside) c.args.s c.close.new.self k.is_book c.in_ok-close.ensures.events
-    c.in_ok-close.ensures.lane in
+    c.in_ok-close.ensures.stream in
     omega (arith, h.is_book.fits, k.reserved, length-reverse c.self.inside.journal.items)
 
 pub invariant_of-self-2 : goal.invariant_of-self-2
 invariant_of-self-2 c =
     let h = close_entered (book c.self.inside) c.args.s c.close.new.self c.self.invariant.is_book
-    c.in_ok-close.ensures.events c.in_ok-close.ensures.lane in
+    c.in_ok-close.ensures.events c.in_ok-close.ensures.stream in
     kept c.self.inside _ (Stream c.args.s) Closed 0 c.self.invariant (record {
       opening = refl;
       limit = refl;
@@ -29,7 +29,7 @@ invariant_of-self-2 c =
 pub returns-clause-entry : goal.returns-clause-entry
 returns-clause-entry c =
     let h = close_entered (book c.self.inside) c.args.s c.close.new.self c.self.invariant.is_book
-    c.in_ok-close.ensures.events c.in_ok-close.ensures.lane in
+    c.in_ok-close.ensures.events c.in_ok-close.ensures.stream in
     let z : Inside = record {
       opening = c.self.inside.opening;
       desk = c.close.new.self;

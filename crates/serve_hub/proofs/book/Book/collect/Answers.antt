@@ -1,5 +1,5 @@
 use Rattle.std.proofs.Common.{◌≤◌, ◌+◌, ◌++◌, ◌∷◌, [], slice_get, refl, sym, ◌∙◌, ap, subst, arith}
-use Rattle.serve_core.proofs.Options.{some_and}
+use Rattle.serve_core.proofs.Items.Options.{some_and}
 use Rattle.serve_hub.specs.declared.entry.Act.TheVariants.{Collected}
 use Rattle.serve_hub.specs.declared.entry.Seat.TheVariants.{Stream}
 use Rattle.serve_hub.specs.BookInside.{book}
@@ -12,8 +12,8 @@ pub invariant_of-self-2 : goal.invariant_of-self-2
 invariant_of-self-2 c =
     let b = book c.self.inside in
     let n = c.in-Some.counts.collected in
-    let a = some_and (slice_get c.self.inside.desk.lanes c.args.s) _ c.in_ok-pair.ensures.pair in
-    let number = collected_here c.self.inside.desk.lanes c.args.s a.0 c.in-Some.counts a.1
+    let a = some_and (slice_get c.self.inside.desk.streams c.args.s) _ c.in_ok-pair.ensures.pair in
+    let number = collected_here c.self.inside.desk.streams c.args.s a.0 c.in-Some.counts a.1
     c.in-Some.ensures in
     let has_room : 1 ≤ room b =
     subst (λ (x : BookValue). 1 ≤ room x) (sym c.self.view_is) (omega (arith, c.if-room-lt1.false, c.room.ensures)) in

@@ -16,11 +16,11 @@ invariant_of-self-2 c =
     let has_room : 2 ≤ room b =
     subst (λ (x : BookValue). 2 ≤ room x) (sym c.self.view_is) (omega (arith, c.if-room-lt2.false, c.room.ensures)) in
     let fits : taken b + 2 ≤ c.self.inside.limit = omega (arith, has_room) in
-    let act = Leased lease.stream lease.seq lease.granted in
+    let act = Leased lease.stream lease.number lease.granted in
     let h = lease_entered b c.args.w lease c.lease.new.self c.self.invariant.is_book c.in_ok-lease.ensures.free
     c.in_ok-lease.ensures.events c.in_ok-lease.ensures.job fits in
     let made : c.new.result ≡ entry_of (Worker c.args.w) act =
-    c.new.ensures ∙ rw (c.stream.ensures, c.seq.ensures, c.granted.ensures.value) refl in
+    c.new.ensures ∙ rw (c.stream.ensures, c.number.ensures, c.granted.ensures.value) refl in
     kept c.self.inside _ (Worker c.args.w) act 2 c.self.invariant (record {
       opening = refl;
       limit = refl;

@@ -5,7 +5,7 @@ use Rattle.std.proofs.lemmas.Option.{slice_get-get_or, slice_get_within}
 use Rattle.std.specs.Vec.{with_item}
 use Rattle.lease.specs.Lease.{spent_of}
 use Rattle.serve_core.specs.Desk.{IsRecorded}
-use Rattle.serve_core.specs.Schedule.{HasLane}
+use Rattle.serve_core.specs.Schedule.{HasStream}
 use Rattle.serve_hub.specs.declared.book.Book.TheInside.{Inside}
 use Rattle.serve_hub.specs.declared.entry.Act.TheVariants.{Settled}
 use Rattle.serve_hub.specs.declared.entry.Seat.TheVariants.{Worker}
@@ -62,8 +62,8 @@ entered : (c : goal.After-settled) → IsEntered (book c.self.inside) (Worker c.
     (Settled c.args.lease.used (is_some c.take_back-number.result)) c.take_back-number.new.self
     (with_units c.args.w (spent_of c.args.lease) (book c.self.inside)).units 0
 entered c =
-    let recorded : HasLane c.self.inside.desk c.in-Ok.held.stream (IsRecorded c.args.lease c.in-Ok.held) =
-    subst (λ (b : BookValue). HasLane b.desk c.in-Ok.held.stream (IsRecorded c.args.lease c.in-Ok.held))
+    let recorded : HasStream c.self.inside.desk c.in-Ok.held.stream (IsRecorded c.args.lease c.in-Ok.held) =
+    subst (λ (b : BookValue). HasStream b.desk c.in-Ok.held.stream (IsRecorded c.args.lease c.in-Ok.held))
     (sym c.self.view_is) (c.if-not-is_recorded.ensures.0 refl) in
     let within : c.args.lease.used ≤ c.args.lease.granted = omega arith in
     settle_entered (book c.self.inside) c.args.w c.args.lease c.take_back-number.result c.in-Ok.held c.take_back-number.new.self

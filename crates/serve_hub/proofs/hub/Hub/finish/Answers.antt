@@ -2,7 +2,7 @@ use Rattle.std.proofs.Common.{◌∙◌, All, ap, sym, subst, length}
 use Rattle.std.specs.Prelude.{reverse}
 use Rattle.serve_core.specs.Schedule.{ScheduleValue}
 use Rattle.serve_hub.specs.Books.{BookValue}
-use Rattle.serve_hub.specs.Ends.{AreLanes, AreStreamCalls, AreWorkCalls, IsCharged, IsHistory}
+use Rattle.serve_hub.specs.Ends.{AreStreamCalls, AreStreamsOf, AreWorkCalls, IsCharged, IsHistory}
 use Rattle.serve_hub.specs.Seats.{HubValue}
 use Rattle.serve_hub.proofs.Histories.{charged_between, history}
 use Rattle.serve_hub.proofs.Opened.{same_workers}
@@ -24,14 +24,14 @@ returns-clause-history g c =
     subst (λ (b : BookValue). IsHistory g.L.Epoch.opening b) (sym c.into_ended.ensures.book)
     (history _ _ _ told.book told.opened)
 
-pub returns-clause-lanes : goal.returns-clause-lanes
-returns-clause-lanes g c =
-    subst (λ (b : BookValue). AreLanes b.desk c.args.streams.items) (sym c.into_ended.ensures.book)
-    c.in_default.ensures.lanes
+pub returns-clause-kept : goal.returns-clause-kept
+returns-clause-kept g c =
+    subst (λ (b : BookValue). AreStreamsOf b.desk c.args.streams.items) (sym c.into_ended.ensures.book)
+    c.in_default.ensures.kept
 
 pub returns-clause-charges : goal.returns-clause-charges
 returns-clause-charges g c =
-    subst (λ (b : BookValue). All IsCharged b.desk.lanes) (sym c.into_ended.ensures.book)
+    subst (λ (b : BookValue). All IsCharged b.desk.streams) (sym c.into_ended.ensures.book)
     (charged_between _ c.in_default.ensures.book)
 
 pub returns-clause-all_workers : goal.returns-clause-all_workers

@@ -1,4 +1,6 @@
-use Rattle.std.proofs.Common.{◌<◌, ◌∙◌, arith}
+use Rattle.std.proofs.Common.{◌≡◌, ◌<◌, ◌∙◌, length, ap, arith}
+use Rattle.edf_pool.specs.declared.limits.TheConstants.{MOST_STREAMS}
+use Rattle.serve_core.specs.Schedule.{ScheduleValue}
 use Rattle.serve_hub.proofs.Admitting.{part_left, refusal_told}
 use Rattle.serve_hub.proofs.shared.Shared.admit.Goals as goal
 
@@ -6,8 +8,10 @@ pub split_off-requires-clause-has_parts : goal.split_off-requires-clause-has_par
 split_off-requires-clause-has_parts g c =
     let a = c.self.inside in
     let is = c.self.invariant in
-    let few : a.streams < 64 =
-    omega (arith, c.if-streams-self.false, c.streams.ensures.count, c.in-Ok.ensures.answer.0.few) in
+    let streams : length c.desk.result.now.streams ≡ length a.book.desk.streams =
+    ap (λ (x : ScheduleValue). length x.streams) c.desk.ensures.desk in
+    let few : a.streams < MOST_STREAMS =
+    omega (arith, c.if-streams-self.false, c.streams.ensures, streams, c.in-Ok.ensures.answer.0.few) in
     part_left _ a.book.opening a.streams a.workers a.spare.parts _ is.4 few is.2 is.7
 
 pub returns-in-Err-clause-refused : goal.returns-in-Err-clause-refused

@@ -4,5 +4,5 @@ use Rattle.serve_hub.proofs.shared.Shared.all_streams.Goals as goal
 
 pub returns-clause-more : goal.returns-clause-more
 returns-clause-more g c =
-    let same = ap (λ (x : ScheduleValue). length x.lanes) c.self.invariant.4.same in
-    omega (arith, c.streams.ensures.more, same)
+    let streams = λ (x : ScheduleValue). length x.streams in
+    omega (arith, c.desk.ensures.more, c.streams.ensures, ap streams c.self.invariant.4.same)

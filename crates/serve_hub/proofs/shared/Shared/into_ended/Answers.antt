@@ -8,7 +8,7 @@ use Rattle.serve_hub.proofs.shared.Shared.into_ended.Goals as goal
 
 pub merge_streams-requires-clause-few : goal.merge_streams-requires-clause-few
 merge_streams-requires-clause-few g c =
-    few_collected c.args.self.book c.args.streams.items c.requires.is_book c.requires.lanes
+    few_collected c.args.self.book c.args.streams.items c.requires.is_book c.requires.kept
 
 -- there is room for what the seats of all 64 streams leave
 pub merge_streams-requires-clause-room : goal.merge_streams-requires-clause-room
@@ -19,7 +19,7 @@ merge_streams-requires-clause-room g c =
       arith,
       c.requires.streams,
       c.requires.count,
-      ap (λ (s : SharedValue). length s.book.desk.lanes) c.self.view_is,
+      ap (λ (s : SharedValue). length s.book.desk.streams) c.self.view_is,
       (few_here b.desk (reached_now _ b _ is c.self.invariant.4)).0,
       c.self.invariant.6,
     )
@@ -37,7 +37,7 @@ new-requires-clause-each_stream g c =
       c.args.streams.ok.0,
       c.requires.streams,
       c.requires.count,
-      ap (λ (s : SharedValue). length s.book.desk.lanes) c.self.view_is,
+      ap (λ (s : SharedValue). length s.book.desk.streams) c.self.view_is,
     )
 
 pub new-requires-clause-reached : goal.new-requires-clause-reached

@@ -1,7 +1,7 @@
 use Rattle.std.proofs.Common.{◌≡◌, refl, sym, subst}
 use Rattle.std.specs.Arc.{arc_value}
 use Rattle.std.specs.VecDeque.{deque_capacity}
-use Rattle.serve_core.specs.Schedule.{HasLane}
+use Rattle.serve_core.specs.Schedule.{HasStream}
 use Rattle.serve_hub.specs.Calls.{Collects}
 use Rattle.serve_hub.specs.Seats.{SharedValue, StreamSeatValue, kept_in}
 use Rattle.serve_hub.proofs.Collecting.{collects}
@@ -23,10 +23,10 @@ returns-clause-given g c =
       before = a.before;
     } in
     let new : StreamSeatValue = record old { calls = c.count.new.self } in
-    let mine = subst (λ (v : StreamSeatValue). HasLane c.args.shared.now.book.desk v.number (λ lane.
-    lane.state.spec.chain ≡ v.chain)) (sym c.self.view_is) (c.if-not-is_of.ensures.chain refl) in
-    let its = subst (λ (v : SharedValue). HasLane v.book.desk old.number (λ lane.
-    lane.state.spec.chain ≡ old.chain)) (sym c.shared.view_is) mine in
+    let mine = subst (λ (v : StreamSeatValue). HasStream c.args.shared.now.book.desk v.number (λ stream.
+    stream.state.spec.chain ≡ v.chain)) (sym c.self.view_is) (c.if-not-is_of.ensures.chain refl) in
+    let its = subst (λ (v : SharedValue). HasStream v.book.desk old.number (λ stream.
+    stream.state.spec.chain ≡ old.chain)) (sym c.shared.view_is) mine in
     subst (λ (v : StreamSeatValue). Collects c.in-Ok.pair v new) c.self.view_is
     (collects old c.count.new.self c.shared.inside.book c.collect.new.self c.in-Ok.pair c.in-Ok.ensures.entry
     c.in-Ok.ensures.pair its c.count.ensures.call)

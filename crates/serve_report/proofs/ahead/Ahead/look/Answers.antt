@@ -9,5 +9,10 @@ returns-in-Ok g c =
     let bytes = c.self.inside.bytes in
     let bound = c.in-Ok.ensures.bound.0 in
     let left = ap (λ (a : AheadState). a.left) c.self.view_is in
-    rw (none.0, front_read c.read.new.buf (drop (length c.read.new.buf) bytes.items) bytes.len c.in-Ok.n bound (omega (arith, bound, c.read.auto.buf, c.deref_mut.ensures.len)), ← left)
+    rw (
+      none.0,
+      front_read c.read.new.buf (drop (length c.read.new.buf) bytes.items) bytes.len c.in-Ok.n bound
+          (omega (arith, bound, c.read.auto.buf, c.deref_mut.ensures.len)),
+      ← left,
+    )
     (read_ahead _ _ _ c.in-Ok.ensures.bytes.0)

@@ -4,7 +4,7 @@ use Rattle.std.specs.declared.alloc.Global.{Global}
 use Rattle.std.specs.declared.sync.Arc.{Arc}
 use Rattle.std.specs.Arc.{arc_value}
 use Rattle.frame_view.specs.declared.frame.Frame.{Frame}
-use Rattle.serve_core.specs.Lanes.{IsImageOf}
+use Rattle.serve_core.specs.Streams.{IsImageOf}
 use Rattle.serve_work.proofs.buffers.Buffers.keep.Goals as goal
 
 -- what holds of all, and of one more where that is there

@@ -1,10 +1,10 @@
-use Rattle.std.proofs.Common.{◌≤◌, ◌∙◌, Some, ap, arith, length, map, subst}
-use Rattle.std.specs.Prelude.{vec_len}
-use Rattle.serve_hub.specs.Ends.{AreLanes}
+use Rattle.std.proofs.Common.{◌≡◌, ◌≤◌, ◌∙◌, Some, ap, arith, length, map, subst}
+use Rattle.std.specs.Prelude.{reverse, vec_len}
+use Rattle.serve_hub.specs.Ends.{AreStreamCalls, AreStreamsOf}
 use Rattle.serve_hub.specs.Seats.{left_by}
-use Rattle.serve_work.specs.SessionInside.{held_with, stream_of}
-use Rattle.serve_work.proofs.Intervals.{all_ready, held_length}
-use Rattle.serve_work.proofs.SessionTurns.{all_went, fault_stays, no_memory, same_length, stand_on}
+use Rattle.serve_work.specs.SessionInside.{BeginsAgain, HeldValue, held_with, stream_of}
+use Rattle.serve_work.proofs.Intervals.{all_back, all_ready, held_length, held_new, leads_on}
+use Rattle.serve_work.proofs.SessionTurns.{all_given, all_went, fault_stays, no_memory, same_length, stand_on, zip_length}
 use Rattle.serve_work.proofs.session.epochs.epoch.Goals as goal
 
 pub seated-turns-requires : goal.seated-turns-requires
@@ -12,9 +12,9 @@ seated-turns-requires g c =
     let value = stream_of g.R.Source.remaining g.R.Source.failures g.W.Sink.contents g.W.Sink.failures g.W.Sink.is_flushed in
     let helds = held_with value c.args.opening.opened.1.items c.args.opening.streams.items in
     record {
-      none = c.requires.at.1.room.no_turns;
-      room = c.requires.at.1.room.turns;
-      ready = all_ready c.requires.at.0 helds c.requires.at.1.stand c.requires.at.1.begun.sized;
+      none = c.requires.at.2.room.no_turns;
+      room = c.requires.at.2.room.turns;
+      ready = all_ready c.requires.at.1 c.requires.at.0.starts helds c.requires.at.2.stand c.requires.at.2.begun.sized;
     }
 
 pub fill-requires : goal.fill-requires
@@ -34,10 +34,10 @@ fill-requires g c =
       streams.ok.0,
     ) in
     record {
-      seats = c.requires.at.1.room.no_seats;
-      streams = c.requires.at.1.room.no_streams;
-      seats_room = omega (arith, few, c.requires.at.1.room.seats);
-      streams_room = omega (arith, few, c.requires.at.1.room.streams);
+      seats = c.requires.at.2.room.no_seats;
+      streams = c.requires.at.2.room.no_streams;
+      seats_room = omega (arith, few, c.requires.at.2.room.seats);
+      streams_room = omega (arith, few, c.requires.at.2.room.streams);
       held = (ran.0, ran.1);
     }
 
@@ -46,20 +46,42 @@ returns-in_err-is_on-clause-fault g c =
     fault_stays _ _ c.from_residual.ensures.1 (no_memory _ c.in_err-is_on.ensures.refused)
 
 pub returns-clause-between : goal.returns-clause-between
-returns-clause-between g c = λ starts at.
+returns-clause-between g c =
+    let gives = g.K.Clock.gives c.args.clock.now in
+    λ b journal at.
     let value = stream_of g.R.Source.remaining g.R.Source.failures g.W.Sink.contents g.W.Sink.failures g.W.Sink.is_flushed in
     let seats = c.args.opening.opened.1.items in
     let streams = c.args.opening.streams in
     let helds = held_with value seats streams.items in
     let ran = c.in_ok-is_on.ensures.run helds c.seated-turns.ensures in
+    let ended = c.in-Ok.ended in
+    let own = c.fill.ensures.seats ran.0 ran.1 in
+    let as_many : length ended.book.desk.streams ≡ length b.schedule.streams = omega (
+      arith,
+      all_back _ _ _ _ c.in-Ok.ensures.missing,
+      c.fill.new.self.seats.ok.0,
+      ap length own,
+      same_length (λ (held : HeldValue). held.seat) ran.0,
+      all_went gives helds ran.0 ran.2,
+      zip_length (BeginsAgain journal) b.starts helds at.stand,
+      at.begun.each,
+    ) in
+    let gives = g.K.Clock.gives c.args.clock.now in
+    let calls = subst (AreStreamCalls (reverse ended.book.past)) own c.in-Ok.ensures.calls.of_streams in
     record {
-      begun = at.begun;
-      helds = ran.0;
-      stand = stand_on starts helds ran.0 at.stand ran.2;
-      streams = c.fill.ensures.streams ran.0 ran.1;
-      seats = c.in-Ok.ensures.left ∙ ap (map left_by) (c.fill.ensures.seats ran.0 ran.1);
-      lanes = subst (AreLanes c.in-Ok.ended.book.desk) (c.fill.ensures.seats ran.0 ran.1) c.in-Ok.ensures.lanes;
-      charges = c.in-Ok.ensures.charges;
-      untold = at.untold;
-      places = omega (arith, all_went helds ran.0 ran.2, held_length value seats streams.items, streams.ok.0, at.places);
+      more = ended.book.past;
+      moments = all_given gives journal ended.book.past b.starts helds ran.0 at.stand ran.2 calls
+          (held_new value seats streams.items at.no_calls);
+      between = record {
+        begun = at.begun;
+        past = leads_on b.schedule _ journal ended.book at.past c.in-Ok.ensures.book c.in-Ok.ensures.history.same as_many;
+        helds = ran.0;
+        stand = stand_on gives journal ended.book.past b.starts helds ran.0 at.stand ran.2 calls;
+        streams = c.fill.ensures.streams ran.0 ran.1;
+        seats = c.in-Ok.ensures.left ∙ ap (map left_by) own;
+        kept = subst (AreStreamsOf ended.book.desk) own c.in-Ok.ensures.kept;
+        charges = c.in-Ok.ensures.charges;
+        untold = at.untold;
+        places = omega (arith, all_went gives helds ran.0 ran.2, held_length value seats streams.items, streams.ok.0, at.places);
+      };
     }

@@ -1,19 +1,19 @@
-use Rattle.serve_hub.specs.Seats.{opened_streams}
-use Rattle.serve_work.specs.Sessions.{starts_of}
+use Rattle.std.proofs.Common.{[]}
+use Rattle.serve_work.specs.Intervals.{beginning_of}
 use Rattle.serve_work.proofs.Intervals.{on_ok}
 use Rattle.serve_work.proofs.SessionTurns.{never_bad_limit}
 use Rattle.serve_work.proofs.session.epochs.first.Goals as goal
 
 pub epoch-requires-clause-at : goal.epoch-requires-clause-at
 epoch-requires-clause-at g c κs within = (
-  starts_of g.W.Sink.contents g.W.Sink.failures (opened_streams c.args.limit 0 c.args.setup.streams) c.args.inputs.items,
+  beginning_of g.W.Sink.contents g.W.Sink.failures c.args.setup c.args.limit c.args.inputs.items,
+  [],
   c.in_ok-opening.ensures.at,
 )
 
 pub returns-clause-between : goal.returns-clause-between
 returns-clause-between g c =
-    c.epoch.ensures.between
-    (starts_of g.W.Sink.contents g.W.Sink.failures (opened_streams c.args.limit 0 c.args.setup.streams) c.args.inputs.items)
+    c.epoch.ensures.between (beginning_of g.W.Sink.contents g.W.Sink.failures c.args.setup c.args.limit c.args.inputs.items) []
     c.in_ok-opening.ensures.at
 
 pub returns-clause-limit : goal.returns-clause-limit

@@ -1,6 +1,6 @@
 use Rattle.std.proofs.Common.{List}
-use Rattle.serve_work.specs.Clients.{ClientStart}
-use Rattle.serve_work.specs.Intervals.{IsBetween}
+use Rattle.serve_hub.specs.declared.entry.Entry.{Entry}
+use Rattle.serve_work.specs.Intervals.{Beginning, IsBetween, IsLater}
 use Rattle.serve_work.proofs.session.epochs.go_on.Given as goal
 
 abbrev pub ghosts-later-L-Ledger : goal.ghosts-later-L-Ledger
@@ -9,8 +9,9 @@ ghosts-later-L-Ledger g a = record { name = a.blank.name; parts = a.blank.parts 
 abbrev pub ghosts-later-L-Epoch : goal.ghosts-later-L-Epoch
 ghosts-later-L-Epoch g a = record { opening = a.interval.ended.book.desk }
 
--- the session stands between two epochs, whatever it began with
+-- the session is later than it was, whatever it began with
 abbrev pub invariant-loop : goal.invariant-loop
-invariant-loop g l = (starts : List ClientStart)
-    → IsBetween g.R.Source.remaining g.R.Source.failures g.W.Sink.contents g.W.Sink.failures g.W.Sink.is_flushed starts l.fn.interval
-    → IsBetween g.R.Source.remaining g.R.Source.failures g.W.Sink.contents g.W.Sink.failures g.W.Sink.is_flushed starts l.interval
+invariant-loop g l = (b : Beginning) (journal : List Entry)
+    → IsBetween g.R.Source.remaining g.R.Source.failures g.W.Sink.contents g.W.Sink.failures g.W.Sink.is_flushed b journal l.fn.interval
+    → IsLater g.R.Source.remaining g.R.Source.failures g.W.Sink.contents g.W.Sink.failures g.W.Sink.is_flushed
+    (g.K.Clock.gives l.fn.clock) b journal l.interval

@@ -1,7 +1,14 @@
+use Rattle.serve_work.proofs.Intervals.{no_later}
 use Rattle.serve_work.proofs.session.epochs.later.Goals as goal
 
 pub epoch-requires-clause-at : goal.epoch-requires-clause-at
-epoch-requires-clause-at g c κs within = (c.requires.at.0, c.in-Ok.ensures.at c.requires.at.0 c.requires.at.1)
+epoch-requires-clause-at g c κs within =
+    (c.requires.at.0, c.requires.at.1, c.in-Ok.ensures.at c.requires.at.0 c.requires.at.1 c.requires.at.2)
 
 pub returns-in-Ok-clause-between : goal.returns-in-Ok-clause-between
-returns-in-Ok-clause-between g c = λ starts at. c.epoch.ensures.between starts (c.in-Ok.ensures.at starts at)
+returns-in-Ok-clause-between g c = λ b journal at. c.epoch.ensures.between b journal (c.in-Ok.ensures.at b journal at)
+
+pub returns-in-Err-clause-between : goal.returns-in-Err-clause-between
+returns-in-Err-clause-between g c =
+    let gives = g.K.Clock.gives c.args.clock.now in
+    λ b journal at. no_later _ _ _ _ _ b journal gives _ (c.in-Err.ensures.back b journal at)

@@ -1,8 +1,10 @@
-use Rattle.std.proofs.Common.{ℕ, arith, refl, subst}
+use Rattle.std.proofs.Common.{◌≡◌, ℕ, [], arith, refl, subst, sym}
+use Rattle.std.specs.List.{AllByRecursion}
+use Rattle.serve_hub.specs.Seats.{opened_rests}
 use Rattle.serve_work.specs.declared.session.SessionFault.TheVariants.{NoMemory}
 use Rattle.serve_work.specs.Intervals.{IsRoomFor}
 use Rattle.serve_work.specs.SessionInside.{stream_of}
-use Rattle.serve_work.proofs.Intervals.{are_beginnings, begins_at}
+use Rattle.serve_work.proofs.Intervals.{begins_at, is_beginning, new_seats, no_entry}
 use Rattle.serve_work.proofs.SessionTurns.{are_unread, no_bad_limit, no_memory}
 use Rattle.serve_work.proofs.session.opening.opened.Goals as goal
 
@@ -17,11 +19,14 @@ returns-clause-at g c =
     let specs = c.args.setup.streams in
     let inputs = c.args.inputs.items in
     record {
-      begun = are_beginnings contents failures c.args.limit specs inputs c.requires.inputs c.in_ok-opened.ensures.limit;
+      begun = is_beginning contents failures c.args.limit c.args.setup inputs c.requires.inputs c.in_ok-opened.ensures.limit;
+      past = no_entry _ _ c.requires.opening;
       stand = begins_at contents failures c.args.limit value specs inputs c.in_ok-opened.opened.1.items c.in_ok-streams.streams.items
           c.requires.inputs c.in_ok-opened.ensures.streams c.in_ok-streams.ensures;
       room = subst (λ (n : ℕ). IsRoomFor n c.in_ok-room.room) c.len-count.ensures c.in_ok-room.ensures;
       untold = c.in_ok-served.ensures.items;
+      no_calls = subst (AllByRecursion (λ seat. seat.calls.list ≡ [])) (sym c.in_ok-opened.ensures.streams)
+          (new_seats c.args.limit (opened_rests 0 specs));
       places = omega (arith, c.len-count.ensures, c.in_ok-served.ensures.capacity);
     }
 

@@ -14,7 +14,8 @@ returns-clause-ok g c =
     let left = ap (λ (a : LookaheadState). a.left) opened in
     rw (← left)
     (on_ok_weaker c.fill_exactly.result
-    (Consumes-both _ _ c.args.self.now.held _ taken.new.out c.fill_exactly.new.out taken.result (omega arith) taken.ensures.moved held (omega (arith, c.fill_exactly.auto.out)))
+    (Consumes-both _ _ c.args.self.now.held _ taken.new.out c.fill_exactly.new.out taken.result (omega arith)
+    taken.ensures.moved held (omega (arith, c.fill_exactly.auto.out)))
     c.fill_exactly.ensures.ok)
 
 pub returns-clause-fault : goal.returns-clause-fault

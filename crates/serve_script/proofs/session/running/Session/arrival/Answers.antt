@@ -11,14 +11,16 @@ use Rattle.serve_script.proofs.session.running.Session.arrival.Goals as goal
 pub returns-in_err-frame-clause-fault : goal.returns-in_err-frame-clause-fault
 returns-in_err-frame-clause-fault c =
     let passed = err_from_is_err_and c.from_residual.result c.from_residual.ensures.1 in
-    let found = c.geometry_at.ensures ∙ ap (λ (kept : SessionValue). slice_get kept.streams.geometries c.number_of-number.result) c.self.view_is in
+    let found = c.geometry_at.ensures
+    ∙ ap (λ (kept : SessionValue). slice_get kept.streams.geometries c.number_of-number.result) c.self.view_is in
     rw (passed.1, passed.2) (arrival_faults c.args.self.now c.args.name.now c.args.hex.now c.number_of-number.result c.geometry_at.result _
     c.requires c.number_of-number.ensures found c.in_err-frame.ensures.fault)
 
 pub returns-in_err-new-clause-fault : goal.returns-in_err-new-clause-fault
 returns-in_err-new-clause-fault c =
     let passed = err_from_is_err_and c.from_residual-in_err-new.result c.from_residual-in_err-new.ensures.1 in
-    let found = c.geometry_at.ensures ∙ ap (λ (kept : SessionValue). slice_get kept.streams.geometries c.number_of-number.result) c.self.view_is in
+    let found = c.geometry_at.ensures
+    ∙ ap (λ (kept : SessionValue). slice_get kept.streams.geometries c.number_of-number.result) c.self.view_is in
     rw passed.1 (arrival_lacks c.args.self.now c.args.name.now c.args.hex.now c.number_of-number.result c.geometry_at.result
     (value_of c.in_ok-frame.frame) _ c.requires c.number_of-number.ensures found c.in_ok-frame.ensures.ok passed.2)
 

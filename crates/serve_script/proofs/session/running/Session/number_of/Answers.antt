@@ -1,6 +1,6 @@
 use Rattle.std.proofs.Common.{arith}
 use Rattle.serve_core.specs.Frames.{is_image, measures}
-use Rattle.serve_core.proofs.Reached.{few_is}
+use Rattle.serve_core.proofs.Transcripts.Reached.{few_is}
 use Rattle.serve_script.proofs.Arrivals.{stream_named-le}
 use Rattle.serve_script.proofs.session.running.Session.number_of.Goals as goal
 

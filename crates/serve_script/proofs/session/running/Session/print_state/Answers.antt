@@ -12,7 +12,8 @@ returns-in-Some-Some-clause-ran c =
     let stream = slice_get c.self.inside.machine.streams c.number_of-number.result in
     let shown = state_found stream c.in-Some-Some.account c.in-Some-Some.counts
     (sym c.account.ensures ∙ c.in-Some-Some.is-0) (sym c.counts.ensures ∙ c.in-Some-Some.is-1) in
-    let here = ap (λ (kept : SessionValue). state_answer (slice_get kept.machine.streams c.number_of-number.result)) (sym c.self.view_is) ∙ shown in
+    let here = ap (λ (kept : SessionValue). state_answer (slice_get kept.machine.streams c.number_of-number.result))
+    (sym c.self.view_is) ∙ shown in
     ok_then c.push_state.result c.push_state.ensures.ok (λ printed.
     state_answered c.args.self.now c.args.name.now c.number_of-number.result _ _ _ c.number_of-number.ensures here printed)
 
@@ -23,6 +24,7 @@ returns-in_default-clause-ran c =
       | in_default-via-in-Some+in_default w ↦ counts_lost stream (sym c.counts.ensures ∙ w.in_default.is-1)
       | in_default-via-in_default w ↦ account_lost stream (sym c.account.ensures ∙ w.in_default.is-0)
     ] in
-    let here = ap (λ (kept : SessionValue). state_answer (slice_get kept.machine.streams c.number_of-number.result)) (sym c.self.view_is) ∙ shown in
+    let here = ap (λ (kept : SessionValue). state_answer (slice_get kept.machine.streams c.number_of-number.result))
+    (sym c.self.view_is) ∙ shown in
     ok_then c.push_refusal.result c.push_refusal.ensures.ok (λ printed.
     state_answered c.args.self.now c.args.name.now c.number_of-number.result _ _ _ c.number_of-number.ensures here printed)

@@ -1,6 +1,7 @@
-use Rattle.std.proofs.Common.{subst, sym}
+use Rattle.std.proofs.Common.{◌≡◌, ◌∙◌, ap, subst, sym}
+use Rattle.serve_work.specs.Clients.{AreAtMoments}
 use Rattle.serve_work.specs.Rests.{IsRestOf}
-use Rattle.serve_work.specs.SessionInside.{IsReadyAt, Stands, StandsAt, Waiting, stream_of}
+use Rattle.serve_work.specs.SessionInside.{HeldValue, IsReadyAt, Stands, StandsAt, Waiting, held_at, stream_of}
 use Rattle.serve_work.proofs.SessionTurns.{header_stays}
 use Rattle.serve_work.proofs.session.turn.Held.go_on.Goals as goal
 
@@ -11,7 +12,7 @@ new-requires-in-Paused g c =
     let ready : IsReadyAt (Waiting c.in-Waiting.rest) inside.seat = subst (λ s. IsReadyAt (value s) inside.seat) c.in-Waiting.is
     c.self.invariant in
     let after : IsRestOf ready.1.0 ready.1.1 c.in-Paused.seat c.in-Paused.rest =
-    c.in-Paused.ensures ready.1.0 ready.1.1 ready.1.2 in
+    c.in-Paused.ensures.turn ready.1.0 ready.1.1 ready.1.2 in
     record {
       ready = (
         header_stays ready.1.0 ready.1.1 ready.1.1 inside.seat c.in-Paused.seat c.in-Waiting.rest c.in-Paused.rest ready.1.2 after ready.0,
@@ -19,18 +20,36 @@ new-requires-in-Paused g c =
       );
     }
 
-pub returns-in-Paused : goal.returns-in-Paused
-returns-in-Paused g c = λ start past at.
+pub returns-in-Over : goal.returns-in-Over
+returns-in-Over g c =
     let inside = c.self.inside in
     let value = stream_of g.R.Source.remaining g.R.Source.failures g.W.Sink.contents g.W.Sink.failures g.W.Sink.is_flushed in
-    let was : IsRestOf start past inside.seat c.in-Waiting.rest =
-    subst (λ s. StandsAt (value s) start past inside.seat) c.in-Waiting.is (subst (Stands start past) (sym c.self.view_is) at) in
-    rw c.new-in-Paused.ensures (c.in-Paused.ensures start past was)
+    let same : c.args.self ≡ c.new.result =
+    sym c.self.view_is ∙ ap (λ s. held_at inside.seat (value s)) c.in-Over.is ∙ sym c.new.ensures in (
+      λ start past at. subst (Stands start past) same at,
+      λ m. subst (λ (held : HeldValue). AreAtMoments (g.K.Clock.gives c.args.clock.now) held.seat.calls.list) same m,
+    )
+
+pub returns-in-Paused : goal.returns-in-Paused
+returns-in-Paused g c =
+    let inside = c.self.inside in
+    let value = stream_of g.R.Source.remaining g.R.Source.failures g.W.Sink.contents g.W.Sink.failures g.W.Sink.is_flushed in (
+      λ start past at.
+          let was : IsRestOf start past inside.seat c.in-Waiting.rest =
+          subst (λ s. StandsAt (value s) start past inside.seat) c.in-Waiting.is (subst (Stands start past) (sym c.self.view_is) at) in
+          rw c.new-in-Paused.ensures (c.in-Paused.ensures.turn start past was),
+      λ m. rw c.new-in-Paused.ensures (c.in-Paused.ensures.moments
+          (subst (λ (held : HeldValue). AreAtMoments (g.K.Clock.gives c.args.clock.now) held.seat.calls.list) (sym c.self.view_is) m)),
+    )
 
 pub returns-in-Ended : goal.returns-in-Ended
-returns-in-Ended g c = λ start past at.
+returns-in-Ended g c =
     let inside = c.self.inside in
-    let value = stream_of g.R.Source.remaining g.R.Source.failures g.W.Sink.contents g.W.Sink.failures g.W.Sink.is_flushed in
-    let was : IsRestOf start past inside.seat c.in-Waiting.rest =
-    subst (λ s. StandsAt (value s) start past inside.seat) c.in-Waiting.is (subst (Stands start past) (sym c.self.view_is) at) in
-    rw c.new-in-Ended.ensures (rw (c.part-seat.ensures.seat, c.part-seat.ensures.outcome) (c.in-Ended.ensures start past was))
+    let value = stream_of g.R.Source.remaining g.R.Source.failures g.W.Sink.contents g.W.Sink.failures g.W.Sink.is_flushed in (
+      λ start past at.
+          let was : IsRestOf start past inside.seat c.in-Waiting.rest =
+          subst (λ s. StandsAt (value s) start past inside.seat) c.in-Waiting.is (subst (Stands start past) (sym c.self.view_is) at) in
+          rw c.new-in-Ended.ensures (rw (c.part-seat.ensures.seat, c.part-seat.ensures.outcome) (c.in-Ended.ensures.turn start past was)),
+      λ m. rw c.new-in-Ended.ensures (rw c.part-seat.ensures.seat (c.in-Ended.ensures.moments
+          (subst (λ (held : HeldValue). AreAtMoments (g.K.Clock.gives c.args.clock.now) held.seat.calls.list) (sym c.self.view_is) m))),
+    )

@@ -4,7 +4,7 @@ use Rattle.serve_work_tests.proofs.tests.pauses.steps.epoch.Goals as goal
 pub invariant_of-result : goal.invariant_of-result
 invariant_of-result g c =
     let at = c.requires.rest in
-    let left = c.in-Paused.ensures at.0 at.1 at.2 in (
+    let left = c.in-Paused.ensures.turn at.0 at.1 at.2 in (
       c.in-Paused.seat,
       c.prepare.new.other,
       c.in_ok-ended-in-Paused.ensures,

@@ -1,0 +1,6 @@
+-- What the calls of a machine and of a desk make of what they keep.
+pub mod Machines
+pub mod Desks
+pub mod Offers
+pub mod Lendings
+pub mod Settlements

@@ -1,0 +1,3 @@
+-- Lists, and what is found at a place.
+pub mod Lists
+pub mod Options

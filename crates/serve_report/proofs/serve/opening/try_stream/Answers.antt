@@ -1,0 +1,16 @@
+use Rattle.std.proofs.Common.{◌∙◌, ap, refl, sym}
+use Rattle.y4m_stream.specs.Failures.{one_more}
+use Rattle.serve_report.specs.Openings.{IsEntry, made_after}
+use Rattle.serve_report.proofs.Openings.{entry_come, made_come}
+use Rattle.serve_report.proofs.serve.opening.try_stream.Goals as goal
+
+pub returns : goal.returns
+returns g c =
+    let ready = c.open_stream-ready in
+    record {
+      name = refl;
+      opened = ready.ensures.opened ∙ ap one_more c.new-files.ensures.opened;
+      made = ready.ensures.made ∙ ap (made_after ready.result) c.new-files.ensures.made ∙ sym (made_come ready.result 0);
+      entry = entry_come (IsEntry g.F.Files.was_opened g.F.Files.was_made c.args.height c.args.placed.asked)
+          ready.result ready.ensures.ready;
+    }

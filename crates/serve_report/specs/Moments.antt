@@ -1,0 +1,7 @@
+-- The moments of a run.
+use Rattle.std.specs.Prelude.{ℕ, ◌≤◌}
+use Rattle.cbs_account.specs.declared.limits.TheConstants.{LAST_MOMENT}
+
+-- a moment that the clock of a run may tell
+abbrev pub IsMoment : ℕ → Type 0
+IsMoment moment = moment ≤ LAST_MOMENT
