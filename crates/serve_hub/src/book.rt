@@ -26,7 +26,7 @@ use std::snapshot::Snapshot;
 ///
 /// The journal has a limit. An entry is reserved for the settlement of each lease that is out and for the
 /// close of each stream that isn't closed, so these are never refused for it. The memory for the journal is
-/// taken when the book is made, so only `new`, `offer` and `admit` take any.
+/// taken when the book is made, so only `new`, `offer`, `admit` and `admit_newcomer` take any.
 ///
 /// Contracts see the `BookValue` of `specs/Books.antt`: the journal leads from the desk as it was when the
 /// book was opened to the desk as it is.

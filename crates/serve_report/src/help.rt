@@ -321,12 +321,12 @@ pub const SERVE_PAGE: &str = "Shares:
   A moment passes with each offer of a frame, by any stream, and with nothing
   else; a frame that finds its stream's queue full is offered again.
   Q:T is a ratio: a stream's deadline moves back by T moments for each Q units
-  that it has used. All shares together, Q / T each, are at most the number of
-  workers.
+  that it has used. All shares together, each Q / T rounded up to a millionth,
+  are at most the number of workers.
   A worker that is free goes to the stream with the earliest deadline that has a
-  frame waiting, room for its image, and no worker at it. So a stream that asks
-  for more than its share moves its own deadline back: it goes on where nobody
-  else has work, and comes later where somebody has.
+  frame waiting, room for its image, and no worker at it. So a stream moves its
+  own deadline back as it is served: it goes on where nobody else has work, and
+  comes later where somebody has.
   A lease of a worker has no more bands than the units that are left of Q pay
   for, but one at least, so a Q below the quantum makes leases short.
 

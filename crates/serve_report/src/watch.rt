@@ -7,7 +7,7 @@ use y4m_stream::{Sink, Source};
 /// Is asked about the terminals of a run, and told of its frames as they go by. It changes no byte of them.
 ///
 /// Streams are numbered from 0: the one of `filter` is 0, and those of `serve` have the order of their words.
-/// Each stream of `serve` is told of by a thread of its own.
+/// Each stream of `serve` is told of by its client's thread.
 pub trait Watch {
     /// Whether the input is a terminal, from which nothing comes before somebody types it.
     fn input_is_terminal(&self) -> bool;

@@ -37,7 +37,7 @@ pub(crate) fn await_input<L: Epoch, R: Source + Drop, T: Wait>(
 }
 
 /// Whether a frame is read beside the work on another one: where that takes long, since a filter looks at
-/// more than a frame's own rows, and the input is there.
+/// more than a band's own rows, and the input is there.
 pub(crate) fn reads_ahead<L: Epoch, R: Source + Drop>(
     seat: &StreamSeat<L>,
     reader: &StreamReader<R>,

@@ -83,12 +83,12 @@ impl From<HubError> for SessionFault {
 
 /// Serves each stream of the setup from its reader to its writer, and tells what became of each, in order.
 ///
-/// The session goes from epoch to epoch, each with a journal of at most `limit` entries; an epoch ends where
-/// all streams are over, or where its journal is full. The workers start first. Each client has a thread, or
-/// runs on this one where its thread is refused. In the first epoch all that may be refused is taken before a
-/// frame is offered, but for what the clients take themselves. In a later one a worker whose thread is
-/// refused doesn't work. Where there is no memory for a further epoch, or no worker starts in it, each stream
-/// that isn't over stops for want of memory, unless it has a stop.
+/// The session goes from epoch to epoch, each with a journal of at most `limit` entries; an epoch ends
+/// where all streams are over, or where its journal is full. The workers start first. Each client has a
+/// thread, or runs on the one that asked for it where it is refused. In the first epoch all that may be
+/// refused is taken before a frame is offered, but for what the clients take themselves. In a later one a
+/// worker whose thread is refused doesn't work. Where there is no memory for a further epoch, or no worker
+/// starts in it, each stream that isn't over stops for want of memory, unless it has a stop.
 pub fn serve_session<
     R: Source + Drop + Send,
     W: Sink + Drop + Send,

@@ -21,8 +21,9 @@ impl<L: Epoch> Hub<L> {
     /// One stream more, with its seat, whose first call is its admission. It has the number behind all
     /// others.
     ///
-    /// It takes the memory for the stream and its seat before it takes the lock. All waiting workers are
-    /// woken; one that was answered [`Drained`](serve_core::Refusal::Drained) isn't called back.
+    /// It takes the memory for the stream and its seat before it takes the lock; only the list of streams may
+    /// grow under it. All waiting workers are woken; one that was answered
+    /// [`Drained`](serve_core::Refusal::Drained) isn't called back.
     pub fn admit(
         &self,
         rt: &impl Wait,

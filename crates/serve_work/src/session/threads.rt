@@ -16,7 +16,7 @@ use std::thread;
 use std::thread::Threads;
 use y4m_stream::{Sink, Source};
 
-/// Runs each client that waits, in a thread of its own, or on this one where that is refused.
+/// Runs each client that waits, in a thread of its own, or on the one that asked for it where it is refused.
 pub(super) fn run_clients<
     L: Epoch + Send + Sync,
     R: Source + Drop + Send,
