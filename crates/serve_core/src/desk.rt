@@ -65,28 +65,28 @@ impl Desk {
     pub fn clock(&self) -> u64
         ensures { result ≡ self.now.clock }
     {
-        self.schedule.clock()
+        self.schedule.clock
     }
 
     /// How many streams there are.
     pub fn streams(&self) -> usize
         ensures { result ≡ length self.now.streams }
     {
-        self.schedule.streams()
+        self.schedule.streams().len()
     }
 
     /// The budget and the deadline of stream `s`.
     pub fn account(&self, s: u32) -> Option<(u64, u64)>
         ensures { result ≡ option_map (λ stream. account_of stream.state) (slice_get self.now.streams s) }
     {
-        self.schedule.account(s)
+        self.schedule.stream(s).map(|stream| stream.account())
     }
 
     /// How many frames of stream `s` were accepted, finished and collected, and what it was charged.
     pub fn counts(&self, s: u32) -> Option<Counts>
         ensures { result ≡ option_map (λ stream. counts_of stream.state) (slice_get self.now.streams s) }
     {
-        self.schedule.counts(s)
+        self.schedule.stream(s).map(|stream| stream.counts())
     }
 
     /// What is done to the frames of stream `s`.
@@ -94,7 +94,7 @@ impl Desk {
         ensures { option_copied result
             ≡ option_map (λ stream. stream.state.spec.chain) (slice_get self.now.streams s) }
     {
-        self.schedule.spec(s)
+        self.schedule.stream(s).map(|stream| stream.spec())
     }
 
     /// What [`Desk::offer`] would refuse this frame for, want of memory aside.
@@ -172,7 +172,7 @@ impl Desk {
         ensures events { LeadsDesk self.old (rules.offered self.old.clock s at result) self.new }
         ensures job { rules.TakesJob s at job result self.old self.new }
     {
-        let moment = self.schedule.clock().max(at);
+        let moment = self.schedule.clock.max(at);
         self.schedule.tick(moment);
         self.schedule.accept(s, job)
     }
@@ -197,13 +197,9 @@ impl Desk {
         if let Some(refusal) = self.schedule.admit_refusal(&spec) {
             return Err((refusal, spec));
         }
-        let newcomer = match Newcomer::new(alloc, spec) {
-            Ok(newcomer) => newcomer,
-            Err((_, spec)) => return Err((Refusal::NoMemory, spec)),
-        };
-        match self.add(newcomer) {
+        match self.schedule.admit(alloc, spec) {
             Ok(s) => Ok(s),
-            Err(newcomer) => Err((Refusal::NoMemory, newcomer.into_spec())),
+            Err(spec) => Err((Refusal::NoMemory, spec)),
         }
     }
 
@@ -221,22 +217,10 @@ impl Desk {
         if let Some(refusal) = self.schedule.admit_refusal(newcomer.spec()) {
             return Err((refusal, newcomer));
         }
-        match self.add(newcomer) {
+        match self.schedule.join(newcomer) {
             Ok(s) => Ok(s),
             Err(newcomer) => Err((Refusal::NoMemory, newcomer)),
         }
-    }
-
-    /// Takes a newcomer that can be admitted. It comes back where the memory for its place is refused.
-    fn add(&mut self, newcomer: Newcomer) -> Result<u32, Newcomer>
-        requires { schedules.IsAdmitAnswer self.old newcomer None }
-        ensures events { IfOk result (λ s. LeadsDesk self.old (one (events.Admit newcomer) (events.Admitted s))
-            self.new) }
-        ensures stream { IfOk result (λ s. (s ≡ length self.old.streams)
-            × (self.new ≡ schedules.with_stream newcomer self.old)) }
-        ensures back { IfErr result (λ back. (back ≡ newcomer) × (self.new ≡ self.old)) }
-    {
-        self.schedule.join(newcomer)
     }
 
     /// What [`Desk::lease`] would refuse worker `w` for.
@@ -275,21 +259,28 @@ impl Desk {
     pub fn done(&self, s: u32) -> Option<u32>
         ensures { result ≡ option_map (λ stream. stream.state.done) (slice_get self.now.streams s) }
     {
-        self.schedule.done(s)
+        self.schedule.stream(s).map(|stream| stream.done())
     }
 
     /// Whether stream `s` is there, and a worker has its first unfinished frame.
     pub fn is_out(&self, s: u32) -> bool
         ensures { IsTrue result ↔ HasStream self.now s (λ stream. IsSome stream.state.holder) }
     {
-        self.schedule.is_out(s)
+        self.schedule
+            .stream(s)
+            .is_some_and(|stream| stream.is_out())
     }
 
     /// Whether every stream is closed, with all its frames finished: then there is nothing more to lease.
     pub fn is_over(&self) -> bool
         ensures { IsTrue result ↔ All IsOver self.now.streams }
     {
-        self.schedule.is_over()
+        for stream in self.schedule.streams() {
+            if !stream.is_over() {
+                return false;
+            }
+        }
+        true
     }
 
     /// Worker `w` gives its lease back, with its job and all bands that were done. Answers the number of the

@@ -97,21 +97,21 @@ impl Machine {
     pub fn clock(&self) -> u64
         ensures { result ≡ self.now.clock }
     {
-        self.schedule.clock()
+        self.schedule.clock
     }
 
     /// The budget and the deadline of stream `s`.
     pub fn account(&self, s: u32) -> Option<(u64, u64)>
         ensures { result ≡ option_map account_of (slice_get self.now.streams s) }
     {
-        self.schedule.account(s)
+        self.schedule.stream(s).map(|stream| stream.account())
     }
 
     /// How many frames of stream `s` were accepted, finished and collected, and what it was charged.
     pub fn counts(&self, s: u32) -> Option<Counts>
         ensures { result ≡ option_map counts_of (slice_get self.now.streams s) }
     {
-        self.schedule.counts(s)
+        self.schedule.stream(s).map(|stream| stream.counts())
     }
 
     /// Runs these events, one after the other. Where the memory for the list of replies is refused, no event

@@ -1,9 +1,8 @@
 //! The streams, what each worker holds, and the pool of the streams that are ready.
 ghost use Rattle.std.specs.Prelude.{◌≡◌, ◌≢◌, ◌≤◌, ◌<◌, ◌^◌, ◌↔◌, Bool, Some, None, length, slice_get};
 ghost use Rattle.std.specs.Prelude.{slice_set, IsTrue, IsFalse, IsSome, IsSomeAnd, MatchOption, IfOk, IfErr};
-ghost use Rattle.std.specs.Prelude.{IfSome, IfNone, OnOk};
+ghost use Rattle.std.specs.Prelude.{IfSome, IfNone, OnOk, option_copied};
 ghost use Rattle.std.specs.Arc.{arc_value};
-ghost use Rattle.std.specs.Option.{option_map};
 ghost use Rattle.cbs_account.specs.Admission.{Fits};
 ghost use Rattle.edf_pool.specs.Earliest.{IsEarliest};
 ghost use Rattle.serve_core.specs.declared.refusal.Refusal.TheVariants as refusals;
@@ -12,14 +11,13 @@ ghost use Rattle.serve_core.specs.Desk.{SomeReady};
 ghost use Rattle.serve_core.specs.Streams.{HasPlace, IsFresh, GainsImage};
 ghost use Rattle.serve_core.specs.Schedule as rules;
 ghost use Rattle.serve_core.specs.Rules.{arrival_refusal};
-ghost use Rattle.serve_core.specs.Schedule.{HasLease, HasStream, account_of, counts_of, with_held, with_stream_at};
+ghost use Rattle.serve_core.specs.Schedule.{HasLease, HasStream, with_held, with_stream_at};
 ghost use Rattle.serve_core.specs.Setup.{steps};
 ghost use Rattle.serve_core.specs.States.{ready_deadline};
 
 mod handing;
 
 use crate::collected::Collected;
-use crate::counts::Counts;
 use crate::held::Held;
 use crate::newcomer::Newcomer;
 use crate::refusal::Refusal;
@@ -40,7 +38,7 @@ use std::sync::Arc;
 /// ready. Machine and desk stand on it. Contracts see the `ScheduleValue` of `specs/Schedule.antt`.
 #[derive(Drop)]
 pub(crate) struct Schedule {
-    clock: u64,
+    pub(crate) clock: u64,
     quantum: u64,
     streams: Vec<Stream>,
     workers: Vec<Option<Held>>,
@@ -83,11 +81,18 @@ impl Schedule {
         })
     }
 
-    /// The present moment.
-    pub(crate) fn clock(&self) -> u64
-        ensures { result ≡ self.now.clock }
+    /// The streams, in the order of their numbers.
+    pub(crate) fn streams(&self) -> &[Stream]
+        ensures { result.now ≡ self.now.streams }
     {
-        self.clock
+        &self.streams
+    }
+
+    /// Stream `s`, if it is there.
+    pub(crate) fn stream(&self, s: u32) -> Option<&Stream>
+        ensures { option_copied result ≡ slice_get self.now.streams s }
+    {
+        self.streams.get(s as usize)
     }
 
     /// Why the clock can't go on to a moment, if it can't.
@@ -357,27 +362,6 @@ impl Schedule {
                 Ok(pair)
             }
         }
-    }
-
-    /// How many streams there are.
-    pub(crate) fn streams(&self) -> usize
-        ensures { result ≡ length self.now.streams }
-    {
-        self.streams.len()
-    }
-
-    /// What stream `s` may still use, and its deadline.
-    pub(crate) fn account(&self, s: u32) -> Option<(u64, u64)>
-        ensures { result ≡ option_map (λ stream. account_of stream.state) (slice_get self.now.streams s) }
-    {
-        self.streams.get(s as usize).map(|stream| stream.account())
-    }
-
-    /// How many frames of stream `s` were accepted, finished and collected, and what it was charged.
-    pub(crate) fn counts(&self, s: u32) -> Option<Counts>
-        ensures { result ≡ option_map (λ stream. counts_of stream.state) (slice_get self.now.streams s) }
-    {
-        self.streams.get(s as usize).map(|stream| stream.counts())
     }
 }
 

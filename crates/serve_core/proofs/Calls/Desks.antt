@@ -6,9 +6,10 @@ use Rattle.std.proofs.Common.{IsFalse, IfOk, IfErr, OnOk, refl, sym, ◌∙◌, 
 use Rattle.cbs_account.specs.Admission as admission
 use Rattle.serve_core.specs.declared.collected.Collected.{Collected}
 use Rattle.serve_core.specs.declared.refusal.Refusal.{Refusal}
+use Rattle.serve_core.specs.declared.refusal.Refusal.TheVariants as refusals
 use Rattle.serve_core.specs.Bare.{Blank, measures_any, is_any_image}
 use Rattle.serve_core.specs.Counts.{Taken}
-use Rattle.serve_core.specs.Desk.{LeadsDesk, RefusesClose, bare_frames, blanks, desk_state, one}
+use Rattle.serve_core.specs.Desk.{LeadsDesk, RefusesAdmission, RefusesClose, bare_frames, blanks, desk_state, one}
 use Rattle.serve_core.specs.DeskInside.{AreAway, AreUnused, IsDesk}
 use Rattle.serve_core.specs.Events.{Admit, Admitted, Close, Closing, Collect, Event, Image, Reply, Then}
 use Rattle.serve_core.specs.Events.{Transcript}
@@ -204,10 +205,35 @@ admitted x y spec s h can p =
           (away_pushed x.streams spec h.away) h.unused,
     )
 
--- one stream more, or none for want of memory
-pub added : (x y : ScheduleValue) (spec : StreamSpec) (r : Result ℕ StreamSpec) → IsDesk x
-    → IsAdmitAnswer x spec None
-    → IfOk r (λ s. (s ≡ length x.streams) × (y ≡ with_stream spec x)) → IfErr r (λ back. (back ≡ spec) × (y ≡ x))
-    → IfOk r (λ s. LeadsDesk x (one (Admit spec) (Admitted s)) y) × IsDesk y
-added x y spec (Ok s) h can ok err = admitted x y spec s h can ok
-added x y spec (Err back) h can ok err = (tt, rw err.1 h)
+-- how a desk answers a stream that can be admitted: by its number, or by want of memory
+pub record Answers (x y : ScheduleValue) (spec : StreamSpec) (r : Result ℕ (Refusal × StreamSpec)) : Type 0 where
+  pub events : IfOk r (λ s. LeadsDesk x (one (Admit spec) (Admitted s)) y)
+  pub answer : OnOk r (IsAdmitAnswer x spec None)
+  pub stream : IfOk r (λ s. (s ≡ length x.streams) × (y ≡ with_stream spec x))
+  pub refused : IfErr r (λ e. RefusesAdmission x spec e.0)
+  pub back : IfErr r (λ e. (e.1 ≡ spec) × (y ≡ x))
+  pub kept : IsDesk y
+
+pub added : (x y : ScheduleValue) (spec : StreamSpec) (s : ℕ) → IsDesk x → IsAdmitAnswer x spec None
+    → (s ≡ length x.streams) × (y ≡ with_stream spec x) → Answers x y spec (Ok s)
+added x y spec s h can p =
+    let new = admitted x y spec s h can p in
+    record {
+      events = new.0;
+      answer = can;
+      stream = p;
+      refused = tt;
+      back = tt;
+      kept = new.1;
+    }
+
+pub unfed : (x y : ScheduleValue) (spec back : StreamSpec) → IsDesk x → IsAdmitAnswer x spec None
+    → (back ≡ spec) × (y ≡ x) → Answers x y spec (Err (refusals.NoMemory, back))
+unfed x y spec back h can p = record {
+  events = tt;
+  answer = tt;
+  stream = tt;
+  refused = inr (refl, can);
+  back = p;
+  kept = rw p.1 h;
+}

@@ -40,7 +40,7 @@ tick_allowed : (clock at : ℕ) → nat_lt at clock ≡ false → nat_lt LAST_MO
     → let r : Reply Blank Blank = Ticked in r ≡ tick_reply clock at
 tick_allowed clock at p e = rw (p, e) refl
 
-at_clock : (x : ScheduleValue) (t u : ℕ) → t ≡ u
+pub at_clock : (x : ScheduleValue) (t u : ℕ) → t ≡ u
     → let y : ScheduleValue = record x { clock = t } in let z : ScheduleValue = record x { clock = u } in y ≡ z
 at_clock x t u e = cc
 

@@ -1,53 +1,15 @@
 //! Jobs that are handed over, and brought back with their bands.
-ghost use Rattle.std.specs.Prelude.{◌≡◌, ◌<◌, Some, None, slice_get};
-ghost use Rattle.std.specs.Prelude.{◌↔◌, All, IsTrue, IsSome, IfNone, option_copied};
-ghost use Rattle.std.specs.Option.{option_map};
+ghost use Rattle.std.specs.Prelude.{◌≡◌, Some, None, IsSome, IfNone, slice_get};
 ghost use Rattle.serve_core.specs.declared.refusal.Refusal.TheVariants as refusals;
 ghost use Rattle.serve_core.specs.Desk.{CanBring, brought_by, stream_refusal};
 ghost use Rattle.serve_core.specs.Schedule.{HasStream, with_stream_at};
-ghost use Rattle.serve_core.specs.Streams.{HasPlace, IsOver, with_leased};
+ghost use Rattle.serve_core.specs.Streams.{HasPlace, with_leased};
 
 use super::Schedule;
 use crate::refusal::Refusal;
-use crate::stream::Stream;
-use lease::{Job, JobSpec};
+use lease::Job;
 
 impl Schedule {
-    /// What is done to the frames of stream `s`.
-    pub(crate) fn spec(&self, s: u32) -> Option<&JobSpec>
-        ensures { option_copied result
-            ≡ option_map (λ stream. stream.state.spec.chain) (slice_get self.now.streams s) }
-    {
-        match self.streams.get(s as usize) {
-            None => None,
-            Some(stream) => Some(stream.spec()),
-        }
-    }
-
-    /// How many bands of the first unfinished frame of stream `s` are done.
-    pub(crate) fn done(&self, s: u32) -> Option<u32>
-        ensures { result ≡ option_map (λ stream. stream.state.done) (slice_get self.now.streams s) }
-    {
-        self.streams.get(s as usize).map(|stream| stream.done())
-    }
-
-    /// Whether stream `s` is there, and a worker has its first unfinished frame.
-    pub(crate) fn is_out(&self, s: u32) -> bool
-        ensures { IsTrue result ↔ HasStream self.now s (λ stream. IsSome stream.state.holder) }
-    {
-        match self.streams.get(s as usize) {
-            None => false,
-            Some(stream) => stream.is_out(),
-        }
-    }
-
-    /// Whether no frame of any stream will be leased any more.
-    pub(crate) fn is_over(&self) -> bool
-        ensures { IsTrue result ↔ All IsOver self.now.streams }
-    {
-        are_over(&self.streams)
-    }
-
     /// Why a frame of its size is refused by stream `s`, if it is.
     pub(crate) fn job_refusal(&self, s: u32) -> Option<Refusal>
         ensures refusal { result ≡ stream_refusal (slice_get self.now.streams s) }
@@ -79,15 +41,4 @@ impl Schedule {
         stream.charge(bands, units);
         stream.hand_back(job);
     }
-}
-
-fn are_over(streams: &[Stream]) -> bool
-    ensures { IsTrue result ↔ All IsOver streams.now }
-{
-    for stream in streams {
-        if !stream.is_over() {
-            return false;
-        }
-    }
-    true
 }

@@ -1,6 +1,6 @@
 use Rattle.std.proofs.Common.{All, take}
 use Rattle.serve_core.specs.Streams.{IsOver}
-use Rattle.serve_core.proofs.schedule.handing.are_over.Given as goal
+use Rattle.serve_core.proofs.desk.Desk.is_over.Given as goal
 
 abbrev pub invariant-loop-stream : goal.invariant-loop-stream
-invariant-loop-stream l = All IsOver (take l.stream-index l.fn.streams)
+invariant-loop-stream l = All IsOver (take l.stream-index l.stream-items)
