@@ -180,20 +180,12 @@ impl Book {
     pub fn bands(&self, w: u32) -> u64
         ensures { result ≡ bands_of w self.now.past }
     {
-        bands_settled(w, &self.journal)
+        let mut sum = 0;
+        for entry in &self.journal {
+            sum += bands_in(w, entry);
+        }
+        sum
     }
-}
-
-/// The bands that a journal tells of worker `w`.
-fn bands_settled(w: u32, journal: &[Entry]) -> u64
-    requires { length journal.now ≤ MOST_ENTRIES }
-    ensures { result ≡ bands_of w journal.now }
-{
-    let mut sum = 0;
-    for entry in journal {
-        sum += bands_in(w, entry);
-    }
-    sum
 }
 
 /// The bands that an entry tells of worker `w`.

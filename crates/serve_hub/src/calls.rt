@@ -13,8 +13,8 @@ use std::sync::ledger::{Book as Total, Ledger, Share};
 /// ledger. There is room for as many as the hub's journal has.
 #[derive(Drop)]
 pub(crate) struct Calls<L: Ledger> {
-    list: Vec<Act>,
-    limit: usize,
+    pub(crate) list: Vec<Act>,
+    pub(crate) limit: usize,
     share: Share<L>,
 }
 
@@ -51,23 +51,17 @@ impl<L: Ledger> Calls<L> {
         Calls { list, limit, share }
     }
 
-    pub(crate) fn list(&self) -> &[Act]
-        ensures { result.now ≡ self.now.list }
-    {
-        &self.list
-    }
-
-    pub(crate) fn limit(&self) -> usize
-        ensures { result ≡ self.now.limit }
-    {
-        self.limit
-    }
-
     /// How many images were collected.
     pub(crate) fn collections(&self) -> u64
         ensures { result ≡ sum_by one_collection self.now.list }
     {
-        collections_in(&self.list)
+        let mut sum = 0;
+        for call in &self.list {
+            if let Act::Collected(_) = call {
+                sum += 1;
+            }
+        }
+        sum
     }
 
     /// The part of the ledger that counted the calls.
@@ -92,17 +86,4 @@ impl<L: Ledger> Calls<L> {
         total.add(&mut self.share, 1);
         self.list.push_reserved(entry.act);
     }
-}
-
-/// How many of the calls collected an image.
-fn collections_in(calls: &[Act]) -> u64
-    ensures { result ≡ sum_by one_collection calls.now }
-{
-    let mut sum = 0;
-    for call in calls {
-        if let Act::Collected(_) = call {
-            sum += 1;
-        }
-    }
-    sum
 }

@@ -156,7 +156,7 @@ impl<L: Epoch> Hub<L> {
             ..
         } = self;
         let shared = shared.into_inner();
-        let all_streams = shared.all_streams();
+        let all_streams = shared.book.desk().streams();
         if let Some(fault) = fault(&shared, (all_streams, worker_count), &streams, &workers) {
             return Err(Mismatch {
                 fault,

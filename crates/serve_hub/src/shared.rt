@@ -128,14 +128,6 @@ impl<L: Epoch> Shared<L> {
         }
     }
 
-    /// How many streams there are, those that were admitted too.
-    pub(crate) fn all_streams(&self) -> usize
-        ensures count { result ≡ length self.now.book.desk.streams }
-        ensures more { length L.opening.streams ≤ result }
-    {
-        self.book.desk().streams()
-    }
-
     /// Whether the journal has no place for another lease and its settlement.
     pub(crate) fn is_full(&self) -> bool
         ensures { IsTrue result ↔ (room self.now.book < 2) }
@@ -273,6 +265,6 @@ fn merge_workers<L: Epoch>(all: &mut Share<L>, seats: Vec<WorkSeat<L>>)
     ensures amount { all.new.amount ≡ all.old.amount + sum_by (λ s. length s.calls.list) seats.items }
 {
     for seat in seats {
-        all.merge(seat.into_share());
+        all.merge(seat.calls.into_share());
     }
 }

@@ -206,7 +206,7 @@ impl<L: Epoch> StreamSeat<L> {
     pub fn calls(&self) -> &[Act]
         ensures { result.now ≡ self.now.calls.list }
     {
-        self.calls.list()
+        &self.calls.list
     }
 
     /// Whether the book has its stream, with its chain, and as many frames accepted and collected as the seat
@@ -232,7 +232,7 @@ impl<L: Epoch> StreamSeat<L> {
     {
         match shared.book.spec(self.number) {
             None => false,
-            Some(spec) => self.calls.limit() == shared.limit && is_same_spec(spec, &self.spec),
+            Some(spec) => self.calls.limit == shared.limit && is_same_spec(spec, &self.spec),
         }
     }
 }

@@ -22,7 +22,7 @@ use std::sync::ledger::Share;
 #[derive(Drop)]
 pub struct WorkSeat<L: Epoch> {
     number: u32,
-    calls: Calls<L>,
+    pub(crate) calls: Calls<L>,
 }
 
 impl<L: Epoch> Model for WorkSeat<L> {
@@ -59,22 +59,14 @@ impl<L: Epoch> WorkSeat<L> {
     pub fn calls(&self) -> &[Act]
         ensures { result.now ≡ self.now.calls.list }
     {
-        self.calls.list()
+        &self.calls.list
     }
 
     /// Whether its latest call is a lease, which isn't settled.
     pub(crate) fn has_lease(&self) -> bool
         ensures { IsTrue result ↔ HasLeaseOut self.now }
     {
-        matches!(self.calls.list().last(), Some(Act::Leased(_, _, _)))
-    }
-
-    /// The part of the ledger that counted its calls.
-    pub(crate) fn into_share(self) -> Share<L>
-        ensures parts { result.parts ≡ 1 }
-        ensures amount { result.amount ≡ length self.calls.list }
-    {
-        self.calls.into_share()
+        matches!(self.calls.list.last(), Some(Act::Leased(_, _, _)))
     }
 
     pub(crate) fn lease(&mut self, shared: &mut Shared<L>) -> Result<Lease, Refusal>
@@ -82,7 +74,7 @@ impl<L: Epoch> WorkSeat<L> {
         ensures unused { IfOk result (λ lease. lease.used ≡ 0) }
         ensures refused { OnErr result (self.new ≡ self.old) }
     {
-        if self.calls.limit() != shared.limit {
+        if self.calls.limit != shared.limit {
             return Err(Refusal::Torn(Came::Other));
         }
         let Shared { book, total, .. } = shared;
@@ -103,7 +95,7 @@ impl<L: Epoch> WorkSeat<L> {
             (FinishesOther lease e.refusal self.old self.new)
             (λ back. (back ≡ lease) × (self.new ≡ self.old))) }
     {
-        if self.calls.limit() != shared.limit {
+        if self.calls.limit != shared.limit {
             return Err(LeaseRefused {
                 refusal: Refusal::Torn(Came::Other),
                 lease: Some(lease),
