@@ -3,12 +3,15 @@ use Rattle.std.proofs.Common.{◌≡◌, ℕ, suc, ◌<◌, List, [], ◌∷◌,
 use Rattle.std.proofs.Common.{append_assoc, append-nil, arith, refl, subst, sym}
 use Rattle.std.specs.Io.KnownBytes.{Keeps}
 use Rattle.std.specs.List.{AllZip}
-use Rattle.std.specs.Prelude.{IfOk}
+use Rattle.std.specs.Prelude.{IfErr, IfOk, MatchResult}
 use Rattle.std.proofs.lemmas.List.{map_push}
+use Rattle.y4m_stream.specs.Front.{StandsAtHeader}
 use Rattle.y4m_stream.specs.Reader.{IsOpened, ReaderState}
 use Rattle.y4m_stream.specs.declared.device.Sink as sinks
 use Rattle.y4m_stream.specs.declared.device.Source as sources
-use Rattle.serve_report.specs.Openings.{Entry, come_of, entry_of, made_after}
+use Rattle.y4m_stream.specs.declared.fault.ReadFault.{ReadFault}
+use Rattle.y4m_stream.specs.declared.fault.ReadFault.TheVariants.{Device, LineTooLong, Header, NotFrame, Truncated, NoMemory, Failed}
+use Rattle.serve_report.specs.Openings.{Entry, HasNoHeader, come_of, entry_of, made_after}
 use Rattle.serve_report.specs.declared.serve.ready.Ready.{Ready}
 use Rattle.serve_report.specs.declared.serve.report.StreamStop.{StreamStop}
 
@@ -45,11 +48,11 @@ module _ {R W : Type 0} {source : sources.Ghosts R} {sink : sinks.Ghosts W} wher
   made_come (Ok ready) made = refl
   made_come (Err stop) made = refl
 
-  -- and what is known of its entry
-  pub entry_come : (Is : Entry → Type 0) (result : Result (Ready R W source sink) StreamStop)
-      → IfOk result (λ ready. Is (entry_of ready)) → IfOk (come_of result) Is
-  entry_come Is (Ok ready) is = is
-  entry_come Is (Err stop) is = is
+  -- and what is known of its entry, or of why it has none
+  pub entry_come : (Is : Entry → Type 0) (Stops : StreamStop → Type 0) (result : Result (Ready R W source sink) StreamStop)
+      → IfOk result (λ ready. Is (entry_of ready)) → IfErr result Stops → MatchResult (come_of result) Is Stops
+  entry_come Is Stops (Ok ready) is stops = is
+  entry_come Is Stops (Err stop) is stops = stops
 
 -- a reader that stands behind a header stands there by what was known before, too
 pub opened_of : (known bytes : Option (List ℕ)) (failures : ℕ) (reader : ReaderState) → Keeps known bytes → IsOpened bytes failures reader
@@ -58,3 +61,19 @@ opened_of None bytes failures reader keeps opened =
     record { header = opened.header; taken = tt; ahead = opened.ahead; is_open = opened.is_open; no_failure = opened.no_failure }
 opened_of (Some xs) None failures reader keeps opened = absurd keeps
 opened_of (Some xs) (Some ys) failures reader keeps opened = subst (λ (zs : List ℕ). IsOpened (Some zs) failures reader) keeps opened
+
+-- and where no header stands, none does by what was known before
+unknown_front : (bytes left : Option (List ℕ)) (fault : ReadFault) → StandsAtHeader fault bytes left → HasNoHeader None fault
+unknown_front bytes left Device stands = (left, (stands.0, tt, stands.2))
+unknown_front bytes left LineTooLong stands = (left, tt)
+unknown_front bytes left (Header e) stands = (left, (stands.0, stands.1, tt))
+unknown_front bytes left NotFrame stands = absurd stands
+unknown_front bytes left Truncated stands = (left, tt)
+unknown_front bytes left NoMemory stands = (left, (tt, (stands.1.0, tt, stands.1.2)))
+unknown_front bytes left Failed stands = absurd stands
+
+pub no_header_of : (known bytes left : Option (List ℕ)) (fault : ReadFault) → Keeps known bytes → StandsAtHeader fault bytes left
+    → HasNoHeader known fault
+no_header_of None bytes left fault keeps stands = unknown_front bytes left fault stands
+no_header_of (Some xs) None left fault keeps stands = absurd keeps
+no_header_of (Some xs) (Some ys) left fault keeps stands = subst (λ (zs : List ℕ). HasNoHeader (Some zs) fault) keeps (left, stands)

@@ -108,24 +108,24 @@ pub record Tells (workers quantum journal : ℕ) (openings : List Opening)
   pub given : rows_given told_row (map entrant_of openings) left ≡ Some rows
 
 -- the streams were opened as their words ask, and the rows tell of them
-pub record Serves (WasOpened WasMade : OfName) (checked : Checked) (rows : List StreamRow) : Type 0 where
+pub record Serves (OpenGives CreateGives : OfName) (checked : Checked) (rows : List StreamRow) : Type 0 where
   pub openings : List Opening
-  pub opened : AllZip (IsOpening WasOpened WasMade checked.height) checked.streams.items openings
+  pub opened : AllZip (IsOpening OpenGives CreateGives checked.height) checked.streams.items openings
   pub tells : Tells checked.workers checked.quantum checked.journal openings rows
 
 -- what is reported of these streams, in their order, went out; and whether all of them are whole
-pub record Reports (WasOpened WasMade : OfName) (checked : Checked) (old new : Option (List ℕ))
+pub record Reports (OpenGives CreateGives : OfName) (checked : Checked) (old new : Option (List ℕ))
     (whole : Bool) : Type 0 where
   pub rows : List StreamRow
-  pub serves : Serves WasOpened WasMade checked rows
+  pub serves : Serves OpenGives CreateGives checked rows
   pub all : whole ≡ list_all is_whole rows
   pub wrote : Appends old new (report_text rows)
 
 -- the streams that the words ask for are all whole, and what is reported of them went out
-pub record ServesAll (WasOpened WasMade : OfName) (words : ServeWords)
+pub record ServesAll (OpenGives CreateGives : OfName) (words : ServeWords)
     (old new : Option (List ℕ)) : Type 0 where
   pub checked : Checked
   pub options : HasOptions words checked
   pub asked : ChecksGive words (Ok (all_told checked.streams.items))
   pub said : AreSaid checked.streams.items
-  pub reported : Reports WasOpened WasMade checked old new true
+  pub reported : Reports OpenGives CreateGives checked old new true

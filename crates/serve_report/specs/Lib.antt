@@ -8,3 +8,4 @@ pub mod Entrants
 pub mod ReadAhead
 pub mod Inlets
 pub mod Filtering
+pub mod Options

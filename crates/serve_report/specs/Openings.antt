@@ -1,13 +1,17 @@
 -- What comes of opening the streams of a run.
-use Rattle.std.specs.Prelude.{ℕ, ◌≡◌, List, [], ◌∷◌, map, Option, Some, None, Result, Ok, Err, IfOk}
+use Rattle.std.specs.Prelude.{ℕ, ◌≡◌, List, [], ◌∷◌, map, Option, Some, None, Result, Ok, Err, MatchResult}
 use Rattle.std.specs.Borrow.{Bor}
 use Rattle.std.specs.List.{flat_map}
 use Rattle.filters.specs.Chain.{chain_of}
+use Rattle.filters.specs.Refusal.{IsChainRefusedAs}
+use Rattle.filters.specs.declared.error.FilterError.{FilterError}
 use Rattle.frame_view.specs.declared.geometry.Geometry.{Geometry}
 use Rattle.row_bands.specs.declared.band_height.BandHeight.{BandHeight}
 use Rattle.y4m_stream.specs.Failures.{one_more}
+use Rattle.y4m_stream.specs.Front.{StandsAtHeader}
 use Rattle.y4m_stream.specs.declared.device.Sink as sinks
 use Rattle.y4m_stream.specs.declared.device.Source as sources
+use Rattle.y4m_stream.specs.declared.fault.ReadFault.{ReadFault}
 use Rattle.y4m_stream.specs.Reader.{IsOfHeader, IsOpened, ReaderState}
 use Rattle.serve_core.specs.Setup.{StreamSpec}
 use Rattle.serve_core.specs.declared.limits.TheConstants.{MOST_FRAMES}
@@ -55,21 +59,52 @@ spec_asked height asked geometry = record {
 abbrev pub IsAsked : BandHeight → Asked → StreamSpec → Type 0
 IsAsked height asked spec = spec ≡ spec_asked height asked spec.geometry
 
--- a file of the name was opened, or made, with these bytes, where they are known
+-- opening, or making, a file of the name came to one with these bytes, where they are known, or to none
 abbrev pub OfName : Type 1
-OfName = (name : List ℕ) (bytes : Option (List ℕ)) → Type 0
+OfName = (name : List ℕ) (came : Option (Option (List ℕ))) → Type 0
+
+-- no header stands at the front of these bytes, for this reason
+abbrev pub HasNoHeader : Option (List ℕ) → ReadFault → Type 0
+HasNoHeader bytes fault = (left : Option (List ℕ)) × StandsAtHeader fault bytes left
+
+-- a file of the input's name was opened, and its header was read
+pub record HasInput (OpenGives : OfName) (asked : Asked) (reader : ReaderState) : Type 0 where
+  pub bytes : Option (List ℕ)
+  pub input : OpenGives asked.word.input.now (Some bytes)
+  pub behind : IsOpened bytes 0 reader
+
+-- one was opened that has no header, for this reason
+pub record LacksHeader (OpenGives : OfName) (asked : Asked) (fault : ReadFault) : Type 0 where
+  pub bytes : Option (List ℕ)
+  pub input : OpenGives asked.word.input.now (Some bytes)
+  pub none : HasNoHeader bytes fault
+
+-- the operations are refused, for this reason, for frames of the size in its header
+pub record LacksChain (OpenGives : OfName) (height : BandHeight) (asked : Asked) (error : FilterError) : Type 0 where
+  pub reader : ReaderState
+  pub input : HasInput OpenGives asked reader
+  pub geometry : Geometry
+  pub size : IsOfHeader reader.header geometry
+  pub refused : IsChainRefusedAs error (chain_of asked.ops.items geometry height)
 
 -- the entry that a word asks for: it is read from behind the header of a file of the input's name, and written
 -- to one of the output's name, of which no call failed yet
-pub record IsEntry (WasOpened WasMade : OfName) (height : BandHeight) (asked : Asked)
+pub record IsEntry (OpenGives CreateGives : OfName) (height : BandHeight) (asked : Asked)
     (entry : Entry) : Type 0 where
   pub spec : IsAsked height asked entry.spec
   pub size : IsOfHeader entry.input.0.header entry.spec.geometry
-  pub bytes : Option (List ℕ)
-  pub input : WasOpened asked.word.input.now bytes
-  pub reader : IsOpened bytes 0 entry.input.0
-  pub output : WasMade asked.word.output.now entry.input.1.contents
+  pub input : HasInput OpenGives asked entry.input.0
+  pub output : CreateGives asked.word.output.now (Some entry.input.1.contents)
   pub no_failure : entry.input.1.failures ≡ 0
+
+-- why a word has no entry: its input wasn't opened, or has no header, or its operations make no chain, or its
+-- output wasn't made
+abbrev pub HasNoEntry : (OpenGives CreateGives : OfName) → BandHeight → Asked → StreamStop → Type 0
+HasNoEntry OpenGives CreateGives height asked stops.Open = OpenGives asked.word.input.now None
+HasNoEntry OpenGives CreateGives height asked (stops.Read fault) = LacksHeader OpenGives asked fault
+HasNoEntry OpenGives CreateGives height asked (stops.Ops error) = LacksChain OpenGives height asked error
+HasNoEntry OpenGives CreateGives height asked stops.Create = CreateGives asked.word.output.now None
+HasNoEntry OpenGives CreateGives height asked stop = ⊥
 
 -- one more file was asked for to be written to, where it came to that
 abbrev pub made_before : StreamStop → ℕ → ℕ
@@ -81,12 +116,13 @@ made_after (Ok entry) made = one_more made
 made_after (Err stop) made = made_before stop made
 
 -- what comes of a word: one file is opened, and at most one is made
-pub record IsOpening (WasOpened WasMade : OfName) (height : BandHeight) (asked : Asked)
+pub record IsOpening (OpenGives CreateGives : OfName) (height : BandHeight) (asked : Asked)
     (opening : Opening) : Type 0 where
   pub name : opening.name ≡ asked.word.name
   pub opened : opening.opened ≡ 1
   pub made : opening.made ≡ made_after opening.entry 0
-  pub entry : IfOk opening.entry (IsEntry WasOpened WasMade height asked)
+  pub came : MatchResult opening.entry (IsEntry OpenGives CreateGives height asked)
+      (HasNoEntry OpenGives CreateGives height asked)
 
 -- a stream of a run, and why it takes no part in the session, if it doesn't
 abbrev pub stop_of : Result Entry StreamStop → Option StreamStop

@@ -1,5 +1,5 @@
 //! The files of a run, by name.
-ghost use Rattle.std.specs.Prelude.{ℕ, ◌≡◌, List, Option, IfOk};
+ghost use Rattle.std.specs.Prelude.{ℕ, ◌≡◌, List, None, Option, Some, IfErr, IfOk};
 ghost use Rattle.y4m_stream.specs.Failures.{one_more};
 ghost use Rattle.serve_report.specs.Inlets.{inlet_remaining};
 
@@ -16,19 +16,23 @@ pub trait Files {
 
     type Writer: Write + Drop + Send;
 
-    /// A file of this name was opened, and its reads will give these bytes, where they are known.
-    ghost was_opened: { (name : List ℕ) → (bytes : Option (List ℕ)) → Type 0 };
+    /// Opening a file of this name came to one whose reads will give these bytes, where they are known, or to
+    /// none.
+    ghost open_gives: { (name : List ℕ) → (came : Option (Option (List ℕ))) → Type 0 };
 
-    /// A file of this name was made, and holds these bytes, where they are known.
-    ghost was_made: { (name : List ℕ) → (bytes : Option (List ℕ)) → Type 0 };
+    /// Making a file of this name came to one that holds these bytes, where they are known, or to none.
+    ghost create_gives: { (name : List ℕ) → (came : Option (Option (List ℕ))) → Type 0 };
 
     /// Opens the file of this name for reading.
     fn open(&self, name: &str) -> io::Result<Inlet<Self::Reader, Self::Slow>>
-        ensures { IfOk result (λ inlet. was_opened name.now (inlet_remaining Self.Reader.remaining inlet)) };
+        ensures file { IfOk result (λ inlet.
+            open_gives name.now (Some (inlet_remaining Self.Reader.remaining inlet))) }
+        ensures none { IfErr result (λ _. open_gives name.now None) };
 
     /// Makes the file of this name for writing, or empties the one that is there.
     fn create(&self, name: &str) -> io::Result<Self::Writer>
-        ensures { IfOk result (λ file. was_made name.now (Self.Writer.contents file)) };
+        ensures file { IfOk result (λ file. create_gives name.now (Some (Self.Writer.contents file))) }
+        ensures none { IfErr result (λ _. create_gives name.now None) };
 }
 
 /// The files of a run for one stream, with a count of those that were asked for, for contracts alone.
@@ -57,7 +61,8 @@ impl<'f, F: Files> StreamFiles<'f, F> {
         ensures opened { self.new.opened ≡ one_more self.old.opened }
         ensures made { self.new.made ≡ self.old.made }
         ensures file { IfOk result (λ inlet.
-            F.was_opened name.now (inlet_remaining F.Reader.remaining inlet)) }
+            F.open_gives name.now (Some (inlet_remaining F.Reader.remaining inlet))) }
+        ensures none { IfErr result (λ _. F.open_gives name.now None) }
     {
         self.opened = self.opened.saturating_add(1);
         self.files.open(name)
@@ -67,7 +72,8 @@ impl<'f, F: Files> StreamFiles<'f, F> {
     pub fn create(&mut self, name: &str) -> io::Result<F::Writer>
         ensures opened { self.new.opened ≡ self.old.opened }
         ensures made { self.new.made ≡ one_more self.old.made }
-        ensures file { IfOk result (λ file. F.was_made name.now (F.Writer.contents file)) }
+        ensures file { IfOk result (λ file. F.create_gives name.now (Some (F.Writer.contents file))) }
+        ensures none { IfErr result (λ _. F.create_gives name.now None) }
     {
         self.made = self.made.saturating_add(1);
         self.files.create(name)

@@ -1,7 +1,7 @@
 // The program, over any reader and writers.
 ghost use Rattle.std.specs.Prelude.{ℕ, ◌≡◌, ◌≤◌, ◌↔◌, IfOk, IsOk, List, Option};
 ghost use Rattle.std.specs.Io.KnownBytes.{Keeps};
-ghost use Rattle.y4m_stream.specs.Filtered.{IsServed};
+ghost use Rattle.y4m_stream.specs.Filtered.{IsFiltered, IsServed};
 ghost use Rattle.serve_report.specs.Filtering.{AreAsked};
 
 use crate::files::Files;
@@ -172,12 +172,18 @@ fn filter_by<T: Threads, R: Source + Drop + Send, W: Sink + Drop>(
     ops: Vec<Op>,
     height: BandHeight,
 ) -> (W, Result<u64, FilterFault>)
-    ensures { IfOk result.1 (λ count. (left : Option (List ℕ)) × IsServed count ops.items height (record {
+    ensures served { IfOk result.1 (λ count. (left : Option (List ℕ)) × IsServed count ops.items height (record {
       input = R.remaining input;
       left = left;
       before = W.contents output;
       after = W.contents result.0;
     })) }
+    ensures alone { threads ≡ 1 → (left : Option (List ℕ)) × IsFiltered result.1 ops.items height (record {
+      input = R.remaining input;
+      left = left;
+      before = W.contents output;
+      after = W.contents result.0;
+    }) }
 {
     if threads == 1 {
         filter_stream(alloc, input, output, ops, height)

@@ -90,7 +90,7 @@ where
     ensures status { result ≤ 2 }
     ensures untouched { result ≡ 2 → Keeps (W.contents output.old) (W.contents output.new) }
     ensures well { result ≡ 0
-        → ServesAll F.was_opened F.was_made words.entry (W.contents output.old) (W.contents output.new) }
+        → ServesAll F.open_gives F.create_gives words.entry (W.contents output.old) (W.contents output.new) }
 {
     let checked = match check(alloc, &words) {
         Ok(checked) => checked,
@@ -125,7 +125,7 @@ where
     V: Watch + Sync,
     T: Threads + Wait + Clock + Copy + Drop + Send + Sync + 'static,
     ensures { IfOk result
-        (Reports F.was_opened F.was_made checked.entry (W.contents output.old) (W.contents output.new)) }
+        (Reports F.open_gives F.create_gives checked.entry (W.contents output.old) (W.contents output.new)) }
 {
     let told = begun(alloc, &checked.streams, told);
     let rows = serve_files(rt, alloc, checked, files, told);
@@ -161,7 +161,7 @@ where
     F: Files + Sync,
     V: Watch + Sync,
     T: Threads + Wait + Clock + Copy + Drop + Send + Sync + 'static,
-    ensures { IfOk result (λ rows. Serves F.was_opened F.was_made checked.entry rows.items) }
+    ensures { IfOk result (λ rows. Serves F.open_gives F.create_gives checked.entry rows.items) }
 {
     let Checked {
         workers,

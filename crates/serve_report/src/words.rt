@@ -1,14 +1,26 @@
 // The words of the command line.
-ghost use Rattle.std.specs.Prelude.{◌≤◌};
+ghost use Rattle.std.specs.Prelude.{◌+◌, ◌≤◌};
 ghost use Rattle.cbs_account.specs.declared.limits.TheConstants.{MOST_WORKERS};
+ghost use Rattle.edf_pool.specs.declared.limits.TheConstants.{MOST_STREAMS};
+ghost use Rattle.serve_core.specs.declared.limits.TheConstants.{MOST_QUANTUM};
+ghost use Rattle.serve_hub.specs.declared.limits.TheConstants.{MOST_ENTRIES};
 
+use self::given::{filter_words, serve_words};
 use crate::help;
 use cbs_account::limits::MOST_WORKERS;
 use clap::builder::ValueParser;
 use clap::error::ErrorKind;
 use clap::{Arg, ArgAction, ArgMatches, Command, value_parser};
+use edf_pool::limits::MOST_STREAMS;
 use row_bands::{FEWEST_BAND_ROWS, MOST_BAND_ROWS};
+use serve_core::limits::MOST_QUANTUM;
+use serve_hub::limits::MOST_ENTRIES;
 use std::alloc::{AllocError, Global};
+
+mod given;
+
+/// The fewest entries of a journal: one for each stream that may be served, and two.
+const FEWEST_JOURNAL: usize = MOST_STREAMS + 2;
 
 /// What the words ask for.
 #[derive(Drop)]
@@ -47,8 +59,8 @@ pub struct ServeWords<'a> {
     pub is_quiet: bool,
     /// The words that name the streams.
     pub streams: Vec<&'a str>,
-    ghost in_range: { (1 ≤ workers) × (workers ≤ MOST_WORKERS) × (1 ≤ quantum) × (quantum ≤ 64)
-        × (66 ≤ journal) × (journal ≤ 1048576) },
+    ghost in_range: { (1 ≤ workers) × (workers ≤ MOST_WORKERS) × (1 ≤ quantum) × (quantum ≤ MOST_QUANTUM)
+        × (MOST_STREAMS + 2 ≤ journal) × (journal ≤ MOST_ENTRIES) },
 }
 
 /// Why the words ask for nothing that is run.
@@ -110,10 +122,15 @@ fn workers_option<'a>(alloc: Global) -> Arg<'a> {
 }
 
 fn quantum_option<'a>(alloc: Global) -> Arg<'a> {
-    number_option(alloc, "quantum", "K", value_parser!(u32).range(1..=64))
-        .default_value("8")
-        .help(help::QUANTUM)
-        .long_help(help::QUANTUM_LONG)
+    number_option(
+        alloc,
+        "quantum",
+        "K",
+        value_parser!(u32).range(1..=MOST_QUANTUM as i64),
+    )
+    .default_value("8")
+    .help(help::QUANTUM)
+    .long_help(help::QUANTUM_LONG)
 }
 
 fn journal_option<'a>(alloc: Global) -> Arg<'a> {
@@ -121,7 +138,7 @@ fn journal_option<'a>(alloc: Global) -> Arg<'a> {
         alloc,
         "journal",
         "N",
-        value_parser!(u32).range(66..=1_048_576),
+        value_parser!(u32).range(FEWEST_JOURNAL as i64..=MOST_ENTRIES as i64),
     )
     .default_value("65536")
     .help(help::JOURNAL)
@@ -197,36 +214,10 @@ fn command<'a>(alloc: Global) -> Result<Command<'a>, AllocError> {
         .subcommand(serve_command(alloc)?)
 }
 
-/// The words that name the streams.
-fn stream_words<'a>(alloc: Global, matches: &ArgMatches<'a>) -> Result<Vec<&'a str>, AllocError> {
-    let mut streams = Vec::new(alloc);
-    for word in matches.get_strs("STREAM").unwrap_or(&[]) {
-        streams.push(*word)?;
-    }
-    Ok(streams)
-}
-
-/// The number of an option.
-fn number_of(matches: &ArgMatches<'_>, name: &str, default: u32) -> u32 {
-    matches.get_one::<u32>(name).unwrap_or(default)
-}
-
 fn request_of<'a>(alloc: Global, matches: &ArgMatches<'a>) -> Result<Request<'a>, AllocError> {
     match matches.subcommand() {
-        Some(("filter", inner)) => Ok(Request::Filter(FilterWords {
-            operations: inner.get_str("OPS").unwrap_or(""),
-            band: number_of(inner, "band", 16),
-            threads: number_of(inner, "threads", 2),
-            is_quiet: inner.get_flag("quiet"),
-        })),
-        Some(("serve", inner)) => Ok(Request::Serve(ServeWords {
-            workers: number_of(inner, "workers", 2).clamp(1, MOST_WORKERS as u32),
-            band: number_of(inner, "band", 16),
-            quantum: number_of(inner, "quantum", 8).clamp(1, 64),
-            journal: number_of(inner, "journal", 65_536).clamp(66, 1_048_576),
-            is_quiet: inner.get_flag("quiet"),
-            streams: stream_words(alloc, inner)?,
-        })),
+        Some(("filter", inner)) => Ok(Request::Filter(filter_words(inner))),
+        Some(("serve", inner)) => Ok(Request::Serve(serve_words(alloc, inner)?)),
         _ => Ok(Request::Replay),
     }
 }

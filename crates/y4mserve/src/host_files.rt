@@ -57,9 +57,9 @@ impl Files for HostFiles<'_> {
 
     type Writer = File;
 
-    ghost was_opened = { λ _ _. ⊤ };
+    ghost open_gives = { λ _ _. ⊤ };
 
-    ghost was_made = { λ _ _. ⊤ };
+    ghost create_gives = { λ _ _. ⊤ };
 
     fn open(&self, name: &str) -> io::Result<Inlet<File, File>> {
         let file = fs::open(self.rt, name)?;

@@ -1,16 +1,18 @@
 //! Opening the streams of a run, side by side.
-ghost use Rattle.std.specs.Prelude.{ℕ, ◌≡◌, ◌<◌, ◌++◌, ◌∷◌, [], IfOk, OnOk, length, map};
+ghost use Rattle.std.specs.Prelude.{ℕ, ◌≡◌, ◌<◌, ◌++◌, ◌∷◌, [], IfErr, IfOk, OnOk, length, map};
 ghost use Rattle.std.specs.Prelude.{slice_index_or, vec_len};
 ghost use Rattle.std.specs.Arc.{arc_value};
 ghost use Rattle.std.specs.List.{AllZip};
 ghost use Rattle.filters.specs.Chain.{chain_of};
+ghost use Rattle.filters.specs.Refusal.{IsChainRefusedAs};
 ghost use Rattle.y4m_stream.specs.Failures.{one_more};
 ghost use Rattle.y4m_stream.specs.Reader.{IsOpened};
 ghost use Rattle.serve_work.specs.Sessions.{AreInputs};
 ghost use Rattle.serve_report.specs.Entrants.{entered, stopped};
 ghost use Rattle.serve_report.specs.Inlets.{inlet_remaining};
-ghost use Rattle.serve_report.specs.Openings.{IsEntry, IsOpening, entrant_of, entry_of, input_of, inputs_in};
-ghost use Rattle.serve_report.specs.Openings.{made_after, opening_of, openings_of, specs_in};
+ghost use Rattle.serve_report.specs.Openings.{HasNoEntry, HasNoHeader, IsEntry, IsOpening, entrant_of};
+ghost use Rattle.serve_report.specs.Openings.{entry_of, input_of, inputs_in, made_after, opening_of};
+ghost use Rattle.serve_report.specs.Openings.{openings_of, specs_in};
 
 use super::checks::Asked;
 use super::ready::{Input, Ready};
@@ -125,7 +127,7 @@ pub fn open_all<'a, 'w, F: Files + Sync, V: Watch + Sync, T>(
 ) -> Result<Vec<Tried<'a, Inflows<'w, F, V, T>, Outflows<'w, F, V>>>, AllocError>
 where
     T: Threads + Wait + Clock + Copy + Drop + Send + Sync + 'static,
-    ensures { IfOk result (λ tried. AllZip (IsOpening F.was_opened F.was_made height) streams.entry.items
+    ensures { IfOk result (λ tried. AllZip (IsOpening F.open_gives F.create_gives height) streams.entry.items
         (openings_of tried.items)) }
 {
     let placed = with_places(alloc, streams)?;
@@ -158,10 +160,12 @@ where
     T: Threads + Wait + Clock + Copy + Drop + Send + Sync + 'static,
     ensures count { IfOk result (λ tried. vec_len tried ≡ vec_len placed.entry) }
     ensures each { IfOk result (λ tried. (i : ℕ) (job : _) (given : _) → i < length placed.entry.items
-        → IsOpening F.was_opened F.was_made height (slice_index_or placed.entry.items i job).asked
+        → IsOpening F.open_gives F.create_gives height (slice_index_or placed.entry.items i job).asked
         (opening_of (slice_index_or tried.items i given))) }
 {
-    let open = move |placed| try_stream(rt, alloc, placed, height, files, told);
+    let open = move |placed|
+        ensures { IsOpening F.open_gives F.create_gives height placed.entry.asked (opening_of result) }
+    { try_stream(rt, alloc, placed, height, files, told) };
     let tried = thread::map_vec(rt, placed, &open)?;
     Ok(tried)
 }
@@ -177,7 +181,7 @@ fn try_stream<'a, 'w, F: Files, V: Watch, T>(
 ) -> Tried<'a, Inflows<'w, F, V, T>, Outflows<'w, F, V>>
 where
     T: Threads + Wait + Clock + Copy + Drop + Send + 'static,
-    ensures { IsOpening F.was_opened F.was_made height placed.entry.asked
+    ensures { IsOpening F.open_gives F.create_gives height placed.entry.asked
         (opening_of result) }
 {
     let Placed { stream, asked } = placed;
@@ -234,8 +238,9 @@ where
     T: Threads + Wait + Clock + Copy + Drop + Send + 'static,
     ensures opened { files.new.opened ≡ one_more files.old.opened }
     ensures made { files.new.made ≡ made_after result files.old.made }
-    ensures ready { IfOk result (λ ready. IsEntry F.was_opened F.was_made height asked.entry
+    ensures ready { IfOk result (λ ready. IsEntry F.open_gives F.create_gives height asked.entry
         (entry_of ready)) }
+    ensures stop { IfErr result (HasNoEntry F.open_gives F.create_gives height asked.entry) }
     ensures stream { IfOk result (λ ready. ready.input.1.stream ≡ stream) }
 {
     let word = asked.word;
@@ -275,7 +280,8 @@ where
     S: Read + Drop + Send + 'static,
     V: Watch,
     T: Threads + Wait + Clock + Copy + Drop + Send + 'static,
-    ensures { IfOk result (IsOpened (inlet_remaining R.remaining inlet) 0) }
+    ensures reader { IfOk result (IsOpened (inlet_remaining R.remaining inlet) 0) }
+    ensures fault { IfErr result (HasNoHeader (inlet_remaining R.remaining inlet)) }
 {
     let over = OverInflow::new(inflow_of(rt, alloc, inlet));
     let source = WatchedSource::new(over, stream, told);
@@ -299,7 +305,8 @@ fn job_of(
     geometry: Geometry,
     height: BandHeight,
 ) -> Result<Arc<JobSpec>, FilterError>
-    ensures { IfOk result (λ spec. arc_value spec ≡ chain_of ops.items geometry height) }
+    ensures spec { IfOk result (λ spec. arc_value spec ≡ chain_of ops.items geometry height) }
+    ensures refused { IfErr result (λ error. IsChainRefusedAs error (chain_of ops.items geometry height)) }
 {
     let chain = Chain::new(alloc, ops, geometry, height)?;
     let spec = Arc::new(alloc, JobSpec::new(chain))?;

@@ -100,9 +100,9 @@ impl<'a, T: Wait + Sync> Files for Memory<'a, T> {
 
     type Writer = Output<'a, T>;
 
-    ghost was_opened = { λ _ _. ⊤ };
+    ghost open_gives = { λ _ _. ⊤ };
 
-    ghost was_made = { λ _ _. ⊤ };
+    ghost create_gives = { λ _ _. ⊤ };
 
     fn open(&self, name: &str) -> io::Result<Inlet<Tape<'a>, Tape<'static>>> {
         count(self.rt, &self.asked);
@@ -142,9 +142,9 @@ impl Files for NoFiles {
 
     type Writer = io::Sink;
 
-    ghost was_opened = { λ _ _. ⊤ };
+    ghost open_gives = { λ _ _. ⊤ };
 
-    ghost was_made = { λ _ _. ⊤ };
+    ghost create_gives = { λ _ _. ⊤ };
 
     fn open(&self, _name: &str) -> io::Result<Inlet<io::Empty, io::Empty>> {
         Err(io::Error::from(ErrorKind::NotFound))

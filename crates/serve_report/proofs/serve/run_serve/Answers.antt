@@ -10,7 +10,7 @@ returns-in-Ok-true-clause-well g c =
       asked = c.in-Ok.ensures.passed;
       options = c.in-Ok.ensures.options;
       said = c.in-Ok.ensures.ops;
-      reported = subst (λ whole. Reports g.F.Files.was_opened g.F.Files.was_made checked
+      reported = subst (λ whole. Reports g.F.Files.open_gives g.F.Files.create_gives checked
           (g.W.Write.contents c.args.output.now) (g.W.Write.contents c.serve.new.output) whole)
           c.in-Ok-true.field-0-test c.in-Ok-true.ensures;
     }

@@ -24,9 +24,9 @@ impl<'a, T: Wait + Sync> Files for Meeting<'a, T> {
 
     type Writer = Output<'a, T>;
 
-    ghost was_opened = { λ _ _. ⊤ };
+    ghost open_gives = { λ _ _. ⊤ };
 
-    ghost was_made = { λ _ _. ⊤ };
+    ghost create_gives = { λ _ _. ⊤ };
 
     fn open(&self, name: &str) -> io::Result<Inlet<Tape<'a>, Tape<'static>>> {
         self.parts.meet(if name == "a.y4m" { 0 } else { 1 });

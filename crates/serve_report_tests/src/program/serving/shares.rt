@@ -141,9 +141,9 @@ impl<'a> Files for Both<'a> {
 
     type Writer = Output<'a>;
 
-    ghost was_opened = { λ _ _. ⊤ };
+    ghost open_gives = { λ _ _. ⊤ };
 
-    ghost was_made = { λ _ _. ⊤ };
+    ghost create_gives = { λ _ _. ⊤ };
 
     fn open(&self, name: &str) -> io::Result<Inlet<Input<'a>, Empty>> {
         Ok(Inlet::Prompt(Input {

@@ -8,7 +8,7 @@ pub returns : goal.returns
 returns g c =
     let jobs = c.in_ok-placed.placed in
     let tried = c.in_ok-tried.tried in
-    let Comes = IsOpening g.F.Files.was_opened g.F.Files.was_made c.args.height in
+    let Comes = IsOpening g.F.Files.open_gives g.F.Files.create_gives c.args.height in
     subst (λ streams. AllZip Comes streams (openings_of tried.items)) c.in_ok-placed.ensures
     (zipped (λ job. job.asked) opening_of Comes jobs.items tried.items (sym tried.ok.0 ∙ c.in_ok-tried.ensures.count ∙ jobs.ok.0)
     c.in_ok-tried.ensures.each)

@@ -7,6 +7,6 @@ pub returns-clause-each : goal.returns-clause-each
 returns-clause-each g c = λ i job given less.
     let came = (c.in_ok-tried.ensures.each i given less).1 in
     let call = came.call in
-    subst (λ (placed : Placed). IsOpening g.F.Files.was_opened g.F.Files.was_made c.args.height placed.asked
+    subst (λ (placed : Placed). IsOpening g.F.Files.open_gives g.F.Files.create_gives c.args.height placed.asked
     (opening_of (slice_index_or c.in_ok-tried.tried.items i given)))
     (sym (came.job_is job)) (search rules)

@@ -1,6 +1,6 @@
 use Rattle.std.proofs.Common.{◌∙◌, ap, refl, sym}
 use Rattle.y4m_stream.specs.Failures.{one_more}
-use Rattle.serve_report.specs.Openings.{IsEntry, made_after}
+use Rattle.serve_report.specs.Openings.{HasNoEntry, IsEntry, made_after}
 use Rattle.serve_report.proofs.Openings.{entry_come, made_come}
 use Rattle.serve_report.proofs.serve.opening.try_stream.Goals as goal
 
@@ -11,6 +11,7 @@ returns g c =
       name = refl;
       opened = ready.ensures.opened ∙ ap one_more c.new-files.ensures.opened;
       made = ready.ensures.made ∙ ap (made_after ready.result) c.new-files.ensures.made ∙ sym (made_come ready.result 0);
-      entry = entry_come (IsEntry g.F.Files.was_opened g.F.Files.was_made c.args.height c.args.placed.asked)
-          ready.result ready.ensures.ready;
+      came = entry_come (IsEntry g.F.Files.open_gives g.F.Files.create_gives c.args.height c.args.placed.asked)
+          (HasNoEntry g.F.Files.open_gives g.F.Files.create_gives c.args.height c.args.placed.asked)
+          ready.result ready.ensures.ready ready.ensures.stop;
     }

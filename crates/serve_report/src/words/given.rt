@@ -1,0 +1,58 @@
+//! What the words of the command line give for each option.
+ghost use Rattle.std.specs.Prelude.{IfOk};
+ghost use Rattle.serve_report.specs.Options.{HasFilterOptions, HasServeOptions, IsNumberOf};
+
+use super::{FEWEST_JOURNAL, FilterWords, ServeWords};
+use cbs_account::limits::MOST_WORKERS;
+use clap::ArgMatches;
+use serve_core::limits::MOST_QUANTUM;
+use serve_hub::limits::MOST_ENTRIES;
+use std::alloc::{AllocError, Global};
+
+/// The words that name the streams.
+fn stream_words<'a>(alloc: Global, matches: &ArgMatches<'a>) -> Result<Vec<&'a str>, AllocError> {
+    let mut streams = Vec::new(alloc);
+    for word in matches.get_strs("STREAM").unwrap_or(&[]) {
+        streams.push(*word)?;
+    }
+    Ok(streams)
+}
+
+/// The number of an option.
+fn number_of(matches: &ArgMatches<'_>, name: &str, default: u32) -> u32
+    ensures { IsNumberOf matches.now name.now default result }
+{
+    matches.get_one::<u32>(name).unwrap_or(default)
+}
+
+/// What a stream is filtered by.
+pub fn filter_words<'a>(matches: &ArgMatches<'a>) -> FilterWords<'a>
+    ensures { HasFilterOptions matches.now result }
+{
+    FilterWords {
+        operations: matches.get_str("OPS").unwrap_or(""),
+        band: number_of(matches, "band", 16),
+        threads: number_of(matches, "threads", 2),
+        is_quiet: matches.get_flag("quiet"),
+    }
+}
+
+/// The streams that are served, and by what.
+pub fn serve_words<'a>(
+    alloc: Global,
+    matches: &ArgMatches<'a>,
+) -> Result<ServeWords<'a>, AllocError>
+    ensures { IfOk result (HasServeOptions matches.now) }
+{
+    Ok(ServeWords {
+        workers: number_of(matches, "workers", 2).clamp(1, MOST_WORKERS as u32),
+        band: number_of(matches, "band", 16),
+        quantum: number_of(matches, "quantum", 8).clamp(1, MOST_QUANTUM as u32),
+        journal: number_of(matches, "journal", 65_536).clamp(
+            FEWEST_JOURNAL as u32,
+            MOST_ENTRIES as u32,
+        ),
+        is_quiet: matches.get_flag("quiet"),
+        streams: stream_words(alloc, matches)?,
+    })
+}
