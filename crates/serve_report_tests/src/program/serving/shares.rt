@@ -13,16 +13,17 @@ use std::test::Fail;
 use std::thread::Threads;
 use std::time::Clock;
 
-/// Its frames have one band of 64 rows.
-const HEADER: &[u8] = b"YUV4MPEG2 W256 H64 Cmono\n";
+/// Its frames have four bands of 128 rows. Their work takes longer than a client that was woken waits for a
+/// processor, so that frames wait for the worker.
+const HEADER: &[u8] = b"YUV4MPEG2 W2048 H512 Cmono\n";
 
 const LINE: &[u8] = b"FRAME\n";
 
 /// The bytes of a frame with its line.
-const FRAME: u64 = 6 + 256 * 64;
+const FRAME: u64 = 6 + 2048 * 512;
 
 /// How often a run is tried: other work may hold up a client, whose stream is then not served in its turn.
-const TRIES: u32 = 5;
+const TRIES: u32 = 10;
 
 /// Two streams of a run: how many bytes of each were written, and what is to be seen of the second one.
 #[derive(Drop)]
@@ -191,13 +192,14 @@ fn runs<T: Abort + Threads + Wait + Clock + Copy + Drop + Send + Sync + 'static>
     Ok(pair.seen.load(SeqCst))
 }
 
-/// Words of which the first stream has 24 times the share of the second, in either order. A frame costs 8.
+/// Words of which the first stream has 24 times the share of the second, in either order. A frame costs 32.
 const SHARES: &[&str] = &[
     "serve --workers 1 --band 128 a:first:first:24:25:blur:7 b:second:second:1:25:blur:7",
     "serve --workers 1 --band 128 b:second:second:1:25:blur:7 a:first:first:24:25:blur:7",
 ];
 
-/// When the first ends, a fourth of the second's images would be far too many.
+/// When the first ends, all of the second's images are there where their shares are equal, and two where each
+/// always has a frame waiting; other work on the machine may make them more.
 #[test]
 fn who_has_the_greater_share_is_served_first(rt: HostRuntime) -> Result<(), Fail> {
     for line in SHARES {
@@ -205,12 +207,12 @@ fn who_has_the_greater_share_is_served_first(rt: HostRuntime) -> Result<(), Fail
         for _ in 0..TRIES {
             let pair = Pair::new([48, 48], 48);
             least = least.min(runs(&rt, rt.alloc(), line, &pair)?);
-            if least <= 12 {
+            if least <= 24 {
                 break;
             }
         }
         assert!(rt;
-            least <= 12,
+            least <= 24,
             "{line}: {least} images of the second beside 48"
         );
     }
