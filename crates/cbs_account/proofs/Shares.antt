@@ -16,7 +16,7 @@ share_covers q t = (div_ceil_times (q * WHOLE) (suc t) (omega arith)).0
 scaled : (q s k t m : ℕ) → k * t ≡ m → q * WHOLE * k ≤ s * t * k → q * k * WHOLE ≤ m * s
 scaled q s k t m rounds covered = rw (← rounds) (omega (arith, covered))
 
--- what a server may use of a time that its period divides is no more than its share of that time
+-- the units of a time that a period divides are no more than the share of that time
 use_covered : (q t m : ℕ) → m % t ≡ 0 → q * (m / t) * WHOLE ≤ m * share q t
 use_covered q zero m whole = rw div-zero (omega arith)
 use_covered q (suc t) m whole =

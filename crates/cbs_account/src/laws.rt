@@ -22,7 +22,7 @@ pub fn bandwidth()
     ensures { Bandwidth }
 {}
 
-/// How far a deadline can be put off: `n` units after an arrival at `r` that recharged it is at most
+/// How far a deadline can be put off: `n` units after the last arrival that recharged, at `r`, it is at most
 /// `r + T * (1 + n)`.
 ///
 /// Each unit costs at most one recharge, and so one period.
@@ -49,8 +49,8 @@ pub fn charge_limit()
 
 /// What the shares are for: servers that fit on the workers ask for no more time than these have.
 ///
-/// In a time `m` that each period divides, a server may use `Q * (m / T)`. The sum is at most `m` for each
-/// worker.
+/// In a time `m` that each period divides, a server's share is `Q * (m / T)` units. The sum is at most `m` for
+/// each worker.
 pub fn total_bandwidth()
     ensures { TotalBandwidth }
 {}

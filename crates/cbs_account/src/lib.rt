@@ -1,10 +1,11 @@
 //! The account of one constant bandwidth server: a budget and a deadline, by the rules of Abeni and Buttazzo
 //! (RTSS 1998), and the admission of such servers to workers that have time for them.
 //!
-//! A server may use `Q` units in every period `T`. It lives by its own events: a unit of its work is done, or
-//! a job arrives at a moment and finds it idle. `specs/Rules.antt` is the fold of the rules over such a past;
-//! [`Account`] keeps the two numbers that the fold gives, and [`laws`] says what the fold itself promises.
-//! `specs/Admission.antt` is the sum of the servers' shares, which [`Admission`] keeps.
+//! A server's share is `Q` units in every period `T`: what it uses beyond that moves its deadline back. It
+//! lives by its own events: a unit of its work is done, or a job arrives at a moment and finds it idle.
+//! `specs/Rules.antt` is the fold of the rules over such a past; [`Account`] keeps the two numbers that the
+//! fold gives, and [`laws`] says what the fold itself promises. `specs/Admission.antt` is the sum of the
+//! servers' shares, which [`Admission`] keeps.
 #![tactic(auto)]
 
 pub mod account;

@@ -215,7 +215,7 @@ Refusals change nothing, and the script goes on: 'refused N WORD', the lowest N:
   12 Past          The moment is before the clock.
   13 ClockEnd      The moment is too late.
   14 AlreadyClosed  The stream was closed before.
-  15 Empty         No image waits.
+  15 Empty         No image waits, and 16 doesn't hold.
   16 Drained       No image will come: the stream is closed and all is collected.
   20 TooManyStreams  64 streams have a number, and none is used again.
   21 BadLimits     A number of the line that asks for a stream is outside its
@@ -330,7 +330,7 @@ pub const SERVE_PAGE: &str = "Shares:
   A lease of a worker has no more bands than the units that are left of Q pay
   for, but one at least, so a Q below the quantum makes leases short.
 
-Example: fast has half of one worker, and slow a sixth.
+Example: fast's share is half of one worker, and slow's is a sixth.
   y4mserve serve --workers 1 \\
     fast:a.y4m:a.out:30:60:invert slow:b.y4m:b.out:10:60:blur:2
 While both have had frames waiting from the start, the worker does about 3 units

@@ -62,9 +62,12 @@ impl<R: Source> Lookahead<R> {
         &self.bytes[..self.len]
     }
 
-    /// Whether there are bytes, or an end or a fault, without a wait beyond so many milliseconds.
-    pub fn is_ready(&self, milliseconds: u64) -> bool {
-        self.len > 0 || self.source.is_ready(milliseconds)
+    /// The source, which doesn't give again what is held.
+    pub fn source(&self) -> &R
+        ensures left { R.remaining result.now ≡ self.now.left }
+        ensures failures { R.failures result.now ≡ self.now.failures }
+    {
+        &self.source
     }
 
     /// Reads once, behind the bytes that are held.

@@ -147,7 +147,7 @@ impl<R: Source + Drop> StreamReader<R> {
     /// many milliseconds, as the source does, and takes no byte. A frame of which a part has come may still
     /// be waited for when it is read.
     pub fn is_ready(&self, milliseconds: u64) -> bool {
-        self.input.is_ready(milliseconds)
+        !self.input.held().is_empty() || self.input.source().is_ready(milliseconds)
     }
 
     /// Reads the next frame, or answers none at the end.

@@ -27,15 +27,15 @@ pub fn delay_law()
     bandwidth();
 }
 
-/// What the streams were charged whose deadline is at most a moment, but for those that are released, is no
-/// more than the workers can do by then.
+/// What the streams were charged whose deadline is at most a moment, but for those that are released, is at
+/// most that moment, once for each worker.
 pub fn demand_law()
     ensures of_frames { DemandLaw measures is_image }
     ensures bare { DemandLaw measures_any is_any_image }
 {}
 
-/// What all the streams that there ever were were charged, and whose deadline is at most a moment, is no more
-/// than the workers can do by then.
+/// What all the streams that there ever were were charged, and whose deadline is at most a moment, is at most
+/// that moment, once for each worker.
 ///
 /// A stream that is admitted finds only the time behind the deadlines of those whose share it takes over: this
 /// is why a share is held up to its stream's deadline.

@@ -1,11 +1,7 @@
-use Rattle.std.proofs.Common.{sym, refl, ◌∙◌}
+use Rattle.std.proofs.Common.{refl, ◌∙◌}
 use Rattle.std.proofs.lemmas.Simd.{splat_is_map}
-use Rattle.std.proofs.lemmas.List.{map-id}
 use Rattle.filters.proofs.in_place.change_chroma.Goals as goal
 
 pub returns-in-Threshold : goal.returns-in-Threshold
 returns-in-Threshold c =
     rw c.in-Threshold.is (c.fill.ensures.after (λ y e. e) ∙ splat_is_map c.args.samples.now _ 128 refl)
-
-pub returns-in-Clamp : goal.returns-in-Clamp
-returns-in-Clamp c = rw c.in-Clamp.is (sym (map-id c.args.samples.now))
