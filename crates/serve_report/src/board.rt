@@ -97,7 +97,7 @@ impl Progress {
     }
 }
 
-/// The line of a stream that is alone. One thread tells of it, so that the lock is free.
+/// The line of a stream that is alone, or of all together where there was no memory for a board.
 #[derive(Drop)]
 pub struct Line {
     progress: Mutex<Progress>,
