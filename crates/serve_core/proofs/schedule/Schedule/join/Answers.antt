@@ -1,5 +1,6 @@
-use Rattle.std.proofs.Common.{◌≡◌, None, ◌∙◌, ap, sym}
-use Rattle.serve_core.specs.Schedule.{deadlines}
+use Rattle.std.proofs.Common.{◌≡◌, None, List, [], ◌∷◌, ◌++◌, length, ◌∙◌, ap, arith, sym}
+use Rattle.serve_core.specs.Schedule.{ScheduleValue, deadlines, with_stream}
+use Rattle.serve_core.specs.ScheduleInside.{schedule}
 use Rattle.serve_core.specs.States.{ready_deadline}
 use Rattle.serve_core.specs.Streams.{KeptStream}
 use Rattle.serve_core.proofs.Schedules.Holdings.{shown_more}
@@ -15,3 +16,12 @@ invariant_of-self c =
       pool = c.grow.ensures ∙ shown_more c.self.inside.pool c.self.inside.streams.items stream c.self.invariant.pool idle
           ∙ ap deadlines (sym c.in-Ok.ensures.items);
     }
+
+pub returns-in-Ok-clause-ok : goal.returns-in-Ok-clause-ok
+returns-in-Ok-clause-ok c =
+    let old = c.self.inside.streams.items in
+    let more = c.in-Ok.ensures.items ∙ ap (λ (stream : KeptStream). old ++ stream ∷ []) c.into_stream.ensures in (
+      omega (arith, c.len-number.ensures, ap (λ (x : ScheduleValue). length x.streams) c.self.view_is),
+      ap (λ (streams : List KeptStream). record (schedule c.self.inside) { streams = streams }) more
+          ∙ ap (with_stream c.args.newcomer) c.self.view_is,
+    )

@@ -5,6 +5,9 @@ use Rattle.serve_core.proofs.Items.Options.{and_some}
 use Rattle.serve_core.proofs.Schedules.Jobs.{gains}
 use Rattle.serve_core.proofs.stream.Stream.finish.Goals as goal
 
+pub returns-clause-number : goal.returns-clause-number
+returns-clause-number c = c.finish-number.ensures.number ∙ ap (λ (l : KeptStream). l.state.finished) c.self.view_is
+
 pub returns-clause-image : goal.returns-clause-image
 returns-clause-image c =
     let made = c.into_image-source in
