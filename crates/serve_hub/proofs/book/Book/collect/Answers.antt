@@ -1,12 +1,20 @@
-use Rattle.std.proofs.Common.{◌≤◌, ◌+◌, ◌++◌, ◌∷◌, [], slice_get, refl, sym, ◌∙◌, ap, subst, arith}
-use Rattle.serve_core.proofs.Items.Options.{some_and}
+use Rattle.std.proofs.Common.{◌≤◌, ◌+◌, ◌++◌, ◌∷◌, [], None, slice_get, refl, sym, ◌∙◌, ap, subst, arith}
+use Rattle.std.proofs.lemmas.List.{length-reverse}
+use Rattle.serve_core.proofs.Items.Options.{and_some, some_and}
 use Rattle.serve_hub.specs.declared.entry.Act.TheVariants.{Collected}
 use Rattle.serve_hub.specs.declared.entry.Seat.TheVariants.{Stream}
+use Rattle.serve_hub.specs.Answers.{DeskGives}
 use Rattle.serve_hub.specs.BookInside.{book}
 use Rattle.serve_hub.specs.Books.{BookValue, room, taken}
 use Rattle.serve_hub.proofs.Entered.{collect_entered, collected_here}
 use Rattle.serve_hub.proofs.Inside.{kept, no_more}
 use Rattle.serve_hub.proofs.book.Book.collect.Goals as goal
+
+pub push_reserved-requires : goal.push_reserved-requires
+push_reserved-requires c =
+    let free = c.if-room-lt1.false in
+    let left = length-reverse c.self.inside.journal.items in
+    omega (arith, free, c.room.ensures, ap room c.self.view_is, c.self.invariant.reserved, left)
 
 pub invariant_of-self-2 : goal.invariant_of-self-2
 invariant_of-self-2 c =
@@ -26,3 +34,12 @@ invariant_of-self-2 c =
       items = c.push_reserved.ensures.items ∙ ap (λ e. c.self.inside.journal.items ++ e ∷ []) c.new.ensures;
       capacity = c.push_reserved.ensures.capacity;
     }) h refl (no_more c.self.inside.units.items)
+
+pub returns-clause-answer : goal.returns-clause-answer
+returns-clause-answer c =
+    let a = some_and (slice_get c.self.inside.desk.streams c.args.s) _ c.in_ok-pair.ensures.pair in
+    let gives : DeskGives c.self.inside.desk c.args.s None =
+    and_some (slice_get c.self.inside.desk.streams c.args.s) _ a.0 a.1 a.2.0.less in (
+      subst (λ (b : BookValue). DeskGives b.desk c.args.s None) c.self.view_is gives,
+      omega (arith, c.if-room-lt1.false, c.room.ensures),
+    )

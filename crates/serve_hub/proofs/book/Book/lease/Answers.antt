@@ -1,13 +1,21 @@
-use Rattle.std.proofs.Common.{◌≡◌, ◌≤◌, ◌+◌, ◌++◌, ◌∷◌, [], refl, sym, ◌∙◌, ap, subst, arith}
+use Rattle.std.proofs.Common.{◌≡◌, ◌≤◌, ◌+◌, ◌++◌, ◌∷◌, [], None, refl, sym, ◌∙◌, ap, subst, arith}
 use Rattle.serve_hub.specs.declared.book.Book.TheInside.{Inside}
+use Rattle.std.proofs.lemmas.List.{length-reverse}
 use Rattle.serve_hub.specs.declared.entry.Act.TheVariants.{Leased}
 use Rattle.serve_hub.specs.declared.entry.Seat.TheVariants.{Worker}
+use Rattle.serve_hub.specs.Answers.{DeskLends}
 use Rattle.serve_hub.specs.BookInside.{book}
 use Rattle.serve_hub.specs.Books.{BookValue, room, taken}
 use Rattle.serve_hub.specs.Journal.{entry_of}
 use Rattle.serve_hub.proofs.Entered.{given_out, lease_entered}
 use Rattle.serve_hub.proofs.Inside.{kept, no_more}
 use Rattle.serve_hub.proofs.book.Book.lease.Goals as goal
+
+pub push_reserved-requires : goal.push_reserved-requires
+push_reserved-requires c =
+    let free = c.if-room-lt2.false in
+    let left = length-reverse c.self.inside.journal.items in
+    omega (arith, free, c.room.ensures, ap room c.self.view_is, c.self.invariant.reserved, left)
 
 pub invariant_of-self-2 : goal.invariant_of-self-2
 invariant_of-self-2 c =
@@ -39,3 +47,10 @@ returns-clause-recorded c =
       units = c.self.inside.units;
     } in
     given_out (book z) c.self.inside.desk c.args.w c.in_ok-lease.lease c.in_ok-lease.ensures.free c.in_ok-lease.ensures.job
+
+pub returns-clause-answer : goal.returns-clause-answer
+returns-clause-answer c =
+    let lends : DeskLends c.self.inside.desk c.args.w None = (c.in_ok-lease.ensures.free, c.in_ok-lease.ensures.ready) in (
+      subst (λ (b : BookValue). DeskLends b.desk c.args.w None) c.self.view_is lends,
+      omega (arith, c.if-room-lt2.false, c.room.ensures),
+    )

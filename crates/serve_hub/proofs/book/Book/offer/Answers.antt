@@ -1,10 +1,15 @@
-use Rattle.std.proofs.Common.{ℕ, ◌≤◌, ◌+◌, ◌++◌, ◌∷◌, [], sym, ◌∙◌, ap, subst, refl, arith}
+use Rattle.std.proofs.Common.{ℕ, ◌≤◌, ◌+◌, ◌++◌, ◌∷◌, [], inl, inr, None, sym, ◌∙◌, ap, subst, refl, arith}
 use Rattle.std.specs.Arc.{arc_value}
+use Rattle.frame_view.specs.declared.geometry.Geometry.{Geometry}
+use Rattle.serve_core.specs.declared.refusal.Refusal as core
+use Rattle.serve_core.specs.Desk as desks
 use Rattle.serve_core.specs.Desk.{TakesFrame}
 use Rattle.serve_hub.specs.declared.book.Book.TheInside.{Inside}
 use Rattle.serve_hub.specs.declared.entry.Act.{Act}
 use Rattle.serve_hub.specs.declared.entry.Act.TheVariants.{Offered}
 use Rattle.serve_hub.specs.declared.entry.Seat.TheVariants.{Stream}
+use Rattle.serve_hub.specs.declared.refusal.Refusal.TheVariants.{Core}
+use Rattle.serve_hub.specs.Answers.{RefusesOffer}
 use Rattle.serve_hub.specs.BookInside.{book}
 use Rattle.serve_hub.specs.Books.{Appends, BookValue, room, taken}
 use Rattle.serve_hub.specs.Journal.{entry_of, tick_of}
@@ -64,3 +69,26 @@ pub returns-in-Ok-clause-job : goal.returns-in-Ok-clause-job
 returns-in-Ok-clause-job c =
     subst (λ (x : BookValue). TakesFrame c.args.s c.args.at (arc_value c.args.frame) c.in-Ok.number x.desk
     c.offer.new.self) c.self.view_is c.in-Ok.ensures.job
+
+pub returns-in-Ok-clause-answer : goal.returns-in-Ok-clause-answer
+returns-in-Ok-clause-answer c = (
+  subst (λ (b : BookValue). desks.IsOfferAnswer b.desk c.args.s c.args.at (arc_value c.args.frame).geometry None)
+      c.self.view_is c.in-Ok.ensures.answer,
+  omega (arith, c.if-room-lt1.false, c.room.ensures),
+)
+
+-- where the journal has a place, the book refuses as its desk does
+refused_so : (b : BookValue) (s at : ℕ) (g : Geometry) (e : core.Refusal) → 1 ≤ room b
+    → desks.RefusesOffer b.desk s at g e → RefusesOffer b s at g (Core e)
+refused_so b s at g e has_room told =
+    elim told [
+      | inl answer ↦ inl answer
+      | inr memory ↦ inr (ap Core memory.0, (memory.1, has_room))
+    ]
+
+pub returns-in-Err-clause-refused : goal.returns-in-Err-clause-refused
+returns-in-Err-clause-refused c =
+    let g = (arc_value c.args.frame).geometry in
+    let e = c.in-Err.refusal in
+    let told = subst (λ (b : BookValue). desks.RefusesOffer b.desk c.args.s c.args.at g e) c.self.view_is c.in-Err.ensures.refused in
+    refused_so c.args.self.now c.args.s c.args.at g e (omega (arith, c.if-room-lt1.false, c.room.ensures)) told

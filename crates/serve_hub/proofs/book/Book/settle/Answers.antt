@@ -1,11 +1,13 @@
-use Rattle.std.proofs.Common.{◌≡◌, ◌≤◌, ◌<◌, ◌+◌, ◌^◌, ◌++◌, ◌∷◌, [], is_some, length, slice_index_or, Some}
+use Rattle.std.proofs.Common.{ℕ, ◌≡◌, ◌≤◌, ◌<◌, ◌+◌, ◌^◌, ◌++◌, ◌∷◌, [], is_some, length, slice_get, slice_index_or, Some, IsSomeAnd}
 use Rattle.std.proofs.Common.{slice_set, refl, sym, ◌∙◌, ap, subst, arith}
 use Rattle.std.proofs.lemmas.List.{get_or_read, length-reverse}
 use Rattle.std.proofs.lemmas.Option.{slice_get-get_or, slice_get_within}
 use Rattle.std.specs.Vec.{with_item}
-use Rattle.lease.specs.Lease.{spent_of}
-use Rattle.serve_core.specs.Desk.{IsRecorded}
-use Rattle.serve_core.specs.Schedule.{HasStream}
+use Rattle.std.proofs.lemmas.Bool.{false≢true}
+use Rattle.lease.specs.Lease.{LeaseValue, spent_of}
+use Rattle.serve_core.specs.declared.held.Held.{Held}
+use Rattle.serve_core.specs.Desk.{IsHeldBy, IsRecorded, RefusesSettle}
+use Rattle.serve_core.specs.Schedule.{HasLease, HasStream, ScheduleValue}
 use Rattle.serve_hub.specs.declared.book.Book.TheInside.{Inside}
 use Rattle.serve_hub.specs.declared.entry.Act.TheVariants.{Settled}
 use Rattle.serve_hub.specs.declared.entry.Seat.TheVariants.{Worker}
@@ -17,6 +19,37 @@ use Rattle.serve_hub.proofs.Entered.{IsEntered}
 use Rattle.serve_hub.proofs.Inside.{IsPushed, appends_spent, few_more, kept}
 use Rattle.serve_hub.proofs.Settling.{desk_settled, finished_as, settle_entered}
 use Rattle.serve_hub.proofs.book.Book.settle.Goals as goal
+
+pub returns-in-Err-clause-refused : goal.returns-in-Err-clause-refused
+returns-in-Err-clause-refused c =
+    subst (λ (b : BookValue). RefusesSettle b.desk c.args.w c.in-Err.refusal) c.self.view_is c.in-Err.ensures.err
+
+pub returns-then-not-is_recorded-clause-back : goal.returns-then-not-is_recorded-clause-back
+returns-then-not-is_recorded-clause-back c = (refl, refl)
+
+pub returns-then-not-is_recorded-clause-refused : goal.returns-then-not-is_recorded-clause-refused
+returns-then-not-is_recorded-clause-refused c =
+    let held = c.in-Ok.held in
+    let has = subst (λ (b : BookValue). slice_get b.desk.workers c.args.w ≡ Some (Some held)) c.self.view_is c.in-Ok.ensures.ok in
+    rw has (refl, λ out. false≢true (c.if-not-is_recorded.ensures.1 out))
+
+-- the lease is what the desk has of it
+is_held : (x : ScheduleValue) (w : ℕ) (lease : LeaseValue) (held : Held) → HasLease x w held
+    → HasStream x held.stream (IsRecorded lease held) → IsHeldBy x w lease
+is_held x w lease held here recorded other stream mine its =
+    let same : held ≡ other = cc in
+    let there = subst (λ (h : Held). HasStream x h.stream (IsRecorded lease h)) same recorded in
+    subst (λ o. IsSomeAnd o (IsRecorded lease other)) its there
+
+pub take_back-number-requires-clause-recorded : goal.take_back-number-requires-clause-recorded
+take_back-number-requires-clause-recorded c =
+    let held = c.in-Ok.held in
+    let recorded = subst (λ (b : BookValue). HasStream b.desk held.stream (IsRecorded c.args.lease held)) (sym c.self.view_is)
+    (c.if-not-is_recorded.ensures.0 refl) in
+    is_held c.self.inside.desk c.args.w c.args.lease held c.in-Ok.ensures.ok recorded
+
+pub take_back-number-requires-clause-holds : goal.take_back-number-requires-clause-holds
+take_back-number-requires-clause-holds c = c.in-Ok.ensures.ok
 
 pub push_reserved-requires : goal.push_reserved-requires
 push_reserved-requires c =
@@ -118,3 +151,9 @@ returns-clause-entry c =
     (with_units c.args.w (spent_of c.args.lease) c.args.self.now) (book z)) finished
     (appends_spent c.self.inside z c.args.self.now (Worker c.args.w) act c.args.w (spent_of c.args.lease) 0
     c.self.view_is pushed (rw (units c) (entered c)) (units c))
+
+pub returns-clause-recorded : goal.returns-clause-recorded
+returns-clause-recorded c =
+    let held = c.in-Ok.held in
+    let has = subst (λ (b : BookValue). slice_get b.desk.workers c.args.w ≡ Some (Some held)) c.self.view_is c.in-Ok.ensures.ok in
+    rw has (c.if-not-is_recorded.ensures.0 refl)
