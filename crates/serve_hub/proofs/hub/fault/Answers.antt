@@ -1,4 +1,4 @@
-use Rattle.std.proofs.Common.{ℕ, ◌≡◌, refl, sym, subst, arith}
+use Rattle.std.proofs.Common.{ℕ, ◌≡◌, refl, sym, subst, arith, rules}
 use Rattle.serve_hub.specs.Ends.{HaveStreams}
 use Rattle.serve_hub.proofs.hub.fault.Goals as goal
 
@@ -7,3 +7,12 @@ returns-clause-each_stream g c =
     let agreed = c.if-not-agrees.ensures in
     let same : c.args.counts.0 ≡ c.args.shared.now.streams = omega (arith, agreed.streams refl) in
     subst (λ (n : ℕ). HaveStreams n c.args.streams.now.items) (sym same) (agreed.each_stream refl)
+
+pub returns-then-any_lease_out-clause-missing : goal.returns-then-any_lease_out-clause-missing
+returns-then-any_lease_out-clause-missing c = search rules
+
+pub returns-then-not-agrees-clause-missing : goal.returns-then-not-agrees-clause-missing
+returns-then-not-agrees-clause-missing c = search rules
+
+pub returns-clause-missing : goal.returns-clause-missing
+returns-clause-missing c = search rules

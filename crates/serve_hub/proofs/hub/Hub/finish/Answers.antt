@@ -1,4 +1,4 @@
-use Rattle.std.proofs.Common.{◌∙◌, All, ap, sym, subst, length}
+use Rattle.std.proofs.Common.{◌∙◌, All, ap, sym, subst, length, rules}
 use Rattle.std.specs.Prelude.{reverse}
 use Rattle.serve_core.specs.Schedule.{ScheduleValue}
 use Rattle.serve_hub.specs.Books.{BookValue}
@@ -42,3 +42,6 @@ returns-clause-all_workers g c =
     ∙ ap (λ (x : ScheduleValue). length x.workers) told.opened.same
     ∙ told.opened.each_worker
     ∙ ap (λ (h : HubValue). h.workers) c.self.view_is
+
+pub returns-in-Some-clause-missing : goal.returns-in-Some-clause-missing
+returns-in-Some-clause-missing c = search rules

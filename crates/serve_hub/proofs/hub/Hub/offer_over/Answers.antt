@@ -1,4 +1,4 @@
-use Rattle.std.proofs.Common.{◌∙◌, ap, refl, subst}
+use Rattle.std.proofs.Common.{◌∙◌, ap, refl, subst, rules}
 use Rattle.std.specs.declared.alloc.Global.{Global}
 use Rattle.std.specs.declared.sync.Arc.{Arc}
 use Rattle.std.specs.Arc.{arc_value}
@@ -35,3 +35,6 @@ returns-in-Err-default-Some-clause-refused g c =
         seat = back.1;
       },
     )
+
+pub returns-in-Err-default-Some-clause-other_moment : goal.returns-in-Err-default-Some-clause-other_moment
+returns-in-Err-default-Some-clause-other_moment c = search rules
