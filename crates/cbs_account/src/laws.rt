@@ -49,8 +49,8 @@ pub fn charge_limit()
 
 /// What the shares are for: servers that fit on the workers ask for no more time than these have.
 ///
-/// In a time `m` that each period divides, a server's share is `Q * (m / T)` units. The sum is at most `m` for
-/// each worker.
+/// In a time `m` that each period divides, a server's share is `Q * (m / T)` units. The sum is at most `m`
+/// for each worker.
 pub fn total_bandwidth()
     ensures { TotalBandwidth }
 {}

@@ -34,8 +34,8 @@ pub fn demand_law()
     ensures bare { DemandLaw measures_any is_any_image }
 {}
 
-/// What all the streams that there ever were were charged, and whose deadline is at most a moment, is at most
-/// that moment, once for each worker.
+/// What all the streams that there ever were were charged, and whose deadline is at most a moment, is at
+/// most that moment, once for each worker.
 ///
 /// A stream that is admitted finds only the time behind the deadlines of those whose share it takes over: this
 /// is why a share is held up to its stream's deadline.

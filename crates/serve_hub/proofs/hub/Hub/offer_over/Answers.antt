@@ -37,4 +37,4 @@ returns-in-Err-default-Some-clause-refused g c =
     )
 
 pub returns-in-Err-default-Some-clause-other_moment : goal.returns-in-Err-default-Some-clause-other_moment
-returns-in-Err-default-Some-clause-other_moment c = search rules
+returns-in-Err-default-Some-clause-other_moment g c = search rules
