@@ -1,4 +1,4 @@
-use Rattle.std.proofs.Common.{◌≡◌, ◌∙◌, All, Some, slice_get, ap, refl, subst, arith, take_all}
+use Rattle.std.proofs.Common.{◌≡◌, ◌∙◌, All, Some, slice_get, ap, refl, subst, arith, take_all, rules}
 use Rattle.serve_core.specs.Schedule.{ScheduleValue}
 use Rattle.serve_core.specs.Streams.{IsOver}
 use Rattle.serve_core.proofs.Items.Lists.{slice_get_here}
@@ -20,3 +20,6 @@ returns c =
     let shown : streams ≡ c.args.self.now.streams =
     c.streams-stream-items.ensures ∙ ap (λ (x : ScheduleValue). x.streams) c.self.view_is in
     (λ e. subst (All IsOver) (all ∙ shown) c.loop-stream.invariant, λ a. refl)
+
+pub returns-then-not-is_over : goal.returns-then-not-is_over
+returns-then-not-is_over c = search rules

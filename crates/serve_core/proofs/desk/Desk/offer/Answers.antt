@@ -1,4 +1,4 @@
-use Rattle.std.proofs.Common.{subst}
+use Rattle.std.proofs.Common.{subst, rules}
 use Rattle.serve_core.specs.Desk.{IsFreshFor}
 use Rattle.serve_core.specs.Schedule.{ScheduleValue}
 use Rattle.serve_core.proofs.Calls.Offers.{fresh_for}
@@ -12,3 +12,6 @@ returns-in-Ok-clause-job c =
       subst (λ (x : ScheduleValue). IsFreshFor x c.args.s c.in-Ok.job) c.self.view_is fresh,
       c.accept.ensures.job,
     )
+
+pub returns-in-Err-clause-back : goal.returns-in-Err-clause-back
+returns-in-Err-clause-back c = search rules
