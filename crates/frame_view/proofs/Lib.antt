@@ -2,6 +2,7 @@ pub mod Places
 pub mod Rows
 pub mod Stated
 pub mod Gaps
+pub mod Geometries
 pub mod Over
 pub mod Written
 pub mod Parted

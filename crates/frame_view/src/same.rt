@@ -3,20 +3,11 @@ ghost use Rattle.std.specs.Prelude.{◌≡◌, ◌↔◌, IsTrue};
 ghost use Rattle.frame_view.specs.Frame.{IsFrameWith, line_of, samples_of};
 
 use crate::frame::Frame;
-use crate::geometry::Geometry;
 
 /// Whether two frames have the same geometry, line and samples.
 pub fn is_same_frame(one: &Frame, other: &Frame) -> bool
     ensures { IsTrue result
         ↔ IsFrameWith other.now.geometry (line_of other.now) (samples_of other.now) one.now }
 {
-    is_same_geometry(one.geometry, other.geometry)
-        && one.line() == other.line()
-        && one.data() == other.data()
-}
-
-fn is_same_geometry(one: Geometry, other: Geometry) -> bool
-    ensures { IsTrue result ↔ (one ≡ other) }
-{
-    one == other
+    one.geometry == other.geometry && one.line() == other.line() && one.data() == other.data()
 }
