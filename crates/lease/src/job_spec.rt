@@ -3,7 +3,6 @@ ghost use Rattle.std.specs.Prelude.{◌≡◌, ◌↔◌, IsTrue};
 
 use filters::{Chain, Op};
 use frame_view::Geometry;
-use row_bands::BandHeight;
 use std::marker::Model;
 
 /// What is done to each frame of a stream: a chain of operations.
@@ -50,13 +49,7 @@ pub fn is_same_spec(one: &JobSpec, other: &JobSpec) -> bool
 {
     are_same_ops(one.chain.ops(), other.chain.ops())
         && one.fits(other.chain.geometry())
-        && is_same_height(one.chain.band_height(), other.chain.band_height())
-}
-
-fn is_same_height(one: BandHeight, other: BandHeight) -> bool
-    ensures { IsTrue result ↔ (one ≡ other) }
-{
-    one == other
+        && one.chain.band_height() == other.chain.band_height()
 }
 
 fn are_same_ops(one: &[Op], other: &[Op]) -> bool

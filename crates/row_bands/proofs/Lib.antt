@@ -1,3 +1,4 @@
+pub mod BandHeights
 pub mod Parts
 pub mod Bands
 pub mod SameBand
