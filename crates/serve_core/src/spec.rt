@@ -126,7 +126,7 @@ impl StreamSpec {
         let chain = self.job.chain();
         prove!(1 <= chain.steps());
         prove!(chain.cost() <= MOST_COST);
-        if !is_same(chain.geometry(), self.geometry) {
+        if !self.job.fits(self.geometry) {
             return false;
         }
         if self.queue < 1 || self.queue > MOST_PLACES {
@@ -137,11 +137,4 @@ impl StreamSpec {
         }
         1 <= self.frames && self.frames <= MOST_FRAMES
     }
-}
-
-/// Whether two geometries are the same.
-fn is_same(one: Geometry, other: Geometry) -> bool
-    ensures { IsTrue result ↔ (one ≡ other) }
-{
-    one == other
 }
