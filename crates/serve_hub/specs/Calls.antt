@@ -92,13 +92,15 @@ pub record Accepts (frame : FrameValue) (number : ℕ) (old new : StreamSeatValu
   pub seat : new ≡ record old {
     calls = with_call (acts.Offered tick number) old.calls;
     accepted = old.accepted + 1;
+    moment = new.moment;
     kept = old.kept ++ frame ∷ [];
   }
 
--- the seat's last call is an offer at a moment, which the clock went on to from another
+-- the seat's last call is an offer at this moment, which the clock went on to where it was earlier
 pub record NotesFrom (clock at : ℕ) (old new : StreamSeatValue) : Type 0 where
   pub number : ℕ
   pub calls : new.calls ≡ with_call (acts.Offered (tick_of clock at) number) old.calls
+  pub moment : new.moment ≡ Some at
 
 -- the same, wherever the clock was
 abbrev pub Notes : (at : ℕ) → (old new : StreamSeatValue) → Type 0

@@ -1,6 +1,6 @@
 -- What the seats of a hub keep.
 use Rattle.std.specs.Prelude.{ℕ, suc, ◌+◌, ◌≡◌, ◌<◌, Bool, false, List, [], ◌∷◌, ◌++◌, All, length, map}
-use Rattle.std.specs.Prelude.{sum_by}
+use Rattle.std.specs.Prelude.{sum_by, Option, None}
 use Rattle.std.specs.declared.alloc.Global.{Global}
 use Rattle.std.specs.declared.sync.Arc.{Arc}
 use Rattle.std.specs.Arc.{arc_value}
@@ -30,8 +30,9 @@ pub record StreamSeatValue : Type 0 where
   -- how many of its frames may be unfinished, and how many it may accept at all
   pub queue : ℕ
   pub frames : ℕ
-  -- how many were accepted
+  -- how many were accepted, and the moment at which the latest was offered, if one was
   pub accepted : ℕ
+  pub moment : Option ℕ
   pub is_closed : Bool
   -- the frames that were accepted and aren't collected, the oldest first, and how many it has places for
   pub kept : List FrameValue
@@ -111,6 +112,7 @@ seat_over limit rest = record {
   queue = rest.queue;
   frames = rest.frames;
   accepted = rest.accepted;
+  moment = None;
   is_closed = rest.is_closed;
   kept = rest.kept;
   places = rest.places;

@@ -33,6 +33,7 @@ pub struct StreamSeat<L: Epoch> {
     queue: u64,
     frames: u64,
     accepted: u64,
+    moment: Option<u64>,
     is_closed: bool,
     kept: VecDeque<Arc<Frame>>,
     before: u64,
@@ -54,6 +55,7 @@ impl<L: Epoch> Model for StreamSeat<L> {
       queue = a.queue;
       frames = a.frames;
       accepted = a.accepted;
+      moment = a.moment;
       is_closed = a.is_closed;
       kept = kept_in a.kept.items;
       places = deque_capacity a.kept;
@@ -87,6 +89,7 @@ impl<L: Epoch> StreamSeat<L> {
             queue,
             frames,
             accepted,
+            moment: None,
             is_closed,
             kept,
             before: collected,
@@ -131,6 +134,7 @@ impl<L: Epoch> StreamSeat<L> {
             is_closed,
             kept,
             before: _,
+            moment: _,
         } = self;
         let rest = SeatRest {
             number,
@@ -164,6 +168,13 @@ impl<L: Epoch> StreamSeat<L> {
         ensures { result ≡ self.now.accepted }
     {
         self.accepted
+    }
+
+    /// The moment of its latest offer that was accepted, since this seat is there.
+    pub fn moment(&self) -> Option<u64>
+        ensures { result ≡ self.now.moment }
+    {
+        self.moment
     }
 
     /// How many images of its stream were collected before this seat was there.

@@ -127,6 +127,7 @@ impl<L: Epoch> StreamSeat<L> {
             Err((refusal, job)) => return Err((self.told_offer(at, &frame, refusal), Some(job))),
         };
         self.calls.count(book, total);
+        self.moment = Some(at);
         let next = self.keep(frame);
         if number != next {
             return Err((Refusal::Torn(Came::Number(number)), None));

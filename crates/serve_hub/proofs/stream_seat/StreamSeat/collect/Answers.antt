@@ -17,6 +17,7 @@ returns-clause-given g c =
       queue = a.queue;
       frames = a.frames;
       accepted = a.accepted;
+      moment = a.moment;
       is_closed = a.is_closed;
       kept = kept_in a.kept.items;
       places = deque_capacity a.kept;
