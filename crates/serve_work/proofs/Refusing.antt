@@ -112,7 +112,8 @@ collected_none None e old new m =
       up = same ∙ ap (λ (k : CallsValue). record old { calls = k; kept = new.kept }) (sym (ap (λ (v : StreamSeatValue). v.calls) same));
       tally = TalliesSeat-same old new (ap (λ (v : StreamSeatValue). v.number) same)
           (ap (λ (v : StreamSeatValue). v.chain) same) (ap (λ (v : StreamSeatValue). v.before) same)
-          (ap (λ (v : StreamSeatValue). v.calls) same) (ap (λ (v : StreamSeatValue). v.accepted) same);
+          (ap (λ (v : StreamSeatValue). v.calls) same) (ap (λ (v : StreamSeatValue). v.accepted) same)
+          (ap (λ (v : StreamSeatValue). v.moment) same);
     }
 collected_none (Some pair) e old new m = collected_pair pair old new m.collects
 

@@ -25,7 +25,7 @@ use Rattle.serve_work.specs.Sessions.{AllAtMoments, AreInputs, acts_in, outcome_
 use Rattle.serve_work.specs.SessionInside.{AllBegin, AllGoOn, AllLeave, AllRun, AllStand, AreOver, AreUnread}
 use Rattle.serve_work.specs.SessionInside.{ClientLeft, GoesOn, HeldValue, IsReady, Over, Runs, Stands}
 use Rattle.serve_work.specs.SessionInside.{StandsAt, StreamValue, Waiting, held_at, held_with, stream_of}
-use Rattle.serve_work.proofs.Tallying.{all_both}
+use Rattle.serve_work.proofs.Tallying.{KeepsMoments-same, all_both}
 
 -- a stream's chain and its reader's header stay
 rest_header : (start : ClientStart) (past : List Act) (seat : StreamSeatValue) (rest : RestValue) → IsRestOf start past seat rest
@@ -114,7 +114,7 @@ module _ (Gives : ℕ → Type 0) (journal more : List Entry) where
   all_given (start ∷ starts) (held ∷ helds) (next ∷ after) p q calls none =
       let past : List Act = acts_in journal start in
       let own = own_calls more start past next (q.0.0 start past p.0) (calls 0 next.seat (omega arith)) in (
-        subst (AreAtMoments Gives) own (q.0.1 (subst (AreAtMoments Gives) (sym none.0) tt)),
+        subst (AreAtMoments Gives) own (q.0.1.calls (subst (AreAtMoments Gives) (sym none.0) tt)),
         all_given starts helds after p.1 q.1 (λ k d less. calls (suc k) d (omega (arith, less))) none.1,
       )
 
@@ -170,7 +170,8 @@ all_went Gives (held ∷ helds) (next ∷ after) p = ap suc (all_went Gives held
 -- where none runs, all stay
 go_on_none : (Gives : ℕ → Type 0) (helds : List HeldValue) → AllGoOn Gives helds helds
 go_on_none Gives [] = tt
-go_on_none Gives (held ∷ helds) = (((λ start past at. at), (λ m. m)), go_on_none Gives helds)
+go_on_none Gives (held ∷ helds) =
+    (((λ start past at. at), KeepsMoments-same Gives held.seat held.seat refl), go_on_none Gives helds)
 
 pub all_stay : (Gives : ℕ → Type 0) (items : List (Option HeldValue)) → AllRun Gives items items
 all_stay Gives items helds e = (helds, e, go_on_none Gives helds)

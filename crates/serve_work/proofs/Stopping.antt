@@ -104,9 +104,10 @@ close_tally old new (Ok t) closed refused = rw closed (record {
   added = acts.Closed ∷ [];
   calls = refl;
   offers = omega (arith, offers_both old.calls.list (acts.Closed ∷ []));
+  moment = λ none. refl;
   collections = omega (arith, collections_both old.calls.list (acts.Closed ∷ []));
 })
-close_tally old new (Err e) closed refused = rw refused.1 (TalliesSeat-same old old refl refl refl refl refl)
+close_tally old new (Err e) closed refused = rw refused.1 (TalliesSeat-same old old refl refl refl refl refl refl)
 
 pub close_moments : {T : Type 0} (Gives : ℕ → Type 0) (old new : StreamSeatValue) (result : Result T Refusal)
     → OnOk result (Closes old new) → IfErr result (λ e. IsTold (AllowsClose old) e × (new ≡ old)) → KeepsMoments Gives old new
@@ -158,6 +159,7 @@ TalliesSeat-open old new t = record {
   added = t.added;
   calls = t.calls;
   offers = t.offers;
+  moment = t.moment;
   collections = t.collections;
 }
 
@@ -193,6 +195,7 @@ TalliesSeat-opened old new t = record {
   added = t.added;
   calls = t.calls;
   offers = t.offers;
+  moment = t.moment;
   collections = t.collections;
 }
 
@@ -204,6 +207,7 @@ TalliesSeat-closed mid closed t = record {
   added = t.added;
   calls = t.calls;
   offers = t.offers;
+  moment = t.moment;
   collections = t.collections;
 }
 

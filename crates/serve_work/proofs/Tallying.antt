@@ -1,6 +1,6 @@
 -- How the calls of a seat add up.
 use Rattle.std.proofs.Common.{◌≡◌, ◌≢◌, ℕ, ◌+◌, List, [], ◌∷◌, ◌++◌, length, filter, sum_by, Bool, refl, sym}
-use Rattle.std.proofs.Common.{ap, ◌∙◌, append_assoc, append-nil, length-append, arith, subst, inl, inr}
+use Rattle.std.proofs.Common.{ap, ◌∙◌, append_assoc, append-nil, length-append, arith, subst, inl, inr, IfSome, Option}
 use Rattle.std.specs.List.{AllByRecursion}
 use Rattle.std.proofs.lemmas.List.Elements.{filter-append}
 use Rattle.std.proofs.lemmas.List.Sums.{sum_by-cons}
@@ -52,14 +52,15 @@ none_offered pair old new c =
     ap (λ (v : StreamSeatValue). offers_in v.calls.list) c.seat ∙ offers_both old.calls.list (acts.Collected c.number ∷ [])
 
 pub TalliesSeat-same : (old new : StreamSeatValue) → new.number ≡ old.number → new.chain ≡ old.chain → new.before ≡ old.before
-    → new.calls ≡ old.calls → new.accepted ≡ old.accepted → TalliesSeat old new
-TalliesSeat-same old new number chain before calls accepted = record {
+    → new.calls ≡ old.calls → new.accepted ≡ old.accepted → new.moment ≡ old.moment → TalliesSeat old new
+TalliesSeat-same old new number chain before calls accepted moment = record {
   number = number;
   chain = chain;
   before = before;
   added = [];
   calls = ap (λ (c : CallsValue). c.list) calls ∙ sym (append-nil old.calls.list);
   offers = omega (arith, ap (λ (c : CallsValue). offers_in c.list) calls, accepted);
+  moment = λ none. moment;
   collections = omega (arith, ap (λ (c : CallsValue). collections_in c.list) calls);
 }
 
@@ -71,6 +72,8 @@ TalliesSeat-trans a b c p q = record {
   added = p.added ++ q.added;
   calls = q.calls ∙ ap (λ l. l ++ q.added) p.calls ∙ append_assoc a.calls.list p.added q.added;
   offers = omega (arith, p.offers, q.offers);
+  moment = λ none.
+      let both = offers_both p.added q.added in q.moment (omega (arith, none, both)) ∙ p.moment (omega (arith, none, both));
   collections = omega (arith, p.collections, q.collections);
 }
 
@@ -82,6 +85,7 @@ TalliesSeat-accept frame n old new a = rw a.seat (record {
   added = acts.Offered a.tick n ∷ [];
   calls = refl;
   offers = omega (arith, offers_both old.calls.list (acts.Offered a.tick n ∷ []));
+  moment = λ none. absurd (omega (arith, none));
   collections = omega (arith, collections_both old.calls.list (acts.Offered a.tick n ∷ []));
 })
 
@@ -93,6 +97,7 @@ TalliesSeat-collect pair old new c = record {
   added = acts.Collected c.number ∷ [];
   calls = ap (λ (v : StreamSeatValue). v.calls.list) c.seat;
   offers = omega (arith, none_offered pair old new c, ap (λ (v : StreamSeatValue). v.accepted) c.seat);
+  moment = λ none. ap (λ (v : StreamSeatValue). v.moment) c.seat;
   collections = omega (arith, one_collected pair old new c);
 }
 
@@ -102,7 +107,7 @@ pub Tallies-seat : (old new : StreamSeatValue) (writer writer' : WriterState) �
 Tallies-seat old new writer writer' t same = record { seat = t; images = omega (arith, t.collections, same) }
 
 pub Tallies-none : (seat : StreamSeatValue) (writer : WriterState) → Tallies seat seat writer writer
-Tallies-none seat writer = Tallies-seat seat seat writer writer (TalliesSeat-same seat seat refl refl refl refl refl) refl
+Tallies-none seat writer = Tallies-seat seat seat writer writer (TalliesSeat-same seat seat refl refl refl refl refl refl) refl
 
 pub Tallies-trans : (a b c : StreamSeatValue) (writer between writer' : WriterState) → Tallies a b writer between
     → Tallies b c between writer' → Tallies a c writer writer'
@@ -123,6 +128,7 @@ pub seat_same : (old new : StreamSeatValue) → new ≡ old → TalliesSeat old 
 seat_same old new same = TalliesSeat-same old new (ap (λ (v : StreamSeatValue). v.number) same)
     (ap (λ (v : StreamSeatValue). v.chain) same) (ap (λ (v : StreamSeatValue). v.before) same)
     (ap (λ (v : StreamSeatValue). v.calls) same) (ap (λ (v : StreamSeatValue). v.accepted) same)
+    (ap (λ (v : StreamSeatValue). v.moment) same)
 
 pub counted_later : (past : List Act) (old new : StreamSeatValue) → TalliesSeat old new → IsCounted past old → IsCounted past new
 counted_later past old new t e =
@@ -151,26 +157,43 @@ no_offers Gives [] none = tt
 no_offers Gives (acts.Offered tick number ∷ calls) none = absurd (omega (arith, none))
 no_offers Gives (act ∷ calls) none = (tt, no_offers Gives calls none)
 
+pub KeepsMoments-same : (Gives : ℕ → Type 0) (old new : StreamSeatValue) → new ≡ old → KeepsMoments Gives old new
+KeepsMoments-same Gives old new same = rw same (record { calls = λ m. m; latest = λ m. m })
+
+pub KeepsMoments-trans : (Gives : ℕ → Type 0) (a b c : StreamSeatValue) → KeepsMoments Gives a b → KeepsMoments Gives b c
+    → KeepsMoments Gives a c
+KeepsMoments-trans Gives a b c p q = record { calls = λ m. q.calls (p.calls m); latest = λ m. q.latest (p.latest m) }
+
 -- where no frame was accepted, none was offered
 pub none_accepted : (Gives : ℕ → Type 0) (old new : StreamSeatValue) → TalliesSeat old new → new.accepted ≡ old.accepted
     → KeepsMoments Gives old new
-none_accepted Gives old new t same moments =
-    subst (AreAtMoments Gives) (sym t.calls)
-    (all_both (IsAtMoment Gives) old.calls.list t.added moments (no_offers Gives t.added (omega (
+none_accepted Gives old new t same =
+    let none : offers_in t.added ≡ 0 = omega (
       arith,
       t.offers,
       same,
       ap offers_in t.calls,
       offers_both old.calls.list t.added,
-    ))))
+    ) in
+    record {
+      calls = λ m.
+          subst (AreAtMoments Gives) (sym t.calls)
+          (all_both (IsAtMoment Gives) old.calls.list t.added m (no_offers Gives t.added none));
+      latest = λ m. subst (λ (o : Option ℕ). IfSome o Gives) (sym (t.moment none)) m;
+    }
 
 pub none_given : (Gives : ℕ → Type 0) (old new : StreamSeatValue) → TalliesSeat old new → GivesUp old new → KeepsMoments Gives old new
 none_given Gives old new t up = none_accepted Gives old new t (ap (λ (v : StreamSeatValue). v.accepted) up)
 
 pub offers_at : (Gives : ℕ → Type 0) (at : ℕ) (old new : StreamSeatValue) → Gives at → OffersAt at old new → KeepsMoments Gives old new
-offers_at Gives at old new gives (inl same) moments =
-    subst (λ (k : CallsValue). AreAtMoments Gives k.list) (sym same) moments
-offers_at Gives at old new gives (inr notes) moments =
-    subst (λ (k : CallsValue). AreAtMoments Gives k.list) (sym notes.1.calls)
-    (all_both (IsAtMoment Gives) old.calls.list (acts.Offered (tick_of notes.0 at) notes.1.number ∷ []) moments
-    ((notes.0, at, gives, refl), tt))
+offers_at Gives at old new gives (inl same) = record {
+  calls = λ m. subst (λ (k : CallsValue). AreAtMoments Gives k.list) (sym same.0) m;
+  latest = λ m. subst (λ (o : Option ℕ). IfSome o Gives) (sym same.1) m;
+}
+offers_at Gives at old new gives (inr notes) = record {
+  calls = λ m.
+      subst (λ (k : CallsValue). AreAtMoments Gives k.list) (sym notes.1.calls)
+      (all_both (IsAtMoment Gives) old.calls.list (acts.Offered (tick_of notes.0 at) notes.1.number ∷ []) m
+      ((notes.0, at, gives, refl), tt));
+  latest = λ m. subst (λ (o : Option ℕ). IfSome o Gives) (sym notes.1.moment) gives;
+}

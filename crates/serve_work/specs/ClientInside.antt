@@ -123,7 +123,8 @@ pub record Accounted (seat : StreamSeatValue) (writer : WriterState) : Type 0 wh
   pub is_open : seat.is_closed ≡ false
   pub writing : writer.failed ≡ false
 
--- calls were added to the seat's, among them each offer and each collection that was accepted
+-- calls were added to the seat's, among them each offer and each collection that was accepted; where no offer
+-- was, the moment of the latest stays
 pub record TalliesSeat (old new : StreamSeatValue) : Type 0 where
   pub number : new.number ≡ old.number
   pub chain : new.chain ≡ old.chain
@@ -131,6 +132,7 @@ pub record TalliesSeat (old new : StreamSeatValue) : Type 0 where
   pub added : List Act
   pub calls : new.calls.list ≡ old.calls.list ++ added
   pub offers : offers_in new.calls.list + old.accepted ≡ offers_in old.calls.list + new.accepted
+  pub moment : offers_in added ≡ 0 → new.moment ≡ old.moment
   pub collections : collections_in old.calls.list ≤ collections_in new.calls.list
 
 -- and the writer has put no more images than were collected
@@ -140,11 +142,13 @@ pub record Tallies (old new : StreamSeatValue) (writer writer' : WriterState) : 
 
 -- no frame was offered, or one at this moment
 abbrev pub OffersAt : (at : ℕ) → (old new : StreamSeatValue) → Type 0
-OffersAt at old new = (new.calls ≡ old.calls) ⊎ Notes at old new
+OffersAt at old new = (new.calls ≡ old.calls) × (new.moment ≡ old.moment) ⊎ Notes at old new
 
--- where all frames were offered at moments that the clock gave, all still are
-abbrev pub KeepsMoments : (Gives : ℕ → Type 0) → (old new : StreamSeatValue) → Type 0
-KeepsMoments Gives old new = AreAtMoments Gives old.calls.list → AreAtMoments Gives new.calls.list
+-- where all frames were offered at moments that the clock gave, all still are, and where the latest was, the
+-- latest still is
+pub record KeepsMoments (Gives : ℕ → Type 0) (old new : StreamSeatValue) : Type 0 where
+  pub calls : AreAtMoments Gives old.calls.list → AreAtMoments Gives new.calls.list
+  pub latest : IfSome old.moment Gives → IfSome new.moment Gives
 
 -- nothing but the seat's calls and what it keeps may have changed
 abbrev pub GivesUp : StreamSeatValue → StreamSeatValue → Type 0

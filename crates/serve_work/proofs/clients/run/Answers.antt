@@ -1,6 +1,6 @@
 use Rattle.std.proofs.Common.{◌∙◌, arith, subst, sym}
 use Rattle.serve_hub.specs.Seats.{StreamSeatValue}
-use Rattle.serve_work.specs.Clients.{AreAtMoments}
+use Rattle.serve_work.specs.ClientInside.{KeepsMoments}
 use Rattle.serve_work.proofs.Resting.{outset_of, tallied_later}
 use Rattle.serve_work.proofs.clients.run.Goals as goal
 
@@ -31,6 +31,6 @@ returns-in-Paused-clause-turn g c = λ start past running.
     }
 
 pub returns-in-Done-clause-moments : goal.returns-in-Done-clause-moments
-returns-in-Done-clause-moments g c = λ m.
-    subst (λ (seat : StreamSeatValue). AreAtMoments (g.K.Clock.gives c.args.clock.now) seat.calls.list) (sym c.end.ensures.seat)
-    (c.serve.ensures.moments m)
+returns-in-Done-clause-moments g c =
+    subst (λ (seat : StreamSeatValue). KeepsMoments (g.K.Clock.gives c.args.clock.now) c.args.seat seat) (sym c.end.ensures.seat)
+    c.serve.ensures.moments

@@ -3,7 +3,8 @@ use Rattle.std.specs.Arc.{arc_value}
 use Rattle.serve_core.specs.Streams.{IsImageOf}
 use Rattle.serve_work.specs.ClientInside.{AreBuffersFor}
 use Rattle.serve_work.proofs.Staying.{GivesUp-at, GivesUp-trans, stays_chain}
-use Rattle.serve_work.proofs.Tallying.{Tallies-none, Tallies-seat, Tallies-trans, none_given, offers_at}
+use Rattle.serve_work.proofs.Tallying.{KeepsMoments-same, KeepsMoments-trans, Tallies-none, Tallies-seat, Tallies-trans}
+use Rattle.serve_work.proofs.Tallying.{none_given, offers_at}
 use Rattle.serve_work.proofs.Moving.{Accounted-later, Moves-at, Moves-none, Moves-trans, few_of}
 use Rattle.serve_work.proofs.Offering.{collection_halted, offer_stopped, offered_tally}
 use Rattle.serve_work.proofs.feeding.accept.Goals as goal
@@ -14,7 +15,7 @@ loop-init g c = record {
   up = refl;
   frame = refl;
   tally = Tallies-none _ _;
-  moments = λ m. m;
+  moments = KeepsMoments-same _ _ _ refl;
   buffers = c.requires.buffers;
 }
 
@@ -62,8 +63,10 @@ loop-preserved g c =
       tally = Tallies-trans seat at c.deliver.new.seat c.args.writer.now c.loop.writer c.deliver.new.writer
           (Tallies-trans seat c.loop.seat at c.args.writer.now c.loop.writer c.loop.writer so_far.tally
           (Tallies-seat _ _ _ _ (offered_tally _ _ _ _ c.offer_once.ensures.answer) refl)) c.deliver.ensures.tally;
-      moments = λ m. none_given gives at c.deliver.new.seat c.deliver.ensures.tally.seat c.deliver.ensures.kept
-          (offers_at gives c.moment.result c.loop.seat at c.moment.ensures c.offer_once.ensures.moment (so_far.moments m));
+      moments = KeepsMoments-trans gives seat at c.deliver.new.seat
+          (KeepsMoments-trans gives seat c.loop.seat at so_far.moments
+          (offers_at gives c.moment.result c.loop.seat at c.moment.ensures c.offer_once.ensures.moment))
+          (none_given gives at c.deliver.new.seat c.deliver.ensures.tally.seat c.deliver.ensures.kept);
       buffers = c.keep.ensures seat.chain kept (rw chain at c.in-Ok.ensures.source) (rw chain at c.in-Ok.ensures.image);
     }
 
@@ -101,24 +104,28 @@ pub returns-in-Accepted-clause-moments : goal.returns-in-Accepted-clause-moments
 returns-in-Accepted-clause-moments g c =
     let gives = g.K.Clock.gives c.args.clock.now in
     let at = c.offer_once.new.seat in
-    λ m. offers_at gives c.moment.result c.loop.seat at c.moment.ensures c.offer_once.ensures.moment (c.loop.invariant.moments m)
+    KeepsMoments-trans gives c.args.seat.now c.loop.seat at c.loop.invariant.moments
+    (offers_at gives c.moment.result c.loop.seat at c.moment.ensures c.offer_once.ensures.moment)
 
 pub returns-in-Stopped-clause-moments : goal.returns-in-Stopped-clause-moments
 returns-in-Stopped-clause-moments g c =
     let gives = g.K.Clock.gives c.args.clock.now in
     let at = c.offer_once.new.seat in
-    λ m. offers_at gives c.moment.result c.loop.seat at c.moment.ensures c.offer_once.ensures.moment (c.loop.invariant.moments m)
+    KeepsMoments-trans gives c.args.seat.now c.loop.seat at c.loop.invariant.moments
+    (offers_at gives c.moment.result c.loop.seat at c.moment.ensures c.offer_once.ensures.moment)
 
 pub returns-in-JournalFull-clause-moments : goal.returns-in-JournalFull-clause-moments
 returns-in-JournalFull-clause-moments g c =
     let gives = g.K.Clock.gives c.args.clock.now in
     let at = c.offer_once.new.seat in
-    λ m. offers_at gives c.moment.result c.loop.seat at c.moment.ensures c.offer_once.ensures.moment (c.loop.invariant.moments m)
+    KeepsMoments-trans gives c.args.seat.now c.loop.seat at c.loop.invariant.moments
+    (offers_at gives c.moment.result c.loop.seat at c.moment.ensures c.offer_once.ensures.moment)
 
 pub returns-in-Err-clause-moments : goal.returns-in-Err-clause-moments
 returns-in-Err-clause-moments g c =
     let gives = g.K.Clock.gives c.args.clock.now in
     let at = c.offer_once.new.seat in
-    λ m.
-    none_given gives at c.deliver.new.seat c.deliver.ensures.tally.seat c.deliver.ensures.kept
-    (offers_at gives c.moment.result c.loop.seat at c.moment.ensures c.offer_once.ensures.moment (c.loop.invariant.moments m))
+    KeepsMoments-trans gives c.args.seat.now at c.deliver.new.seat
+    (KeepsMoments-trans gives c.args.seat.now c.loop.seat at c.loop.invariant.moments
+    (offers_at gives c.moment.result c.loop.seat at c.moment.ensures c.offer_once.ensures.moment))
+    (none_given gives at c.deliver.new.seat c.deliver.ensures.tally.seat c.deliver.ensures.kept)

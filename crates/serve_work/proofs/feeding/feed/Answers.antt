@@ -8,7 +8,7 @@ use Rattle.y4m_stream.specs.Reader.{ReaderState}
 use Rattle.serve_work.specs.declared.feeding.Fed.{Fed}
 use Rattle.serve_work.specs.ClientInside.{FeedsOn, Holds, text_in}
 use Rattle.serve_work.proofs.Staying.{stays_chain}
-use Rattle.serve_work.proofs.Tallying.{Tallies-trans, counted_later}
+use Rattle.serve_work.proofs.Tallying.{KeepsMoments-trans, Tallies-trans, counted_later}
 use Rattle.serve_work.proofs.Moving.{Accounted-later, size_later}
 use Rattle.serve_work.proofs.Passing.{FeedsOn-behind, Feeds-unfed, Passes-none, passed_once}
 use Rattle.serve_work.proofs.feeding.feed.Goals as goal
@@ -71,4 +71,4 @@ returns-in-Err-clause-answer g c = λ past before counted h.
     c.accept.new.writer (arc_value c.in-Some.frame) counted some.0 some.1 c.in-Err.ensures.answer
 
 pub returns-in-Ok-clause-moments : goal.returns-in-Ok-clause-moments
-returns-in-Ok-clause-moments g c = λ m. c.feed_on-in-Ok.ensures.moments (c.accept.ensures.moments m)
+returns-in-Ok-clause-moments g c = KeepsMoments-trans _ _ _ _ c.accept.ensures.moments c.feed_on-in-Ok.ensures.moments

@@ -1,6 +1,6 @@
-use Rattle.std.proofs.Common.{◌∙◌, []}
+use Rattle.std.proofs.Common.{◌∙◌, [], refl}
 use Rattle.serve_work.proofs.Staying.{stays_chain}
-use Rattle.serve_work.proofs.Tallying.{Tallies-none, Tallies-trans, counted_later}
+use Rattle.serve_work.proofs.Tallying.{KeepsMoments-same, KeepsMoments-trans, Tallies-none, Tallies-trans, counted_later}
 use Rattle.serve_work.proofs.Moving.{Accounted-later, size_later}
 use Rattle.serve_work.proofs.Passing.{FeedsOn-behind, HasPassed-behind, Passes-none}
 use Rattle.serve_work.proofs.feeding.feed_on.Goals as goal
@@ -13,7 +13,7 @@ loop-init g c = record {
     is_open = c.requires.open;
   };
   tally = Tallies-none _ _;
-  moments = λ m. m;
+  moments = KeepsMoments-same _ _ _ refl;
   buffers = c.requires.buffers;
 }
 
@@ -37,7 +37,7 @@ loop-preserved g c =
       passed = HasPassed-behind c.args.reader.now c.loop.reader c.args.seat.now c.loop.seat c.args.writer.now c.loop.writer so_far.frames
           so_far.passed c.feed_once.new.reader c.feed_once.new.seat c.feed_once.new.writer c.in-Ok.ensures.passed;
       tally = Tallies-trans _ _ _ _ _ _ c.loop.invariant.tally c.feed_once.ensures.tally;
-      moments = λ m. c.feed_once.ensures.moments (c.loop.invariant.moments m);
+      moments = KeepsMoments-trans _ _ _ _ c.loop.invariant.moments c.feed_once.ensures.moments;
       buffers = rw chain at c.feed_once.ensures.buffers;
     }
 
@@ -51,7 +51,7 @@ returns-in-Err g c =
           so_far.passed past c.in-Err.fed c.feed_once.new.reader c.feed_once.new.seat c.feed_once.new.writer
           (c.in-Err.ensures.answer past (counted_later past c.args.seat.now c.loop.seat c.loop.invariant.tally.seat counted));
       tally = Tallies-trans _ _ _ _ _ _ c.loop.invariant.tally c.feed_once.ensures.tally;
-      moments = λ m. c.feed_once.ensures.moments (c.loop.invariant.moments m);
+      moments = KeepsMoments-trans _ _ _ _ c.loop.invariant.moments c.feed_once.ensures.moments;
       buffers = rw chain at c.feed_once.ensures.buffers;
       frame = rw chain at c.in-Err.ensures.frame;
       header = c.feed_once.ensures.header ∙ so_far.passed.header;

@@ -4,7 +4,7 @@ use Rattle.std.specs.declared.sync.Arc.{Arc}
 use Rattle.frame_view.specs.declared.frame.Frame.{Frame}
 use Rattle.y4m_stream.specs.Reader.{ReaderState}
 use Rattle.serve_work.specs.ClientInside.{Holds, OffersOn, text_in}
-use Rattle.serve_work.proofs.Tallying.{TalliesSeat-trans, counted_later}
+use Rattle.serve_work.proofs.Tallying.{KeepsMoments-trans, TalliesSeat-trans, counted_later}
 use Rattle.serve_work.proofs.OfferingOn.{OffersOn-behind}
 use Rattle.serve_work.proofs.holding.hold.Goals as goal
 
@@ -44,4 +44,4 @@ returns-in-Err-clause-answer g c = λ past before writer counted h.
     (subst (λ (o : Option (Arc Frame Global)). Holds before reader (text_in o)) c.in-Some.is h)
 
 pub returns-in-Ok-clause-moments : goal.returns-in-Ok-clause-moments
-returns-in-Ok-clause-moments g c = λ m. c.hold_on-in-Ok.ensures.moments (c.offer_on.ensures.moments m)
+returns-in-Ok-clause-moments g c = KeepsMoments-trans _ _ _ _ c.offer_on.ensures.moments c.hold_on-in-Ok.ensures.moments

@@ -1,5 +1,5 @@
 use Rattle.std.proofs.Common.{◌∙◌, [], refl}
-use Rattle.serve_work.proofs.Tallying.{TalliesSeat-trans, counted_later, seat_same}
+use Rattle.serve_work.proofs.Tallying.{KeepsMoments-same, KeepsMoments-trans, TalliesSeat-trans, counted_later, seat_same}
 use Rattle.serve_work.proofs.OfferingOn.{OffersOn-behind}
 use Rattle.serve_work.proofs.Passing.{HasPassed-behind, Passes-none}
 use Rattle.serve_work.proofs.holding.hold_on.Goals as goal
@@ -14,7 +14,7 @@ loop-init g c = record {
   header = refl;
   is_open = c.requires.open;
   tally = seat_same _ _ refl;
-  moments = λ m. m;
+  moments = KeepsMoments-same _ _ _ refl;
 }
 
 pub hold_once-requires-clause-header : goal.hold_once-requires-clause-header
@@ -32,7 +32,7 @@ loop-preserved g c =
       header = c.hold_once.ensures.header ∙ inv.header;
       is_open = c.in-Ok.ensures.open;
       tally = TalliesSeat-trans _ _ _ inv.tally c.hold_once.ensures.tally;
-      moments = λ m. c.hold_once.ensures.moments (inv.moments m);
+      moments = KeepsMoments-trans _ _ _ _ inv.moments c.hold_once.ensures.moments;
     }
 
 pub returns-in-Err : goal.returns-in-Err
@@ -45,7 +45,7 @@ returns-in-Err g c =
           so_far.frames so_far.passed past c.in-Err.onward
           (c.in-Err.ensures.answer past writer (counted_later past c.args.seat.now c.loop.seat inv.tally counted));
       tally = TalliesSeat-trans _ _ _ inv.tally c.hold_once.ensures.tally;
-      moments = λ m. c.hold_once.ensures.moments (inv.moments m);
+      moments = KeepsMoments-trans _ _ _ _ inv.moments c.hold_once.ensures.moments;
       frame = rw inv.tally.chain at c.in-Err.ensures.frame;
       header = c.hold_once.ensures.header ∙ inv.header;
     }

@@ -4,6 +4,7 @@ use Rattle.y4m_stream.specs.Reader.{IsOfHeader, TakesFrame, frame_text_of}
 use Rattle.serve_work.proofs.Moving.{one_size}
 use Rattle.serve_work.proofs.OfferingOn.{no_write_read}
 use Rattle.serve_work.proofs.Passing.{Feeds-end, Feeds-unread, Passes-none}
+use Rattle.serve_work.proofs.Tallying.{KeepsMoments-same}
 use Rattle.serve_work.proofs.holding.hold_once.Goals as goal
 
 pub returns-in-Silent-clause-answer : goal.returns-in-Silent-clause-answer
@@ -50,13 +51,13 @@ returns-in-Err-clause-answer g c = λ past writer counted. (
 )
 
 pub returns-in-Silent-clause-moments : goal.returns-in-Silent-clause-moments
-returns-in-Silent-clause-moments g c = λ m. m
+returns-in-Silent-clause-moments g c = KeepsMoments-same _ _ _ refl
 
 pub returns-in-JournalFull-clause-moments : goal.returns-in-JournalFull-clause-moments
-returns-in-JournalFull-clause-moments g c = λ m. m
+returns-in-JournalFull-clause-moments g c = KeepsMoments-same _ _ _ refl
 
 pub returns-in-Ok-None-clause-moments : goal.returns-in-Ok-None-clause-moments
-returns-in-Ok-None-clause-moments g c = λ m. m
+returns-in-Ok-None-clause-moments g c = KeepsMoments-same _ _ _ refl
 
 pub returns-in-Err-clause-moments : goal.returns-in-Err-clause-moments
-returns-in-Err-clause-moments g c = λ m. m
+returns-in-Err-clause-moments g c = KeepsMoments-same _ _ _ refl

@@ -2,7 +2,7 @@ use Rattle.std.proofs.Common.{◌≡◌, true, false, ap, refl, sym, ◌∙◌}
 use Rattle.serve_hub.specs.Seats.{StreamSeatValue}
 use Rattle.serve_work.specs.declared.feeding.Fed.TheVariants as feds
 use Rattle.serve_work.specs.ClientInside.{text_in}
-use Rattle.serve_work.proofs.Tallying.{Tallies-seat, Tallies-trans, TalliesSeat-trans, counted_later, none_accepted}
+use Rattle.serve_work.proofs.Tallying.{KeepsMoments-trans, Tallies-seat, Tallies-trans, TalliesSeat-trans, counted_later, none_accepted}
 use Rattle.serve_work.proofs.Resting.{fed_from}
 use Rattle.serve_work.proofs.Spoiling.{spoilt_from}
 use Rattle.serve_work.proofs.Stopping.{Feeds-closed, Serves-spoilt, close_moments, close_tally, drain_few}
@@ -119,20 +119,20 @@ pub returns-else-is_spoilt-clause-memory : goal.returns-else-is_spoilt-clause-me
 returns-else-is_spoilt-clause-memory g c = c.drain_left.ensures.memory c.feed.new.reader c.feed.new.buffers
 
 pub returns-in-Held-clause-moments : goal.returns-in-Held-clause-moments
-returns-in-Held-clause-moments g c = λ m. c.hold_left.ensures.moments (c.feed.ensures.moments m)
+returns-in-Held-clause-moments g c = KeepsMoments-trans _ _ _ _ c.feed.ensures.moments c.hold_left.ensures.moments
 
 pub returns-then-is_spoilt-clause-moments : goal.returns-then-is_spoilt-clause-moments
 returns-then-is_spoilt-clause-moments g c =
     let gives = g.K.Clock.gives c.args.clock.now in
-    λ m.
-    none_accepted gives _ _ c.discard_left.ensures.tally c.discard_left.ensures.accepted
-    (close_moments gives c.feed.new.seat c.close.new.seat c.close.result c.close.ensures.closed c.close.ensures.refused
-    (c.feed.ensures.moments m))
+    KeepsMoments-trans gives c.args.seat.now c.feed.new.seat c.discard_left.new.seat c.feed.ensures.moments
+    (KeepsMoments-trans gives c.feed.new.seat c.close.new.seat c.discard_left.new.seat
+    (close_moments gives c.feed.new.seat c.close.new.seat c.close.result c.close.ensures.closed c.close.ensures.refused)
+    (none_accepted gives _ _ c.discard_left.ensures.tally c.discard_left.ensures.accepted))
 
 pub returns-else-is_spoilt-clause-moments : goal.returns-else-is_spoilt-clause-moments
 returns-else-is_spoilt-clause-moments g c =
     let gives = g.K.Clock.gives c.args.clock.now in
-    λ m.
-    none_accepted gives _ _ c.drain_left.ensures.tally.seat c.drain_left.ensures.accepted
-    (close_moments gives c.feed.new.seat c.close.new.seat c.close.result c.close.ensures.closed c.close.ensures.refused
-    (c.feed.ensures.moments m))
+    KeepsMoments-trans gives c.args.seat.now c.feed.new.seat c.drain_left.new.seat c.feed.ensures.moments
+    (KeepsMoments-trans gives c.feed.new.seat c.close.new.seat c.drain_left.new.seat
+    (close_moments gives c.feed.new.seat c.close.new.seat c.close.result c.close.ensures.closed c.close.ensures.refused)
+    (none_accepted gives _ _ c.drain_left.ensures.tally.seat c.drain_left.ensures.accepted))

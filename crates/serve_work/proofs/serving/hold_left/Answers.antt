@@ -1,5 +1,5 @@
 use Rattle.serve_work.specs.ClientInside.{text_in}
-use Rattle.serve_work.proofs.Tallying.{TalliesSeat-trans, none_accepted}
+use Rattle.serve_work.proofs.Tallying.{KeepsMoments-trans, TalliesSeat-trans, none_accepted}
 use Rattle.serve_work.proofs.Spoiling.{held_told, spoilt_on, spoilt_until}
 use Rattle.serve_work.proofs.Stopping.{first_fault, of_no_use}
 use Rattle.serve_work.proofs.serving.hold_left.Goals as goal
@@ -52,11 +52,11 @@ returns-in-Stopped-clause-memory g c = c.spoil_left-in-Stopped.ensures.memory c.
 pub returns-in-QueueFull-clause-moments : goal.returns-in-QueueFull-clause-moments
 returns-in-QueueFull-clause-moments g c =
     let gives = g.K.Clock.gives c.args.clock.now in
-    λ m.
-    none_accepted gives _ _ c.spoil_left.ensures.tally c.spoil_left.ensures.accepted (c.hold.ensures.moments m)
+    KeepsMoments-trans gives _ _ _ c.hold.ensures.moments
+    (none_accepted gives _ _ c.spoil_left.ensures.tally c.spoil_left.ensures.accepted)
 
 pub returns-in-Stopped-clause-moments : goal.returns-in-Stopped-clause-moments
 returns-in-Stopped-clause-moments g c =
     let gives = g.K.Clock.gives c.args.clock.now in
-    λ m.
-    none_accepted gives _ _ c.spoil_left-in-Stopped.ensures.tally c.spoil_left-in-Stopped.ensures.accepted (c.hold.ensures.moments m)
+    KeepsMoments-trans gives _ _ _ c.hold.ensures.moments
+    (none_accepted gives _ _ c.spoil_left-in-Stopped.ensures.tally c.spoil_left-in-Stopped.ensures.accepted)

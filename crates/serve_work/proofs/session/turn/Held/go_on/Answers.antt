@@ -1,8 +1,9 @@
 use Rattle.std.proofs.Common.{◌≡◌, ◌∙◌, ap, subst, sym}
-use Rattle.serve_work.specs.Clients.{AreAtMoments}
+use Rattle.serve_work.specs.ClientInside.{KeepsMoments}
 use Rattle.serve_work.specs.Rests.{IsRestOf}
 use Rattle.serve_work.specs.SessionInside.{HeldValue, IsReadyAt, Stands, StandsAt, Waiting, held_at, stream_of}
 use Rattle.serve_work.proofs.SessionTurns.{header_stays}
+use Rattle.serve_work.proofs.Tallying.{KeepsMoments-same}
 use Rattle.serve_work.proofs.session.turn.Held.go_on.Goals as goal
 
 pub new-requires-in-Paused : goal.new-requires-in-Paused
@@ -27,7 +28,7 @@ returns-in-Over g c =
     let same : c.args.self ≡ c.new.result =
     sym c.self.view_is ∙ ap (λ s. held_at inside.seat (value s)) c.in-Over.is ∙ sym c.new.ensures in (
       λ start past at. subst (Stands start past) same at,
-      λ m. subst (λ (held : HeldValue). AreAtMoments (g.K.Clock.gives c.args.clock.now) held.seat.calls.list) same m,
+      KeepsMoments-same _ _ _ (sym (ap (λ (held : HeldValue). held.seat) same)),
     )
 
 pub returns-in-Paused : goal.returns-in-Paused
@@ -38,8 +39,8 @@ returns-in-Paused g c =
           let was : IsRestOf start past inside.seat c.in-Waiting.rest =
           subst (λ s. StandsAt (value s) start past inside.seat) c.in-Waiting.is (subst (Stands start past) (sym c.self.view_is) at) in
           rw c.new-in-Paused.ensures (c.in-Paused.ensures.turn start past was),
-      λ m. rw c.new-in-Paused.ensures (c.in-Paused.ensures.moments
-          (subst (λ (held : HeldValue). AreAtMoments (g.K.Clock.gives c.args.clock.now) held.seat.calls.list) (sym c.self.view_is) m)),
+      rw c.new-in-Paused.ensures (subst (λ (held : HeldValue). KeepsMoments (g.K.Clock.gives c.args.clock.now) held.seat
+          c.in-Paused.seat) c.self.view_is c.in-Paused.ensures.moments),
     )
 
 pub returns-in-Ended : goal.returns-in-Ended
@@ -50,6 +51,6 @@ returns-in-Ended g c =
           let was : IsRestOf start past inside.seat c.in-Waiting.rest =
           subst (λ s. StandsAt (value s) start past inside.seat) c.in-Waiting.is (subst (Stands start past) (sym c.self.view_is) at) in
           rw c.new-in-Ended.ensures (rw (c.part-seat.ensures.seat, c.part-seat.ensures.outcome) (c.in-Ended.ensures.turn start past was)),
-      λ m. rw c.new-in-Ended.ensures (rw c.part-seat.ensures.seat (c.in-Ended.ensures.moments
-          (subst (λ (held : HeldValue). AreAtMoments (g.K.Clock.gives c.args.clock.now) held.seat.calls.list) (sym c.self.view_is) m))),
+      rw c.new-in-Ended.ensures (rw c.part-seat.ensures.seat (subst (λ (held : HeldValue).
+          KeepsMoments (g.K.Clock.gives c.args.clock.now) held.seat c.in-Ended.end.seat) c.self.view_is c.in-Ended.ensures.moments)),
     )
