@@ -82,7 +82,10 @@ fn offered_at<L: Epoch, R: Wait + Abort>(
     let seat = streams.get_mut(s as usize).ok_or("no seat")?;
     let frame = frame_of(alloc, &[0x10])?;
     match hub.offer(rt, alloc, seat, at, frame) {
-        Ok(_) => Ok(()),
+        Ok(_) => {
+            same(rt, seat.moment(), Some(at));
+            Ok(())
+        }
         Err(refused) => Err(refused.refusal.into()),
     }
 }
