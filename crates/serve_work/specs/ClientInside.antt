@@ -5,6 +5,7 @@ use Rattle.std.specs.Prelude.{Option, Some, None, IfSome, length, map}
 use Rattle.std.specs.declared.alloc.Global.{Global}
 use Rattle.std.specs.declared.sync.Arc.{Arc}
 use Rattle.std.specs.Arc.{arc_value}
+use Rattle.std.specs.Vec.{vec_capacity}
 use Rattle.std.specs.Io.KnownBytes.{Appends, Consumes}
 use Rattle.y4m_header.specs.StreamText.{FrameText, IsFrameOf, frames_text}
 use Rattle.frame_view.specs.declared.frame.Frame.{Frame}
@@ -103,6 +104,16 @@ texts_of frames = map (λ f. record { line = f.line; samples = f.samples }) fram
 pub record AreBuffersFor (chain : ChainValue) (buffers : Buffers) : Type 0 where
   pub sources : All (λ (f : Arc Frame Global). (arc_value f).geometry ≡ chain.geometry) buffers.sources.items
   pub images : All (IsImageOf chain) buffers.images.items
+
+-- there is a place for so many frames, and for as many images
+pub record HasPlaces (places : ℕ) (buffers : Buffers) : Type 0 where
+  pub sources : vec_capacity buffers.sources ≡ places
+  pub images : vec_capacity buffers.images ≡ places
+
+-- there are as many places as before
+pub record HasSamePlaces (old new : Buffers) : Type 0 where
+  pub sources : vec_capacity new.sources ≡ vec_capacity old.sources
+  pub images : vec_capacity new.images ≡ vec_capacity old.images
 
 -- as many offers were accepted as frames, these calls of earlier epochs included
 abbrev pub IsCounted : List Act → StreamSeatValue → Type 0

@@ -7,7 +7,7 @@ ghost use Rattle.y4m_stream.specs.declared.passing.TheConstants.{MOST_FRAMES};
 ghost use Rattle.y4m_stream.specs.Reader.{IsOfHeader};
 ghost use Rattle.y4m_stream.specs.Served.{IsHeaderOfImages};
 ghost use Rattle.y4m_stream.specs.Writer.{IsOpenedFor, WriterState};
-ghost use Rattle.serve_work.specs.ClientInside.{AreBuffersFor, Flushes, IsCounted, KeepsMoments, Serves};
+ghost use Rattle.serve_work.specs.ClientInside.{AreBuffersFor, HasPlaces, Flushes, IsCounted, KeepsMoments, Serves};
 ghost use Rattle.serve_work.specs.ClientInside.{TalliesSeat};
 ghost use Rattle.serve_work.specs.Clients.{ClientEnds, ClientStart};
 ghost use Rattle.serve_work.specs.Rests.{CanGoOn, IsFresh, IsRest, IsRestOf, IsRunning, IsTallied, IsUnbegun};
@@ -104,6 +104,7 @@ fn prepare<L: Epoch>(
     ensures shown { IfOk result (λ made.
         IsHeaderOfImages seat.now.chain header.now (unwrap_or made.0 header.now)) }
     ensures buffers { IfOk result (λ made. AreBuffersFor seat.now.chain made.1) }
+    ensures places { IfOk result (λ made. HasPlaces seat.now.places made.1) }
 {
     let resized = resized_header(alloc, seat.spec().chain(), header)?;
     let buffers = Buffers::new(alloc, seat.places())?;

@@ -40,5 +40,5 @@ loop-preserved g c =
       moved = Moves-trans _ _ _ _ _ _ [] [] so_far.moved next.ensures.answer;
       up = GivesUp-trans c.args.seat.now c.loop.seat c.deliver_early.new.seat so_far.up c.deliver_early.ensures.kept;
       tally = Tallies-trans _ _ _ _ _ _ so_far.tally c.deliver_early.ensures.tally;
-      buffers = c.keep.ensures c.args.seat.now.chain so_far.buffers (rw chain at source) (rw chain at image);
+      buffers = c.keep.ensures.sized c.args.seat.now.chain so_far.buffers (rw chain at source) (rw chain at image);
     }

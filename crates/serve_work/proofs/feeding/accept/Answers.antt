@@ -54,7 +54,7 @@ loop-preserved g c =
     let taken : AreBuffersFor seat.chain c.take_image-image.new.self = c.take_image-image.ensures.kept _ so_far.buffers in
     let there : IfSome c.in-QueueFull.image (IsImageOf seat.chain) = rw (stays_chain seat c.loop.seat so_far.moved.seat_stays) at
     c.in-QueueFull.ensures.answer.1 in
-    let kept = c.keep_image-in-QueueFull.ensures seat.chain taken there in
+    let kept = c.keep_image-in-QueueFull.ensures.sized seat.chain taken there in
     record {
       moved = Moves-trans seat at c.deliver.new.seat c.args.writer.now c.loop.writer c.deliver.new.writer [] [] moved
           c.in-Ok.ensures.answer;
@@ -67,7 +67,7 @@ loop-preserved g c =
           (KeepsMoments-trans gives seat c.loop.seat at so_far.moments
           (offers_at gives c.moment.result c.loop.seat at c.moment.ensures c.offer_once.ensures.moment))
           (none_given gives at c.deliver.new.seat c.deliver.ensures.tally.seat c.deliver.ensures.kept);
-      buffers = c.keep.ensures seat.chain kept (rw chain at c.in-Ok.ensures.source) (rw chain at c.in-Ok.ensures.image);
+      buffers = c.keep.ensures.sized seat.chain kept (rw chain at c.in-Ok.ensures.source) (rw chain at c.in-Ok.ensures.image);
     }
 
 pub returns-in-JournalFull-clause-buffers : goal.returns-in-JournalFull-clause-buffers
@@ -77,7 +77,7 @@ returns-in-JournalFull-clause-buffers g c =
     let taken : AreBuffersFor seat.chain c.take_image-image.new.self = c.take_image-image.ensures.kept _ so_far.buffers in
     let there : IfSome c.in-JournalFull.image (IsImageOf seat.chain) = rw (stays_chain seat c.loop.seat so_far.moved.seat_stays) at
     c.in-JournalFull.ensures.answer.1 in
-    c.keep_image.ensures seat.chain taken there
+    c.keep_image.ensures.sized seat.chain taken there
 
 pub returns-in-Err-clause-answer : goal.returns-in-Err-clause-answer
 returns-in-Err-clause-answer g c =
@@ -98,7 +98,7 @@ returns-in-Err-clause-buffers g c =
     let taken : AreBuffersFor seat.chain c.take_image-image.new.self = c.take_image-image.ensures.kept _ so_far.buffers in
     let there : IfSome c.in-QueueFull.image (IsImageOf seat.chain) = rw (stays_chain seat c.loop.seat so_far.moved.seat_stays) at
     c.in-QueueFull.ensures.answer.1 in
-    c.keep_image-in-QueueFull.ensures seat.chain taken there
+    c.keep_image-in-QueueFull.ensures.sized seat.chain taken there
 
 pub returns-in-Accepted-clause-moments : goal.returns-in-Accepted-clause-moments
 returns-in-Accepted-clause-moments g c =
