@@ -11,19 +11,21 @@ use std::sync::atomic::Ordering::SeqCst;
 use std::test::Fail;
 use std::thread::Threads;
 use std::time::Clock;
-use test_tools::Tape;
+use test_tools::{Parts, Tape};
 
-const HEADER: &[u8] = b"YUV4MPEG2 W1024 H512 Cmono\n";
+/// A stream whose frames are enough for a second thread, and one whose frames aren't.
+const LARGE: &[u8] = b"YUV4MPEG2 W1024 H512 Cmono\n";
 
-/// The samples of a frame, which are enough for a second thread.
-const SAMPLES: usize = 1024 * 512;
+const SMALL: &[u8] = b"YUV4MPEG2 W64 H64 Cmono\n";
 
-/// What stands before the samples of the second frame.
-const BEFORE_SECOND: u64 = 27 + 6 + 1024 * 512 + 6;
+/// The samples of a frame of each.
+const LARGE_SAMPLES: usize = 1024 * 512;
 
-fn two_frames(alloc: Global) -> Result<Vec<u8>, AllocError> {
-    let samples = vec![in alloc; 7u8; SAMPLES]?;
-    let mut text = HEADER.to_vec(alloc)?;
+const SMALL_SAMPLES: usize = 64 * 64;
+
+fn two_frames(alloc: Global, header: &[u8], samples: usize) -> Result<Vec<u8>, AllocError> {
+    let samples = vec![in alloc; 7u8; samples]?;
+    let mut text = header.to_vec(alloc)?;
     for _ in 0..2 {
         text.extend_from_slice(b"FRAME\n")?;
         text.extend_from_slice(&samples)?;
@@ -31,32 +33,46 @@ fn two_frames(alloc: Global) -> Result<Vec<u8>, AllocError> {
     Ok(text)
 }
 
-/// How far a stream was read, and how far it had been when its first image was being written.
+/// How far a stream was read, and whether its second frame is read beside the writing of its first image.
 #[derive(Drop)]
 struct Course {
-    /// How often the first image looks whether the second frame is being read.
-    patience: u64,
+    /// What stands before the samples of the second frame.
+    before_second: u64,
     read: AtomicU64,
-    read_beside: AtomicU64,
+    /// How far the stream was read when its first image began to be written.
+    read_before: AtomicU64,
+    parts: Parts,
 }
 
 impl Course {
-    fn new(patience: u64) -> Course {
+    fn new(before_second: u64) -> Course {
         Course {
-            patience,
+            before_second,
             read: AtomicU64::new(0),
-            read_beside: AtomicU64::new(0),
+            read_before: AtomicU64::new(0),
+            parts: Parts::new(),
         }
     }
 
-    /// The first image is being written.
-    fn wait(&self) {
-        for _ in 0..self.patience {
-            if self.read.load(SeqCst) > BEFORE_SECOND {
-                break;
-            }
+    /// So many bytes more were read. With the second frame's samples it is held until the first image is being
+    /// written, for a while.
+    fn read(&self, taken: u64) {
+        let before = self.read.fetch_add(taken, SeqCst);
+        let is_second = before.saturating_add(taken) > self.before_second;
+        if is_second && before <= self.before_second {
+            self.parts.meet(0);
         }
-        self.read_beside.store(self.read.load(SeqCst), SeqCst);
+    }
+
+    /// The first image is being written, and is held until the second frame is being read, for a while.
+    fn write(&self) {
+        self.read_before.store(self.read.load(SeqCst), SeqCst);
+        self.parts.meet(1);
+    }
+
+    /// Whether the second frame had been read when the first image began to be written.
+    fn reads_first(&self) -> bool {
+        self.read_before.load(SeqCst) > self.before_second
     }
 }
 
@@ -70,7 +86,7 @@ struct Told<'a> {
 impl Read for Told<'_> {
     fn read(&mut self, buf: &mut [u8]) -> io::Result<usize> {
         let taken = self.tape.read(buf)?;
-        self.course.read.fetch_add(taken as u64, SeqCst);
+        self.course.read(taken as u64);
         Ok(taken)
     }
 }
@@ -82,19 +98,20 @@ fn reader_of<'a>(course: &'a Course, text: &'a [u8]) -> Told<'a> {
     }
 }
 
-/// A writer that waits once, at the first byte behind the header.
+/// A writer that tells once that it came to the first byte behind the header.
 #[derive(Drop)]
 struct Waiting<'a> {
     course: &'a Course,
+    header: usize,
     written: usize,
     has_waited: bool,
 }
 
 impl Write for Waiting<'_> {
     fn write(&mut self, buf: &[u8]) -> io::Result<usize> {
-        if self.written >= HEADER.len() && !self.has_waited {
+        if self.written >= self.header && !self.has_waited {
             self.has_waited = true;
-            self.course.wait();
+            self.course.write();
         }
         self.written = self.written.saturating_add(buf.len());
         Ok(buf.len())
@@ -105,19 +122,22 @@ impl Write for Waiting<'_> {
     }
 }
 
-/// Whether the second frame was being read while the first image was written.
-fn reads_beside<T: Abort + Threads + Wait + Clock + Copy + Drop + Send + Sync + 'static>(
+/// How many of two parts met the other, the reading of the second frame and the writing of the first image,
+/// and whether the reading was over when the writing began.
+fn course_of<T: Abort + Threads + Wait + Clock + Copy + Drop + Send + Sync + 'static>(
     rt: &T,
     alloc: Global,
     line: &str,
-    patience: u64,
-) -> Result<bool, Fail> {
-    let text = two_frames(alloc)?;
+    header: &[u8],
+    samples: usize,
+) -> Result<(u32, bool), Fail> {
+    let text = two_frames(alloc, header, samples)?;
     let words = words_of(alloc, line)?;
-    let course = Course::new(patience);
+    let course = Course::new((text.len() as u64).saturating_sub(samples as u64));
     let input = reader_of(&course, &text);
     let mut output = Waiting {
         course: &course,
+        header: header.len(),
         written: 0,
         has_waited: false,
     };
@@ -125,22 +145,31 @@ fn reads_beside<T: Abort + Threads + Wait + Clock + Copy + Drop + Send + Sync + 
     let mut errors = faults.as_mut_slice();
     let status = main_on(rt, alloc, &words, input, &mut output, &mut errors, &NoFiles);
     assert_eq!(rt; (status, output.written), (0, text.len()), "NoMemory?");
-    Ok(course.read_beside.load(SeqCst) > BEFORE_SECOND)
+    Ok((course.parts.met(), course.reads_first()))
 }
 
 #[test]
-fn one_thread_reads_no_frame_beside_an_image(rt: HostRuntime) -> Result<(), Fail> {
+fn one_thread_reads_a_frame_behind_an_image(rt: HostRuntime) -> Result<(), Fail> {
     let line = "filter --threads 1 invert";
-    let is_beside = reads_beside(&rt, rt.alloc(), line, 10_000_000)?;
-    assert!(rt; !is_beside, "{line}");
+    let course = course_of(&rt, rt.alloc(), line, LARGE, LARGE_SAMPLES)?;
+    assert_eq!(rt; course, (1, false), "{line}");
     Ok(())
 }
 
 #[test]
 fn two_threads_read_a_frame_beside_an_image(rt: HostRuntime) -> Result<(), Fail> {
     for line in ["filter --threads 2 invert", "filter invert"] {
-        let is_beside = reads_beside(&rt, rt.alloc(), line, 1_000_000_000)?;
-        assert!(rt; is_beside, "was a thread or its memory refused?");
+        let (met, _) = course_of(&rt, rt.alloc(), line, LARGE, LARGE_SAMPLES)?;
+        assert_eq!(rt; met, 2, "was a thread or its memory refused?");
+    }
+    Ok(())
+}
+
+#[test]
+fn two_threads_read_a_small_frame_behind_an_image(rt: HostRuntime) -> Result<(), Fail> {
+    for line in ["filter --threads 2 invert", "filter invert"] {
+        let course = course_of(&rt, rt.alloc(), line, SMALL, SMALL_SAMPLES)?;
+        assert_eq!(rt; course, (1, false), "{line}");
     }
     Ok(())
 }
