@@ -1,5 +1,5 @@
 -- What contracts inside the crate say of a client.
-use Rattle.std.specs.Prelude.{ℕ, ◌+◌, ◌≡◌, ◌≢◌, ◌≤◌, ◌⊎◌, ⊤, false, List, [], ◌∷◌}
+use Rattle.std.specs.Prelude.{ℕ, ◌+◌, ◌≡◌, ◌≢◌, ◌≤◌, ◌<◌, ◌⊎◌, ⊤, false, List, [], ◌∷◌}
 use Rattle.std.specs.Prelude.{◌++◌, All, Result, Ok, Err}
 use Rattle.std.specs.Prelude.{Option, Some, None, IfSome, length, map}
 use Rattle.std.specs.declared.alloc.Global.{Global}
@@ -114,6 +114,11 @@ pub record HasPlaces (places : ℕ) (buffers : Buffers) : Type 0 where
 pub record HasSamePlaces (old new : Buffers) : Type 0 where
   pub sources : vec_capacity new.sources ≡ vec_capacity old.sources
   pub images : vec_capacity new.images ≡ vec_capacity old.images
+
+-- of this memory and one more, the one more is kept behind the others where there is a place for it
+abbrev pub IsKept : {T : Type 0} → (places : ℕ) → (more : T) → (old new : List T) → Type 0
+IsKept places more old new =
+    (length old < places → new ≡ old ++ more ∷ []) × (places ≤ length old → new ≡ old)
 
 -- as many offers were accepted as frames, these calls of earlier epochs included
 abbrev pub IsCounted : List Act → StreamSeatValue → Type 0

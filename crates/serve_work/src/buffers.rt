@@ -1,8 +1,8 @@
 //! The memory of frames and images that a stream is done with.
-ghost use Rattle.std.specs.Prelude.{◌≡◌, ◌++◌, [], option_to_list, IfNone, IfOk, IfSome};
+ghost use Rattle.std.specs.Prelude.{◌≡◌, ◌++◌, [], option_to_list, IfNone, IfOk, IfSome, vec_capacity};
 ghost use Rattle.std.specs.Arc.{arc_value};
 ghost use Rattle.serve_core.specs.Streams.{IsImageOf, source_in};
-ghost use Rattle.serve_work.specs.ClientInside.{AreBuffersFor, HasPlaces, HasSamePlaces};
+ghost use Rattle.serve_work.specs.ClientInside.{AreBuffersFor, HasPlaces, HasSamePlaces, IsKept};
 
 use frame_view::Frame;
 use serve_core::Collected;
@@ -36,6 +36,10 @@ impl Buffers {
             → (source_in pair).geometry ≡ chain.geometry → IsImageOf chain pair.image
             → AreBuffersFor chain self.new }
         ensures places { HasSamePlaces self.old self.new }
+        ensures source { IsKept (vec_capacity self.old.sources) pair.source self.old.sources.items
+            self.new.sources.items }
+        ensures image { IsKept (vec_capacity self.old.images) pair.image self.old.images.items
+            self.new.images.items }
     {
         let Collected { source, image } = pair;
         self.keep_source(source);
@@ -47,6 +51,8 @@ impl Buffers {
         ensures sized { (chain : ChainValue) → AreBuffersFor chain self.old
             → (arc_value source).geometry ≡ chain.geometry → AreBuffersFor chain self.new }
         ensures places { HasSamePlaces self.old self.new }
+        ensures source { IsKept (vec_capacity self.old.sources) source self.old.sources.items
+            self.new.sources.items }
         ensures images { self.new.images ≡ self.old.images }
     {
         if self.sources.len() < self.sources.capacity() {
@@ -59,6 +65,9 @@ impl Buffers {
         ensures sized { (chain : ChainValue) → AreBuffersFor chain self.old → IfSome image (IsImageOf chain)
             → AreBuffersFor chain self.new }
         ensures places { HasSamePlaces self.old self.new }
+        ensures image { IfSome image (λ i. IsKept (vec_capacity self.old.images) i self.old.images.items
+            self.new.images.items) }
+        ensures none { IfNone image (self.new ≡ self.old) }
         ensures sources { self.new.sources ≡ self.old.sources }
     {
         let Some(image) = image else {
