@@ -1,3 +1,4 @@
+pub mod Allowing
 pub mod Crossing
 pub mod Ending
 pub mod Fronts
@@ -9,6 +10,7 @@ pub mod Passing
 pub mod Refusing
 pub mod Resting
 pub mod SessionCharges
+pub mod SessionStops
 pub mod SessionTurns
 pub mod Slots
 pub mod Spoiling

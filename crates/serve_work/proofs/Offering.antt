@@ -49,20 +49,20 @@ Refuses-later stop seat mid seat' writer between writer' a up r = record {
 
 -- what a refused offer is to a client, where neither the queue nor the journal is full
 offer_core : (e : core.Refusal) (frame : Frame) (at : ℕ) (seat : StreamSeatValue) → AllowsOffer seat at frame.geometry e → e ≢ cores.Full
-    → IsOffered (offered.Stopped (stop_of (hub.Core e))) frame seat seat
+    → IsOffered (offered.Stopped (stop_of (hub.Core e))) at frame seat seat
 offer_core cores.NoStream frame at seat p not = absurd p
 offer_core cores.Closed frame at seat p not = inl refl
 offer_core cores.WrongSize frame at seat p not = inl refl
-offer_core cores.TooManyFrames frame at seat p not = (λ _. p, refl)
+offer_core cores.TooManyFrames frame at seat p not = (λ _. p, λ is. absurd (cc), refl)
 offer_core cores.Full frame at seat p not = absurd (not refl)
-offer_core cores.NoMemory frame at seat p not = (λ is. absurd (cc), refl)
+offer_core cores.NoMemory frame at seat p not = (λ is. absurd (cc), λ is. absurd (cc), refl)
 offer_core cores.NoWorker frame at seat p not = absurd p
 offer_core cores.Busy frame at seat p not = absurd p
 offer_core cores.NoneReady frame at seat p not = absurd p
 offer_core cores.NoLease frame at seat p not = absurd p
 offer_core cores.GrantSpent frame at seat p not = absurd p
 offer_core cores.Past frame at seat p not = absurd p
-offer_core cores.ClockEnd frame at seat p not = (λ is. absurd (cc), refl)
+offer_core cores.ClockEnd frame at seat p not = (λ is. absurd (cc), λ _. p, refl)
 offer_core cores.AlreadyClosed frame at seat p not = absurd p
 offer_core cores.Empty frame at seat p not = absurd p
 offer_core cores.Drained frame at seat p not = absurd p
@@ -72,26 +72,27 @@ offer_core cores.BadBandwidth frame at seat p not = absurd p
 offer_core cores.Overload frame at seat p not = absurd p
 
 pub offer_refused : (e : Refusal) (frame : Frame) (at : ℕ) (seat : StreamSeatValue) → IsTold (AllowsOffer seat at frame.geometry) e
-    → e ≢ hub.Core cores.Full → e ≢ hub.HistoryFull → IsOffered (offered.Stopped (stop_of e)) frame seat seat
+    → e ≢ hub.Core cores.Full → e ≢ hub.HistoryFull → IsOffered (offered.Stopped (stop_of e)) at frame seat seat
 offer_refused (hub.Core e) frame at seat p not other = offer_core e frame at seat p (λ is. not (ap hub.Core is))
 offer_refused hub.HistoryFull frame at seat p not other = absurd (other refl)
 offer_refused hub.StrayLease frame at seat p not other = absurd p
 offer_refused (hub.Torn c) frame at seat p not other = inl refl
 
 -- an offer of the same frame, where a refusal leaves the seat
-pub offered_back : (o : Offered) (frame frame' : Frame) (old new : StreamSeatValue) → frame' ≡ frame → new ≡ old
-    → IsOffered o frame' old old → IsOffered o frame old new
-offered_back o frame frame' old new same stays p = rw (stays, ← same) p
+pub offered_back : (o : Offered) (at : ℕ) (frame frame' : Frame) (old new : StreamSeatValue) → frame' ≡ frame → new ≡ old
+    → IsOffered o at frame' old old → IsOffered o at frame old new
+offered_back o at frame frame' old new same stays p = rw (stays, ← same) p
 
-pub offered_tally : (o : Offered) (frame : Frame) (old new : StreamSeatValue) → IsOffered o frame old new → TalliesSeat old new
-offered_tally offered.Accepted frame old new p = TalliesSeat-accept (value_of frame) p.0 old new p.1
-offered_tally (offered.QueueFull back image) frame old new p = seat_same old new p.2
-offered_tally (offered.JournalFull back image) frame old new p = seat_same old new p.2
-offered_tally (offered.Stopped Whole) frame old new p = absurd p
-offered_tally (offered.Stopped (Read fault)) frame old new p = absurd p
-offered_tally (offered.Stopped (Write fault)) frame old new p = absurd p
-offered_tally (offered.Stopped (Refused cause)) frame old new p = seat_same old new p.1
-offered_tally (offered.Stopped Torn) frame old new p = elim p [
+pub offered_tally : (o : Offered) (at : ℕ) (frame : Frame) (old new : StreamSeatValue) → IsOffered o at frame old new
+    → TalliesSeat old new
+offered_tally offered.Accepted at frame old new p = TalliesSeat-accept (value_of frame) p.0 old new p.1
+offered_tally (offered.QueueFull back image) at frame old new p = seat_same old new p.2
+offered_tally (offered.JournalFull back image) at frame old new p = seat_same old new p.2
+offered_tally (offered.Stopped Whole) at frame old new p = absurd p
+offered_tally (offered.Stopped (Read fault)) at frame old new p = absurd p
+offered_tally (offered.Stopped (Write fault)) at frame old new p = absurd p
+offered_tally (offered.Stopped (Refused cause)) at frame old new p = seat_same old new p.2
+offered_tally (offered.Stopped Torn) at frame old new p = elim p [
   | inl same ↦ seat_same old new same
   | inr taken ↦ TalliesSeat-accept (value_of frame) taken.0 old new taken.2
 ]
@@ -105,21 +106,21 @@ offer_taken frame frame' n seat mid seat' writer between a same taken =
     (rw same at (Moves-accept mid seat' between frame' n taken))
 
 -- the stop of an offer
-pub offer_stopped : (stop : Stop) (frame : Frame) (seat mid seat' : StreamSeatValue) (writer between : WriterState)
+pub offer_stopped : (stop : Stop) (at : ℕ) (frame : Frame) (seat mid seat' : StreamSeatValue) (writer between : WriterState)
     → Moves seat mid writer between []
-    → GivesUp seat mid → TalliesSeat seat mid → IsOffered (offered.Stopped stop) frame mid seat'
+    → GivesUp seat mid → TalliesSeat seat mid → IsOffered (offered.Stopped stop) at frame mid seat'
     → Refuses stop seat seat' writer between ⊎ AcceptsTorn stop (frame_text_of frame) seat seat' writer between
-offer_stopped Whole frame seat mid seat' writer between a up tally p = absurd p
-offer_stopped (Read fault) frame seat mid seat' writer between a up tally p = absurd p
-offer_stopped (Write fault) frame seat mid seat' writer between a up tally p = absurd p
-offer_stopped (Refused cause) frame seat mid seat' writer between a up tally p =
+offer_stopped Whole at frame seat mid seat' writer between a up tally p = absurd p
+offer_stopped (Read fault) at frame seat mid seat' writer between a up tally p = absurd p
+offer_stopped (Write fault) at frame seat mid seat' writer between a up tally p = absurd p
+offer_stopped (Refused cause) at frame seat mid seat' writer between a up tally p =
     inl (Refuses-later (Refused cause) seat mid seat' writer between between a up (record {
       of_seat = tt;
-      moved = Moves-none mid seat' between between p.1 refl;
-      stays = rw p.1 refl;
-      limit = λ is. ap (λ (s : StreamSeatValue). s.accepted) p.1 ∙ p.0 (same_cause cause TooManyFrames is);
+      moved = Moves-none mid seat' between between p.2 refl;
+      stays = rw p.2 refl;
+      limit = λ is. ap (λ (s : StreamSeatValue). s.accepted) p.2 ∙ p.0 (same_cause cause TooManyFrames is);
     }))
-offer_stopped Torn frame seat mid seat' writer between a up tally p = elim p [
+offer_stopped Torn at frame seat mid seat' writer between a up tally p = elim p [
   | inl stays ↦ inl (Refuses-later Torn seat mid seat' writer between between a up (record {
     of_seat = tt;
     moved = (mid, Moves-none mid mid between between refl refl);

@@ -1,5 +1,5 @@
 -- What an offer comes to where no image is written any more.
-use Rattle.std.proofs.Common.{◌≡◌, [], ◌∷◌, List, Some, refl, subst, sym}
+use Rattle.std.proofs.Common.{◌≡◌, ℕ, [], ◌∷◌, List, Some, refl, subst, sym}
 use Rattle.std.specs.declared.alloc.Global.{Global}
 use Rattle.std.specs.declared.sync.Arc.{Arc}
 use Rattle.std.specs.Arc.{arc_value}
@@ -22,13 +22,14 @@ use Rattle.serve_work.proofs.Offering.{offer_stopped}
 use Rattle.serve_work.proofs.Passing.{Feeds-behind, Feeds-unfed, HasInHand-behind, Passes-none, Passes-push, Passes-still}
 
 -- an offer, and a reading, have no fault of the writer
-pub no_write_offered : (stop : Stop) (frame : Frame) (old new : StreamSeatValue) → IsOffered (offered.Stopped stop) frame old new
+pub no_write_offered : (stop : Stop) (at : ℕ) (frame : Frame) (old new : StreamSeatValue)
+    → IsOffered (offered.Stopped stop) at frame old new
     → IsNoWrite stop
-no_write_offered Whole frame old new p = tt
-no_write_offered (Read fault) frame old new p = tt
-no_write_offered (Refused cause) frame old new p = tt
-no_write_offered (Write fault) frame old new p = p
-no_write_offered Torn frame old new p = tt
+no_write_offered Whole at frame old new p = tt
+no_write_offered (Read fault) at frame old new p = tt
+no_write_offered (Refused cause) at frame old new p = tt
+no_write_offered (Write fault) at frame old new p = p
+no_write_offered Torn at frame old new p = tt
 
 pub no_write_read : (stop : Stop) (old new : ReaderState) → IsUnread old new stop → IsNoWrite stop
 no_write_read Whole old new u = tt
@@ -40,8 +41,8 @@ no_write_read Torn old new u = tt
 -- a frame that was taken off the front of a reader is offered
 module _ (before reader : ReaderState) (frame : Frame) (taken : Holds before reader (Some (frame_text_of frame)))
     (seat seat' : StreamSeatValue) (writer : WriterState) where
-  pub offered_well : IsOffered offered.Accepted frame seat seat' → HasPassed before reader seat seat' writer writer
-  offered_well p = record {
+  pub offered_well : (at : ℕ) → IsOffered offered.Accepted at frame seat seat' → HasPassed before reader seat seat' writer writer
+  offered_well at p = record {
     frames = frame_text_of frame ∷ [];
     passed = Passes-push before before seat seat writer writer [] (Passes-none before seat writer) reader seat' writer (frame_text_of frame)
         taken.0 taken.1 (Moves-accept seat seat' writer frame p.0 p.1);
@@ -58,13 +59,13 @@ module _ (before reader : ReaderState) (frame : Frame) (taken : Holds before rea
     is_open = taken.0.stays_open;
   }
 
-  pub offered_last : (past : List Act) (stop : Stop) → IsCounted past seat → IsOffered (offered.Stopped stop) frame seat seat'
+  pub offered_last : (past : List Act) (stop : Stop) (at : ℕ) → IsCounted past seat → IsOffered (offered.Stopped stop) at frame seat seat'
       → OffersOn (onward.Stopped stop) past before reader seat seat' writer
-  offered_last past stop counted p = (
-    no_write_offered stop frame seat seat' p,
+  offered_last past stop at counted p = (
+    no_write_offered stop at frame seat seat' p,
     Feeds-unfed before before seat seat writer writer [] (Passes-none before seat writer) past (feds.Stopped stop) reader seat' writer
         frame counted taken.0 taken.1
-        (offer_stopped stop frame seat seat seat' writer writer (Moves-none seat seat writer writer refl refl) refl
+        (offer_stopped stop at frame seat seat seat' writer writer (Moves-none seat seat writer writer refl refl) refl
         (seat_same seat seat refl) p),
   )
 

@@ -171,7 +171,7 @@ all_went Gives (held ∷ helds) (next ∷ after) p = ap suc (all_went Gives held
 go_on_none : (Gives : ℕ → Type 0) (helds : List HeldValue) → AllGoOn Gives helds helds
 go_on_none Gives [] = tt
 go_on_none Gives (held ∷ helds) =
-    (((λ start past at. at), KeepsMoments-same Gives held.seat held.seat refl), go_on_none Gives helds)
+    (((λ start past at. at), KeepsMoments-same Gives held.seat held.seat refl, λ allowed. allowed), go_on_none Gives helds)
 
 pub all_stay : (Gives : ℕ → Type 0) (items : List (Option HeldValue)) → AllRun Gives items items
 all_stay Gives items helds e = (helds, e, go_on_none Gives helds)
@@ -338,7 +338,7 @@ all_over left read_failures after failures is_flushed journal (start ∷ starts)
       record { seat = held.seat; outcome = outcome } ∷ rest.0,
       ap (λ seats. held.seat ∷ seats) rest.1,
       ap (λ outcomes. outcome ∷ outcomes) rest.2,
-      ((p.0.0, q.0 start p.0.0 held.seat stand, p.0.2), rest.3),
+      ((p.0.0, q.0.0 start p.0.0 held.seat stand, p.0.2), rest.3),
     )
 
 pub over_length : {R W : Type 0} (left : R → Option (List ℕ)) (read_failures : R → ℕ) (after : W → Option (List ℕ)) (failures : W

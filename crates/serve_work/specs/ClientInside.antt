@@ -7,6 +7,7 @@ use Rattle.std.specs.declared.sync.Arc.{Arc}
 use Rattle.std.specs.Arc.{arc_value}
 use Rattle.std.specs.Vec.{vec_capacity}
 use Rattle.std.specs.Io.KnownBytes.{Appends, Consumes}
+use Rattle.cbs_account.specs.declared.limits.TheConstants.{LAST_MOMENT}
 use Rattle.y4m_header.specs.StreamText.{FrameText, IsFrameOf, frames_text}
 use Rattle.frame_view.specs.declared.frame.Frame.{Frame}
 use Rattle.filters.specs.Chain.{ChainValue}
@@ -36,7 +37,8 @@ use Rattle.serve_work.specs.declared.stop.Halt.{Halt}
 use Rattle.serve_work.specs.declared.stop.Halt.TheVariants.{Full, Stopped}
 use Rattle.serve_work.specs.declared.stop.Stop.{Stop}
 use Rattle.serve_work.specs.declared.stop.Stop.TheVariants.{Whole, Read, Write, Refused, Torn}
-use Rattle.serve_work.specs.Clients.{AreAtMoments, ClientStopsAt, HasOtherNumber, IsDrained, collections_in, offers_in, reads_at}
+use Rattle.serve_work.specs.Clients.{AllowsStop, AreAtMoments, ClientStopsAt, HasOtherNumber, IsDrained}
+use Rattle.serve_work.specs.Clients.{collections_in, offers_in, reads_at}
 
 -- a refusal that isn't that of a full journal
 abbrev pub stop_of : Refusal → Stop
@@ -166,6 +168,14 @@ pub record KeepsMoments (Gives : ℕ → Type 0) (old new : StreamSeatValue) : T
   pub calls : AreAtMoments Gives old.calls.list → AreAtMoments Gives new.calls.list
   pub latest : IfSome old.moment Gives → IfSome new.moment Gives
 
+-- where the clock allows the stop that was kept, if one was, it allows the one that is kept or told then
+abbrev pub KeepsAllowed : (Gives : ℕ → Type 0) → (old new : Option Stop) → Type 0
+KeepsAllowed Gives old new = IfSome old (AllowsStop Gives) → IfSome new (AllowsStop Gives)
+
+-- the clock's end is kept or told only where it was kept
+abbrev pub IsNoNewEnd : (old new : Option Stop) → Type 0
+IsNoNewEnd old new = new ≡ Some (Refused causes.ClockEnd) → old ≡ Some (Refused causes.ClockEnd)
+
 -- nothing but the seat's calls and what it keeps may have changed
 abbrev pub GivesUp : StreamSeatValue → StreamSeatValue → Type 0
 GivesUp old new = new ≡ record old { calls = new.calls; kept = new.kept }
@@ -232,17 +242,18 @@ abbrev pub ComesBack : Arc Frame Global → Option Frame → Frame → StreamSea
 ComesBack back image frame old new =
     (arc_value back ≡ frame) × IfSome image (IsImageOf old.chain) × (new ≡ old)
 
--- one offer of a frame: it was accepted; or it comes back, the queue or the journal being full; or the client
--- stops
-abbrev pub IsOffered : Offered → Frame → StreamSeatValue → StreamSeatValue → Type 0
-IsOffered offered.Accepted frame old new = (n : ℕ) × Accepts (value_of frame) n old new
-IsOffered (offered.QueueFull back image) frame old new = ComesBack back image frame old new
-IsOffered (offered.JournalFull back image) frame old new = ComesBack back image frame old new
-IsOffered (offered.Stopped (Refused cause)) frame old new =
-    (cause ≡ causes.TooManyFrames → old.accepted ≡ old.frames) × (new ≡ old)
-IsOffered (offered.Stopped Torn) frame old new =
+-- one offer of a frame at a moment: it was accepted; or it comes back, the queue or the journal being full; or
+-- the client stops
+abbrev pub IsOffered : Offered → (at : ℕ) → Frame → StreamSeatValue → StreamSeatValue → Type 0
+IsOffered offered.Accepted at frame old new = (n : ℕ) × Accepts (value_of frame) n old new
+IsOffered (offered.QueueFull back image) at frame old new = ComesBack back image frame old new
+IsOffered (offered.JournalFull back image) at frame old new = ComesBack back image frame old new
+IsOffered (offered.Stopped (Refused cause)) at frame old new =
+    (cause ≡ causes.TooManyFrames → old.accepted ≡ old.frames) × (cause ≡ causes.ClockEnd → LAST_MOMENT < at)
+    × (new ≡ old)
+IsOffered (offered.Stopped Torn) at frame old new =
     (new ≡ old) ⊎ ((n : ℕ) × (n ≢ old.accepted) × Accepts (value_of frame) n old new)
-IsOffered (offered.Stopped stop) frame old new = ⊥
+IsOffered (offered.Stopped stop) at frame old new = ⊥
 
 -- the frame wasn't accepted, and the client stops
 pub record Refuses (stop : Stop) (seat seat' : StreamSeatValue) (writer writer' : WriterState) : Type 0 where
@@ -391,6 +402,12 @@ FeedsOn (feds.Stopped stop) past reader reader' seat seat' writer writer' =
 abbrev pub IsSized : ChainValue → Option (Arc Frame Global) → Type 0
 IsSized chain in_hand = IfSome in_hand (λ f. (arc_value f).geometry ≡ chain.geometry)
 
+-- the clock that gives these moments allows the stop, if there is one
+abbrev pub AllowsFed : (Gives : ℕ → Type 0) → Fed → Type 0
+AllowsFed Gives (feds.Paused in_hand) = ⊤
+AllowsFed Gives (feds.Held stop) = AllowsStop Gives stop
+AllowsFed Gives (feds.Stopped stop) = AllowsStop Gives stop
+
 -- the frame that is left in hand, and the writer, are for this chain
 abbrev pub IsSizedFed : ChainValue → WriterState → Fed → Type 0
 IsSizedFed chain writer (feds.Paused in_hand) = IsSized chain in_hand × IsWriterFor chain writer
@@ -412,6 +429,11 @@ abbrev pub OffersOnce : {T : Type 0} → Result T Onward → List Act → Reader
 OffersOnce (Ok t) past reader reader' seat seat' writer = HasPassed reader reader' seat seat' writer writer
 OffersOnce (Err stopped) past reader reader' seat seat' writer =
     OffersOn stopped past reader reader' seat seat' writer
+
+abbrev pub AllowsOnward : (Gives : ℕ → Type 0) → Onward → Type 0
+AllowsOnward Gives (onward.Paused in_hand) = ⊤
+AllowsOnward Gives onward.QueueFull = ⊤
+AllowsOnward Gives (onward.Stopped stop) = AllowsStop Gives stop
 
 -- the frame that is left in hand is for this chain
 abbrev pub IsSizedOnward : ChainValue → Onward → Type 0

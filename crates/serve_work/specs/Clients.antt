@@ -3,6 +3,7 @@ use Rattle.std.specs.Prelude.{ℕ, ◌+◌, ◌≡◌, ◌≢◌, ◌≤◌, ◌
 use Rattle.std.specs.Prelude.{◌∷◌, ◌++◌, All, Option, filter, length, take}
 use Rattle.std.specs.List.{AllByRecursion}
 use Rattle.std.specs.Io.KnownBytes.{Appends, Consumes, IsAtEnd, Keeps}
+use Rattle.cbs_account.specs.declared.limits.TheConstants.{LAST_MOMENT}
 use Rattle.y4m_header.specs.StreamText.{FrameText, IsFrameOf, frames_text, text_of}
 use Rattle.filters.specs.Chain.{ChainValue}
 use Rattle.y4m_stream.specs.declared.fault.WriteFault.{WriteFault}
@@ -17,7 +18,7 @@ use Rattle.serve_hub.specs.declared.entry.Act.{Act}
 use Rattle.serve_hub.specs.declared.entry.Act.TheVariants.{Collected, Offered}
 use Rattle.serve_hub.specs.Journal.{tick_of}
 use Rattle.serve_hub.specs.Seats.{StreamSeatValue}
-use Rattle.serve_work.specs.declared.stop.Cause.TheVariants.{NoMemory, TooManyFrames}
+use Rattle.serve_work.specs.declared.stop.Cause.TheVariants.{ClockEnd, NoMemory, TooManyFrames}
 use Rattle.serve_work.specs.declared.stop.Stop.{Stop}
 use Rattle.serve_work.specs.declared.stop.Stop.TheVariants.{Whole, Read, Write, Refused, Torn}
 
@@ -79,6 +80,11 @@ IsAtMoment Gives act = ⊤
 
 abbrev pub AreAtMoments : (Gives : ℕ → Type 0) → List Act → Type 0
 AreAtMoments Gives calls = AllByRecursion (IsAtMoment Gives) calls
+
+-- a clock that gives these moments allows the stop: its end is one only where it gave a moment past the last
+abbrev pub AllowsStop : (Gives : ℕ → Type 0) → Stop → Type 0
+AllowsStop Gives (Refused ClockEnd) = (at : ℕ) × (LAST_MOMENT < at) × Gives at
+AllowsStop Gives stop = ⊤
 
 -- the seat is closed, and keeps no frame
 pub record IsDrained (seat : StreamSeatValue) : Type 0 where

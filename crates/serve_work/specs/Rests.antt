@@ -56,6 +56,22 @@ stop_given_up (Discarding stop) = stop
 abbrev pub stop_in : code.Course → Stop
 stop_in course = stop_given_up (course_of course)
 
+-- the stop that a client keeps, if it keeps one
+abbrev pub course_stop : CourseValue → Option Stop
+course_stop (Feeding in_hand) = None
+course_stop (Holding in_hand held) = Some held
+course_stop (Draining stop) = Some stop
+course_stop (Discarding stop) = Some stop
+
+abbrev pub course_stop_before : Option code.Course → Option Stop
+course_stop_before None = None
+course_stop_before (Some course) = course_stop (course_of course)
+
+-- the stop that it keeps where it paused, or that it tells
+abbrev pub step_stop : Step → Option Stop
+step_stop (steps.Paused course) = course_stop (course_of course)
+step_stop (steps.Done stop) = Some stop
+
 -- a client whose header line was written: its reader and its writer, what it does next, and how many of its
 -- frames were accepted, and how many of these its seat has no more
 pub record BegunValue : Type 0 where
@@ -74,6 +90,10 @@ pub data RestValue : Type 0 where
 abbrev pub reader_in : RestValue → ReaderState
 reader_in (Unbegun reader contents failures) = reader
 reader_in (Begun begun) = begun.reader
+
+abbrev pub rest_stop : RestValue → Option Stop
+rest_stop (Unbegun reader contents failures) = None
+rest_stop (Begun begun) = course_stop begun.course
 
 abbrev pub accepted_in : RestValue → ℕ
 accepted_in (Unbegun reader contents failures) = 0

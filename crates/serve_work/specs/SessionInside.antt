@@ -1,5 +1,5 @@
 -- What contracts inside the crate say of the streams of a session, from epoch to epoch.
-use Rattle.std.specs.Prelude.{ℕ, ◌≡◌, ◌<◌, ⊤, Bool, List, [], ◌∷◌, ◌++◌, Option, Some, IsSomeAnd, map}
+use Rattle.std.specs.Prelude.{ℕ, ◌≡◌, ◌<◌, ⊤, Bool, List, [], ◌∷◌, ◌++◌, Option, Some, IfSome, IsSomeAnd, map}
 use Rattle.std.specs.Prelude.{slice_index_or}
 use Rattle.std.specs.List.{AllByRecursion, AllZip}
 use Rattle.y4m_stream.specs.declared.reader.Phase.TheVariants.{Open}
@@ -11,9 +11,10 @@ use Rattle.serve_hub.specs.Seats.{StreamSeatValue}
 use Rattle.serve_work.specs.declared.session.Served.{Served}
 use Rattle.serve_work.specs.declared.session.turn.Stream.{Stream}
 use Rattle.serve_work.specs.declared.session.turn.Stream.TheVariants as streams
-use Rattle.serve_work.specs.Clients.{ClientEnds, ClientOutcome, ClientStart}
-use Rattle.serve_work.specs.ClientInside.{KeepsMoments}
-use Rattle.serve_work.specs.Rests.{IsRest, IsRestOf, RestValue, Unbegun, reader_in}
+use Rattle.serve_work.specs.declared.stop.Stop.{Stop}
+use Rattle.serve_work.specs.Clients.{AllowsStop, ClientEnds, ClientOutcome, ClientStart}
+use Rattle.serve_work.specs.ClientInside.{IsNoNewEnd, KeepsAllowed, KeepsMoments}
+use Rattle.serve_work.specs.Rests.{IsRest, IsRestOf, RestValue, Unbegun, reader_in, rest_stop}
 use Rattle.serve_work.specs.Sessions.{acts_in, outcome_of}
 
 -- a stream of a session, whatever the epoch: what is left to do of it, or what it came to
@@ -26,6 +27,20 @@ abbrev pub stream_of : {R W : Type 0} (left : R → Option (List ℕ)) (read_fai
 stream_of left read_failures after failures is_flushed (streams.Waiting rest) = Waiting rest
 stream_of left read_failures after failures is_flushed (streams.Over served) =
     Over (outcome_of left read_failures after failures is_flushed served)
+
+-- the stop that is kept for a stream, or that it came to
+abbrev pub stream_stop : StreamValue → Option Stop
+stream_stop (Waiting rest) = rest_stop rest
+stream_stop (Over outcome) = Some outcome.stop
+
+-- the same, as the code has it
+abbrev pub kept_stop : {R W : Type 0} → Stream R W → Option Stop
+kept_stop (streams.Waiting rest) = rest_stop rest
+kept_stop (streams.Over served) = Some served.stop
+
+-- the clock allows each of these stops
+abbrev pub AreAllowed : (Gives : ℕ → Type 0) → List (Option Stop) → Type 0
+AreAllowed Gives stops = AllByRecursion (λ stop. IfSome stop (AllowsStop Gives)) stops
 
 -- a stream with its seat of this epoch
 pub record HeldValue : Type 0 where
@@ -65,11 +80,13 @@ IsReadyAt (Over outcome) seat = ⊤
 abbrev pub IsReady : HeldValue → Type 0
 IsReady held = IsReadyAt held.stream held.seat
 
--- a stream went on in an epoch, whatever it began with, with its frames at moments that the clock gave
+-- a stream went on in an epoch, whatever it began with, with its frames at moments that the clock gave, and no
+-- other stop than the clock allows
 abbrev pub GoesOn : (Gives : ℕ → Type 0) → HeldValue → HeldValue → Type 0
 GoesOn Gives old new =
     ((start : ClientStart) (past : List Act) → Stands start past old → Stands start past new)
     × KeepsMoments Gives old.seat new.seat
+    × KeepsAllowed Gives (stream_stop old.stream) (stream_stop new.stream)
 
 abbrev pub AllGoOn : (Gives : ℕ → Type 0) → List HeldValue → List HeldValue → Type 0
 AllGoOn Gives old new = AllZip (GoesOn Gives) old new
@@ -112,20 +129,25 @@ abbrev pub AllRun : (Gives : ℕ → Type 0) → List (Option HeldValue) → Lis
 AllRun Gives old new = (helds : List HeldValue) → old ≡ map Some helds
     → (after : List HeldValue) × (new ≡ map Some after) × AllGoOn Gives helds after
 
--- what is told of a stream is its end, from whatever it began with
+-- what is told of a stream is its end, from whatever it began with; the clock's end only where it was kept
 abbrev pub IsOver : {R W : Type 0} (left : R → Option (List ℕ)) (read_failures : R → ℕ)
     (after : W → Option (List ℕ)) (failures : W → ℕ) (is_flushed : W → Bool) → Stream R W → Served R W
     → Type 0
 IsOver left read_failures after failures is_flushed stream served =
-    (start : ClientStart) (past : List Act) (seat : StreamSeatValue)
+    ((start : ClientStart) (past : List Act) (seat : StreamSeatValue)
     → StandsAt (stream_of left read_failures after failures is_flushed stream) start past seat
-    → ClientEnds start past seat (outcome_of left read_failures after failures is_flushed served)
+    → ClientEnds start past seat (outcome_of left read_failures after failures is_flushed served))
+    × IsNoNewEnd (kept_stop stream) (Some served.stop)
 
 abbrev pub AreOver : {R W : Type 0} (left : R → Option (List ℕ)) (read_failures : R → ℕ)
     (after : W → Option (List ℕ)) (failures : W → ℕ) (is_flushed : W → Bool) → List (Stream R W)
     → List (Served R W) → Type 0
 AreOver left read_failures after failures is_flushed streams served =
     AllZip (IsOver left read_failures after failures is_flushed) streams served
+
+-- of streams that kept these stops, the clock's end is told only where it was kept
+abbrev pub BringNoEnd : List (Option Stop) → List ClientOutcome → Type 0
+BringNoEnd stops outcomes = AllZip (λ kept outcome. IsNoNewEnd kept (Some outcome.stop)) stops outcomes
 
 -- the first of these streams are told what they were charged
 abbrev pub AreTold : {R W : Type 0} → ScheduleValue → ℕ → List (Served R W) → Type 0

@@ -16,7 +16,7 @@ use Rattle.serve_hub.specs.Journal.{IsJournal}
 use Rattle.serve_hub.specs.Seats.{StreamSeatValue}
 use Rattle.serve_work.specs.declared.session.Served.{Served}
 use Rattle.serve_work.specs.declared.stop.Stop.TheVariants.{Whole}
-use Rattle.serve_work.specs.Clients.{AreAtMoments, ClientEnds, ClientOutcome, ClientStart}
+use Rattle.serve_work.specs.Clients.{AllowsStop, AreAtMoments, ClientEnds, ClientOutcome, ClientStart}
 
 -- nothing was read of a stream's frames, and its header has the size of the stream's chain
 pub record IsInput {W : Type 0} (spec : StreamSpec) (input : ReaderState × W) : Type 0 where
@@ -106,7 +106,8 @@ AllAtMoments Gives journal starts =
     AllByRecursion (λ start. AreAtMoments Gives (acts_in journal start)) starts
 
 -- one journal of all epochs, the latest entry first, leads from where the setup opens to where the session
--- ended, and each stream was served by its calls in it, with its frames at moments that the clock gave
+-- ended, and each stream was served by its calls in it, with its frames at moments that the clock gave, and
+-- stopped as the clock allows
 pub record IsSession (Gives : ℕ → Type 0) (setup : Setup) (starts : List ClientStart)
     (served : List ServedValue) : Type 0 where
   pub journal : List Entry
@@ -114,3 +115,4 @@ pub record IsSession (Gives : ℕ → Type 0) (setup : Setup) (starts : List Cli
   pub leads : IsJournal setup.streams (desk_state (opened_schedule setup)) journal (desk_state last)
   pub streams : AllZip (IsServedBy journal last) starts served
   pub moments : AllAtMoments Gives journal starts
+  pub stops : AllByRecursion (λ s. AllowsStop Gives s.outcome.stop) served

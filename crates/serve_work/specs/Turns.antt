@@ -1,12 +1,13 @@
 -- What a client comes to in an epoch.
-use Rattle.std.specs.Prelude.{ℕ, Bool, List, Option}
+use Rattle.std.specs.Prelude.{ℕ, Bool, List, Option, Some}
 use Rattle.serve_hub.specs.declared.entry.Act.{Act}
 use Rattle.serve_hub.specs.Seats.{StreamSeatValue}
 use Rattle.serve_work.specs.declared.clients.ClientEnd.{ClientEnd}
 use Rattle.serve_work.specs.declared.clients.ClientTurn.{ClientTurn}
 use Rattle.serve_work.specs.declared.clients.ClientTurn.TheVariants as turns
+use Rattle.serve_work.specs.declared.stop.Stop.{Stop}
 use Rattle.serve_work.specs.Clients.{ClientEnds, ClientOutcome, ClientStart}
-use Rattle.serve_work.specs.Rests.{IsRestOf}
+use Rattle.serve_work.specs.Rests.{IsRestOf, rest_stop}
 
 -- what a client's end tells, by what is known of its source and its writer
 abbrev pub end_of : {L R W : Type 0} (left : R → Option (List ℕ)) (read_failures : R → ℕ)
@@ -26,6 +27,11 @@ end_of left read_failures after failures is_flushed end = record {
 abbrev pub seat_in : {L R W : Type 0} → ClientTurn L R W → StreamSeatValue
 seat_in (turns.Ended end) = end.seat
 seat_in (turns.Paused seat rest) = seat
+
+-- the stop that it keeps or tells, if there is one
+abbrev pub turn_stop : {L R W : Type 0} → ClientTurn L R W → Option Stop
+turn_stop (turns.Ended end) = Some end.stop
+turn_stop (turns.Paused seat rest) = rest_stop rest
 
 -- what a client comes to in an epoch, from this beginning of its stream: its end, or what is left to do
 abbrev pub Turns : {L R W : Type 0} (left : R → Option (List ℕ)) (read_failures : R → ℕ)

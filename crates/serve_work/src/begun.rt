@@ -1,9 +1,10 @@
 //! A client whose header line was written, where the journal is full.
 ghost use Rattle.serve_hub.specs.declared.entry.Act.{Act};
 ghost use Rattle.serve_hub.specs.Seats.{StreamSeatValue};
-ghost use Rattle.std.specs.Prelude.{List};
+ghost use Rattle.std.specs.Prelude.{List, Some};
 ghost use Rattle.serve_work.specs.Clients.{ClientEnds, ClientStart};
-ghost use Rattle.serve_work.specs.Rests.{IsBegun};
+ghost use Rattle.serve_work.specs.ClientInside.{IsNoNewEnd};
+ghost use Rattle.serve_work.specs.Rests.{IsBegun, course_stop};
 ghost use Rattle.serve_work.specs.Sessions.{outcome_of};
 
 use crate::buffers::Buffers;
@@ -43,9 +44,10 @@ impl<R: Source, W: Sink> Model for Begun<R, W> {
 impl<R: Source + Drop, W: Sink> Begun<R, W> {
     /// The end of the stream where no epoch comes any more.
     pub(crate) fn give_up(self) -> Served<R, W>
-        ensures { (start : ClientStart) (past : List Act) (seat : StreamSeatValue)
+        ensures ends { (start : ClientStart) (past : List Act) (seat : StreamSeatValue)
             → IsBegun start past seat self → ClientEnds start past seat
             (outcome_of R.remaining R.failures W.contents W.failures W.is_flushed result) }
+        ensures stop { IsNoNewEnd (course_stop self.course) (Some result.stop) }
     {
         let Begun {
             reader,

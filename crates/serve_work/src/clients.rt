@@ -1,5 +1,5 @@
 //! A client: one stream, from its reader through its seat to its writer.
-ghost use Rattle.std.specs.Prelude.{◌≡◌, ◌≤◌, ℕ, List, IfOk, Option, unwrap_or};
+ghost use Rattle.std.specs.Prelude.{◌≡◌, ◌≤◌, ℕ, List, IfOk, IfSome, Option, Some, unwrap_or};
 ghost use Rattle.serve_hub.specs.declared.entry.Act.{Act};
 ghost use Rattle.serve_hub.specs.Seats.{StreamSeatValue};
 ghost use Rattle.y4m_header.specs.Header.{HeaderValue};
@@ -7,12 +7,12 @@ ghost use Rattle.y4m_stream.specs.declared.passing.TheConstants.{MOST_FRAMES};
 ghost use Rattle.y4m_stream.specs.Reader.{IsOfHeader};
 ghost use Rattle.y4m_stream.specs.Served.{IsHeaderOfImages};
 ghost use Rattle.y4m_stream.specs.Writer.{IsOpenedFor, WriterState};
-ghost use Rattle.serve_work.specs.ClientInside.{AreBuffersFor, HasPlaces, Flushes, IsCounted, KeepsMoments, Serves};
-ghost use Rattle.serve_work.specs.ClientInside.{TalliesSeat};
-ghost use Rattle.serve_work.specs.Clients.{ClientEnds, ClientStart};
+ghost use Rattle.serve_work.specs.ClientInside.{AreBuffersFor, HasPlaces, Flushes, IsCounted, IsNoNewEnd};
+ghost use Rattle.serve_work.specs.ClientInside.{KeepsAllowed, KeepsMoments, Serves, TalliesSeat};
+ghost use Rattle.serve_work.specs.Clients.{AllowsStop, ClientEnds, ClientStart};
 ghost use Rattle.serve_work.specs.Rests.{CanGoOn, IsFresh, IsRest, IsRestOf, IsRunning, IsTallied, IsUnbegun};
-ghost use Rattle.serve_work.specs.Rests.{reader_in};
-ghost use Rattle.serve_work.specs.Turns.{Turns, end_of, seat_in};
+ghost use Rattle.serve_work.specs.Rests.{course_stop_before, reader_in, rest_stop};
+ghost use Rattle.serve_work.specs.Turns.{Turns, end_of, seat_in, turn_stop};
 
 use crate::begun::{Begun, State};
 use crate::buffers::Buffers;
@@ -119,6 +119,7 @@ fn end<L: Epoch, R: Source + Drop, W: Sink>(
     stop: Stop,
 ) -> ClientEnd<L, R, W>
     ensures seat { result.seat ≡ seat }
+    ensures stop { IsNoNewEnd (Some stop) (Some result.stop) }
     ensures ends { (start : ClientStart) (past : List Act) (shown : HeaderValue) (opened : WriterState)
         → IsHeaderOfImages start.seat.chain start.reader.header shown
         → IsOpenedFor shown start.before start.failures opened → IsFresh start.seat
@@ -157,6 +158,7 @@ fn run<L: Epoch, R: Source + Drop, W: Sink, K: Clock, T: Wait>(
     ensures turn { (start : ClientStart) (past : List Act) → IsRunning course start past reader seat writer
         → Turns R.remaining R.failures W.contents W.failures W.is_flushed start past result }
     ensures moments { KeepsMoments (K.gives clock.now) seat (seat_in result) }
+    ensures stop { KeepsAllowed (K.gives clock.now) (course_stop_before course) (turn_stop result) }
 {
     match serve(
         rt,
@@ -209,6 +211,7 @@ fn begin<L: Epoch, R: Source + Drop, W: Sink, K: Clock, T: Wait>(
         → IsUnbegun start past seat reader (W.contents writer) (W.failures writer)
         → Turns R.remaining R.failures W.contents W.failures W.is_flushed start past result }
     ensures moments { KeepsMoments (K.gives clock.now) seat (seat_in result) }
+    ensures stop { IfSome (turn_stop result) (AllowsStop (K.gives clock.now)) }
 {
     let Ok((resized, buffers)) = prepare(alloc, &seat, reader.header()) else {
         let stop = Stop::Refused(Cause::NoMemory);
@@ -248,6 +251,7 @@ pub fn client<L: Epoch, R: Source + Drop, W: Sink, K: Clock, T: Wait>(
     ensures turn { (start : ClientStart) (past : List Act) → IsRestOf start past seat rest
         → Turns R.remaining R.failures W.contents W.failures W.is_flushed start past result }
     ensures moments { KeepsMoments (K.gives clock.now) seat (seat_in result) }
+    ensures stop { KeepsAllowed (K.gives clock.now) (rest_stop rest) (turn_stop result) }
 {
     let _recalled = seat.frames();
     match rest.state {

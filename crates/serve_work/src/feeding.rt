@@ -7,8 +7,8 @@ ghost use Rattle.serve_hub.specs.Calls.{AllowsOffer, IsTold};
 ghost use Rattle.serve_hub.specs.Seats.{StreamSeatValue};
 ghost use Rattle.y4m_stream.specs.Reader.{IsOfHeader, MeetsEnd, ReaderState, TakesFrame, frame_text_of};
 ghost use Rattle.y4m_stream.specs.Writer.{IsWriterFor};
-ghost use Rattle.serve_work.specs.ClientInside.{AreBuffersFor, Accounted, FeedsOn, HasPassed, Holds};
-ghost use Rattle.serve_work.specs.ClientInside.{IsCounted, IsOffered, IsSized, IsSizedFed, IsUnread};
+ghost use Rattle.serve_work.specs.ClientInside.{AllowsFed, AreBuffersFor, Accounted, FeedsOn, HasPassed};
+ghost use Rattle.serve_work.specs.ClientInside.{Holds, IsCounted, IsOffered, IsSized, IsSizedFed, IsUnread};
 ghost use Rattle.serve_work.specs.ClientInside.{KeepsMoments, Offers, OffersAt, Tallies, fed_before};
 ghost use Rattle.serve_work.specs.ClientInside.{fed_of, text_in};
 
@@ -143,7 +143,7 @@ pub(crate) fn offer_once<L: Epoch, T: Wait>(
 ) -> Offered
     requires image { IfSome image (IsImageOf seat.old.chain) }
     requires size { (arc_value frame).geometry ≡ seat.old.chain.geometry }
-    ensures answer { IsOffered result (arc_value frame) seat.old seat.new }
+    ensures answer { IsOffered result at (arc_value frame) seat.old seat.new }
     ensures moment { OffersAt at seat.old seat.new }
 {
     match image.or_else(|| new_image(alloc, seat, &frame)) {
@@ -174,7 +174,7 @@ pub(crate) fn offer_once<L: Epoch, T: Wait>(
 fn refused(refusal: Refusal, frame: Arc<Frame>, image: Option<Frame>) -> Offered
     ensures { (at : ℕ) (seat : StreamSeatValue)
         → IsTold (AllowsOffer seat at (arc_value frame).geometry) refusal
-        → IfSome image (IsImageOf seat.chain) → IsOffered result (arc_value frame) seat seat }
+        → IfSome image (IsImageOf seat.chain) → IsOffered result at (arc_value frame) seat seat }
 {
     match refusal {
         Refusal::Core(Core::Full) => Offered::QueueFull(frame, image),
@@ -203,6 +203,7 @@ fn accept<L: Epoch, W: Sink, K: Clock, T: Wait>(
     ensures buffers { AreBuffersFor seat.old.chain buffers.new }
     ensures tally { Tallies seat.old seat.new writer.old writer.new }
     ensures moments { KeepsMoments (K.gives clock.now) seat.old seat.new }
+    ensures stop { IfErr result (AllowsFed (K.gives clock.now)) }
 {
     let mut frame = frame;
     for _ in rt.forever() {
@@ -248,6 +249,7 @@ fn feed_once<L: Epoch, R: Source + Drop, W: Sink, K: Clock, T: Wait>(
         → FeedsOn fed past reader.old reader.new seat.old seat.new writer.old writer.new) }
     ensures tally { Tallies seat.old seat.new writer.old writer.new }
     ensures moments { KeepsMoments (K.gives clock.now) seat.old seat.new }
+    ensures stop { IfErr result (AllowsFed (K.gives clock.now)) }
     ensures buffers { AreBuffersFor seat.old.chain buffers.new }
     ensures frame { IfErr result (IsSizedFed seat.old.chain writer.new) }
     ensures header { reader.new.header ≡ reader.old.header }
@@ -291,6 +293,7 @@ fn feed_on<L: Epoch, R: Source + Drop, W: Sink, K: Clock, T: Wait>(
         → FeedsOn result past reader.old reader.new seat.old seat.new writer.old writer.new }
     ensures tally { Tallies seat.old seat.new writer.old writer.new }
     ensures moments { KeepsMoments (K.gives clock.now) seat.old seat.new }
+    ensures stop { AllowsFed (K.gives clock.now) result }
     ensures buffers { AreBuffersFor seat.old.chain buffers.new }
     ensures frame { IsSizedFed seat.old.chain writer.new result }
     ensures header { reader.new.header ≡ reader.old.header }
@@ -327,6 +330,7 @@ pub(crate) fn feed<L: Epoch, R: Source + Drop, W: Sink, K: Clock, T: Wait>(
         → FeedsOn result past before reader.new seat.old seat.new writer.old writer.new }
     ensures tally { Tallies seat.old seat.new writer.old writer.new }
     ensures moments { KeepsMoments (K.gives clock.now) seat.old seat.new }
+    ensures stop { AllowsFed (K.gives clock.now) result }
     ensures buffers { AreBuffersFor seat.old.chain buffers.new }
     ensures frame { IsSizedFed seat.old.chain writer.new result }
     ensures header { reader.new.header ≡ reader.old.header }

@@ -4,8 +4,8 @@ ghost use Rattle.std.specs.Arc.{arc_value};
 ghost use Rattle.serve_hub.specs.declared.entry.Act.{Act};
 ghost use Rattle.y4m_stream.specs.Reader.{IsOfHeader, ReaderState, frame_text_of};
 ghost use Rattle.y4m_stream.specs.Writer.{WriterState};
-ghost use Rattle.serve_work.specs.ClientInside.{Holds, IsCounted, IsSized, IsSizedOnward, OffersOn};
-ghost use Rattle.serve_work.specs.ClientInside.{KeepsMoments, OffersOnce, TalliesSeat, text_in};
+ghost use Rattle.serve_work.specs.ClientInside.{AllowsOnward, Holds, IsCounted, IsSized, IsSizedOnward};
+ghost use Rattle.serve_work.specs.ClientInside.{KeepsMoments, OffersOn, OffersOnce, TalliesSeat, text_in};
 
 use crate::feeding::{Offered, offer_once, read_new};
 use crate::gate::Clock;
@@ -43,6 +43,7 @@ fn offer_on<L: Epoch, K: Clock, T: Wait>(
         → OffersOnce result past before reader seat.old seat.new writer }
     ensures tally { TalliesSeat seat.old seat.new }
     ensures moments { KeepsMoments (K.gives clock.now) seat.old seat.new }
+    ensures stop { IfErr result (AllowsOnward (K.gives clock.now)) }
     ensures frame { IfErr result (IsSizedOnward seat.old.chain) }
 {
     match offer_once(rt, alloc, hub, seat, clock.moment(), frame, None) {
@@ -69,6 +70,7 @@ fn hold_once<L: Epoch, R: Source + Drop, K: Clock, T: Wait>(
     ensures open { OnOk result (reader.new.phase ≡ Phase.Open) }
     ensures tally { TalliesSeat seat.old seat.new }
     ensures moments { KeepsMoments (K.gives clock.now) seat.old seat.new }
+    ensures stop { IfErr result (AllowsOnward (K.gives clock.now)) }
     ensures frame { IfErr result (IsSizedOnward seat.old.chain) }
     ensures header { reader.new.header ≡ reader.old.header }
 {
@@ -99,6 +101,7 @@ fn hold_on<L: Epoch, R: Source + Drop, K: Clock, T: Wait>(
         → OffersOn result past reader.old reader.new seat.old seat.new writer }
     ensures tally { TalliesSeat seat.old seat.new }
     ensures moments { KeepsMoments (K.gives clock.now) seat.old seat.new }
+    ensures stop { AllowsOnward (K.gives clock.now) result }
     ensures frame { IsSizedOnward seat.old.chain result }
     ensures header { reader.new.header ≡ reader.old.header }
 {
@@ -129,6 +132,7 @@ pub(crate) fn hold<L: Epoch, R: Source + Drop, K: Clock, T: Wait>(
         → OffersOn result past before reader.new seat.old seat.new writer }
     ensures tally { TalliesSeat seat.old seat.new }
     ensures moments { KeepsMoments (K.gives clock.now) seat.old seat.new }
+    ensures stop { AllowsOnward (K.gives clock.now) result }
     ensures frame { IsSizedOnward seat.old.chain result }
     ensures header { reader.new.header ≡ reader.old.header }
 {

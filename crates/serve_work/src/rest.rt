@@ -1,9 +1,11 @@
 //! What is left to do of a stream where the journal is full.
-ghost use Rattle.std.specs.Prelude.{◌≡◌, List};
+ghost use Rattle.std.specs.Prelude.{◌≡◌, List, Some};
 ghost use Rattle.serve_hub.specs.declared.entry.Act.{Act};
 ghost use Rattle.serve_hub.specs.Seats.{StreamSeatValue};
 ghost use Rattle.serve_work.specs.Clients.{ClientEnds, ClientStart};
+ghost use Rattle.serve_work.specs.ClientInside.{IsNoNewEnd};
 ghost use Rattle.serve_work.specs.Rests.{IsRestOf, Unbegun, accepted_in, collected_in, delivered_in};
+ghost use Rattle.serve_work.specs.Rests.{rest_stop};
 ghost use Rattle.serve_work.specs.Sessions.{outcome_of};
 
 use crate::begun::State;
@@ -76,9 +78,10 @@ impl<R: Source + Drop, W: Sink> ClientRest<R, W> {
     /// The end of a stream where no epoch comes any more: it stops for want of memory, unless it has stopped
     /// before. What it was charged isn't told here.
     pub(crate) fn give_up(self) -> Served<R, W>
-        ensures { (start : ClientStart) (past : List Act) (seat : StreamSeatValue)
+        ensures ends { (start : ClientStart) (past : List Act) (seat : StreamSeatValue)
             → IsRestOf start past seat self → ClientEnds start past seat
             (outcome_of R.remaining R.failures W.contents W.failures W.is_flushed result) }
+        ensures stop { IsNoNewEnd (rest_stop self) (Some result.stop) }
     {
         match self.state {
             State::Unbegun(reader, writer) => Served {

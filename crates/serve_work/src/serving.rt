@@ -1,14 +1,16 @@
 //! A client's way from its reader to its writer: it feeds its seat, and then drains it.
-ghost use Rattle.std.specs.Prelude.{◌≡◌, ◌≢◌, List, None};
+ghost use Rattle.std.specs.Prelude.{◌≡◌, ◌≢◌, List, None, Some, IfSome};
 ghost use Rattle.serve_hub.specs.declared.entry.Act.{Act};
 ghost use Rattle.y4m_stream.specs.Reader.{IsOfHeader, ReaderState};
 ghost use Rattle.y4m_stream.specs.Writer.{WriterState};
 ghost use Rattle.serve_work.specs.declared.stop.Stop.TheVariants as stops;
 ghost use Rattle.serve_work.specs.declared.buffers.Buffers.{Buffers};
-ghost use Rattle.serve_work.specs.ClientInside.{HasInHand, IsCounted, KeepsMoments, Serves, Tallies};
-ghost use Rattle.serve_work.specs.ClientInside.{TalliesSeat, text_in};
+ghost use Rattle.serve_work.specs.Clients.{AllowsStop};
+ghost use Rattle.serve_work.specs.ClientInside.{HasInHand, IsCounted, IsNoNewEnd, KeepsAllowed, KeepsMoments};
+ghost use Rattle.serve_work.specs.ClientInside.{Serves, Tallies, TalliesSeat, text_in};
 ghost use Rattle.serve_work.specs.Rests.{CanDrain, CanFeed, CanGoOn, CanHold, Comes, Draining, HasMemoryAt};
-ghost use Rattle.serve_work.specs.Rests.{IsAt, IsBefore, IsOutset, Outset, Spoils};
+ghost use Rattle.serve_work.specs.Rests.{IsAt, IsBefore, IsOutset, Outset, Spoils, course_stop_before};
+ghost use Rattle.serve_work.specs.Rests.{step_stop};
 
 use crate::buffers::Buffers;
 use crate::course::Course;
@@ -46,6 +48,7 @@ fn discard_left<L: Epoch, T: Wait>(
         → Comes result past o reader seat.new writer }
     ensures tally { TalliesSeat seat.old seat.new }
     ensures accepted { seat.new.accepted ≡ seat.old.accepted }
+    ensures stop { step_stop result ≡ Some stop }
     ensures memory { (reader : ReaderState) (writer : WriterState) (buffers : Buffers)
         → HasMemoryAt reader writer buffers result }
 {
@@ -64,6 +67,7 @@ fn spoil_left<L: Epoch, T: Wait>(rt: &T, hub: &Hub<L>, seat: &mut StreamSeat<L>,
         → Comes result past o reader seat.new writer }
     ensures tally { TalliesSeat seat.old seat.new }
     ensures accepted { seat.new.accepted ≡ seat.old.accepted }
+    ensures stop { step_stop result ≡ Some stop }
     ensures memory { (reader : ReaderState) (writer : WriterState) (buffers : Buffers)
         → HasMemoryAt reader writer buffers result }
 {
@@ -90,6 +94,7 @@ fn hold_left<L: Epoch, R: Source + Drop, K: Clock, T: Wait>(
         → Comes result past o reader.new seat.new writer }
     ensures tally { TalliesSeat seat.old seat.new }
     ensures moments { KeepsMoments (K.gives clock.now) seat.old seat.new }
+    ensures stop { KeepsAllowed (K.gives clock.now) (Some held) (step_stop result) }
     ensures memory { (writer : WriterState) (buffers : Buffers)
         → HasMemoryAt reader.new writer buffers result }
     ensures header { reader.new.header ≡ reader.old.header }
@@ -115,6 +120,7 @@ fn drain_left<L: Epoch, W: Sink, T: Wait>(
         → Comes result past o reader seat.new writer.new }
     ensures tally { Tallies seat.old seat.new writer.old writer.new }
     ensures accepted { seat.new.accepted ≡ seat.old.accepted }
+    ensures stop { IsNoNewEnd (Some stop) (step_stop result) }
     ensures memory { (reader : ReaderState) (buffers : Buffers)
         → HasMemoryAt reader writer.new buffers result }
 {
@@ -150,6 +156,7 @@ fn feed_left<L: Epoch, R: Source + Drop, W: Sink, K: Clock, T: Wait>(
         → Comes result past o reader.new seat.new writer.new }
     ensures tally { Tallies seat.old seat.new writer.old writer.new }
     ensures moments { KeepsMoments (K.gives clock.now) seat.old seat.new }
+    ensures stop { IfSome (step_stop result) (AllowsStop (K.gives clock.now)) }
     ensures memory { HasMemoryAt reader.new writer.new buffers.new result }
     ensures header { reader.new.header ≡ reader.old.header }
 {
@@ -189,6 +196,7 @@ pub(crate) fn serve<L: Epoch, R: Source + Drop, W: Sink, K: Clock, T: Wait>(
         → Comes result past o reader.new seat.new writer.new }
     ensures tally { Tallies seat.old seat.new writer.old writer.new }
     ensures moments { KeepsMoments (K.gives clock.now) seat.old seat.new }
+    ensures stop { KeepsAllowed (K.gives clock.now) (course_stop_before course) (step_stop result) }
     ensures memory { HasMemoryAt reader.new writer.new buffers.new result }
     ensures header { reader.new.header ≡ reader.old.header }
 {

@@ -1,10 +1,11 @@
 //! The epochs of a session, each with a journal of its own.
-ghost use Rattle.std.specs.Prelude.{◌≡◌, ◌≢◌, ◌↔◌, List, [], IfErr, IfOk, IsErrOf, OnOk, length};
+ghost use Rattle.std.specs.Prelude.{◌≡◌, ◌≢◌, ◌↔◌, List, [], IfErr, IfOk, IsErrOf, OnOk, length, map};
 ghost use Rattle.serve_core.specs.Schedule.{opened_schedule};
 ghost use Rattle.serve_hub.specs.Books.{IsLimit};
 ghost use Rattle.serve_hub.specs.declared.entry.Entry.{Entry};
 ghost use Rattle.serve_work.specs.Intervals.{Beginning, CanBegin, IsBetween, IsLater, beginning_of};
 ghost use Rattle.serve_work.specs.Sessions.{AreInputs};
+ghost use Rattle.serve_work.specs.SessionInside.{AreAllowed, kept_stop};
 
 use super::SessionFault;
 use super::interval::Interval;
@@ -52,6 +53,8 @@ fn epoch<
         → CanBegin R.remaining R.failures W.contents W.failures W.is_flushed b journal L.opening opening
         → IfOk result (IsLater R.remaining R.failures W.contents W.failures W.is_flushed
         (K.gives clock.now) b journal) }
+    ensures stops { AreAllowed (K.gives clock.now) (map kept_stop opening.streams.items)
+        → IfOk result (λ now. AreAllowed (K.gives clock.now) (map kept_stop now.streams.items)) }
     ensures fault { IfErr result (λ e. e ≢ SessionFault.BadLimit) }
 {
     let Opening {
@@ -112,6 +115,7 @@ pub(super) fn first<
     requires inputs { AreInputs setup.streams inputs.items }
     ensures between { IfOk result (IsLater R.remaining R.failures W.contents W.failures W.is_flushed
         (K.gives clock.now) (beginning_of W.contents W.failures setup limit inputs.items) []) }
+    ensures stops { IfOk result (λ now. AreAllowed (K.gives clock.now) (map kept_stop now.streams.items)) }
     ensures limit { OnOk result (IsLimit (length setup.streams) limit) }
     ensures bad_limit { IsErrOf result SessionFault.BadLimit ↔ ¬ IsLimit (length setup.streams) limit }
 {
@@ -146,6 +150,8 @@ fn later<
         → IsBetween R.remaining R.failures W.contents W.failures W.is_flushed b journal interval
         → IfOk result (IsLater R.remaining R.failures W.contents W.failures W.is_flushed
         (K.gives clock.now) b journal) }
+    ensures stops { AreAllowed (K.gives clock.now) (map kept_stop interval.streams.items)
+        → IfOk result (λ now. AreAllowed (K.gives clock.now) (map kept_stop now.streams.items)) }
     ensures fault { IfErr result (λ e. e ≢ SessionFault.BadLimit) }
 {
     match reopened::<L, R, W>(alloc, blank, interval, limit) {
@@ -175,6 +181,8 @@ pub(super) fn go_on<
         → IsBetween R.remaining R.failures W.contents W.failures W.is_flushed b journal interval
         → IfOk result (IsLater R.remaining R.failures W.contents W.failures W.is_flushed
         (K.gives clock.now) b journal) }
+    ensures stops { AreAllowed (K.gives clock.now) (map kept_stop interval.streams.items)
+        → IfOk result (λ now. AreAllowed (K.gives clock.now) (map kept_stop now.streams.items)) }
     ensures fault { IfErr result (λ e. e ≢ SessionFault.BadLimit) }
 {
     let mut interval = interval;

@@ -4,7 +4,7 @@ ghost use Rattle.std.specs.List.{AllZip};
 ghost use Rattle.serve_core.specs.Schedule.{HasStream};
 ghost use Rattle.serve_hub.specs.declared.entry.Entry.{Entry};
 ghost use Rattle.serve_work.specs.Intervals.{Beginning, IsBetween};
-ghost use Rattle.serve_work.specs.SessionInside.{AreOver, AreTold};
+ghost use Rattle.serve_work.specs.SessionInside.{AreOver, AreTold, BringNoEnd, kept_stop};
 ghost use Rattle.serve_work.specs.Sessions.{IsServedBy, outcome_of, served_of};
 
 use super::Served;
@@ -31,10 +31,12 @@ pub(super) fn report<R: Source + Drop, W: Sink + Drop>(
 ) -> Vec<Served<R, W>>
     requires at { (b : Beginning) × (journal : List Entry)
         × IsBetween R.remaining R.failures W.contents W.failures W.is_flushed b journal interval }
-    ensures { (b : Beginning) (journal : List Entry)
+    ensures served { (b : Beginning) (journal : List Entry)
         → IsBetween R.remaining R.failures W.contents W.failures W.is_flushed b journal interval
         → AllZip (IsServedBy journal interval.ended.book.desk) b.starts
         (map (served_of R.remaining R.failures W.contents W.failures W.is_flushed) result.items) }
+    ensures stops { BringNoEnd (map kept_stop interval.streams.items)
+        (map (outcome_of R.remaining R.failures W.contents W.failures W.is_flushed) result.items) }
 {
     let Interval {
         ended,

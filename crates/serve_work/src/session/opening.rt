@@ -1,10 +1,11 @@
 //! What an epoch begins with.
-ghost use Rattle.std.specs.Prelude.{◌≡◌, ◌↔◌, List, [], IfErr, IfOk, IsErrOf, OnOk, length};
+ghost use Rattle.std.specs.Prelude.{◌≡◌, ◌↔◌, List, [], IfErr, IfOk, IsErrOf, OnOk, length, map};
 ghost use Rattle.serve_core.specs.Schedule.{opened_schedule};
 ghost use Rattle.serve_hub.specs.Books.{IsLimit};
 ghost use Rattle.serve_hub.specs.declared.entry.Entry.{Entry};
 ghost use Rattle.serve_work.specs.Intervals.{Beginning, CanBegin, IsBetween, beginning_of};
 ghost use Rattle.serve_work.specs.Sessions.{AreInputs};
+ghost use Rattle.serve_work.specs.SessionInside.{stream_of, unread};
 
 use super::interval::Interval;
 use super::room::Room;
@@ -41,6 +42,9 @@ pub(super) fn opened<L: Epoch, R: Source + Drop, W: Sink + Drop>(
     requires inputs { AreInputs setup.streams inputs.items }
     ensures at { IfOk result (CanBegin R.remaining R.failures W.contents W.failures W.is_flushed
         (beginning_of W.contents W.failures setup limit inputs.items) [] L.opening) }
+    ensures unread { IfOk result (λ opening.
+        map (stream_of R.remaining R.failures W.contents W.failures W.is_flushed) opening.streams.items
+        ≡ map (unread W.contents W.failures) inputs.items) }
     ensures limit { OnOk result (IsLimit (length setup.streams) limit) }
     ensures bad_limit { IsErrOf result SessionFault.BadLimit ↔ ¬ IsLimit (length setup.streams) limit }
 {
@@ -74,6 +78,8 @@ pub(super) fn reopened<L: Epoch, R: Source + Drop, W: Sink + Drop>(
     ensures back { (b : Beginning) (journal : List Entry)
         → IsBetween R.remaining R.failures W.contents W.failures W.is_flushed b journal interval
         → IfErr result (IsBetween R.remaining R.failures W.contents W.failures W.is_flushed b journal) }
+    ensures streams { IfOk result (λ opening. opening.streams ≡ interval.streams) }
+    ensures same { IfErr result (λ back. back.streams ≡ interval.streams) }
 {
     let Interval {
         ended,

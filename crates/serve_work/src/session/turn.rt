@@ -7,8 +7,9 @@ ghost use Rattle.serve_hub.specs.Seats.{StreamSeatValue};
 ghost use Rattle.serve_work.specs.Clients.{ClientEnds, ClientStart};
 ghost use Rattle.serve_work.specs.Turns.{end_of};
 ghost use Rattle.serve_work.specs.Sessions.{outcome_of};
+ghost use Rattle.serve_work.specs.ClientInside.{IsNoNewEnd};
 ghost use Rattle.serve_work.specs.SessionInside.{AreUnread, GoesOn, IsReady, Runs, StandsAt, held_with};
-ghost use Rattle.serve_work.specs.SessionInside.{stream_of, unread};
+ghost use Rattle.serve_work.specs.SessionInside.{kept_stop, stream_of, unread};
 
 use super::Served;
 use crate::clients::{ClientEnd, ClientTurn, client};
@@ -37,10 +38,11 @@ impl<R: Source, W: Sink> Stream<R, W> {
 
 /// What is told of a stream, when no epoch comes any more.
 pub(super) fn told<R: Source + Drop, W: Sink + Drop>(stream: Stream<R, W>) -> Served<R, W>
-    ensures { (start : ClientStart) (past : List Act) (seat : StreamSeatValue)
+    ensures ends { (start : ClientStart) (past : List Act) (seat : StreamSeatValue)
         → StandsAt (stream_of R.remaining R.failures W.contents W.failures W.is_flushed stream)
         start past seat → ClientEnds start past seat
         (outcome_of R.remaining R.failures W.contents W.failures W.is_flushed result) }
+    ensures stop { IsNoNewEnd (kept_stop stream) (Some result.stop) }
 {
     match stream {
         Stream::Over(served) => served,

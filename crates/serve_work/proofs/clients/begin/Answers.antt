@@ -6,6 +6,7 @@ use Rattle.y4m_stream.specs.Failures.{one_more}
 use Rattle.y4m_stream.specs.Reader.{ReaderState}
 use Rattle.y4m_stream.specs.Served.{IsHeaderOfImages}
 use Rattle.y4m_stream.specs.Writer.{CutsShort, IsOpenedFor}
+use Rattle.serve_work.specs.Clients.{AllowsStop}
 use Rattle.serve_work.proofs.Ending.{ClientEnds-unopened, shown_for}
 use Rattle.serve_work.proofs.Resting.{can_begin, feeding_first, opened_size}
 use Rattle.serve_work.proofs.Tallying.{none_accepted}
@@ -99,3 +100,12 @@ pub returns-in-Err-clause-moments : goal.returns-in-Err-clause-moments
 returns-in-Err-clause-moments g c =
     let gives = g.K.Clock.gives c.args.clock.now in
     none_accepted gives _ _ c.unopened-in-Err.ensures.tally c.unopened-in-Err.ensures.accepted
+
+pub returns-in_default-clause-stop : goal.returns-in_default-clause-stop
+returns-in_default-clause-stop g c = subst (AllowsStop (g.K.Clock.gives c.args.clock.now)) (sym c.unopened.ensures.stop) tt
+
+pub returns-in-Err-clause-stop : goal.returns-in-Err-clause-stop
+returns-in-Err-clause-stop g c = subst (AllowsStop (g.K.Clock.gives c.args.clock.now)) (sym c.unopened-in-Err.ensures.stop) tt
+
+pub returns-clause-stop : goal.returns-clause-stop
+returns-clause-stop g c = c.run.ensures.stop tt

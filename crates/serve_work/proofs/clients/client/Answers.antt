@@ -1,7 +1,8 @@
-use Rattle.std.proofs.Common.{◌≡◌, ◌∙◌, ◌≤◌, ap, arith, subst, sym}
+use Rattle.std.proofs.Common.{◌≡◌, ◌∙◌, ◌≤◌, IfSome, ap, arith, subst, sym}
 use Rattle.y4m_stream.specs.declared.passing.TheConstants.{MOST_FRAMES}
 use Rattle.y4m_stream.specs.Reader.{IsOfHeader}
-use Rattle.serve_work.specs.Rests.{Begun, IsRestOf, IsUnbegun, RestValue, reader_in}
+use Rattle.serve_work.specs.Clients.{AllowsStop}
+use Rattle.serve_work.specs.Rests.{Begun, IsRestOf, IsUnbegun, RestValue, reader_in, rest_stop}
 use Rattle.serve_work.specs.RestInside.{rest_of}
 use Rattle.serve_work.proofs.Resting.{begun_with, can_resume, resumed}
 use Rattle.serve_work.proofs.clients.client.Goals as goal
@@ -33,3 +34,14 @@ returns-in-Begun-clause-turn g c = λ start past at.
     (sym c.in-Begun.begun-is ∙ sym c.begun.view_is) in
     c.run.ensures.turn start past (resumed inside.course inside.reader c.args.seat inside.writer inside.accepted inside.collected start past
     (subst (IsRestOf start past c.args.seat) same at))
+
+pub returns-in-Unbegun-clause-stop : goal.returns-in-Unbegun-clause-stop
+returns-in-Unbegun-clause-stop g c = λ _. c.begin.ensures.stop
+
+pub returns-in-Begun-clause-stop : goal.returns-in-Begun-clause-stop
+returns-in-Begun-clause-stop g c = λ was.
+    let inside = c.begun.inside in
+    let same : c.args.rest ≡ Begun (begun_with inside.course inside.reader inside.writer inside.accepted inside.collected) =
+    sym c.rest.view_is ∙ ap (rest_of g.W.Sink.contents g.W.Sink.failures) c.in-Begun.is ∙ ap Begun
+    (sym c.in-Begun.begun-is ∙ sym c.begun.view_is) in
+    c.run.ensures.stop (subst (λ (r : RestValue). IfSome (rest_stop r) (AllowsStop (g.K.Clock.gives c.args.clock.now))) same was)

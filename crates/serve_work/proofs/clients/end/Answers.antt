@@ -1,3 +1,4 @@
+use Rattle.serve_work.proofs.Allowing.{flushed_stop}
 use Rattle.serve_work.proofs.Ending.{ClientEnds-served}
 use Rattle.serve_work.proofs.clients.end.Goals as goal
 
@@ -15,3 +16,6 @@ returns-clause-ends g c = λ start past shown opened header is_opened fresh serv
     })
     c.flushed.ensures c.accepted-accepted.ensures c.frames-delivered.ensures c.into_source.ensures.remaining
     c.into_source.ensures.failures
+
+pub returns-clause-stop : goal.returns-clause-stop
+returns-clause-stop g c = flushed_stop c.args.stop c.finish-writer.result.1 c.flushed.result c.flushed.ensures

@@ -1,6 +1,7 @@
-use Rattle.std.proofs.Common.{◌∙◌, arith, subst, sym}
+use Rattle.std.proofs.Common.{◌∙◌, Some, arith, subst, sym}
 use Rattle.serve_hub.specs.Seats.{StreamSeatValue}
 use Rattle.serve_work.specs.ClientInside.{KeepsMoments}
+use Rattle.serve_work.proofs.Allowing.{kept_allowed}
 use Rattle.serve_work.proofs.Resting.{outset_of, tallied_later}
 use Rattle.serve_work.proofs.clients.run.Goals as goal
 
@@ -34,3 +35,8 @@ pub returns-in-Done-clause-moments : goal.returns-in-Done-clause-moments
 returns-in-Done-clause-moments g c =
     subst (λ (seat : StreamSeatValue). KeepsMoments (g.K.Clock.gives c.args.clock.now) c.args.seat seat) (sym c.end.ensures.seat)
     c.serve.ensures.moments
+
+pub returns-in-Done-clause-stop : goal.returns-in-Done-clause-stop
+returns-in-Done-clause-stop g c = λ was.
+    kept_allowed (g.K.Clock.gives c.args.clock.now) (Some c.in-Done.stop) (Some c.end.result.stop) c.end.ensures.stop
+    (c.in-Done.ensures.stop was)

@@ -2,6 +2,7 @@ use Rattle.std.proofs.Common.{◌≡◌, [], IfSome, refl, ◌∙◌}
 use Rattle.std.specs.Arc.{arc_value}
 use Rattle.serve_core.specs.Streams.{IsImageOf}
 use Rattle.serve_work.specs.ClientInside.{AreBuffersFor}
+use Rattle.serve_work.proofs.Allowing.{collection_allowed, offered_allowed}
 use Rattle.serve_work.proofs.Staying.{GivesUp-at, GivesUp-trans, stays_chain}
 use Rattle.serve_work.proofs.Tallying.{KeepsMoments-same, KeepsMoments-trans, Tallies-none, Tallies-seat, Tallies-trans}
 use Rattle.serve_work.proofs.Tallying.{none_given, offers_at}
@@ -24,9 +25,17 @@ returns-in-Accepted-clause-buffers g c = c.take_image-image.ensures.kept _ c.loo
 
 pub returns-in-Stopped-clause-answer : goal.returns-in-Stopped-clause-answer
 returns-in-Stopped-clause-answer g c =
-    offer_stopped c.in-Stopped.stop _ c.args.seat.now c.loop.seat c.offer_once.new.seat c.args.writer.now c.loop.writer
+    offer_stopped c.in-Stopped.stop _ _ c.args.seat.now c.loop.seat c.offer_once.new.seat c.args.writer.now c.loop.writer
     c.loop.invariant.moved c.loop.invariant.up c.loop.invariant.tally.seat
     (rw c.loop.invariant.frame at c.in-Stopped.ensures.answer)
+
+pub returns-in-Stopped-clause-stop : goal.returns-in-Stopped-clause-stop
+returns-in-Stopped-clause-stop g c =
+    offered_allowed (g.K.Clock.gives c.args.clock.now) c.in-Stopped.stop c.moment.result _ _ _ c.moment.ensures c.in-Stopped.ensures.answer
+
+pub returns-in-Err-clause-stop : goal.returns-in-Err-clause-stop
+returns-in-Err-clause-stop g c =
+    rw c.of.ensures (collection_allowed (g.K.Clock.gives c.args.clock.now) c.in-Err.halt c.in-QueueFull.back c.in-Err.ensures.own)
 
 pub returns-in-Stopped-clause-buffers : goal.returns-in-Stopped-clause-buffers
 returns-in-Stopped-clause-buffers g c = c.take_image-image.ensures.kept _ c.loop.invariant.buffers
@@ -34,7 +43,7 @@ returns-in-Stopped-clause-buffers g c = c.take_image-image.ensures.kept _ c.loop
 pub returns-in-Stopped-clause-tally : goal.returns-in-Stopped-clause-tally
 returns-in-Stopped-clause-tally g c =
     Tallies-trans c.args.seat.now c.loop.seat c.offer_once.new.seat c.args.writer.now c.loop.writer c.loop.writer c.loop.invariant.tally
-    (Tallies-seat _ _ _ _ (offered_tally _ _ _ _ c.offer_once.ensures.answer) refl)
+    (Tallies-seat _ _ _ _ (offered_tally _ _ _ _ _ c.offer_once.ensures.answer) refl)
 
 pub deliver-requires-clause-few : goal.deliver-requires-clause-few
 deliver-requires-clause-few g c =
@@ -62,7 +71,7 @@ loop-preserved g c =
       frame = c.in-QueueFull.ensures.answer.0 ∙ so_far.frame;
       tally = Tallies-trans seat at c.deliver.new.seat c.args.writer.now c.loop.writer c.deliver.new.writer
           (Tallies-trans seat c.loop.seat at c.args.writer.now c.loop.writer c.loop.writer so_far.tally
-          (Tallies-seat _ _ _ _ (offered_tally _ _ _ _ c.offer_once.ensures.answer) refl)) c.deliver.ensures.tally;
+          (Tallies-seat _ _ _ _ (offered_tally _ _ _ _ _ c.offer_once.ensures.answer) refl)) c.deliver.ensures.tally;
       moments = KeepsMoments-trans gives seat at c.deliver.new.seat
           (KeepsMoments-trans gives seat c.loop.seat at so_far.moments
           (offers_at gives c.moment.result c.loop.seat at c.moment.ensures c.offer_once.ensures.moment))

@@ -52,6 +52,7 @@ returns-in-Err g c =
           (c.in-Err.ensures.answer past (counted_later past c.args.seat.now c.loop.seat c.loop.invariant.tally.seat counted));
       tally = Tallies-trans _ _ _ _ _ _ c.loop.invariant.tally c.feed_once.ensures.tally;
       moments = KeepsMoments-trans _ _ _ _ c.loop.invariant.moments c.feed_once.ensures.moments;
+      stop = c.in-Err.ensures.stop;
       buffers = rw chain at c.feed_once.ensures.buffers;
       frame = rw chain at c.in-Err.ensures.frame;
       header = c.feed_once.ensures.header ∙ so_far.passed.header;

@@ -2,6 +2,7 @@ use Rattle.std.proofs.Common.{◌∙◌, [], Ok, ap, refl, sym}
 use Rattle.std.specs.Arc.{arc_value}
 use Rattle.filters.specs.Chain.{ChainValue}
 use Rattle.y4m_stream.specs.Reader.{IsOfHeader, TakesFrame, frame_text_of}
+use Rattle.serve_work.proofs.Allowing.{delivery_allowed, unread_allowed}
 use Rattle.serve_work.proofs.Staying.{stays_chain}
 use Rattle.serve_work.proofs.Moving.{Accounted-later, few_of, one_size, size_later}
 use Rattle.serve_work.proofs.Passing.{Feeds-end, Feeds-unread, Passes-none, Passes-still, fed_broken, fed_once, passed_once, sized_before}
@@ -20,6 +21,14 @@ returns-in-Err-clause-answer g c = λ past counted.
     rw c.halted.ensures (fed_broken reader reader seat seat writer writer [] (Passes-none reader seat writer) past c.in-Err.halt
     c.deliver_ready.new.seat c.deliver_ready.new.writer c.requires.open c.in-Err.ensures.own c.deliver_ready.ensures.kept
     c.in-Err.ensures.answer)
+
+pub returns-in-Err-clause-stop : goal.returns-in-Err-clause-stop
+returns-in-Err-clause-stop g c =
+    rw c.halted.ensures (delivery_allowed (g.K.Clock.gives c.args.clock.now) c.in-Err.halt c.in-Err.ensures.own)
+
+pub returns-in-Err-read_into-clause-stop : goal.returns-in-Err-read_into-clause-stop
+returns-in-Err-read_into-clause-stop g c =
+    unread_allowed (g.K.Clock.gives c.args.clock.now) c.in-Err-read_into.stop _ _ c.in-Err-read_into.ensures.fault
 
 pub returns-in-Err-clause-frame : goal.returns-in-Err-clause-frame
 returns-in-Err-clause-frame g c =

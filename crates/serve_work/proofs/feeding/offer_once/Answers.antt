@@ -13,7 +13,7 @@ returns-in-Err-Some-clause-answer g c =
     let back = matched _ _ e.field-0.frame e.frame some e.ensures.refused in
     let told = subst (λ (f : Frame). IsTold (AllowsOffer c.args.seat.now c.args.at f.geometry) e.field-0.refusal) (sym back.0) back.1.told
     in
-    offered_back _ _ _ _ _ back.0 back.1.seat (c.refused.ensures c.args.at c.args.seat.now told tt)
+    offered_back _ _ _ _ _ _ back.0 back.1.seat (c.refused.ensures c.args.at c.args.seat.now told tt)
 
 pub returns-in-Err-Some-offer_over-clause-answer : goal.returns-in-Err-Some-offer_over-clause-answer
 returns-in-Err-Some-offer_over-clause-answer g c =
@@ -22,7 +22,7 @@ returns-in-Err-Some-offer_over-clause-answer g c =
     let back = matched _ _ e.field-0.back (e.frame, e.image) some e.ensures.refused in
     let told = subst (λ (f : Frame). IsTold (AllowsOffer c.args.seat.now c.args.at f.geometry) e.field-0.refusal) (sym back.0) back.2.told
     in
-    offered_back _ _ _ _ _ back.0 back.2.seat (c.refused-in-Err-Some-offer_over.ensures c.args.at c.args.seat.now told back.1)
+    offered_back _ _ _ _ _ _ back.0 back.2.seat (c.refused-in-Err-Some-offer_over.ensures c.args.at c.args.seat.now told back.1)
 
 pub returns-in-Err-Some-clause-moment : goal.returns-in-Err-Some-clause-moment
 returns-in-Err-Some-clause-moment g c =

@@ -46,6 +46,7 @@ returns-in-Err g c =
           (c.in-Err.ensures.answer past writer (counted_later past c.args.seat.now c.loop.seat inv.tally counted));
       tally = TalliesSeat-trans _ _ _ inv.tally c.hold_once.ensures.tally;
       moments = KeepsMoments-trans _ _ _ _ inv.moments c.hold_once.ensures.moments;
+      stop = c.in-Err.ensures.stop;
       frame = rw inv.tally.chain at c.in-Err.ensures.frame;
       header = c.hold_once.ensures.header ∙ inv.header;
     }

@@ -1,6 +1,7 @@
 use Rattle.std.proofs.Common.{[], Ok, ap, refl}
 use Rattle.std.specs.Arc.{arc_value}
 use Rattle.y4m_stream.specs.Reader.{IsOfHeader, TakesFrame, frame_text_of}
+use Rattle.serve_work.proofs.Allowing.{unread_allowed}
 use Rattle.serve_work.proofs.Moving.{one_size}
 use Rattle.serve_work.proofs.OfferingOn.{no_write_read}
 use Rattle.serve_work.proofs.Passing.{Feeds-end, Feeds-unread, Passes-none}
@@ -61,3 +62,7 @@ returns-in-Ok-None-clause-moments g c = KeepsMoments-same _ _ _ refl
 
 pub returns-in-Err-clause-moments : goal.returns-in-Err-clause-moments
 returns-in-Err-clause-moments g c = KeepsMoments-same _ _ _ refl
+
+pub returns-in-Err-clause-stop : goal.returns-in-Err-clause-stop
+returns-in-Err-clause-stop g c =
+    unread_allowed (g.K.Clock.gives c.args.clock.now) c.in-Err.stop _ _ c.in-Err.ensures.fault

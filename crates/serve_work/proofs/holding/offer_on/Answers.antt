@@ -1,11 +1,13 @@
 use Rattle.std.specs.Arc.{arc_value}
+use Rattle.serve_work.proofs.Allowing.{offered_allowed}
 use Rattle.serve_work.proofs.OfferingOn.{offered_in_vain, offered_last, offered_well}
 use Rattle.serve_work.proofs.Tallying.{offers_at}
 use Rattle.serve_work.proofs.holding.offer_on.Goals as goal
 
 pub returns-in-Accepted-clause-answer : goal.returns-in-Accepted-clause-answer
 returns-in-Accepted-clause-answer g c = λ past before reader writer counted taken.
-    offered_well before reader (arc_value c.args.frame) taken c.args.seat.now c.offer_once.new.seat writer c.in-Accepted.ensures.answer
+    offered_well before reader (arc_value c.args.frame) taken c.args.seat.now c.offer_once.new.seat writer
+    c.moment.result c.in-Accepted.ensures.answer
 
 pub returns-in-QueueFull-clause-answer : goal.returns-in-QueueFull-clause-answer
 returns-in-QueueFull-clause-answer g c = λ past before reader writer counted taken. (
@@ -21,8 +23,12 @@ returns-in-JournalFull-clause-answer g c = λ past before reader writer counted 
 
 pub returns-clause-answer : goal.returns-clause-answer
 returns-clause-answer g c = λ past before reader writer counted taken.
-    offered_last before reader (arc_value c.args.frame) taken c.args.seat.now c.offer_once.new.seat writer past c.in-Stopped.stop counted
-    c.in-Stopped.ensures.answer
+    offered_last before reader (arc_value c.args.frame) taken c.args.seat.now c.offer_once.new.seat writer past c.in-Stopped.stop
+    c.moment.result counted c.in-Stopped.ensures.answer
+
+pub returns-clause-stop : goal.returns-clause-stop
+returns-clause-stop g c =
+    offered_allowed (g.K.Clock.gives c.args.clock.now) c.in-Stopped.stop c.moment.result _ _ _ c.moment.ensures c.in-Stopped.ensures.answer
 
 pub returns-in-Accepted-clause-moments : goal.returns-in-Accepted-clause-moments
 returns-in-Accepted-clause-moments g c =

@@ -1,6 +1,8 @@
-use Rattle.std.proofs.Common.{ap, ◌∙◌}
+use Rattle.std.proofs.Common.{Some, ap, ◌∙◌, subst, sym}
 use Rattle.serve_hub.specs.Seats.{StreamSeatValue}
 use Rattle.serve_work.specs.declared.stop.Halt.TheVariants.{Stopped}
+use Rattle.serve_work.specs.ClientInside.{IsNoNewEnd}
+use Rattle.serve_work.proofs.Allowing.{drained_stop}
 use Rattle.serve_work.proofs.Stopping.{Feeds-drained, Serves-drained}
 use Rattle.serve_work.proofs.serving.drain_left.Goals as goal
 
@@ -43,3 +45,12 @@ returns-then-is_spoilt-clause-accepted g c =
 
 pub returns-else-is_spoilt-clause-accepted : goal.returns-else-is_spoilt-clause-accepted
 returns-else-is_spoilt-clause-accepted g c = ap (λ (s : StreamSeatValue). s.accepted) c.drain.ensures.kept
+
+pub returns-then-is_spoilt-clause-stop : goal.returns-then-is_spoilt-clause-stop
+returns-then-is_spoilt-clause-stop g c =
+    subst (IsNoNewEnd (Some c.args.stop)) (sym c.discard_left.ensures.stop)
+    (drained_stop c.args.stop c.in-Stopped.last c.or-told.result c.in-Stopped.ensures.own c.or-told.ensures)
+
+pub returns-else-is_spoilt-clause-stop : goal.returns-else-is_spoilt-clause-stop
+returns-else-is_spoilt-clause-stop g c =
+    drained_stop c.args.stop c.in-Stopped.last c.or-told.result c.in-Stopped.ensures.own c.or-told.ensures

@@ -1,7 +1,8 @@
-use Rattle.std.proofs.Common.{◌≡◌, true, false, ap, refl, sym, ◌∙◌}
+use Rattle.std.proofs.Common.{◌≡◌, Some, true, false, ap, refl, sym, ◌∙◌}
 use Rattle.serve_hub.specs.Seats.{StreamSeatValue}
 use Rattle.serve_work.specs.declared.feeding.Fed.TheVariants as feds
 use Rattle.serve_work.specs.ClientInside.{text_in}
+use Rattle.serve_work.proofs.Allowing.{kept_allowed, same_allowed}
 use Rattle.serve_work.proofs.Tallying.{KeepsMoments-trans, Tallies-seat, Tallies-trans, TalliesSeat-trans, counted_later, none_accepted}
 use Rattle.serve_work.proofs.Resting.{fed_from}
 use Rattle.serve_work.proofs.Spoiling.{spoilt_from}
@@ -136,3 +137,14 @@ returns-else-is_spoilt-clause-moments g c =
     (KeepsMoments-trans gives c.feed.new.seat c.close.new.seat c.drain_left.new.seat
     (close_moments gives c.feed.new.seat c.close.new.seat c.close.result c.close.ensures.closed c.close.ensures.refused)
     (none_accepted gives _ _ c.drain_left.ensures.tally.seat c.drain_left.ensures.accepted))
+
+pub returns-in-Held-clause-stop : goal.returns-in-Held-clause-stop
+returns-in-Held-clause-stop g c = c.hold_left.ensures.stop c.in-Held.ensures.stop
+
+pub returns-then-is_spoilt-clause-stop : goal.returns-then-is_spoilt-clause-stop
+returns-then-is_spoilt-clause-stop g c =
+    same_allowed (g.K.Clock.gives c.args.clock.now) (Some c.in-Stopped.stop) _ (sym c.discard_left.ensures.stop) c.in-Stopped.ensures.stop
+
+pub returns-else-is_spoilt-clause-stop : goal.returns-else-is_spoilt-clause-stop
+returns-else-is_spoilt-clause-stop g c =
+    kept_allowed (g.K.Clock.gives c.args.clock.now) (Some c.in-Stopped.stop) _ c.drain_left.ensures.stop c.in-Stopped.ensures.stop

@@ -1,4 +1,6 @@
+use Rattle.std.proofs.Common.{sym}
 use Rattle.serve_work.specs.ClientInside.{text_in}
+use Rattle.serve_work.proofs.Allowing.{first_allowed, same_allowed}
 use Rattle.serve_work.proofs.Tallying.{KeepsMoments-trans, TalliesSeat-trans, none_accepted}
 use Rattle.serve_work.proofs.Spoiling.{held_told, spoilt_on, spoilt_until}
 use Rattle.serve_work.proofs.Stopping.{first_fault, of_no_use}
@@ -60,3 +62,12 @@ returns-in-Stopped-clause-moments g c =
     let gives = g.K.Clock.gives c.args.clock.now in
     KeepsMoments-trans gives _ _ _ c.hold.ensures.moments
     (none_accepted gives _ _ c.spoil_left-in-Stopped.ensures.tally c.spoil_left-in-Stopped.ensures.accepted)
+
+pub returns-in-QueueFull-clause-stop : goal.returns-in-QueueFull-clause-stop
+returns-in-QueueFull-clause-stop g c = same_allowed (g.K.Clock.gives c.args.clock.now) _ _ (sym c.spoil_left.ensures.stop)
+
+pub returns-in-Stopped-clause-stop : goal.returns-in-Stopped-clause-stop
+returns-in-Stopped-clause-stop g c = λ was.
+    let gives = g.K.Clock.gives c.args.clock.now in
+    same_allowed gives _ _ (sym c.spoil_left-in-Stopped.ensures.stop)
+    (first_allowed gives c.in-Stopped.stop c.args.held c.or.result c.in-Stopped.ensures.stop was c.or.ensures)

@@ -1,6 +1,7 @@
-use Rattle.std.proofs.Common.{◌∙◌, Option, Some, ap, subst}
+use Rattle.std.proofs.Common.{◌∙◌, Option, Some, ap, subst, sym}
 use Rattle.serve_work.specs.declared.course.Course as code
-use Rattle.serve_work.specs.Rests.{IsBefore}
+use Rattle.serve_work.specs.Rests.{IsBefore, course_stop_before}
+use Rattle.serve_work.proofs.Allowing.{kept_allowed, same_allowed}
 use Rattle.serve_work.proofs.Tallying.{none_accepted}
 use Rattle.serve_work.proofs.serving.serve.Goals as goal
 
@@ -34,3 +35,20 @@ pub returns-in-Some-Discarding-clause-moments : goal.returns-in-Some-Discarding-
 returns-in-Some-Discarding-clause-moments g c =
     let gives = g.K.Clock.gives c.args.clock.now in
     none_accepted gives _ _ c.discard_left.ensures.tally c.discard_left.ensures.accepted
+
+pub returns-in-Some-Holding-clause-stop : goal.returns-in-Some-Holding-clause-stop
+returns-in-Some-Holding-clause-stop g c = λ was.
+    c.hold_left.ensures.stop (same_allowed (g.K.Clock.gives c.args.clock.now) _ (Some c.in-Some-Holding.held)
+    (ap course_stop_before (c.in-Some-Holding.is ∙ ap Some c.in-Some-Holding.field-0-is)) was)
+
+pub returns-in-Some-Draining-clause-stop : goal.returns-in-Some-Draining-clause-stop
+returns-in-Some-Draining-clause-stop g c = λ was.
+    let gives = g.K.Clock.gives c.args.clock.now in
+    kept_allowed gives (Some c.in-Some-Draining.stop) _ c.drain_left.ensures.stop
+    (same_allowed gives _ (Some c.in-Some-Draining.stop)
+    (ap course_stop_before (c.in-Some-Draining.is ∙ ap Some c.in-Some-Draining.field-0-is)) was)
+
+pub returns-in-Some-Discarding-clause-stop : goal.returns-in-Some-Discarding-clause-stop
+returns-in-Some-Discarding-clause-stop g c =
+    same_allowed (g.K.Clock.gives c.args.clock.now) _ _
+    (ap course_stop_before (c.in-Some-Discarding.is ∙ ap Some c.in-Some-Discarding.field-0-is) ∙ sym c.discard_left.ensures.stop)

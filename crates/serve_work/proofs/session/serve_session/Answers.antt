@@ -1,7 +1,9 @@
-use Rattle.std.proofs.Common.{[], ◌++◌}
+use Rattle.std.proofs.Common.{[], ◌++◌, map}
 use Rattle.serve_work.specs.Intervals.{beginning_of}
+use Rattle.serve_work.specs.SessionInside.{kept_stop}
 use Rattle.serve_work.proofs.Intervals.{from_setup}
 use Rattle.serve_work.proofs.SessionCharges.{are_served}
+use Rattle.serve_work.proofs.SessionStops.{stops_told}
 use Rattle.serve_work.proofs.SessionTurns.{both_given, no_bad_limit, none_yet}
 use Rattle.serve_work.proofs.session.serve_session.Goals as goal
 
@@ -22,7 +24,7 @@ returns-clause-streams g c =
     let b = beginning_of g.W.Sink.contents g.W.Sink.failures c.args.setup c.args.limit c.args.inputs.items in
     let first = c.in_ok-opened.ensures.between in
     let last = c.in_ok-ended.ensures.between b (first.more ++ []) first.between in
-    are_served _ _ b.starts _ (c.report.ensures b (last.more ++ (first.more ++ [])) last.between)
+    are_served _ _ b.starts _ (c.report.ensures.served b (last.more ++ (first.more ++ [])) last.between)
 
 pub returns-clause-session : goal.returns-clause-session
 returns-clause-session g c =
@@ -35,9 +37,12 @@ returns-clause-session g c =
       journal = journal;
       last = c.in_ok-ended.ended.ended.book.desk;
       leads = from_setup c.args.setup journal _ last.between.past;
-      streams = c.report.ensures b journal last.between;
+      streams = c.report.ensures.served b journal last.between;
       moments = both_given gives (first.more ++ []) last.more b.starts
           (both_given gives [] first.more b.starts (none_yet gives b.starts) first.moments) last.moments;
+      stops = stops_told gives g.R.Source.remaining g.R.Source.failures g.W.Sink.contents g.W.Sink.failures g.W.Sink.is_flushed
+          (map kept_stop c.in_ok-ended.ended.streams.items) c.report.result.items
+          (c.in_ok-ended.ensures.stops c.in_ok-opened.ensures.stops) c.report.ensures.stops;
     }
 
 pub returns-clause-bad_limit : goal.returns-clause-bad_limit

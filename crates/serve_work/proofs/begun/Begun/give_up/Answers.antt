@@ -1,13 +1,14 @@
-use Rattle.std.proofs.Common.{subst, sym}
+use Rattle.std.proofs.Common.{Some, ap, ◌∙◌, subst, sym}
 use Rattle.serve_work.specs.declared.stop.Stop.{Stop}
-use Rattle.serve_work.specs.ClientInside.{Serves}
-use Rattle.serve_work.specs.Rests.{IsBegun, Outset, course_of}
+use Rattle.serve_work.specs.ClientInside.{IsNoNewEnd, Serves}
+use Rattle.serve_work.specs.Rests.{BegunValue, IsBegun, Outset, course_of, course_stop}
+use Rattle.serve_work.proofs.Allowing.{flushed_stop, given_up_stop}
 use Rattle.serve_work.proofs.Ending.{ClientEnds-served}
 use Rattle.serve_work.proofs.Resting.{given_up, outset_of}
 use Rattle.serve_work.proofs.begun.Begun.give_up.Goals as goal
 
-pub returns : goal.returns
-returns g c = λ start past seat at.
+pub returns-clause-ends : goal.returns-clause-ends
+returns-clause-ends g c = λ start past seat at.
     let inside = c.self.inside in
     let b = subst (IsBegun start past seat) (sym c.self.view_is) at in
     let o : Outset = record { reader = start.reader; seat = start.seat; writer = b.opened } in
@@ -28,3 +29,10 @@ returns g c = λ start past seat at.
       told = finish.told;
     })
     c.flushed.ensures b.accepted c.frames-delivered.ensures c.into_source.ensures.remaining c.into_source.ensures.failures
+
+pub returns-clause-stop : goal.returns-clause-stop
+returns-clause-stop g c =
+    let inside = c.self.inside in
+    subst (λ (b : BegunValue). IsNoNewEnd (course_stop b.course) (Some c.flushed.result)) c.self.view_is
+    (λ is. given_up_stop (course_of inside.course) (ap Some (sym c.given_up-stop.ensures)
+    ∙ flushed_stop c.given_up-stop.result c.finish-writer.result.1 c.flushed.result c.flushed.ensures is))

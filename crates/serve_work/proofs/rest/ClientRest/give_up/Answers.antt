@@ -8,8 +8,8 @@ use Rattle.serve_work.proofs.Ending.{ClientEnds-unopened}
 use Rattle.serve_work.proofs.Tallying.{TalliesSeat-same}
 use Rattle.serve_work.proofs.rest.ClientRest.give_up.Goals as goal
 
-pub returns-in-Unbegun : goal.returns-in-Unbegun
-returns-in-Unbegun g c = λ start past seat at.
+pub returns-in-Unbegun-clause-ends : goal.returns-in-Unbegun-clause-ends
+returns-in-Unbegun-clause-ends g c = λ start past seat at.
     let contents = g.W.Sink.contents in
     let writer = c.in-Unbegun.writer in
     let is : IsUnbegun start past seat c.in-Unbegun.reader (contents writer) (g.W.Sink.failures writer) =
@@ -26,3 +26,6 @@ returns-in-Unbegun g c = λ start past seat at.
       kept = rw c.in-Unbegun.writer-is kept;
       no_failure = rw c.in-Unbegun.writer-is is.same_failures;
     }))
+
+pub returns-in-Unbegun-clause-stop : goal.returns-in-Unbegun-clause-stop
+returns-in-Unbegun-clause-stop g c = λ is. absurd (cc)

@@ -4,6 +4,7 @@ use Rattle.serve_hub.specs.Ends.{AreStreamCalls, AreStreamsOf}
 use Rattle.serve_hub.specs.Seats.{left_by}
 use Rattle.serve_work.specs.SessionInside.{BeginsAgain, HeldValue, held_with, stream_of}
 use Rattle.serve_work.proofs.Intervals.{all_back, all_ready, held_length, held_new, leads_on}
+use Rattle.serve_work.proofs.SessionStops.{go_on_allowed}
 use Rattle.serve_work.proofs.SessionTurns.{all_given, all_went, fault_stays, no_memory, same_length, stand_on, zip_length}
 use Rattle.serve_work.proofs.session.epochs.epoch.Goals as goal
 
@@ -85,3 +86,13 @@ returns-clause-between g c =
         places = omega (arith, all_went gives helds ran.0 ran.2, held_length value seats streams.items, streams.ok.0, at.places);
       };
     }
+
+pub returns-clause-stops : goal.returns-clause-stops
+returns-clause-stops g c =
+    let value = stream_of g.R.Source.remaining g.R.Source.failures g.W.Sink.contents g.W.Sink.failures g.W.Sink.is_flushed in
+    let seats = c.args.opening.opened.1.items in
+    let streams = c.args.opening.streams.items in
+    let ran = c.in_ok-is_on.ensures.run (held_with value seats streams) c.seated-turns.ensures in
+    let sink = g.W.Sink in
+    go_on_allowed (g.K.Clock.gives c.args.clock.now) g.R.Source.remaining g.R.Source.failures sink.contents sink.failures sink.is_flushed
+    seats streams c.fill.new.self.streams.items ran.0 ran.2 (c.fill.ensures.streams ran.0 ran.1)

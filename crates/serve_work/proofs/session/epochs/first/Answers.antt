@@ -1,6 +1,7 @@
 use Rattle.std.proofs.Common.{[]}
 use Rattle.serve_work.specs.Intervals.{beginning_of}
 use Rattle.serve_work.proofs.Intervals.{on_ok}
+use Rattle.serve_work.proofs.SessionStops.{begin_allowed}
 use Rattle.serve_work.proofs.SessionTurns.{never_bad_limit}
 use Rattle.serve_work.proofs.session.epochs.first.Goals as goal
 
@@ -24,3 +25,9 @@ returns-clause-bad_limit g c = (
   λ is limit. never_bad_limit c.epoch.result c.epoch.ensures.fault is,
   λ not. absurd (not c.in_ok-opening.ensures.limit),
 )
+
+pub returns-clause-stops : goal.returns-clause-stops
+returns-clause-stops g c =
+    let sink = g.W.Sink in
+    c.epoch.ensures.stops (begin_allowed (g.K.Clock.gives c.args.clock.now) g.R.Source.remaining g.R.Source.failures sink.contents
+    sink.failures sink.is_flushed c.in_ok-opening.opening.streams.items c.args.inputs.items c.in_ok-opening.ensures.unread)

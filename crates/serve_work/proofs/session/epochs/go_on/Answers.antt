@@ -3,16 +3,22 @@ use Rattle.serve_work.proofs.Intervals.{later_on, no_later}
 use Rattle.serve_work.proofs.session.epochs.go_on.Goals as goal
 
 pub loop-init : goal.loop-init
-loop-init g c = λ b journal at. no_later _ _ _ _ _ b journal (g.K.Clock.gives c.args.clock.now) _ at
+loop-init g c = record {
+  later = λ b journal at. no_later _ _ _ _ _ b journal (g.K.Clock.gives c.args.clock.now) _ at;
+  stops = λ allowed. allowed;
+}
 
 pub later-requires-clause-at : goal.later-requires-clause-at
 later-requires-clause-at g c κs within =
-    let l = c.loop.invariant c.requires.at.0 c.requires.at.1 c.requires.at.2 in
+    let l = c.loop.invariant.later c.requires.at.0 c.requires.at.1 c.requires.at.2 in
     (c.requires.at.0, l.more ++ c.requires.at.1, l.between)
 
 pub loop-preserved : goal.loop-preserved
 loop-preserved g c =
     let gives = g.K.Clock.gives c.args.clock.now in
-    λ b journal at.
-    let l = c.loop.invariant b journal at in
-    later_on _ _ _ _ _ b journal gives l.more _ l.moments (c.in_ok-interval.ensures.between b (l.more ++ journal) l.between)
+    record {
+      later = λ b journal at.
+          let l = c.loop.invariant.later b journal at in
+          later_on _ _ _ _ _ b journal gives l.more _ l.moments (c.in_ok-interval.ensures.between b (l.more ++ journal) l.between);
+      stops = λ allowed. c.in_ok-interval.ensures.stops (c.loop.invariant.stops allowed);
+    }

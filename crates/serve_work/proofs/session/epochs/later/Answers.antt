@@ -12,3 +12,9 @@ pub returns-in-Err-clause-between : goal.returns-in-Err-clause-between
 returns-in-Err-clause-between g c =
     let gives = g.K.Clock.gives c.args.clock.now in
     λ b journal at. no_later _ _ _ _ _ b journal gives _ (c.in-Err.ensures.back b journal at)
+
+pub returns-in-Ok-clause-stops : goal.returns-in-Ok-clause-stops
+returns-in-Ok-clause-stops g c = λ allowed. c.epoch.ensures.stops (rw c.in-Ok.ensures.streams allowed)
+
+pub returns-in-Err-clause-stops : goal.returns-in-Err-clause-stops
+returns-in-Err-clause-stops g c = λ allowed. rw c.in-Err.ensures.same allowed

@@ -1,7 +1,9 @@
-use Rattle.std.proofs.Common.{◌≡◌, ◌∙◌, ap, subst, sym}
+use Rattle.std.proofs.Common.{◌≡◌, ◌∙◌, IfSome, ap, subst, sym}
+use Rattle.serve_work.specs.Clients.{AllowsStop, ClientOutcome}
 use Rattle.serve_work.specs.ClientInside.{KeepsMoments}
 use Rattle.serve_work.specs.Rests.{IsRestOf}
-use Rattle.serve_work.specs.SessionInside.{HeldValue, IsReadyAt, Stands, StandsAt, Waiting, held_at, stream_of}
+use Rattle.serve_work.specs.SessionInside.{HeldValue, IsReadyAt, Stands, StandsAt, Waiting, held_at, stream_of, stream_stop}
+use Rattle.serve_work.proofs.SessionStops.{stop_inside}
 use Rattle.serve_work.proofs.SessionTurns.{header_stays}
 use Rattle.serve_work.proofs.Tallying.{KeepsMoments-same}
 use Rattle.serve_work.proofs.session.turn.Held.go_on.Goals as goal
@@ -29,6 +31,7 @@ returns-in-Over g c =
     sym c.self.view_is ∙ ap (λ s. held_at inside.seat (value s)) c.in-Over.is ∙ sym c.new.ensures in (
       λ start past at. subst (Stands start past) same at,
       KeepsMoments-same _ _ _ (sym (ap (λ (held : HeldValue). held.seat) same)),
+      λ allowed. subst (λ (held : HeldValue). IfSome (stream_stop held.stream) (AllowsStop (g.K.Clock.gives c.args.clock.now))) same allowed,
     )
 
 pub returns-in-Paused : goal.returns-in-Paused
@@ -41,6 +44,8 @@ returns-in-Paused g c =
           rw c.new-in-Paused.ensures (c.in-Paused.ensures.turn start past was),
       rw c.new-in-Paused.ensures (subst (λ (held : HeldValue). KeepsMoments (g.K.Clock.gives c.args.clock.now) held.seat
           c.in-Paused.seat) c.self.view_is c.in-Paused.ensures.moments),
+      λ allowed. rw c.new-in-Paused.ensures (c.in-Paused.ensures.stop (stop_inside (g.K.Clock.gives c.args.clock.now) value inside.seat
+          inside.stream _ c.args.self c.in-Waiting.is c.self.view_is allowed)),
     )
 
 pub returns-in-Ended : goal.returns-in-Ended
@@ -53,4 +58,8 @@ returns-in-Ended g c =
           rw c.new-in-Ended.ensures (rw (c.part-seat.ensures.seat, c.part-seat.ensures.outcome) (c.in-Ended.ensures.turn start past was)),
       rw c.new-in-Ended.ensures (rw c.part-seat.ensures.seat (subst (λ (held : HeldValue).
           KeepsMoments (g.K.Clock.gives c.args.clock.now) held.seat c.in-Ended.end.seat) c.self.view_is c.in-Ended.ensures.moments)),
+      λ allowed. rw c.new-in-Ended.ensures (subst (AllowsStop (g.K.Clock.gives c.args.clock.now))
+          (sym (ap (λ (o : ClientOutcome). o.stop) c.part-seat.ensures.outcome))
+          (c.in-Ended.ensures.stop (stop_inside (g.K.Clock.gives c.args.clock.now) value inside.seat inside.stream _ c.args.self
+          c.in-Waiting.is c.self.view_is allowed))),
     )

@@ -1,0 +1,113 @@
+-- Which stops a clock allows.
+use Rattle.std.proofs.Common.{◌≡◌, ℕ, Option, IfSome, Some, None, Result, Ok, Err, refl, sym, ap, ◌∙◌, subst}
+use Rattle.std.specs.declared.alloc.Global.{Global}
+use Rattle.std.specs.declared.sync.Arc.{Arc}
+use Rattle.frame_view.specs.declared.frame.Frame.{Frame}
+use Rattle.y4m_stream.specs.Reader.{ReaderState}
+use Rattle.y4m_stream.specs.declared.fault.WriteFault.{WriteFault}
+use Rattle.serve_hub.specs.Seats.{StreamSeatValue}
+use Rattle.serve_work.specs.declared.feeding.Offered.TheVariants as offered
+use Rattle.serve_work.specs.declared.stop.Cause.TheVariants.{TooManyFrames, ClockEnd, NoMemory}
+use Rattle.serve_work.specs.declared.stop.Halt.{Halt}
+use Rattle.serve_work.specs.declared.stop.Halt.TheVariants.{Full, Stopped}
+use Rattle.serve_work.specs.declared.stop.Stop.{Stop}
+use Rattle.serve_work.specs.declared.stop.Stop.TheVariants.{Whole, Read, Write, Refused, Torn}
+use Rattle.serve_work.specs.Clients.{AllowsStop}
+use Rattle.serve_work.specs.ClientInside.{AllowsFed, Flushes, IsFirst, IsNoNewEnd, IsOfCollection, IsOfDelivery, IsOffered, IsUnread}
+use Rattle.serve_work.specs.ClientInside.{KeepsAllowed, fed_before, fed_of}
+use Rattle.serve_work.specs.Rests.{CourseValue, Discarding, Draining, Feeding, Holding, course_stop, stop_given_up}
+
+module _ (Gives : ℕ → Type 0) where
+  -- a refusal of an offer at a moment that the clock gave
+  pub offered_allowed : (stop : Stop) (at : ℕ) (frame : Frame) (old new : StreamSeatValue) → Gives at
+      → IsOffered (offered.Stopped stop) at frame old new → AllowsStop Gives stop
+  offered_allowed Whole at frame old new gives p = tt
+  offered_allowed (Read fault) at frame old new gives p = tt
+  offered_allowed (Write fault) at frame old new gives p = tt
+  offered_allowed (Refused TooManyFrames) at frame old new gives p = tt
+  offered_allowed (Refused ClockEnd) at frame old new gives p = (at, p.1 refl, gives)
+  offered_allowed (Refused NoMemory) at frame old new gives p = tt
+  offered_allowed Torn at frame old new gives p = tt
+
+  -- no frame was offered
+  pub unread_allowed : (stop : Stop) (old new : ReaderState) → IsUnread old new stop → AllowsStop Gives stop
+  unread_allowed Whole old new u = tt
+  unread_allowed (Read fault) old new u = tt
+  unread_allowed (Write fault) old new u = tt
+  unread_allowed (Refused TooManyFrames) old new u = tt
+  unread_allowed (Refused ClockEnd) old new u = absurd u
+  unread_allowed (Refused NoMemory) old new u = tt
+  unread_allowed Torn old new u = tt
+
+  pub collection_allowed : (halt : Halt) (back : Arc Frame Global) → IsOfCollection halt → AllowsFed Gives (fed_of halt back)
+  collection_allowed Full back own = tt
+  collection_allowed (Stopped Whole) back own = tt
+  collection_allowed (Stopped (Read fault)) back own = tt
+  collection_allowed (Stopped (Write fault)) back own = tt
+  collection_allowed (Stopped (Refused cause)) back own = absurd own
+  collection_allowed (Stopped Torn) back own = tt
+
+  pub delivery_allowed : (halt : Halt) → IsOfDelivery halt → AllowsFed Gives (fed_before halt)
+  delivery_allowed Full own = tt
+  delivery_allowed (Stopped Whole) own = tt
+  delivery_allowed (Stopped (Read fault)) own = tt
+  delivery_allowed (Stopped (Write fault)) own = tt
+  delivery_allowed (Stopped (Refused cause)) own = absurd (own tt)
+  delivery_allowed (Stopped Torn) own = tt
+
+  -- the first of two stops that is a fault
+  pub first_allowed : (stop later first : Stop) → AllowsStop Gives stop → AllowsStop Gives later → IsFirst stop later first
+      → AllowsStop Gives first
+  first_allowed Whole later first a b is = subst (AllowsStop Gives) (sym is) b
+  first_allowed (Read fault) later first a b is = subst (AllowsStop Gives) (sym is) a
+  first_allowed (Write fault) later first a b is = subst (AllowsStop Gives) (sym is) a
+  first_allowed (Refused cause) later first a b is = subst (AllowsStop Gives) (sym is) a
+  first_allowed Torn later first a b is = subst (AllowsStop Gives) (sym is) a
+
+  pub same_allowed : (old new : Option Stop) → old ≡ new → KeepsAllowed Gives old new
+  same_allowed old new same was = subst (λ (o : Option Stop). IfSome o (AllowsStop Gives)) same was
+
+  pub kept_allowed : (old new : Option Stop) → IsNoNewEnd old new → KeepsAllowed Gives old new
+  kept_allowed old None same was = tt
+  kept_allowed old (Some Whole) same was = tt
+  kept_allowed old (Some (Read fault)) same was = tt
+  kept_allowed old (Some (Write fault)) same was = tt
+  kept_allowed old (Some (Refused TooManyFrames)) same was = tt
+  kept_allowed old (Some (Refused ClockEnd)) same was = same_allowed old (Some (Refused ClockEnd)) (same refl) was
+  kept_allowed old (Some (Refused NoMemory)) same was = tt
+  kept_allowed old (Some Torn) same was = tt
+
+-- where the clock's end is told, it was kept
+
+the_stop : (a b : Stop) → Some a ≡ Some b → a ≡ b
+the_stop a b is = cc
+
+pub drained_stop : (stop last told : Stop) → IsOfCollection (Stopped last) → IsFirst stop last told
+    → IsNoNewEnd (Some stop) (Some told)
+drained_stop Whole last told own first is =
+    absurd (subst (λ (s : Stop). IsOfCollection (Stopped s)) (sym first ∙ the_stop told (Refused ClockEnd) is) own)
+drained_stop (Read fault) last told own first is = ap Some (sym first) ∙ is
+drained_stop (Write fault) last told own first is = ap Some (sym first) ∙ is
+drained_stop (Refused cause) last told own first is = ap Some (sym first) ∙ is
+drained_stop Torn last told own first is = ap Some (sym first) ∙ is
+
+pub flushed_stop : {T : Type 0} (stop : Stop) (flush : Result T WriteFault) (told : Stop) → Flushes stop flush told
+    → IsNoNewEnd (Some stop) (Some told)
+flushed_stop Whole (Err fault) told f is =
+    let both : Write fault ≡ Refused ClockEnd = sym f ∙ the_stop told (Refused ClockEnd) is in absurd (cc)
+flushed_stop Whole (Ok t) told f is = ap Some (sym f) ∙ is
+flushed_stop (Read fault) flush told f is = ap Some (sym f) ∙ is
+flushed_stop (Write fault) flush told f is = ap Some (sym f) ∙ is
+flushed_stop (Refused cause) flush told f is = ap Some (sym f) ∙ is
+flushed_stop Torn flush told f is = ap Some (sym f) ∙ is
+
+pub given_up_stop : (course : CourseValue) → IsNoNewEnd (course_stop course) (Some (stop_given_up course))
+given_up_stop (Feeding in_hand) is = absurd (cc)
+given_up_stop (Holding None held) is = absurd (cc)
+given_up_stop (Holding (Some frame) held) is = is
+given_up_stop (Draining Whole) is = absurd (cc)
+given_up_stop (Draining (Read fault)) is = is
+given_up_stop (Draining (Write fault)) is = is
+given_up_stop (Draining (Refused cause)) is = is
+given_up_stop (Draining Torn) is = is
+given_up_stop (Discarding stop) is = is
