@@ -1,10 +1,10 @@
 -- The streams of a run, and what is reported of them.
-use Rattle.std.specs.Prelude.{ℕ, ◌+◌, ◌-◌, ◌^◌, ◌≡◌, ◌⊎◌, min, Bool, true, false, List, [], ◌∷◌, ◌++◌}
+use Rattle.std.specs.Prelude.{ℕ, ◌+◌, ◌-◌, ◌^◌, ◌≡◌, ◌≢◌, ◌⊎◌, min, Bool, true, false, List, [], ◌∷◌, ◌++◌}
 use Rattle.std.specs.Prelude.{codes, decimal, fold, map}
 use Rattle.std.specs.Prelude.{Option, Some, None, Ok, option_and_then}
 use Rattle.std.specs.Borrow.{Bor}
 use Rattle.std.specs.Io.KnownBytes.{Appends}
-use Rattle.std.specs.List.{AllZip, flat_map, list_all}
+use Rattle.std.specs.List.{AllByRecursion, AllZip, flat_map, list_all}
 use Rattle.std.specs.Option.{option_map}
 use Rattle.serve_core.specs.Setup.{StreamSpec, setup_of}
 use Rattle.serve_script.specs.ScriptReport.{line_text}
@@ -21,6 +21,8 @@ use Rattle.serve_report.specs.declared.words.ServeWords.{ServeWords}
 use Rattle.serve_work.specs.Clients.{ClientStart}
 use Rattle.serve_work.specs.Sessions.{IsSession, ServedValue}
 use Rattle.serve_work.specs.declared.session.Served.{Served}
+use Rattle.serve_work.specs.declared.stop.Cause.TheVariants.{ClockEnd}
+use Rattle.serve_work.specs.declared.stop.Stop.TheVariants.{Refused}
 
 -- a stream that takes part in the session
 abbrev pub entered : Bor (List ℕ) → Entrant
@@ -100,12 +102,17 @@ abbrev pub Leaves : (workers quantum : ℕ) → List StreamSpec → List ClientS
 Leaves workers quantum specs starts left =
     ((specs ≡ []) × (left ≡ [])) ⊎ IsSession IsMoment (setup_of workers quantum specs) starts left
 
+-- a stream wasn't stopped since the clock of the run had ended
+abbrev pub IsInTime : ServedValue → Type 0
+IsInTime served = served.outcome.stop ≢ Refused ClockEnd
+
 -- each row tells of its stream: why it took no part, or what the session left of it
 pub record Tells (workers quantum journal : ℕ) (openings : List Opening)
     (rows : List StreamRow) : Type 0 where
   pub left : List ServedValue
   pub session : Leaves workers quantum (specs_in openings) (starts_in journal openings) left
   pub given : rows_given told_row (map entrant_of openings) left ≡ Some rows
+  pub in_time : AllByRecursion IsInTime left
 
 -- the streams were opened as their words ask, and the rows tell of them
 pub record Serves (OpenGives CreateGives : OfName) (checked : Checked) (rows : List StreamRow) : Type 0 where

@@ -3,7 +3,7 @@ use Rattle.serve_work.specs.Sessions.{served_of}
 use Rattle.serve_report.specs.Entrants.{rows_given, told_row}
 use Rattle.serve_report.specs.Openings.{openings_of}
 use Rattle.serve_report.proofs.Inputs.{leaves_told}
-use Rattle.serve_report.proofs.Reporting.{rows_told}
+use Rattle.serve_report.proofs.Reporting.{left_in_time, rows_told}
 use Rattle.serve_report.proofs.serve.serve_tried.Goals as goal
 
 pub returns : goal.returns
@@ -17,4 +17,5 @@ returns g c =
       left = told;
       session = leaves_told g.W.Sink.contents g.W.Sink.failures _ _ _ (openings_of c.args.tried.items) _ _ told opened.specs opened.inputs c.in_ok-left.ensures;
       given = ap (λ streams. rows_given told_row streams told) (sym opened.entrants) ∙ rows_told _ _ _ _ _ entrants left ∙ sym given;
+      in_time = left_in_time _ _ _ _ told c.in_ok-left.ensures;
     }
