@@ -31,7 +31,8 @@ returns-in-Over g c =
     sym c.self.view_is ∙ ap (λ s. held_at inside.seat (value s)) c.in-Over.is ∙ sym c.new.ensures in (
       λ start past at. subst (Stands start past) same at,
       KeepsMoments-same _ _ _ (sym (ap (λ (held : HeldValue). held.seat) same)),
-      λ allowed. subst (λ (held : HeldValue). IfSome (stream_stop held.stream) (AllowsStop (g.K.Clock.gives c.args.clock.now))) same allowed,
+      λ allowed. subst (λ (held : HeldValue). IfSome (stream_stop held.stream)
+          (AllowsStop (g.K.Clock.gives c.args.clock.now))) same allowed,
     )
 
 pub returns-in-Paused : goal.returns-in-Paused
