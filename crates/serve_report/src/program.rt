@@ -5,9 +5,9 @@ ghost use Rattle.y4m_stream.specs.Filtered.{IsFiltered, IsServed};
 ghost use Rattle.serve_report.specs.Filtering.{AreAsked};
 
 use crate::files::Files;
+use crate::progress::{Unwatched, Watch, WatchedSink, WatchedSource, following};
 use crate::serve::run_serve;
 use crate::tell::tell;
-use crate::watch::{Unwatched, Watch, WatchedSink, WatchedSource, following};
 use crate::words::{FilterWords, NoRequest, Request, read_words};
 use filters::{FilterError, Op, parse_ops};
 use row_bands::BandHeight;

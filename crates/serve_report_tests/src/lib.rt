@@ -3,10 +3,10 @@
 #![tactic(auto)]
 
 #[cfg(test)]
-mod board;
-#[cfg(test)]
 mod clock;
 #[cfg(test)]
 mod lookout;
 #[cfg(test)]
 mod program;
+#[cfg(test)]
+mod progress;

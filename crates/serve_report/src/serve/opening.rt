@@ -20,7 +20,7 @@ use super::report::StreamStop;
 use super::stream_word::StreamWord;
 use crate::files::{Files, StreamFiles};
 use crate::inlet::{Inlet, OverInflow, inflow_of};
-use crate::watch::{Watch, WatchedSink, WatchedSource};
+use crate::progress::{Watch, WatchedSink, WatchedSource};
 use filters::{Chain, FilterError, Op};
 use frame_view::Geometry;
 use lease::JobSpec;

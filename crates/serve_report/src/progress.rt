@@ -1,5 +1,6 @@
-//! What shows how far a run has come: a line for each of its streams, or one for a stream that is alone. Each
-//! drawing stands over the one before. Times are milliseconds from the start of the run.
+//! How far a run has come: what watches it, is asked about terminals and told of the frames of each stream,
+//! and what shows it, a line for each stream, or one for a stream that is alone. Each drawing stands over the
+//! one before. Times are milliseconds from the start of the run.
 ghost use Rattle.std.specs.Prelude.{◌≡◌, ◌≤◌, ◌+◌, ◌-◌, ◌^◌, ◌↔◌, IsTrue, None, OnOk, IfOk, Some, map, min};
 ghost use Rattle.std.specs.Prelude.{string_bytes, unwrap_or};
 ghost use Rattle.std.specs.Io.KnownBytes.{Appends};
@@ -11,6 +12,7 @@ use std::io::{self, Write};
 use std::marker::Model;
 use std::sync::Mutex;
 use std::sync::atomic::{AtomicU64, Ordering};
+use y4m_stream::{Sink, Source};
 
 /// The time between two drawings of the lines of streams.
 const BETWEEN_DRAWINGS: u64 = 200;
@@ -20,6 +22,149 @@ const BETWEEN_LINES: u64 = 100;
 
 /// The columns of the line of a stream that is alone: it is filled up with spaces, over what stood there.
 const WIDTH: usize = 64;
+
+/// Is asked about the terminals of a run, and told of its frames as they go by. It changes no byte of them.
+/// One that says nothing of its own sees no terminal, and is told nothing.
+///
+/// Streams are numbered from 0: the one of `filter` is 0, and those of `serve` have the order of their words.
+/// Each stream of `serve` is told of by its client's thread.
+pub trait Watch {
+    /// Whether the input is a terminal, from which nothing comes before somebody types it.
+    fn input_is_terminal(&self) -> bool {
+        false
+    }
+
+    /// Whether the output is a terminal, which would show the bytes of a stream as text.
+    fn output_is_terminal(&self) -> bool {
+        false
+    }
+
+    /// Whether it is to be told of frames.
+    fn follows_frames(&self) -> bool {
+        false
+    }
+
+    /// Streams of these names begin. A stream that is alone has no name, and begins untold.
+    fn begins(&self, _names: &[&str]) {}
+
+    /// One more frame of a stream has been read whole.
+    fn frame_read(&self, _stream: usize) {}
+
+    /// One more image of a stream has been written whole. The bytes are all that were written since it was
+    /// last told of one of this stream.
+    fn image_written(&self, _stream: usize, _bytes: u64) {}
+
+    /// Nothing more is read or written.
+    fn ends(&self) {}
+}
+
+/// The watch, where it is told of the frames of a run: it follows them, and the run isn't quiet.
+pub(crate) fn following<V: Watch>(watch: &V, is_quiet: bool) -> Option<&V> {
+    if is_quiet || !watch.follows_frames() {
+        return None;
+    }
+    Some(watch)
+}
+
+/// A watch of a run between any reader and writers: there is no terminal, and nothing is told.
+#[derive(Clone, Copy)]
+pub struct Unwatched;
+
+impl Watch for Unwatched {}
+
+/// A source whose frames a watch is told of, as those of the stream of this number.
+#[derive(Drop)]
+pub(crate) struct WatchedSource<'w, S: Source, V: Watch> {
+    source: S,
+    stream: usize,
+    watch: Option<&'w V>,
+}
+
+/// A sink whose images a watch is told of, as those of the stream of this number.
+#[derive(Drop)]
+pub(crate) struct WatchedSink<'w, S: Sink, V: Watch> {
+    sink: S,
+    stream: usize,
+    watch: Option<&'w V>,
+    /// The bytes that were written since the watch was told.
+    bytes: u64,
+}
+
+impl<'w, S: Source, V: Watch> WatchedSource<'w, S, V> {
+    pub fn new(source: S, stream: usize, watch: Option<&'w V>) -> WatchedSource<'w, S, V>
+        ensures source { result.source ≡ source }
+        ensures stream { result.stream ≡ stream }
+    {
+        WatchedSource {
+            source,
+            stream,
+            watch,
+        }
+    }
+}
+
+impl<'w, S: Sink, V: Watch> WatchedSink<'w, S, V> {
+    pub fn new(sink: S, stream: usize, watch: Option<&'w V>) -> WatchedSink<'w, S, V>
+        ensures sink { result.sink ≡ sink }
+        ensures stream { result.stream ≡ stream }
+    {
+        WatchedSink {
+            sink,
+            stream,
+            watch,
+            bytes: 0,
+        }
+    }
+}
+
+impl<'w, S: Source, V: Watch> Source for WatchedSource<'w, S, V> {
+    ghost remaining = { λ s. S.remaining s.source };
+
+    ghost failures = { λ s. S.failures s.source };
+
+    fn read(&mut self, buf: &mut [u8]) -> io::Result<usize> {
+        self.source.read(buf)
+    }
+
+    fn is_ready(&self, milliseconds: u64) -> bool {
+        self.source.is_ready(milliseconds)
+    }
+
+    fn frame_ended(&mut self) {
+        self.source.frame_ended();
+        if let Some(watch) = self.watch {
+            watch.frame_read(self.stream);
+        }
+    }
+}
+
+impl<'w, S: Sink, V: Watch> Sink for WatchedSink<'w, S, V> {
+    ghost contents = { λ s. S.contents s.sink };
+
+    ghost failures = { λ s. S.failures s.sink };
+
+    ghost is_flushed = { λ s. S.is_flushed s.sink };
+
+    fn write(&mut self, buf: &[u8]) -> io::Result<usize> {
+        let answer = self.sink.write(buf);
+        if let Ok(taken) = &answer {
+            self.bytes = self.bytes.saturating_add(*taken as u64);
+        }
+        answer
+    }
+
+    fn flush(&mut self) -> io::Result<()> {
+        self.sink.flush()
+    }
+
+    fn image_ended(&mut self) {
+        self.sink.image_ended();
+        if let Some(watch) = self.watch {
+            watch.image_written(self.stream, self.bytes);
+        }
+        self.bytes = 0;
+    }
+}
 
 /// Whether it is so long ago that something was drawn, or that the run began where nothing was.
 fn has_passed(between: u64, drawn: Option<u64>, time: u64) -> bool
@@ -31,18 +176,18 @@ fn has_passed(between: u64, drawn: Option<u64>, time: u64) -> bool
 
 /// How far a stream that is alone has come, and when that was last shown.
 #[derive(Clone, Copy)]
-struct Progress {
+struct LineProgress {
     frames: u64,
     bytes: u64,
     shown: Option<u64>,
 }
 
-impl Progress {
+impl LineProgress {
     /// At the start.
-    fn new() -> Progress
+    fn new() -> LineProgress
         ensures { result ≡ record { frames = 0; bytes = 0; shown = None } }
     {
-        Progress {
+        LineProgress {
             frames: 0,
             bytes: 0,
             shown: None,
@@ -50,12 +195,12 @@ impl Progress {
     }
 
     /// The same, with so many images and bytes more. A number of 64 bits stays at its last value.
-    fn with(self, frames: u64, bytes: u64) -> Progress
+    fn with(self, frames: u64, bytes: u64) -> LineProgress
         ensures frames { result.frames ≡ min (self.frames + frames) (2 ^ 64 - 1) }
         ensures bytes { result.bytes ≡ min (self.bytes + bytes) (2 ^ 64 - 1) }
         ensures shown { result.shown ≡ self.shown }
     {
-        Progress {
+        LineProgress {
             frames: self.frames.saturating_add(frames),
             bytes: self.bytes.saturating_add(bytes),
             shown: self.shown,
@@ -71,10 +216,10 @@ impl Progress {
     }
 
     /// The same, where its line is shown at this time.
-    fn shown_at(self, time: u64) -> Progress
+    fn shown_at(self, time: u64) -> LineProgress
         ensures { result ≡ record self { shown = Some time } }
     {
-        Progress {
+        LineProgress {
             shown: Some(time),
             ..self
         }
@@ -82,7 +227,7 @@ impl Progress {
 
     /// Shows its line, with the rates up to this time, in one write.
     fn show<E: Write>(self, errors: &mut E, time: u64) {
-        let Progress { frames, bytes, .. } = self;
+        let LineProgress { frames, bytes, .. } = self;
         let time = time.max(1);
         let tenths = frames.saturating_mul(10_000) / time;
         let (whole, tenth) = (tenths / 10, tenths % 10);
@@ -100,14 +245,14 @@ impl Progress {
 /// The line of a stream that is alone, or of all together where there was no memory for a board.
 #[derive(Drop)]
 pub struct Line {
-    progress: Mutex<Progress>,
+    progress: Mutex<LineProgress>,
 }
 
 impl Line {
     /// None of the stream's images was written yet.
     pub fn new() -> Line {
         Line {
-            progress: Mutex::new(Progress::new()),
+            progress: Mutex::new(LineProgress::new()),
         }
     }
 

@@ -1,4 +1,4 @@
-use serve_report::board::{Board, Line};
+use serve_report::progress::{Board, Line};
 use std::process::Abort;
 use std::test::Fail;
 use test_tools::Room;
