@@ -1,31 +1,52 @@
-//! Gates that hold a band until another thread has come as far: what is done at once can't be told from the
-//! images.
-use super::many::{AllServed, Hall, Stream, WIDE, serve_behind};
+//! Gates, and a clock, that hold a thread until others have come as far: what is done at once can't be told
+//! from the images.
+ghost use Rattle.std.specs.Prelude.{⊤};
+
+use super::many::{AllServed, Hall, Stream, WIDE, serve_behind, serve_by};
 use super::{PLAIN, Plan};
-use serve_work::{Gate, Stop};
+use serve_work::{Clock, Gate, Stop};
 use std::process::Abort;
+use std::sync::atomic::{AtomicU32, Ordering};
 use std::test::Fail;
+use std::thread;
 use test_tools::Parts;
 use test_tools::streams::{ONE, ONE_INVERTED};
 
-/// Each of two met the other.
-fn both_met(rt: &impl Abort, parts: &Parts) {
-    assert_eq!(rt;
-        parts.met(),
-        2,
-        "nobody came: was a thread or its memory refused?"
-    );
+/// The most turns for which one is held. Each turn lets other threads go on.
+const TURNS: u32 = 1_000_000;
+
+/// Holds each that comes until three have come, and counts those that met the others.
+#[derive(Drop)]
+struct Three {
+    come: AtomicU32,
+    met: AtomicU32,
 }
 
-/// Two workers meet before their bands.
-#[derive(Drop)]
-struct Workers(Parts);
-
-impl Gate for Workers {
-    fn before_band(&self, worker: u32, _stream: u32, _number: u64) {
-        if worker < 2 {
-            self.0.meet(worker);
+impl Three {
+    /// None has come.
+    fn new() -> Three {
+        Three {
+            come: AtomicU32::new(0),
+            met: AtomicU32::new(0),
         }
+    }
+
+    fn meet(&self) {
+        self.come.fetch_add(1, Ordering::SeqCst);
+        for _ in 0..TURNS {
+            if self.come.load(Ordering::SeqCst) >= 3 {
+                self.met.fetch_add(1, Ordering::SeqCst);
+                return;
+            }
+            thread::yield_now();
+        }
+    }
+}
+
+/// Three workers meet before their bands.
+impl Gate for Three {
+    fn before_band(&self, _worker: u32, _stream: u32, _number: u64) {
+        self.meet();
     }
 
     fn in_halves(&self, _samples: usize) -> bool {
@@ -33,6 +54,16 @@ impl Gate for Workers {
     }
 
     fn in_half(&self, _worker: u32, _half: u32) {}
+}
+
+/// Three clients meet before their offers, which are all at moment 0.
+impl Clock for Three {
+    ghost gives = { λ _ _. ⊤ };
+
+    fn moment(&self) -> u64 {
+        self.meet();
+        0
+    }
 }
 
 /// The two halves of a band meet.
@@ -63,16 +94,22 @@ fn each_gave(rt: &impl Abort, all: AllServed<'_>, streams: usize, image: &[u8]) 
 }
 
 #[test]
-fn two_workers_filter_at_once(rt: HostRuntime) -> Result<(), Fail> {
+fn three_clients_and_three_workers_go_on_at_once(rt: HostRuntime) -> Result<(), Fail> {
     let stream = Stream {
         input: ONE,
         breaks: false,
         plan: PLAIN,
     };
-    let gate = Workers(Parts::new());
-    let all = serve_behind(&rt, rt.alloc(), &[stream; 2], WIDE, &gate)??;
-    each_gave(&rt, all, 2, ONE_INVERTED);
-    both_met(&rt, &gate.0);
+    let (workers, clients) = (Three::new(), Three::new());
+    let hall = Hall { workers: 3, ..WIDE };
+    let all = serve_by(&rt, rt.alloc(), &[stream; 3], hall, &workers, &clients)??;
+    each_gave(&rt, all, 3, ONE_INVERTED);
+    let met = [&workers, &clients].map(|three| three.met.load(Ordering::SeqCst));
+    assert_eq!(rt;
+        met,
+        [3, 3],
+        "nobody came: was a thread or its memory refused?"
+    );
     Ok(())
 }
 
@@ -92,6 +129,10 @@ fn two_threads_write_the_halves_of_a_band(rt: HostRuntime) -> Result<(), Fail> {
         1,
         b"YUV4MPEG2 W1 H4 Cmono\nFRAME\n\xfe\xfd\xfc\xfb",
     );
-    both_met(&rt, &gate.0);
+    assert_eq!(rt;
+        gate.0.met(),
+        2,
+        "nobody came: was a thread or its memory refused?"
+    );
     Ok(())
 }

@@ -1,7 +1,7 @@
 //! Sessions of several streams.
 use super::{Open, Plan, Still, stream_of};
 use serve_core::Setup;
-use serve_work::{Gate, Served, SessionFault, serve_session};
+use serve_work::{Clock, Gate, Served, SessionFault, serve_session};
 use std::alloc::Global;
 use std::sync::Wait;
 use std::test::Fail;
@@ -56,6 +56,18 @@ pub(super) fn serve_behind<'a, G: Gate + Sync, T: Threads + Wait + Sync>(
     hall: Hall,
     gate: &G,
 ) -> Result<Result<AllServed<'a>, SessionFault>, Fail> {
+    serve_by(rt, alloc, streams, hall, gate, &Still(hall.moment))
+}
+
+/// The same, by this clock.
+pub(super) fn serve_by<'a, G: Gate + Sync, K: Clock + Sync, T: Threads + Wait + Sync>(
+    rt: &T,
+    alloc: Global,
+    streams: &[Stream<'a>],
+    hall: Hall,
+    gate: &G,
+    clock: &K,
+) -> Result<Result<AllServed<'a>, SessionFault>, Fail> {
     let mut specs = Vec::new(alloc);
     let mut inputs = Vec::new(alloc);
     for stream in streams {
@@ -66,6 +78,5 @@ pub(super) fn serve_behind<'a, G: Gate + Sync, T: Threads + Wait + Sync>(
         inputs.push((reader, writer))?;
     }
     let setup = Setup::new(hall.workers, 4, specs)?;
-    let clock = Still(hall.moment);
-    Ok(serve_session(rt, alloc, setup, inputs, hall.limit, gate, &clock))
+    Ok(serve_session(rt, alloc, setup, inputs, hall.limit, gate, clock))
 }

@@ -2,7 +2,7 @@ use Rattle.std.proofs.Common.{◌++◌, ◌∷◌, List, [], subst}
 use Rattle.std.specs.List.{AllZip}
 use Rattle.y4m_stream.specs.Reader.{IsOfHeader}
 use Rattle.serve_work.specs.Sessions.{IsInput}
-use Rattle.serve_work_tests.proofs.tests.many.serve_behind.Goals as goal
+use Rattle.serve_work_tests.proofs.tests.many.serve_by.Goals as goal
 
 zip_push : {A B : Type 0} (R : A → B → Type 0) (xs : List A) (ys : List B) (x : A) (y : B) → AllZip R xs ys → R x y
     → AllZip R (xs ++ x ∷ []) (ys ++ y ∷ [])

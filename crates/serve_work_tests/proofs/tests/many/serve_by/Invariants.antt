@@ -1,6 +1,6 @@
 use Rattle.std.specs.List.{AllZip}
 use Rattle.serve_work.specs.Sessions.{IsInput}
-use Rattle.serve_work_tests.proofs.tests.many.serve_behind.Given as goal
+use Rattle.serve_work_tests.proofs.tests.many.serve_by.Given as goal
 
 -- an input for each spec
 abbrev pub invariant-loop-stream : goal.invariant-loop-stream
