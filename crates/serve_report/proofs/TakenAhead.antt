@@ -8,6 +8,11 @@ use Rattle.std.specs.Io.KnownBytes.{Consumes, Keeps, prepend_known}
 pub none_between : (bytes : List ℕ) (from to : ℕ) → to ≤ from → drop from (take to bytes) ≡ []
 none_between bytes from to h = drop_all from (take to bytes) (omega (arith, length-take to bytes))
 
+-- something is held between two places of the bytes of which the second is later
+pub some_between : (bytes : List ℕ) (from to : ℕ) → from < to → to ≤ length bytes → drop from (take to bytes) ≡ [] → ⊥
+some_between bytes from to less within none =
+    omega (arith, less, within, ap length none, length-drop from (take to bytes), length-take to bytes)
+
 -- bytes that are read where none are held
 pub read_ahead : (a b : Option (List ℕ)) (read : List ℕ) → Consumes a b read → Keeps (prepend_known [] a) (prepend_known read b)
 read_ahead None b read p = tt

@@ -1,6 +1,8 @@
 //! A reader, and what was read from it before it was asked for.
-ghost use Rattle.std.specs.Prelude.{◌≡◌, [], drop, false, length, min, take, IfErr, IfOk};
-ghost use Rattle.std.specs.Io.KnownBytes.{Keeps, prepend_known};
+ghost use Rattle.std.specs.Prelude.{◌≡◌, ◌≢◌, ◌<◌, ◌↔◌, [], drop, false, length, min, take, IfErr, IfOk};
+ghost use Rattle.std.specs.Prelude.{MatchResult};
+ghost use Rattle.std.specs.Io.{ReadsAtMost};
+ghost use Rattle.std.specs.Io.KnownBytes.{Keeps, ReadConsumes, prepend_known};
 ghost use Rattle.serve_report.specs.ReadAhead.{HasNone, rest_of};
 
 use std::alloc::Global;
@@ -67,14 +69,15 @@ impl<R: Read> Ahead<R> {
 
     /// Whether the next read is answered by what is held.
     pub fn has_news(&self) -> bool
-        ensures { result ≡ false → HasNone self.now }
+        ensures { (result ≡ false) ↔ HasNone self.now }
     {
         self.from < self.to || !matches!(self.told, Told::Nothing)
     }
 
     /// Reads once, where nothing is held.
     pub fn look(&mut self)
-        ensures { Keeps (rest_of self.old) (rest_of self.new) }
+        ensures bytes { Keeps (rest_of self.old) (rest_of self.new) }
+        ensures news { ¬ HasNone self.new }
     {
         if self.has_news() {
             return;
@@ -111,7 +114,14 @@ impl<R: Read> Ahead<R> {
 impl<R: Read> Read for Ahead<R> {
     ghost remaining = { λ a. prepend_known a.held a.left };
 
-    fn read(&mut self, buf: &mut [u8]) -> io::Result<usize> {
+    fn read(&mut self, buf: &mut [u8]) -> io::Result<usize>
+        ensures bound { ReadsAtMost result buf.new }
+        ensures bytes { ReadConsumes (prepend_known self.old.held self.old.left)
+            (prepend_known self.new.held self.new.left) result buf.new }
+        ensures told { self.old.held ≡ [] → self.old.told ≢ Told.Nothing → 0 < length buf.old
+            → HasNone self.new × MatchResult result (λ count. (count ≡ 0) × (self.old.told ≡ Told.End))
+            (λ error. self.old.told ≡ Told.Fault error) }
+    {
         if buf.is_empty() {
             return Ok(0);
         }

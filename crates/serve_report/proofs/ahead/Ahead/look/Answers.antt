@@ -3,9 +3,9 @@ use Rattle.serve_report.specs.ReadAhead.{AheadState}
 use Rattle.serve_report.proofs.TakenAhead.{front_read, read_ahead}
 use Rattle.serve_report.proofs.ahead.Ahead.look.Goals as goal
 
-pub returns-in-Ok : goal.returns-in-Ok
-returns-in-Ok g c =
-    let none = c.if-has_news.ensures refl in
+pub returns-in-Ok-clause-bytes : goal.returns-in-Ok-clause-bytes
+returns-in-Ok-clause-bytes g c =
+    let none = c.if-has_news.ensures.0 refl in
     let bytes = c.self.inside.bytes in
     let bound = c.in-Ok.ensures.bound.0 in
     let left = ap (λ (a : AheadState). a.left) c.self.view_is in
