@@ -1,5 +1,5 @@
 -- What is known of the bytes that a file has left.
-use Rattle.std.specs.Prelude.{ℕ, List, Option, None}
+use Rattle.std.specs.Prelude.{ℕ, ◌≡◌, ⊤, List, Option, None}
 use Rattle.serve_report.specs.declared.inlet.Inflow.{Inflow}
 use Rattle.serve_report.specs.declared.inlet.Inflow.TheVariants as inflow
 use Rattle.serve_report.specs.declared.inlet.Inlet.{Inlet}
@@ -16,3 +16,10 @@ abbrev pub inflow_remaining : {R S T : Type 0} → (R → Option (List ℕ)) →
 inflow_remaining prompt slow (inflow.Prompt reader) = prompt reader
 inflow_remaining prompt slow (inflow.Slow reader) = slow reader
 inflow_remaining prompt slow (inflow.Watched lookout) = None
+
+-- a prompt file is read as it is, and one that may wait is not taken for prompt
+abbrev pub IsInflowOf : {R S T : Type 0} → Inlet R S → Inflow R S T → Type 0
+IsInflowOf (inlet.Prompt reader) flow = flow ≡ inflow.Prompt reader
+IsInflowOf (inlet.Slow reader) (inflow.Prompt prompt) = ⊥
+IsInflowOf (inlet.Slow reader) (inflow.Slow slow) = ⊤
+IsInflowOf (inlet.Slow reader) (inflow.Watched lookout) = ⊤

@@ -1,7 +1,7 @@
 //! What the streams of a run are read from.
 ghost use Rattle.std.specs.Prelude.{◌≡◌};
 ghost use Rattle.std.specs.Io.KnownBytes.{Keeps};
-ghost use Rattle.serve_report.specs.Inlets.{inflow_remaining, inlet_remaining};
+ghost use Rattle.serve_report.specs.Inlets.{IsInflowOf, inflow_remaining, inlet_remaining};
 
 use crate::lookout::Lookout;
 use std::alloc::Global;
@@ -47,7 +47,9 @@ where
     R: Read,
     S: Read + Drop + Send + 'static,
     T: Threads + Wait + Clock + Copy + Drop + Send + 'static,
-    ensures { Keeps (inlet_remaining R.remaining inlet) (inflow_remaining R.remaining S.remaining result) }
+    ensures bytes { Keeps (inlet_remaining R.remaining inlet)
+        (inflow_remaining R.remaining S.remaining result) }
+    ensures kind { IsInflowOf inlet result }
 {
     match inlet {
         Inlet::Prompt(reader) => Inflow::Prompt(reader),

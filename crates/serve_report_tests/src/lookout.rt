@@ -1,5 +1,6 @@
 //! A reader that is asked whether a read would wait.
 use serve_report::Lookout;
+use serve_report::inlet::{Inflow, Inlet, inflow_of};
 use std::alloc::Global;
 use std::io::{self, ErrorKind, Read};
 use std::process::Abort;
@@ -181,5 +182,35 @@ fn a_client_may_go_while_its_looker_reads(rt: HostRuntime) -> Result<(), Fail> {
     assert!(rt; !lookout.is_ready(20));
     drop(lookout);
     door.open(&rt);
+    Ok(())
+}
+
+/// What is looked out at an input with, which waits or doesn't.
+fn inflow<T>(rt: &T, alloc: Global, waits: bool) -> Inflow<&'static [u8], Tape<'static>, T>
+where
+    T: Threads + Wait + Clock + Copy + Drop + Send + 'static,
+{
+    let inlet = if waits {
+        Inlet::Slow(Tape::new(TEXT, false))
+    } else {
+        Inlet::Prompt(TEXT)
+    };
+    inflow_of(rt, alloc, inlet)
+}
+
+#[test]
+fn an_input_that_may_wait_gets_a_looker(rt: HostRuntime) -> Result<(), Fail> {
+    if started(&rt, rt.alloc(), Tape::new(TEXT, false)).is_none() {
+        return Ok(());
+    }
+    let slow = inflow(&rt, rt.alloc(), true);
+    assert!(rt; matches!(slow, Inflow::Watched(_)));
+    let prompt = inflow(&rt, rt.alloc(), false);
+    assert!(rt; matches!(prompt, Inflow::Prompt(_)));
+    for mut input in [slow, prompt] {
+        let mut buf = [0; 16];
+        assert_eq!(rt; input.read(&mut buf).ok(), Some(TEXT.len()));
+        assert_eq!(rt; &buf[..TEXT.len()], TEXT);
+    }
     Ok(())
 }
