@@ -8,4 +8,6 @@ pub mod Entrants
 pub mod ReadAhead
 pub mod Inlets
 pub mod Filtering
+pub mod Help
+pub mod Runs
 pub mod Options

@@ -5,6 +5,7 @@ mod ahead;
 pub mod files;
 mod help;
 pub mod inlet;
+mod lent;
 pub mod lookout;
 pub mod program;
 pub mod progress;

@@ -1,20 +1,24 @@
 // The program, over any reader and writers.
-ghost use Rattle.std.specs.Prelude.{ℕ, ◌≡◌, ◌≤◌, ◌↔◌, IfOk, IsOk, List, Option};
-ghost use Rattle.std.specs.Io.KnownBytes.{Keeps};
-ghost use Rattle.y4m_stream.specs.Filtered.{IsFiltered, IsServed};
-ghost use Rattle.serve_report.specs.Filtering.{AreAsked};
+ghost use Rattle.std.specs.Prelude.{ℕ, ◌≡◌, ◌≤◌, ◌⊎◌, ◌↔◌, Bool, IfOk, IsOk, List, Ok, Option, Result, true};
+ghost use Rattle.std.specs.Prelude.{string_bytes};
+ghost use Rattle.std.specs.Io.KnownBytes.{Appends, Keeps};
+ghost use Rattle.y4m_stream.specs.Filtered.{IsFiltered, IsFilteredAhead};
+ghost use Rattle.serve_report.specs.Filtering.{AreAsked, FiltersAll, FiltersTo};
+ghost use Rattle.serve_report.specs.Runs.{IsDone, Replays, RunsWell};
 
 use crate::files::Files;
+use crate::lent::{LentWriter, Loan, NamedWriter};
 use crate::progress::{Unwatched, Watch, WatchedSink, WatchedSource, following};
 use crate::serve::run_serve;
 use crate::tell::tell;
 use crate::words::{FilterWords, NoRequest, Request, read_words};
 use filters::{FilterError, Op, parse_ops};
 use row_bands::BandHeight;
-use serve_script::replay;
+use serve_script::{ReplayFault, replay};
 use std::alloc::Global;
 use std::fmt;
 use std::io::{Read, Write};
+use std::marker::Brand;
 use std::sync::Wait;
 use std::thread::Threads;
 use std::time::Clock;
@@ -52,7 +56,8 @@ impl fmt::Display for WordFault {
 
 impl WordFault {
     fn status(self) -> u8
-        ensures { result ≤ 2 }
+        ensures least { 1 ≤ result }
+        ensures most { result ≤ 2 }
     {
         match self {
             WordFault::Ops(FilterError::NoMemory) => 1,
@@ -82,6 +87,8 @@ where
     T: Threads + Wait + Clock + Copy + Drop + Send + Sync + 'static,
     ensures status { result ≤ 2 }
     ensures untouched { result ≡ 2 → Keeps (W.contents output.old) (W.contents output.new) }
+    ensures well { result ≡ 0 → RunsWell F.open_gives F.create_gives (R.remaining input)
+        (W.contents output.old) (W.contents output.new) }
 {
     run_on(rt, alloc, words, input, output, errors, files, &Unwatched)
 }
@@ -110,11 +117,11 @@ where
     T: Threads + Wait + Clock + Copy + Drop + Send + Sync + 'static,
     ensures status { result ≤ 2 }
     ensures untouched { result ≡ 2 → Keeps (W.contents output.old) (W.contents output.new) }
+    ensures well { result ≡ 0 → RunsWell F.open_gives F.create_gives (R.remaining input)
+        (W.contents output.old) (W.contents output.new) }
 {
     match read_words(alloc, words) {
-        Ok(Request::Filter(asked)) => run_filter(rt, alloc, asked, input, output, errors, watch),
-        Ok(Request::Replay) => run_replay(alloc, input, output, errors),
-        Ok(Request::Serve(asked)) => run_serve(rt, alloc, asked, output, errors, files, watch),
+        Ok(request) => run_request(rt, alloc, request, input, output, errors, files, watch),
         Err(NoRequest::Help(text)) => write_help(&text, output, errors),
         Err(NoRequest::Wrong(text)) => {
             let _ = errors.write_all(text.as_bytes());
@@ -127,9 +134,41 @@ where
     }
 }
 
+/// Does what the words ask for.
+fn run_request<R, W, E, F, V, T>(
+    rt: &T,
+    alloc: Global,
+    request: Request<'_>,
+    input: R,
+    output: &mut W,
+    errors: &mut E,
+    files: &F,
+    watch: &V,
+) -> u8
+where
+    R: Read + Drop + Send,
+    W: Write,
+    E: Write,
+    F: Files + Sync,
+    V: Watch + Sync,
+    T: Threads + Wait + Clock + Copy + Drop + Send + Sync + 'static,
+    ensures status { result ≤ 2 }
+    ensures untouched { result ≡ 2 → Keeps (W.contents output.old) (W.contents output.new) }
+    ensures well { result ≡ 0 → IsDone F.open_gives F.create_gives request.entry (R.remaining input)
+        (W.contents output.old) (W.contents output.new) }
+{
+    match request {
+        Request::Filter(asked) => run_filter(rt, alloc, asked, input, output, errors, watch),
+        Request::Replay => run_replay(alloc, input, output, errors),
+        Request::Serve(asked) => run_serve(rt, alloc, asked, output, errors, files, watch),
+    }
+}
+
 /// Writes help that was asked for.
 fn write_help<W: Write, E: Write>(text: &String, output: &mut W, errors: &mut E) -> u8
-    ensures { result ≤ 1 }
+    ensures status { result ≤ 1 }
+    ensures well { result ≡ 0
+        → Appends (W.contents output.old) (W.contents output.new) (string_bytes text.now) }
 {
     match output.write_all(text.as_bytes()) {
         Ok(()) => 0,
@@ -162,7 +201,7 @@ fn check_words<V: Watch>(
 }
 
 /// Filters a stream by as many threads as are asked for, and gives the output back.
-#[tactic(auto, using(crate::proofs::Filtering::served_where_ok))]
+#[tactic(auto, using(crate::proofs::Filtering::filtered_ahead))]
 fn filter_by<T: Threads, R: Source + Drop + Send, W: Sink + Drop>(
     rt: &T,
     alloc: Global,
@@ -172,12 +211,12 @@ fn filter_by<T: Threads, R: Source + Drop + Send, W: Sink + Drop>(
     ops: Vec<Op>,
     height: BandHeight,
 ) -> (W, Result<u64, FilterFault>)
-    ensures served { IfOk result.1 (λ count. (left : Option (List ℕ)) × IsServed count ops.items height (record {
+    ensures filtered { (left : Option (List ℕ)) × IsFilteredAhead result.1 ops.items height (record {
       input = R.remaining input;
       left = left;
       before = W.contents output;
       after = W.contents result.0;
-    })) }
+    }) }
     ensures alone { threads ≡ 1 → (left : Option (List ℕ)) × IsFiltered result.1 ops.items height (record {
       input = R.remaining input;
       left = left;
@@ -206,6 +245,64 @@ fn status_of<E: Write>(errors: &mut E, filtered: Result<u64, FilterFault>) -> u8
     }
 }
 
+/// Filters a stream from a reader to a writer that is lent. A watch is told of its frames and images.
+fn filter_lent<'w, T, R, W, V, L>(
+    rt: &T,
+    alloc: Global,
+    threads: u32,
+    input: R,
+    output: LentWriter<'w, W>,
+    ops: Vec<Op>,
+    height: BandHeight,
+    told: Option<&V>,
+) -> (LentWriter<'w, W>, Result<u64, FilterFault>)
+where
+    T: Threads,
+    R: Read + Drop + Send,
+    W: Write,
+    V: Watch + Sync,
+    L: Loan,
+    requires name { output.writer.ghost_name ≡ L.name }
+    ensures name { result.0.writer.ghost_name ≡ L.name }
+    ensures filtered { (left : Option (List ℕ)) × IsFilteredAhead result.1 ops.items height (record {
+      input = R.remaining input;
+      left = left;
+      before = W.contents output.entry.writer.now;
+      after = W.contents result.0.writer.now;
+    }) }
+{
+    let output: NamedWriter<'w, W, L> = NamedWriter::new(output);
+    let input = WatchedSource::new(OverRead::new(input), ALONE, told);
+    let output = WatchedSink::new(OverWrite::new(output), ALONE, told);
+    let (output, filtered) = filter_by(rt, alloc, threads, input, output, ops, height);
+    (output.into_inner().into_inner().into_lent(), filtered)
+}
+
+/// The same, to the writer itself.
+fn filter_into<T: Threads, R: Read + Drop + Send, W: Write, V: Watch + Sync>(
+    rt: &T,
+    alloc: Global,
+    threads: u32,
+    input: R,
+    output: &mut W,
+    ops: Vec<Op>,
+    height: BandHeight,
+    told: Option<&V>,
+) -> Result<u64, FilterFault>
+    ensures { (left : Option (List ℕ)) × IsFilteredAhead result ops.items height (record {
+      input = R.remaining input;
+      left = left;
+      before = W.contents output.old;
+      after = W.contents output.new;
+    }) }
+{
+    let output = LentWriter::new(output);
+    let (_, filtered) = filter_lent::<T, R, W, V, Brand>(
+        rt, alloc, threads, input, output, ops, height, told,
+    );
+    filtered
+}
+
 /// Filters the input as the words ask.
 fn run_filter<T: Threads, R: Read + Drop + Send, W: Write, E: Write, V: Watch + Sync>(
     rt: &T,
@@ -218,6 +315,10 @@ fn run_filter<T: Threads, R: Read + Drop + Send, W: Write, E: Write, V: Watch + 
 ) -> u8
     ensures status { result ≤ 2 }
     ensures untouched { result ≡ 2 → Keeps (W.contents output.old) (W.contents output.new) }
+    ensures well { result ≡ 0
+        → FiltersAll asked.entry (R.remaining input) (W.contents output.old) (W.contents output.new) }
+    ensures fault { result ≡ 1 → Keeps (W.contents output.old) (W.contents output.new)
+        ⊎ FiltersTo asked.entry (R.remaining input) (W.contents output.old) (W.contents output.new) }
 {
     let (ops, height) = match check_words(alloc, asked, watch) {
         Ok(checked) => checked,
@@ -230,13 +331,40 @@ fn run_filter<T: Threads, R: Read + Drop + Send, W: Write, E: Write, V: Watch + 
         tell(errors, &AWAITED);
     }
     let told = following(watch, asked.is_quiet);
-    let input = WatchedSource::new(OverRead::new(input), ALONE, told);
-    let output = WatchedSink::new(OverWrite::new(output), ALONE, told);
-    let (_, filtered) = filter_by(rt, alloc, asked.threads, input, output, ops, height);
+    let filtered = filter_into(rt, alloc, asked.threads, input, output, ops, height, told);
     if told.is_some() {
         watch.ends();
     }
     status_of(errors, filtered)
+}
+
+/// Runs the script of a reader, and writes to a writer that is lent.
+fn replay_lent<'w, R: Read + Drop, W: Write, L: Loan>(
+    alloc: Global,
+    input: R,
+    output: LentWriter<'w, W>,
+) -> (LentWriter<'w, W>, Result<bool, ReplayFault>)
+    requires name { output.writer.ghost_name ≡ L.name }
+    ensures name { result.0.writer.ghost_name ≡ L.name }
+    ensures replay { Replays (R.remaining input) (W.contents output.entry.writer.now)
+        (W.contents result.0.writer.now) result.1 }
+{
+    let output: NamedWriter<'w, W, L> = NamedWriter::new(output);
+    let (output, answer) = replay(alloc, OverRead::new(input), OverWrite::new(output));
+    (output.into_inner().into_lent(), answer)
+}
+
+/// The same, to the writer itself.
+fn replay_into<R: Read + Drop, W: Write>(
+    alloc: Global,
+    input: R,
+    output: &mut W,
+) -> Result<bool, ReplayFault>
+    ensures { Replays (R.remaining input) (W.contents output.old) (W.contents output.new) result }
+{
+    let output = LentWriter::new(output);
+    let (_, answer) = replay_lent::<R, W, Brand>(alloc, input, output);
+    answer
 }
 
 /// Runs the script of the input.
@@ -246,10 +374,11 @@ fn run_replay<R: Read + Drop, W: Write, E: Write>(
     output: &mut W,
     errors: &mut E,
 ) -> u8
-    ensures { result ≤ 1 }
+    ensures status { result ≤ 1 }
+    ensures replay { (answer : Result Bool ReplayFault) × ((result ≡ 0) ↔ answer ≡ Ok true)
+        × Replays (R.remaining input) (W.contents output.old) (W.contents output.new) answer }
 {
-    let (_, result) = replay(alloc, OverRead::new(input), OverWrite::new(output));
-    match result {
+    match replay_into(alloc, input, output) {
         Ok(true) => 0,
         Ok(false) => 1,
         Err(fault) => {

@@ -115,6 +115,13 @@ impl<'w, S: Sink, V: Watch> WatchedSink<'w, S, V> {
             bytes: 0,
         }
     }
+
+    /// Gives the sink back.
+    pub fn into_inner(self) -> S
+        ensures { result ≡ self.entry.sink }
+    {
+        self.sink
+    }
 }
 
 impl<'w, S: Source, V: Watch> Source for WatchedSource<'w, S, V> {

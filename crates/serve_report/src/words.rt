@@ -1,9 +1,10 @@
 // The words of the command line.
-ghost use Rattle.std.specs.Prelude.{◌+◌, ◌≤◌};
+ghost use Rattle.std.specs.Prelude.{◌+◌, ◌≤◌, IfErr};
 ghost use Rattle.cbs_account.specs.declared.limits.TheConstants.{MOST_WORKERS};
 ghost use Rattle.edf_pool.specs.declared.limits.TheConstants.{MOST_STREAMS};
 ghost use Rattle.serve_core.specs.declared.limits.TheConstants.{MOST_QUANTUM};
 ghost use Rattle.serve_hub.specs.declared.limits.TheConstants.{MOST_ENTRIES};
+ghost use Rattle.serve_report.specs.Help.{HasHelp};
 
 use self::given::{filter_words, serve_words};
 use crate::help;
@@ -75,6 +76,8 @@ pub enum NoRequest {
 }
 
 impl From<AllocError> for NoRequest {
+    ghost from_gives = { λ _ why. HasHelp why };
+
     fn from(_error: AllocError) -> NoRequest {
         NoRequest::NoMemory
     }
@@ -223,7 +226,9 @@ fn request_of<'a>(alloc: Global, matches: &ArgMatches<'a>) -> Result<Request<'a>
 }
 
 /// Reads the words behind the program's name.
-pub fn read_words(alloc: Global, words: &[String]) -> Result<Request<'_>, NoRequest> {
+pub fn read_words(alloc: Global, words: &[String]) -> Result<Request<'_>, NoRequest>
+    ensures { IfErr result HasHelp }
+{
     let error = match command(alloc)?.try_get_matches_from(words) {
         Ok(matches) => return Ok(request_of(alloc, &matches)?),
         Err(error) => error,
@@ -232,6 +237,9 @@ pub fn read_words(alloc: Global, words: &[String]) -> Result<Request<'_>, NoRequ
         return Err(NoRequest::NoMemory);
     }
     let text = error.to_string(alloc)?;
+    if text.is_empty() {
+        return Err(NoRequest::NoMemory);
+    }
     if error.use_stderr() {
         Err(NoRequest::Wrong(text))
     } else {

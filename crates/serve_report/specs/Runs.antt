@@ -1,0 +1,32 @@
+-- What a run of the program came to.
+use Rattle.std.specs.Prelude.{ℕ, ◌<◌, ◌⊎◌, Bool, true, List, length, Option, IfSome, Result, Ok}
+use Rattle.std.specs.Io.KnownBytes.{Appends}
+use Rattle.serve_script.specs.ScriptReplay.{IsReplay}
+use Rattle.serve_script.specs.declared.fault.ReplayFault.{ReplayFault}
+use Rattle.serve_report.specs.Entrants.{ServesAll}
+use Rattle.serve_report.specs.Filtering.{FiltersAll}
+use Rattle.serve_report.specs.Openings.{OfName}
+use Rattle.serve_report.specs.declared.words.Request.{Request}
+use Rattle.serve_report.specs.declared.words.Request.TheVariants as asked
+
+-- what is answered where the input is run as a script, and what was written
+abbrev pub Replays : (input before after : Option (List ℕ)) → Result Bool ReplayFault → Type 0
+Replays input before after answer = IfSome input (λ script. IsReplay script before after answer)
+
+-- some text was written
+abbrev pub WroteText : (before after : Option (List ℕ)) → Type 0
+WroteText before after = (text : List ℕ) × (0 < length text) × Appends before after text
+
+-- what was asked for is done: the input was filtered whole, each line of it was run as a script, or all streams
+-- that were served are whole
+abbrev pub IsDone : (OpenGives CreateGives : OfName) → Request
+    → (input before after : Option (List ℕ)) → Type 0
+IsDone OpenGives CreateGives (asked.Filter words) input before after = FiltersAll words input before after
+IsDone OpenGives CreateGives asked.Replay input before after = Replays input before after (Ok true)
+IsDone OpenGives CreateGives (asked.Serve words) input before after =
+    ServesAll OpenGives CreateGives words before after
+
+-- something that can be asked for is done, or help was written
+abbrev pub RunsWell : (OpenGives CreateGives : OfName) → (input before after : Option (List ℕ)) → Type 0
+RunsWell OpenGives CreateGives input before after =
+    ((request : Request) × IsDone OpenGives CreateGives request input before after) ⊎ WroteText before after
