@@ -1,4 +1,5 @@
 pub mod Asking
+pub mod Apart
 pub mod Inputs
 pub mod Reporting
 pub mod TakenAhead

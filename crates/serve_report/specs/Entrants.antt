@@ -8,6 +8,7 @@ use Rattle.std.specs.List.{AllByRecursion, AllZip, flat_map, list_all}
 use Rattle.std.specs.Option.{option_map}
 use Rattle.serve_core.specs.Setup.{StreamSpec, setup_of}
 use Rattle.serve_script.specs.ScriptReport.{line_text}
+use Rattle.serve_report.specs.Apart.{FilesGive, OfPlace}
 use Rattle.serve_report.specs.Moments.{IsMoment}
 use Rattle.serve_report.specs.Openings.{IsOpening, OfName, Opening, entrant_of, specs_in, starts_in}
 use Rattle.serve_report.specs.ServeChecks.{AreSaid, ChecksGive, HasOptions, all_told}
@@ -128,11 +129,13 @@ pub record Reports (OpenGives CreateGives : OfName) (checked : Checked) (old new
   pub all : whole ≡ list_all is_whole rows
   pub wrote : Appends old new (report_text rows)
 
--- the streams that the words ask for are all whole, and what is reported of them went out
-pub record ServesAll (OpenGives CreateGives : OfName) (words : ServeWords)
+-- the streams that the words ask for are all whole, with files that are told apart, and what is reported of
+-- them went out
+pub record ServesAll (PlaceGives : OfPlace) (OpenGives CreateGives : OfName) (words : ServeWords)
     (old new : Option (List ℕ)) : Type 0 where
   pub checked : Checked
   pub options : HasOptions words checked
   pub asked : ChecksGive words (Ok (all_told checked.streams.items))
   pub said : AreSaid checked.streams.items
+  pub apart : FilesGive PlaceGives (all_told checked.streams.items) None
   pub reported : Reports OpenGives CreateGives checked old new true

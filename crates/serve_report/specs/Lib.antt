@@ -1,6 +1,7 @@
 pub mod Board
 pub mod StreamWords
 pub mod ServeChecks
+pub mod Apart
 pub mod ServeReport
 pub mod Moments
 pub mod Openings

@@ -3,6 +3,7 @@ use Rattle.std.specs.Prelude.{ℕ, ◌<◌, ◌⊎◌, Bool, true, List, length,
 use Rattle.std.specs.Io.KnownBytes.{Appends}
 use Rattle.serve_script.specs.ScriptReplay.{IsReplay}
 use Rattle.serve_script.specs.declared.fault.ReplayFault.{ReplayFault}
+use Rattle.serve_report.specs.Apart.{OfPlace}
 use Rattle.serve_report.specs.Entrants.{ServesAll}
 use Rattle.serve_report.specs.Filtering.{FiltersAll}
 use Rattle.serve_report.specs.Openings.{OfName}
@@ -17,16 +18,20 @@ Replays input before after answer = IfSome input (λ script. IsReplay script bef
 abbrev pub WroteText : (before after : Option (List ℕ)) → Type 0
 WroteText before after = (text : List ℕ) × (0 < length text) × Appends before after text
 
--- what was asked for is done: the input was filtered whole, each line of it was run as a script, or all streams
--- that were served are whole
-abbrev pub IsDone : (OpenGives CreateGives : OfName) → Request
+-- what was asked for is done: the input was filtered whole, each line of it was run as a script, or all
+-- streams that were served are whole
+abbrev pub IsDone : (PlaceGives : OfPlace) (OpenGives CreateGives : OfName) → Request
     → (input before after : Option (List ℕ)) → Type 0
-IsDone OpenGives CreateGives (asked.Filter words) input before after = FiltersAll words input before after
-IsDone OpenGives CreateGives asked.Replay input before after = Replays input before after (Ok true)
-IsDone OpenGives CreateGives (asked.Serve words) input before after =
-    ServesAll OpenGives CreateGives words before after
+IsDone PlaceGives OpenGives CreateGives (asked.Filter words) input before after =
+    FiltersAll words input before after
+IsDone PlaceGives OpenGives CreateGives asked.Replay input before after =
+    Replays input before after (Ok true)
+IsDone PlaceGives OpenGives CreateGives (asked.Serve words) input before after =
+    ServesAll PlaceGives OpenGives CreateGives words before after
 
 -- something that can be asked for is done, or help was written
-abbrev pub RunsWell : (OpenGives CreateGives : OfName) → (input before after : Option (List ℕ)) → Type 0
-RunsWell OpenGives CreateGives input before after =
-    ((request : Request) × IsDone OpenGives CreateGives request input before after) ⊎ WroteText before after
+abbrev pub RunsWell : (PlaceGives : OfPlace) (OpenGives CreateGives : OfName)
+    → (input before after : Option (List ℕ)) → Type 0
+RunsWell PlaceGives OpenGives CreateGives input before after =
+    ((request : Request) × IsDone PlaceGives OpenGives CreateGives request input before after)
+    ⊎ WroteText before after

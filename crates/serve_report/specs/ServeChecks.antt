@@ -34,6 +34,7 @@ pub data Fault : Type 0 where
   BadOps : (error : FilterError) (name : List ℕ) → Fault
   -- its share of the workers
   NotAdmitted : (error : AdmissionError) (name : List ℕ) → Fault
+  RepeatedFile : (name : List ℕ) → Fault
 
 -- a fault of the program as it is told here; want of memory isn't
 abbrev pub fault_told : WordFault → Option Fault
@@ -43,6 +44,7 @@ fault_told (faults.BadStream word) = Some (BadStream word.now)
 fault_told (faults.RepeatedName name) = Some (RepeatedName name.now)
 fault_told (faults.Ops error name) = Some (BadOps error name.now)
 fault_told (faults.Admission error name) = Some (NotAdmitted error name.now)
+fault_told (faults.RepeatedFile name) = Some (RepeatedFile name.now)
 fault_told faults.NoMemory = None
 
 -- the fault is this one, or there was no memory

@@ -2,9 +2,30 @@
 ghost use Rattle.std.specs.Prelude.{ℕ, ◌≡◌, List, None, Option, Some, IfErr, IfOk};
 ghost use Rattle.y4m_stream.specs.Failures.{one_more};
 ghost use Rattle.serve_report.specs.Inlets.{inlet_remaining};
+ghost use Rattle.serve_report.specs.declared.files.Place.{Place};
 
 use crate::inlet::Inlet;
 use std::io::{self, Read, Write};
+
+/// A file among all those of its system.
+#[derive(Clone, Copy, PartialEq, Eq)]
+pub struct FileId {
+    pub device: u64,
+    pub inode: u64,
+}
+
+/// What stands behind a name.
+#[derive(Clone, Copy)]
+pub enum Place {
+    /// Nothing does yet.
+    Missing,
+    /// What any number of streams may use, as a terminal, or something of which nothing is known.
+    Shared,
+    /// Bytes at rest, which any number of streams may read.
+    File(FileId),
+    /// A FIFO, which gives each of its bytes once.
+    Pipe(FileId),
+}
 
 /// Where the files that the words name are opened and made.
 pub trait Files {
@@ -22,6 +43,13 @@ pub trait Files {
 
     /// Making a file of this name came to one that holds these bytes, where they are known, or to none.
     ghost create_gives: { (name : List ℕ) → (came : Option (Option (List ℕ))) → Type 0 };
+
+    /// This was told of what stands behind a name.
+    ghost place_gives: { (name : List ℕ) → (place : Place) → Type 0 };
+
+    /// What stands behind a name; no file is opened to see that.
+    fn place(&self, name: &str) -> Place
+        ensures { place_gives name.now result };
 
     /// Opens the file of this name for reading.
     fn open(&self, name: &str) -> io::Result<Inlet<Self::Reader, Self::Slow>>

@@ -375,6 +375,8 @@ Faults, each one line on standard error behind 'y4mserve: '; status 2:
   repeated name NAME    Two streams have the name.
   BadOp NAME            A part of the stream's OPS is no operation.
   TooManyOps NAME       Its OPS has more than 8 parts.
+  repeated file FILE    A FIFO, or a file that is written, stands twice; the
+                        report's file counts too.
 Status 1, before any file is opened:
   BadBandwidth NAME     Q and T are not 1 <= Q <= T <= 1048576.
   Overload NAME         The streams before it leave it less than its share.

@@ -13,7 +13,7 @@ mod serve;
 mod tell;
 mod words;
 
-pub use files::Files;
+pub use files::{FileId, Files, Place};
 pub use inlet::Inlet;
 pub use lookout::Lookout;
 pub use program::{main_on, run_on};

@@ -87,7 +87,7 @@ where
     T: Threads + Wait + Clock + Copy + Drop + Send + Sync + 'static,
     ensures status { result ≤ 2 }
     ensures untouched { result ≡ 2 → Keeps (W.contents output.old) (W.contents output.new) }
-    ensures well { result ≡ 0 → RunsWell F.open_gives F.create_gives (R.remaining input)
+    ensures well { result ≡ 0 → RunsWell F.place_gives F.open_gives F.create_gives (R.remaining input)
         (W.contents output.old) (W.contents output.new) }
 {
     run_on(rt, alloc, words, input, output, errors, files, &Unwatched)
@@ -117,7 +117,7 @@ where
     T: Threads + Wait + Clock + Copy + Drop + Send + Sync + 'static,
     ensures status { result ≤ 2 }
     ensures untouched { result ≡ 2 → Keeps (W.contents output.old) (W.contents output.new) }
-    ensures well { result ≡ 0 → RunsWell F.open_gives F.create_gives (R.remaining input)
+    ensures well { result ≡ 0 → RunsWell F.place_gives F.open_gives F.create_gives (R.remaining input)
         (W.contents output.old) (W.contents output.new) }
 {
     match read_words(alloc, words) {
@@ -154,8 +154,8 @@ where
     T: Threads + Wait + Clock + Copy + Drop + Send + Sync + 'static,
     ensures status { result ≤ 2 }
     ensures untouched { result ≡ 2 → Keeps (W.contents output.old) (W.contents output.new) }
-    ensures well { result ≡ 0 → IsDone F.open_gives F.create_gives request.entry (R.remaining input)
-        (W.contents output.old) (W.contents output.new) }
+    ensures well { result ≡ 0 → IsDone F.place_gives F.open_gives F.create_gives request.entry
+        (R.remaining input) (W.contents output.old) (W.contents output.new) }
 {
     match request {
         Request::Filter(asked) => run_filter(rt, alloc, asked, input, output, errors, watch),

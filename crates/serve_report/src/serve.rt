@@ -7,7 +7,8 @@ ghost use Rattle.serve_report.specs.Entrants.{Leaves, Reports, Serves, ServesAll
 ghost use Rattle.serve_report.specs.Openings.{openings_of};
 ghost use Rattle.serve_work.specs.Sessions.{AreInputs, served_of, starts_of};
 
-use self::checks::{Asked, Checked, check};
+use self::apart::tell_apart;
+use self::checks::{Asked, Checked, WordFault, check};
 pub use self::clock::Counter;
 use self::gate::PlainGate;
 use self::opening::{Opened, Tried, all_tried, open_all};
@@ -28,6 +29,7 @@ use std::thread::Threads;
 use std::time::Clock;
 use y4m_stream::{Sink, Source};
 
+mod apart;
 mod checks;
 mod clock;
 mod gate;
@@ -90,15 +92,16 @@ where
     ensures status { result ≤ 2 }
     ensures untouched { result ≡ 2 → Keeps (W.contents output.old) (W.contents output.new) }
     ensures well { result ≡ 0
-        → ServesAll F.open_gives F.create_gives words.entry (W.contents output.old) (W.contents output.new) }
+        → ServesAll F.place_gives F.open_gives F.create_gives words.entry (W.contents output.old)
+        (W.contents output.new) }
 {
     let checked = match check(alloc, &words) {
         Ok(checked) => checked,
-        Err(fault) => {
-            tell(errors, &fault);
-            return fault.status();
-        }
+        Err(fault) => return refuse(errors, fault),
     };
+    if let Err(fault) = tell_apart(alloc, files, &checked.streams) {
+        return refuse(errors, fault);
+    }
     let told = following(watch, words.is_quiet);
     match serve(rt, alloc, checked, output, files, told) {
         Ok(true) => 0,
@@ -108,6 +111,15 @@ where
             1
         }
     }
+}
+
+/// Tells what is wrong with the words, and answers the program's status.
+fn refuse<E: Write>(errors: &mut E, fault: WordFault<'_>) -> u8
+    ensures fault { 1 ≤ result }
+    ensures most { result ≤ 2 }
+{
+    tell(errors, &fault);
+    fault.status()
 }
 
 /// Serves the streams and reports them. It answers whether all are whole.

@@ -1,11 +1,11 @@
 // The files of the system.
 ghost use Rattle.std.specs.Prelude.{⊤};
 
-use serve_report::{Files, Inlet};
-use std::fs::{self, File};
-use std::io;
+use serve_report::{FileId, Files, Inlet, Place};
+use std::fs::{self, File, Metadata};
+use std::io::{self, ErrorKind};
 use std::os::fd::AsRawFd;
-use std::os::unix::fs::FileTypeExt;
+use std::os::unix::fs::{FileTypeExt, MetadataExt};
 
 /// The number of the last standard descriptor.
 const LAST_STANDARD: i32 = 2;
@@ -50,6 +50,22 @@ fn may_wait(file: &File) -> bool {
     }
 }
 
+/// What stands behind a name that is there.
+fn place_of(metadata: &Metadata) -> Place {
+    let id = FileId {
+        device: metadata.dev(),
+        inode: metadata.ino(),
+    };
+    let kind = metadata.file_type();
+    if kind.is_fifo() {
+        Place::Pipe(id)
+    } else if kind.is_file() {
+        Place::File(id)
+    } else {
+        Place::Shared
+    }
+}
+
 impl Files for HostFiles<'_> {
     type Reader = File;
 
@@ -57,9 +73,19 @@ impl Files for HostFiles<'_> {
 
     type Writer = File;
 
+    ghost place_gives = { λ _ _. ⊤ };
+
     ghost open_gives = { λ _ _. ⊤ };
 
     ghost create_gives = { λ _ _. ⊤ };
+
+    fn place(&self, name: &str) -> Place {
+        match fs::metadata(self.rt, name) {
+            Ok(metadata) => place_of(&metadata),
+            Err(error) if error.kind() == ErrorKind::NotFound => Place::Missing,
+            Err(_) => Place::Shared,
+        }
+    }
 
     fn open(&self, name: &str) -> io::Result<Inlet<File, File>> {
         let file = fs::open(self.rt, name)?;

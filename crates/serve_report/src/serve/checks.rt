@@ -48,6 +48,8 @@ pub enum WordFault<'a> {
     Ops(FilterError, &'a str),
     /// The stream of this name has no bandwidth, or the streams before it leave it none.
     Admission(AdmissionError, &'a str),
+    /// The file of this name stands before it, and one of the two would be lost.
+    RepeatedFile(&'a str),
     /// There was no memory for them.
     NoMemory,
 }
@@ -74,6 +76,7 @@ impl fmt::Display for WordFault<'_> {
             WordFault::RepeatedName(name) => write!(f, "repeated name {name}"),
             WordFault::Ops(error, name) => write!(f, "{error} {name}"),
             WordFault::Admission(error, name) => write!(f, "{error} {name}"),
+            WordFault::RepeatedFile(name) => write!(f, "repeated file {name}"),
             WordFault::NoMemory => write!(f, "NoMemory"),
         }
     }

@@ -226,6 +226,7 @@ const SERVE_WORDS: &[&str] = &[
     "torn",
     "bad stream WORD",
     "repeated name NAME",
+    "repeated file FILE",
     "BadBandwidth NAME",
     "Overload NAME",
     "session Mismatch",

@@ -1,7 +1,7 @@
 //! Files in memory, which a run opens and makes by name.
 ghost use Rattle.std.specs.Prelude.{⊤};
 
-use serve_report::{Files, Inlet};
+use serve_report::{Files, Inlet, Place};
 use std::alloc::Global;
 use std::io::{self, ErrorKind, Write};
 use std::sync::{Mutex, Wait};
@@ -45,6 +45,8 @@ pub struct Memory<'a, T: Wait + Sync> {
     /// Those whose reads may wait.
     pub slow: &'a [Given<'static>],
     pub made: &'a [Made<'a>],
+    /// What stands behind some names; of the others nothing is known.
+    pub places: &'a [(&'a str, Place)],
     pub asked: Mutex<u64>,
 }
 
@@ -56,6 +58,7 @@ impl<'a, T: Wait + Sync> Memory<'a, T> {
             given,
             slow: &[],
             made,
+            places: &[],
             asked: Mutex::new(0),
         }
     }
@@ -100,9 +103,20 @@ impl<'a, T: Wait + Sync> Files for Memory<'a, T> {
 
     type Writer = Output<'a, T>;
 
+    ghost place_gives = { λ _ _. ⊤ };
+
     ghost open_gives = { λ _ _. ⊤ };
 
     ghost create_gives = { λ _ _. ⊤ };
+
+    fn place(&self, name: &str) -> Place {
+        for (known, place) in self.places {
+            if *known == name {
+                return *place;
+            }
+        }
+        Place::Shared
+    }
 
     fn open(&self, name: &str) -> io::Result<Inlet<Tape<'a>, Tape<'static>>> {
         count(self.rt, &self.asked);
@@ -142,9 +156,15 @@ impl Files for NoFiles {
 
     type Writer = io::Sink;
 
+    ghost place_gives = { λ _ _. ⊤ };
+
     ghost open_gives = { λ _ _. ⊤ };
 
     ghost create_gives = { λ _ _. ⊤ };
+
+    fn place(&self, _name: &str) -> Place {
+        Place::Missing
+    }
 
     fn open(&self, _name: &str) -> io::Result<Inlet<io::Empty, io::Empty>> {
         Err(io::Error::from(ErrorKind::NotFound))

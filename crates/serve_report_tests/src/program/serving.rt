@@ -9,6 +9,7 @@ use std::test::Fail;
 use std::thread::Threads;
 use std::time::Clock;
 
+mod apart;
 mod checks;
 mod faults;
 mod growths;

@@ -10,6 +10,7 @@ returns-in-Ok-true-clause-well g c =
       asked = c.in-Ok.ensures.passed;
       options = c.in-Ok.ensures.options;
       said = c.in-Ok.ensures.ops;
+      apart = rw c.deref.ensures.value at c.in_default.ensures;
       reported = subst (λ whole. Reports g.F.Files.open_gives g.F.Files.create_gives checked
           (g.W.Write.contents c.args.output.now) (g.W.Write.contents c.serve.new.output) whole)
           c.in-Ok-true.field-0-test c.in-Ok-true.ensures;

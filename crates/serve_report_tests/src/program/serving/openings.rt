@@ -4,7 +4,7 @@ ghost use Rattle.std.specs.Prelude.{⊤};
 use super::{A, A_INVERTED, B, B_TURNED, TWO, given, holds};
 use crate::program::memory::{Made, Memory, Output};
 use crate::program::{words_of, written};
-use serve_report::{Files, Inlet, main_on};
+use serve_report::{Files, Inlet, Place, main_on};
 use std::io;
 use std::sync::Wait;
 use std::test::Fail;
@@ -24,9 +24,15 @@ impl<'a, T: Wait + Sync> Files for Meeting<'a, T> {
 
     type Writer = Output<'a, T>;
 
+    ghost place_gives = { λ _ _. ⊤ };
+
     ghost open_gives = { λ _ _. ⊤ };
 
     ghost create_gives = { λ _ _. ⊤ };
+
+    fn place(&self, _name: &str) -> Place {
+        Place::Shared
+    }
 
     fn open(&self, name: &str) -> io::Result<Inlet<Tape<'a>, Tape<'static>>> {
         self.parts.meet(if name == "a.y4m" { 0 } else { 1 });

@@ -2,7 +2,7 @@
 ghost use Rattle.std.specs.Prelude.{⊤};
 
 use crate::program::{words_of, written};
-use serve_report::{Files, Inlet, main_on};
+use serve_report::{Files, Inlet, Place, main_on};
 use std::alloc::Global;
 use std::io::{self, Empty, ErrorKind, Read, Write};
 use std::process::Abort;
@@ -142,9 +142,15 @@ impl<'a> Files for Both<'a> {
 
     type Writer = Output<'a>;
 
+    ghost place_gives = { λ _ _. ⊤ };
+
     ghost open_gives = { λ _ _. ⊤ };
 
     ghost create_gives = { λ _ _. ⊤ };
+
+    fn place(&self, _name: &str) -> Place {
+        Place::Shared
+    }
 
     fn open(&self, name: &str) -> io::Result<Inlet<Input<'a>, Empty>> {
         Ok(Inlet::Prompt(Input {

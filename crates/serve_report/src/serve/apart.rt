@@ -1,0 +1,104 @@
+//! Whether the files of a run are told apart.
+ghost use Rattle.std.specs.Prelude.{◌≡◌, ◌↔◌, AllPairs, Any, IfOk, IsTrue, MatchOption, MatchResult};
+ghost use Rattle.std.specs.Prelude.{None, Some};
+ghost use Rattle.serve_report.specs.Apart.{AreUses, Clash, FilesGive, IsApart, IsFirstClash};
+ghost use Rattle.serve_report.specs.ServeChecks.{MayTell, all_told};
+
+use super::checks::{Asked, WordFault};
+use crate::files::{Files, Place};
+use std::alloc::{AllocError, Global};
+
+/// Where the report goes.
+const REPORT: &str = "/dev/stdout";
+
+/// A file as a run uses it.
+#[derive(Clone, Copy)]
+pub struct FileUse<'a> {
+    pub name: &'a str,
+    pub place: Place,
+    /// It is written, and else read.
+    pub is_written: bool,
+}
+
+impl FileUse<'_> {
+    /// Whether one of the two would lose what the other reads or writes.
+    fn clashes_with(&self, other: &FileUse<'_>) -> bool
+        ensures { IsTrue result ↔ Clash self.now other.now }
+    {
+        let is_written = self.is_written || other.is_written;
+        match (self.place, other.place) {
+            (Place::File(one), Place::File(other)) => one == other && is_written,
+            (Place::Pipe(one), Place::Pipe(other)) => one == other,
+            (Place::Missing, Place::Missing) => self.name == other.name && is_written,
+            _ => false,
+        }
+    }
+}
+
+/// Refuses the first file that clashes with one before it: the report's is the first, and each stream's input
+/// comes before its output. No file is opened to see that.
+pub fn tell_apart<'a, F: Files>(
+    alloc: Global,
+    files: &F,
+    streams: &[Asked<'a>],
+) -> Result<(), WordFault<'a>>
+    ensures { MatchResult result (λ _. FilesGive F.place_gives (all_told streams.now) None)
+        (λ fault. MayTell fault (λ told. FilesGive F.place_gives (all_told streams.now) (Some told))) }
+{
+    let Ok(uses) = uses_of(alloc, files, streams) else {
+        return Err(WordFault::NoMemory);
+    };
+    match first_clash(&uses) {
+        None => Ok(()),
+        Some(found) => Err(WordFault::RepeatedFile(found.name)),
+    }
+}
+
+/// The files of the report and of the streams, in order.
+fn uses_of<'a, F: Files>(
+    alloc: Global,
+    files: &F,
+    streams: &[Asked<'a>],
+) -> Result<Vec<FileUse<'a>>, AllocError>
+    ensures { IfOk result (λ uses. AreUses F.place_gives (all_told streams.now) uses.items) }
+{
+    let mut uses = Vec::new(alloc);
+    uses.push(use_of(files, REPORT, true))?;
+    for asked in streams {
+        uses.push(use_of(files, asked.word.input, false))?;
+        uses.push(use_of(files, asked.word.output, true))?;
+    }
+    Ok(uses)
+}
+
+fn use_of<'a, F: Files>(files: &F, name: &'a str, is_written: bool) -> FileUse<'a>
+    ensures name { result.name ≡ name.entry }
+    ensures place { F.place_gives name.now result.place }
+    ensures written { result.is_written ≡ is_written }
+{
+    let place = files.place(name);
+    FileUse {
+        name,
+        place,
+        is_written,
+    }
+}
+
+/// The first that clashes with one before it.
+fn first_clash<'a>(uses: &[FileUse<'a>]) -> Option<FileUse<'a>>
+    ensures { MatchOption result (AllPairs IsApart uses.now) (IsFirstClash uses.now) }
+{
+    for (i, found) in uses.iter().enumerate() {
+        if has_clash(&uses[..i], found) {
+            return Some(*found);
+        }
+    }
+    None
+}
+
+/// Whether it clashes with one of those before it.
+fn has_clash(before: &[FileUse<'_>], found: &FileUse<'_>) -> bool
+    ensures { IsTrue result ↔ Any (λ one. Clash one found.now) before.now }
+{
+    before.iter().any(|one| one.clashes_with(found))
+}
