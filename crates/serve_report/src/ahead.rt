@@ -1,5 +1,5 @@
 //! A reader, and what was read from it before it was asked for.
-ghost use Rattle.std.specs.Prelude.{◌≡◌, ◌≢◌, ◌<◌, ◌↔◌, [], drop, false, length, min, take, IfErr, IfOk};
+ghost use Rattle.std.specs.Prelude.{◌≡◌, ◌≢◌, ◌<◌, ◌↔◌, [], drop, false, length, min, take, IfErr, IfOk, IsOk};
 ghost use Rattle.std.specs.Prelude.{MatchResult};
 ghost use Rattle.std.specs.Io.{ReadsAtMost};
 ghost use Rattle.std.specs.Io.KnownBytes.{Keeps, ReadConsumes, prepend_known};
@@ -78,6 +78,7 @@ impl<R: Read> Ahead<R> {
     pub fn look(&mut self)
         ensures bytes { Keeps (rest_of self.old) (rest_of self.new) }
         ensures news { ¬ HasNone self.new }
+        ensures same { ¬ HasNone self.old → self.new ≡ self.old }
     {
         if self.has_news() {
             return;
@@ -118,6 +119,7 @@ impl<R: Read> Read for Ahead<R> {
         ensures bound { ReadsAtMost result buf.new }
         ensures bytes { ReadConsumes (prepend_known self.old.held self.old.left)
             (prepend_known self.new.held self.new.left) result buf.new }
+        ensures held { self.old.held ≢ [] → IsOk result }
         ensures told { self.old.held ≡ [] → self.old.told ≢ Told.Nothing → 0 < length buf.old
             → HasNone self.new × MatchResult result (λ count. (count ≡ 0) × (self.old.told ≡ Told.End))
             (λ error. self.old.told ≡ Told.Fault error) }

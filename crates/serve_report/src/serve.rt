@@ -1,10 +1,12 @@
 //! Many streams at once: each has a file that it is read from and one that it is written to, and they share
 //! some workers.
-ghost use Rattle.std.specs.Prelude.{◌≡◌, ◌≤◌, IfOk, map};
+ghost use Rattle.std.specs.Prelude.{◌≡◌, ◌≤◌, IfOk, None, map};
 ghost use Rattle.std.specs.Io.KnownBytes.{Keeps};
 ghost use Rattle.serve_hub.specs.Seats.{opened_streams};
+ghost use Rattle.serve_report.specs.Apart.{FilesGive};
 ghost use Rattle.serve_report.specs.Entrants.{Leaves, Reports, Serves, ServesAll, Tells};
 ghost use Rattle.serve_report.specs.Openings.{openings_of};
+ghost use Rattle.serve_report.specs.ServeChecks.{all_told};
 ghost use Rattle.serve_work.specs.Sessions.{AreInputs, served_of, starts_of};
 
 use self::apart::tell_apart;
@@ -122,7 +124,7 @@ fn refuse<E: Write>(errors: &mut E, fault: WordFault<'_>) -> u8
     fault.status()
 }
 
-/// Serves the streams and reports them. It answers whether all are whole.
+/// Serves the streams, whose files are told apart, and reports them. It answers whether all are whole.
 fn serve<W, F, V, T>(
     rt: &T,
     alloc: Global,
@@ -136,6 +138,7 @@ where
     F: Files + Sync,
     V: Watch + Sync,
     T: Threads + Wait + Clock + Copy + Drop + Send + Sync + 'static,
+    requires apart { FilesGive F.place_gives (all_told checked.streams.items) None }
     ensures { IfOk result
         (Reports F.open_gives F.create_gives checked.entry (W.contents output.old) (W.contents output.new)) }
 {
