@@ -2,23 +2,32 @@
 ghost use Rattle.std.specs.Prelude.{⊤};
 
 use serve_report::{FileId, Files, Inlet, Place};
+use std::array;
 use std::fs::{self, File, Metadata};
 use std::io::{self, ErrorKind};
 use std::os::fd::AsRawFd;
 use std::os::unix::fs::{FileTypeExt, MetadataExt};
+use std::sync::OnceLock;
 
 /// The number of the last standard descriptor.
 const LAST_STANDARD: i32 = 2;
+
+/// The most files that are made in a run: one for each of its streams.
+const MOST_FILES: usize = 64;
 
 /// The files of the system, by path.
 ///
 /// Where the caller closed a standard descriptor, its number is kept from the files of streams, which would
 /// else take it, so that a report would land in one of them. What is read from or written to it still fails.
+///
+/// One file isn't made twice, by whatever names: two streams would write over each other.
 #[derive(Drop)]
 pub struct HostFiles<'a> {
     rt: &'a HostRuntime,
     /// The folders that stand at the numbers of those that were closed.
     _kept: [Option<File>; 3],
+    /// The files that were made, in the first of these places.
+    made: [OnceLock<FileId>; MOST_FILES],
 }
 
 impl<'a> HostFiles<'a> {
@@ -26,7 +35,24 @@ impl<'a> HostFiles<'a> {
         HostFiles {
             rt,
             _kept: [keep(rt), keep(rt), keep(rt)],
+            made: array::from_fn(|_| OnceLock::new()),
         }
+    }
+
+    /// Refuses a file that was made before.
+    fn note_made(&self, file: &File) -> io::Result<()> {
+        let Place::File(id) = place_of(&file.metadata()?) else {
+            return Ok(());
+        };
+        for place in &self.made {
+            if place.try_set(id).is_ok() {
+                return Ok(());
+            }
+            if place.get() == Some(&id) {
+                return Err(io::Error::from(ErrorKind::AlreadyExists));
+            }
+        }
+        Ok(())
     }
 }
 
@@ -59,7 +85,7 @@ fn place_of(metadata: &Metadata) -> Place {
     let kind = metadata.file_type();
     if kind.is_fifo() {
         Place::Pipe(id)
-    } else if kind.is_file() {
+    } else if kind.is_file() || kind.is_block_device() {
         Place::File(id)
     } else {
         Place::Shared
@@ -97,6 +123,8 @@ impl Files for HostFiles<'_> {
     }
 
     fn create(&self, name: &str) -> io::Result<File> {
-        fs::create(self.rt, name)
+        let file = fs::create(self.rt, name)?;
+        self.note_made(&file)?;
+        Ok(file)
     }
 }
