@@ -47,8 +47,8 @@ pub trait Files {
     /// This was told of what stands behind a name.
     ghost place_gives: { (name : List ℕ) → (place : Place) → Type 0 };
 
-    /// What stands behind a name; no file is opened to see that. Of `/dev/stdout` it is asked too, as the place
-    /// of the report.
+    /// What stands behind a name; no file is opened to see that. Of `/dev/stdout` it is asked too, as the
+    /// place of the report.
     fn place(&self, name: &str) -> Place
         ensures { place_gives name.now result };
 
