@@ -28,6 +28,7 @@ use Rattle.serve_hub.specs.declared.entry.Seat.TheVariants.{Stream, Worker}
 use Rattle.serve_hub.specs.Books as books
 use Rattle.serve_hub.specs.Books.{BookValue, IsBook, IsOut, reserved, specs_of}
 use Rattle.serve_hub.specs.Journal.{IsEntry, admission_of, events_of, tick_of, ticks, units_from}
+use Rattle.serve_hub.proofs.Clocks.{tick_later}
 use Rattle.serve_hub.proofs.Kept.{AddsUnits, grown, one_more}
 use Rattle.serve_hub.proofs.Rooms.{charged_still, lease_given, stream_kept, stream_shut}
 use Rattle.serve_hub.proofs.Units.{admission_units, offer_units}
@@ -88,7 +89,8 @@ pub offer_entered : (b : BookValue) (s at n : ℕ) (job : JobValue) (desk : Sche
     → IsEntered b (Stream s) (Offered (tick_of b.desk.clock at) n) desk b.units 1
 offer_entered b s at n job desk h led took fits =
     let same = desk_took s at n job b.desk desk took in
-    entered b (Stream s) (Offered (tick_of b.desk.clock at) n) desk 1 h (offer_led b.desk desk s at n led) tt
+    entered b (Stream s) (Offered (tick_of b.desk.clock at) n) desk 1 h (offer_led b.desk desk s at n led)
+    (tick_later b.desk.clock at)
     (λ w. offer_units (specs_of desk) (desk_state b.desk) w s (tick_of b.desk.clock at) n) same.1 same.2
     (omega (arith, same.0)) fits
 

@@ -1,5 +1,6 @@
 pub mod Specs
 pub mod Journals
+pub mod Clocks
 pub mod Units
 pub mod Rooms
 pub mod Kept

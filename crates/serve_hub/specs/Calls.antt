@@ -26,7 +26,8 @@ use Rattle.serve_hub.specs.declared.refused.OfferRefused.{OfferRefused}
 use Rattle.serve_hub.specs.declared.refused.OverRefused.{OverRefused}
 use Rattle.serve_hub.specs.Answers.{is_finished}
 use Rattle.serve_hub.specs.Journal.{tick_of}
-use Rattle.serve_hub.specs.Seats.{StreamSeatValue, WorkSeatValue, no_calls, opened_rest, seat_over, with_call}
+use Rattle.serve_hub.specs.Seats.{StreamSeatValue, WorkSeatValue, moments_with, no_calls, opened_rest}
+use Rattle.serve_hub.specs.Seats.{seat_over, with_call}
 
 -- a refusal as a seat is told it: one that the seat allows, or what contradicts the seat
 abbrev pub IsTold : (core.Refusal → Type 0) → Refusal → Type 0
@@ -92,15 +93,16 @@ pub record Accepts (frame : FrameValue) (number : ℕ) (old new : StreamSeatValu
   pub seat : new ≡ record old {
     calls = with_call (acts.Offered tick number) old.calls;
     accepted = old.accepted + 1;
-    moment = new.moment;
+    moments = new.moments;
     kept = old.kept ++ frame ∷ [];
   }
 
--- the seat's last call is an offer at this moment, which the clock went on to where it was earlier
+-- the seat's last call is an offer at this moment, which the clock went on to where it was earlier, and the
+-- seat tells it with the first
 pub record NotesFrom (clock at : ℕ) (old new : StreamSeatValue) : Type 0 where
   pub number : ℕ
   pub calls : new.calls ≡ with_call (acts.Offered (tick_of clock at) number) old.calls
-  pub moment : new.moment ≡ Some at
+  pub moments : new.moments ≡ Some (moments_with old.moments at)
 
 -- the same, wherever the clock was
 abbrev pub Notes : (at : ℕ) → (old new : StreamSeatValue) → Type 0

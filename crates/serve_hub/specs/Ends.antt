@@ -1,20 +1,24 @@
 -- What is left of a hub whose seats are all back.
 use Rattle.std.specs.Prelude.{ℕ, ◌+◌, ◌*◌, ◌≡◌, ◌≢◌, ◌≤◌, ◌<◌, ◌⊎◌, ◌==◌, Bool, true, false, List, [], ◌∷◌}
-use Rattle.std.specs.Prelude.{All, filter, length, map, reverse, slice_get, sum_by, Option, Some}
+use Rattle.std.specs.Prelude.{⊤, All, filter, length, map, reverse, slice_get, sum_by, IsSomeAnd, Option}
+use Rattle.std.specs.Prelude.{Some}
 use Rattle.std.specs.List.{Any}
 use Rattle.serve_core.specs.declared.held.Held.{Held}
-use Rattle.serve_core.specs.Bare.{measures_any, is_any_image}
+use Rattle.serve_core.specs.Bare.{Blank, measures_any, is_any_image}
 use Rattle.serve_core.specs.Desk.{desk_state}
 use Rattle.serve_core.specs.Reached.{IsReached, LeadsOver}
 use Rattle.serve_core.specs.Schedule.{HasStream, ScheduleValue}
-use Rattle.serve_core.specs.Setup.{cost}
+use Rattle.serve_core.specs.Setup.{StreamSpec, cost}
+use Rattle.serve_core.specs.States.{State}
 use Rattle.serve_core.specs.Streams.{KeptStream}
 use Rattle.serve_hub.specs.declared.entry.Act.{Act}
-use Rattle.serve_hub.specs.declared.entry.Act.TheVariants.{Leased}
+use Rattle.serve_hub.specs.declared.entry.Act.TheVariants.{Leased, Offered}
 use Rattle.serve_hub.specs.declared.entry.Entry.{Entry}
 use Rattle.serve_hub.specs.declared.entry.Seat.{Seat}
 use Rattle.serve_hub.specs.declared.entry.Seat.TheVariants.{Stream, Worker}
-use Rattle.serve_hub.specs.Books.{BookValue, book_transcript}
+use Rattle.serve_hub.specs.declared.moments.Moments.{Moments}
+use Rattle.serve_hub.specs.Books.{BookValue, book_transcript, opening_of, specs_of}
+use Rattle.serve_hub.specs.Journal.{clock_in}
 use Rattle.serve_hub.specs.Seats.{HubValue, StreamRest, StreamSeatValue, WorkSeatValue, collected_by}
 
 abbrev pub is_same_seat : Seat → Seat → Bool
@@ -32,6 +36,29 @@ AreStreamCalls journal seats = All (λ s. acts_of (Stream s.number) journal ≡ 
 
 abbrev pub AreWorkCalls : List Entry → List WorkSeatValue → Type 0
 AreWorkCalls journal seats = All (λ s. acts_of (Worker s.number) journal ≡ s.calls.list) seats
+
+-- stream s had a frame accepted
+abbrev pub IsOfferOf : (s : ℕ) → Seat → Act → Type 0
+IsOfferOf s (Stream n) (Offered tick number) = n ≡ s
+IsOfferOf s seat act = ⊥
+
+-- the clock behind a call, where it was this before
+abbrev pub clock_behind : ℕ → Seat → Act → ℕ
+clock_behind clock (Stream s) (Offered (Some moment) number) = moment
+clock_behind clock seat act = clock
+
+-- by a journal with the latest entry first, wherever stream s had a frame accepted the clock had come to the
+-- first of these moments
+abbrev pub HasCome : (s : ℕ) → Option Moments → List StreamSpec → (opening : State Blank) → List Entry
+    → Type 0
+HasCome s moments specs opening [] = ⊤
+HasCome s moments specs opening (e ∷ past) =
+    HasCome s moments specs opening past
+    × (IsOfferOf s e.seat e.act → IsSomeAnd moments (λ m. m.first ≤ clock_in specs opening (e ∷ past)))
+
+-- and so for each of these seats
+abbrev pub HaveCome : BookValue → List StreamSeatValue → Type 0
+HaveCome b seats = All (λ s. HasCome s.number s.moments (specs_of b.desk) (opening_of b) b.past) seats
 
 -- how many calls the seats' lists have
 abbrev pub calls_in : List StreamSeatValue → List WorkSeatValue → ℕ

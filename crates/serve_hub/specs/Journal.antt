@@ -1,6 +1,6 @@
 -- Journals of accepted calls: which events their entries stand for.
 use Rattle.std.specs.Prelude.{ℕ, ◌+◌, ◌≡◌, ◌<◌, ⊤, nat_eq, nat_lt, Bool, true, List, [], ◌∷◌, ◌++◌, length}
-use Rattle.std.specs.Prelude.{slice_get, sum_by, Option, Some, None, IsSomeAnd, if◌then◌else◌}
+use Rattle.std.specs.Prelude.{slice_get, sum_by, Option, Some, None, IfSome, IsSomeAnd, if◌then◌else◌}
 use Rattle.serve_core.specs.declared.held.Held.{Held}
 use Rattle.serve_core.specs.Bare.{Blank, measures_any, is_any_image}
 use Rattle.serve_core.specs.Desk.{one, settlement}
@@ -50,10 +50,10 @@ events_of specs m (Worker w) (Settled bands is_finished) =
     settlement w bands (number_of is_finished (held_at m.workers w))
 events_of specs m seat act = Start
 
--- an act is of its seat's kind, a collection tells how many were collected before it, and a stream that is
--- admitted has a spec
+-- an act is of its seat's kind, an offer tells a moment only where that is later than the clock, a collection
+-- tells how many were collected before it, and a stream that is admitted has a spec
 abbrev pub IsEntry : List StreamSpec → State Blank → Seat → Act → Type 0
-IsEntry specs m (Stream s) (Offered tick number) = ⊤
+IsEntry specs m (Stream s) (Offered tick number) = IfSome tick (λ moment. m.clock < moment)
 IsEntry specs m (Stream s) Closed = ⊤
 IsEntry specs m (Stream s) (Collected number) =
     IsSomeAnd (slice_get m.streams s) (λ x. number ≡ x.collected)
@@ -69,6 +69,10 @@ transcript_of specs opening [] = Start
 transcript_of specs opening (e ∷ past) =
     let before = transcript_of specs opening past in
     joined before (events_of specs (state_from opening before) e.seat e.act)
+
+-- the clock of the state to which a journal leads from an opening state
+abbrev pub clock_in : List StreamSpec → State Blank → List Entry → ℕ
+clock_in specs opening past = (state_from opening (transcript_of specs opening past)).clock
 
 abbrev pub AreEntries : List StreamSpec → State Blank → List Entry → Type 0
 AreEntries specs opening [] = ⊤

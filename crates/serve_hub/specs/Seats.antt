@@ -1,6 +1,6 @@
 -- What the seats of a hub keep.
 use Rattle.std.specs.Prelude.{ℕ, suc, ◌+◌, ◌≡◌, ◌<◌, Bool, false, List, [], ◌∷◌, ◌++◌, All, length, map}
-use Rattle.std.specs.Prelude.{sum_by, Option, None}
+use Rattle.std.specs.Prelude.{sum_by, Option, Some, None}
 use Rattle.std.specs.declared.alloc.Global.{Global}
 use Rattle.std.specs.declared.sync.Arc.{Arc}
 use Rattle.std.specs.Arc.{arc_value}
@@ -11,6 +11,7 @@ use Rattle.filters.specs.ChainImage.{FrameValue, value_of}
 use Rattle.serve_core.specs.Setup.{StreamSpec}
 use Rattle.serve_hub.specs.declared.entry.Act.{Act}
 use Rattle.serve_hub.specs.declared.entry.Act.TheVariants.{Collected}
+use Rattle.serve_hub.specs.declared.moments.Moments.{Moments}
 use Rattle.serve_hub.specs.Books.{BookValue}
 
 -- the accepted calls of a seat, the oldest first, and how many entries its journal may have
@@ -30,15 +31,21 @@ pub record StreamSeatValue : Type 0 where
   -- how many of its frames may be unfinished, and how many it may accept at all
   pub queue : ℕ
   pub frames : ℕ
-  -- how many were accepted, and the moment at which the latest was offered, if one was
+  -- how many were accepted in all epochs, and when the first and the latest of this one were offered, if any
+  -- was
   pub accepted : ℕ
-  pub moment : Option ℕ
+  pub moments : Option Moments
   pub is_closed : Bool
   -- the frames that were accepted and aren't collected, the oldest first, and how many it has places for
   pub kept : List FrameValue
   pub places : ℕ
   -- how many images of its stream were collected before the seat was there
   pub before : ℕ
+
+-- the moments of a seat's offers, with one more at this moment
+abbrev pub moments_with : Option Moments → ℕ → Moments
+moments_with None at = record { first = at; latest = at }
+moments_with (Some before) at = record before { latest = at }
 
 -- what the seat of a stream leaves for that of the next epoch
 pub record StreamRest : Type 0 where
@@ -112,7 +119,7 @@ seat_over limit rest = record {
   queue = rest.queue;
   frames = rest.frames;
   accepted = rest.accepted;
-  moment = None;
+  moments = None;
   is_closed = rest.is_closed;
   kept = rest.kept;
   places = rest.places;

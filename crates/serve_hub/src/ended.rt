@@ -136,7 +136,8 @@ pub enum Fault {
     SeatMissing,
     /// A worker holds a lease.
     LeaseOut,
-    /// What a seat keeps of its calls, or of its stream, isn't what the book has.
+    /// What a seat keeps of its calls, or of its stream, isn't what the book has, or a frame of it was
+    /// accepted before the clock had come to the moment of the seat's first.
     Differs,
 }
 

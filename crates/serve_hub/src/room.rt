@@ -82,6 +82,7 @@ impl<L: Epoch> Room<L> {
         requires parts { self.spare.parts + vec_len rests + workers ≡ L.parts }
         requires amount { self.spare.amount ≡ 0 }
         requires opening { IsOpening L.opening book.opening workers }
+        requires unmoved { book.desk ≡ book.opening }
         requires calls { self.calls.items ≡ replicate (vec_len rests) (no_calls limit) }
         requires seats { self.seats.items ≡ [] }
         requires seats_room { vec_len rests ≤ vec_capacity self.seats }

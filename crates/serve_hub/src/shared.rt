@@ -11,7 +11,7 @@ ghost use Rattle.serve_hub.specs.declared.entry.Seat.TheVariants.{Stream};
 ghost use Rattle.serve_hub.specs.Books.{Appends, IsBook, room};
 ghost use Rattle.serve_hub.specs.Calls.{Admits, IsAdmitRefused};
 ghost use Rattle.serve_hub.specs.Ends.{AreFree, AreStreamCalls, AreStreamsOf, AreWorkCalls, HaveStreams};
-ghost use Rattle.serve_hub.specs.Ends.{HaveWorkers, IsOpening, calls_in};
+ghost use Rattle.serve_hub.specs.Ends.{HaveCome, HaveWorkers, IsOpening, calls_in};
 ghost use Rattle.serve_hub.specs.Seats.{collected_by, left_by, opened_rest};
 
 use crate::agree::{have_streams, have_their_streams, have_workers, streams_agree, workers_agree};
@@ -21,6 +21,7 @@ use crate::ended::Ended;
 use crate::entry::Act;
 use crate::epoch::Epoch;
 use crate::limits::MOST_SEATS;
+use crate::moments::have_come;
 use crate::refusal::{Came, Refusal};
 use crate::refused::AdmitRefused;
 use crate::rest::SeatRest;
@@ -31,12 +32,14 @@ use serve_core::Newcomer;
 use std::marker::Model;
 use std::sync::ledger::{Book as Total, Share};
 
-/// The book, its limit, the total of the ledger that counts its entries, and the parts that have no seat, of
-/// so many streams and workers. There is room for what the seats of the streams leave.
+/// The book, its limit and the clock at its opening, the total of the ledger that counts its entries, and
+/// the parts that have no seat, of so many streams and workers. There is room for what the seats of the
+/// streams leave.
 #[derive(Drop)]
 pub(crate) struct Shared<L: Epoch> {
     pub(crate) book: Book,
     pub(crate) limit: usize,
+    since: u64,
     pub(crate) total: Total<L>,
     spare: Share<L>,
     streams: usize,
@@ -58,7 +61,8 @@ impl<L: Epoch> Model for Shared<L> {
     ghost invariant = { λ a. (a.total.total ≡ length a.book.past) × (a.limit ≡ a.book.limit)
         × (a.spare.parts + a.streams + a.workers ≡ L.parts) × (a.spare.amount ≡ 0)
         × IsOpening L.opening a.book.opening a.workers
-        × (a.rests.items ≡ []) × (MOST_STREAMS ≤ vec_capacity a.rests) × (L.parts ≡ MOST_SEATS) };
+        × (a.rests.items ≡ []) × (MOST_STREAMS ≤ vec_capacity a.rests) × (L.parts ≡ MOST_SEATS)
+        × (a.since ≡ L.opening.clock) };
 }
 
 impl<L: Epoch> Shared<L> {
@@ -76,13 +80,16 @@ impl<L: Epoch> Shared<L> {
         requires parts { spare.parts + streams + workers ≡ L.parts }
         requires amount { spare.amount ≡ 0 }
         requires opened { IsOpening L.opening book.opening workers }
+        requires unmoved { book.desk ≡ book.opening }
         requires none { rests.items ≡ [] }
         requires room { MOST_STREAMS ≤ vec_capacity rests }
         requires enough { L.parts ≡ MOST_SEATS }
     {
+        let since = book.desk().clock();
         Shared {
             book,
             limit,
+            since,
             total,
             spare,
             streams,
@@ -188,8 +195,9 @@ impl<L: Epoch> Shared<L> {
             .is_some_and(|counts| counts.finished < counts.accepted)
     }
 
-    /// Whether the seats are all there, their lists are the journal's, and what they tell of their streams is
-    /// what the book has.
+    /// Whether the seats are all there, their lists are the journal's, what they tell of their streams is
+    /// what the book has, and no frame of theirs was accepted before the clock had come to the moment of its
+    /// seat's first.
     pub(crate) fn agrees(&self, streams: &Vec<StreamSeat<L>>, workers: &Vec<WorkSeat<L>>) -> bool
         ensures book { IsBook self.now.book }
         ensures opened { IsOpening L.opening self.now.book.opening self.now.workers }
@@ -203,6 +211,7 @@ impl<L: Epoch> Shared<L> {
         ensures each_stream { IsTrue result → HaveStreams self.now.streams streams.now.items }
         ensures each_worker { IsTrue result → HaveWorkers self.now.workers workers.now.items }
         ensures kept { IsTrue result → AreStreamsOf self.now.book.desk streams.now.items }
+        ensures come { IsTrue result → HaveCome self.now.book streams.now.items }
         ensures free { IsTrue result → AreFree self.now.book.desk.workers }
     {
         let journal = self.book.journal();
@@ -214,6 +223,7 @@ impl<L: Epoch> Shared<L> {
             && have_streams(self.streams, streams)
             && have_workers(self.workers, workers)
             && have_their_streams(&self.book, streams)
+            && have_come(&self.book, self.since, streams)
             && self.book.is_free()
     }
 

@@ -12,6 +12,7 @@ use crate::book::Book;
 use crate::calls::Calls;
 use crate::entry::Act;
 use crate::epoch::Epoch;
+use crate::moments::Moments;
 use crate::rest::SeatRest;
 use crate::shared::Shared;
 use frame_view::Frame;
@@ -33,7 +34,7 @@ pub struct StreamSeat<L: Epoch> {
     queue: u64,
     frames: u64,
     accepted: u64,
-    moment: Option<u64>,
+    moments: Option<Moments>,
     is_closed: bool,
     kept: VecDeque<Arc<Frame>>,
     before: u64,
@@ -55,7 +56,7 @@ impl<L: Epoch> Model for StreamSeat<L> {
       queue = a.queue;
       frames = a.frames;
       accepted = a.accepted;
-      moment = a.moment;
+      moments = a.moments;
       is_closed = a.is_closed;
       kept = kept_in a.kept.items;
       places = deque_capacity a.kept;
@@ -89,7 +90,7 @@ impl<L: Epoch> StreamSeat<L> {
             queue,
             frames,
             accepted,
-            moment: None,
+            moments: None,
             is_closed,
             kept,
             before: collected,
@@ -134,7 +135,7 @@ impl<L: Epoch> StreamSeat<L> {
             is_closed,
             kept,
             before: _,
-            moment: _,
+            moments: _,
         } = self;
         let rest = SeatRest {
             number,
@@ -170,11 +171,11 @@ impl<L: Epoch> StreamSeat<L> {
         self.accepted
     }
 
-    /// The moment of its latest offer that was accepted, since this seat is there.
-    pub fn moment(&self) -> Option<u64>
-        ensures { result ≡ self.now.moment }
+    /// When the first and the latest frame were offered that were accepted since this seat is there.
+    pub fn moments(&self) -> Option<Moments>
+        ensures { result ≡ self.now.moments }
     {
-        self.moment
+        self.moments
     }
 
     /// How many images of its stream were collected before this seat was there.

@@ -1,5 +1,5 @@
 -- How a session comes from one epoch to the next.
-use Rattle.std.specs.Prelude.{Bool, drop}
+use Rattle.std.specs.Prelude.{All, Bool, drop}
 use Rattle.std.specs.List.{AllByRecursion}
 use Rattle.std.proofs.Common.{append-nil, append_assoc, inl, ◌≡◌, ◌≢◌, ℕ, zero, suc, ◌≤◌, List, [], ◌∷◌, ◌++◌}
 use Rattle.std.proofs.Common.{Option, Result, Ok, Err, OnOk, length, get_or, map, refl, sym, ap, ◌∙◌, subst}
@@ -13,22 +13,22 @@ use Rattle.serve_core.specs.Streams.{KeptStream, opened}
 use Rattle.serve_hub.specs.declared.entry.Act.{Act}
 use Rattle.serve_hub.specs.declared.entry.Entry.{Entry}
 use Rattle.serve_hub.specs.Books.{BookValue, IsBook, IsLimit, book_transcript, specs_of}
-use Rattle.serve_hub.specs.Ends.{IsMissing}
-use Rattle.serve_hub.specs.Journal.{IsJournal}
+use Rattle.serve_hub.specs.Ends.{HasCome, HaveCome, IsMissing}
+use Rattle.serve_hub.specs.Journal.{AreEntries, IsJournal}
 use Rattle.serve_hub.proofs.Journals.{joined_is}
 use Rattle.serve_hub.proofs.Specs.{added, specs_led}
 use Rattle.serve_hub.specs.Seats.{StreamRest, StreamSeatValue, hub_of, left_by, opened_rest, opened_streams, seat_over}
 use Rattle.serve_work.specs.declared.session.interval.Interval.{Interval}
 use Rattle.serve_work.specs.Clients.{ClientStart}
 use Rattle.serve_work.specs.Epochs.{IsReopened}
-use Rattle.serve_work.specs.Intervals.{Beginning, IsBeginning, IsBetween, IsLater, IsSized, LeadsTo, beginning_of}
+use Rattle.serve_work.specs.Intervals.{Beginning, HasNoCalls, IsBeginning, IsBetween, IsLater, IsSized, LeadsTo, beginning_of}
 use Rattle.serve_work.specs.Rests.{IsRestOf, Unbegun}
-use Rattle.serve_work.specs.Sessions.{AllAtMoments, AreInputs, IsInput, acts_in, start_of, starts_of}
+use Rattle.serve_work.specs.Sessions.{AllTimed, AreInputs, IsInput, acts_in, start_of, starts_of}
 use Rattle.serve_work.specs.SessionInside.{AllBegin, AllStand, HeldValue, IsReady, IsReadyAt, Over, StandsAt}
 use Rattle.serve_work.specs.SessionInside.{StreamValue, Waiting, held_at, held_with, unread}
 use Rattle.serve_work.proofs.Crossing.{new_stream_is_unbegun, streams_cross}
 use Rattle.serve_work.proofs.SessionCharges.{are_from}
-use Rattle.serve_work.proofs.SessionTurns.{both_given, none_yet, rest_sized, same_length}
+use Rattle.serve_work.proofs.SessionTurns.{rest_sized, same_length}
 
 -- streams that are seen as the same, with the same seats
 held_same : {S T : Type 0} (f : S → StreamValue) (h : T → StreamValue) (seats : List StreamSeatValue) (xs : List S) (ys : List T)
@@ -148,6 +148,21 @@ leads_on first last journal book led is same few =
       specs = specs ∙ all;
     }
 
+-- a book's entries, and how far the clock had come at them, where it opened from a schedule with these streams
+pub entries_on : (first last : ScheduleValue) (book : BookValue) → IsBook book → book.opening ≡ last
+    → specs_of book.desk ≡ specs_of first → AreEntries (specs_of first) (desk_state last) book.past
+entries_on first last book is same specs =
+    subst (λ (x : ScheduleValue). AreEntries (specs_of first) (desk_state x) book.past) same
+    (subst (λ (xs : List StreamSpec). AreEntries xs (desk_state book.opening) book.past) specs is.journal.entries)
+
+pub come_on : (first last : ScheduleValue) (book : BookValue) (seats : List StreamSeatValue) → book.opening ≡ last
+    → specs_of book.desk ≡ specs_of first → HaveCome book seats
+    → All (λ s. HasCome s.number s.moments (specs_of first) (desk_state last) book.past) seats
+come_on first last book seats same specs come =
+    subst (λ (x : ScheduleValue). All (λ s. HasCome s.number s.moments (specs_of first) (desk_state x) book.past) seats) same
+    (subst (λ (xs : List StreamSpec). All (λ s. HasCome s.number s.moments xs (desk_state book.opening) book.past) seats) specs
+    come)
+
 opened_specs : (specs : List StreamSpec) → map (λ (stream : KeptStream). stream.state.spec) (map opened specs) ≡ specs
 opened_specs [] = refl
 opened_specs (spec ∷ specs) = ap (λ (these : List StreamSpec). spec ∷ these) (opened_specs specs)
@@ -214,13 +229,12 @@ all_cross limit journal (start ∷ starts) (held ∷ helds) p =
 
 -- new seats have made no call
 
-pub new_seats : (limit : ℕ) (rests : List StreamRest) → AllByRecursion (λ seat. seat.calls.list ≡ []) (map (seat_over limit) rests)
+pub new_seats : (limit : ℕ) (rests : List StreamRest) → AllByRecursion HasNoCalls (map (seat_over limit) rests)
 new_seats limit [] = tt
-new_seats limit (rest ∷ rests) = (refl, new_seats limit rests)
+new_seats limit (rest ∷ rests) = ((refl, refl), new_seats limit rests)
 
 pub held_new : {S : Type 0} (value : S → StreamValue) (seats : List StreamSeatValue) (streams : List S)
-    → AllByRecursion (λ seat. seat.calls.list ≡ []) seats
-    → AllByRecursion (λ held. held.seat.calls.list ≡ []) (held_with value seats streams)
+    → AllByRecursion HasNoCalls seats → AllByRecursion (λ held. HasNoCalls held.seat) (held_with value seats streams)
 held_new value [] streams none = tt
 held_new value (seat ∷ seats) [] none = tt
 held_new value (seat ∷ seats) (stream ∷ streams) none = (none.0, held_new value seats streams none.1)
@@ -261,15 +275,18 @@ module _ {R W : Type 0} (left : R → Option (List ℕ)) (read_failures : R → 
   module _ (Gives : ℕ → Type 0) where
     pub no_later : (now : Interval R W) → IsBetween left read_failures after failures is_flushed b journal now
         → IsLater left read_failures after failures is_flushed Gives b journal now
-    no_later now at = record { more = []; between = at; moments = none_yet Gives b.starts }
+    no_later now at = record { more = []; between = at; moments = λ given. given }
 
     -- what is later than what is later
-    pub later_on : (more : List Entry) (now : Interval R W) → AllAtMoments Gives more b.starts
+    pub later_on : (more : List Entry) (now : Interval R W)
+        → (AllTimed Gives b.schedule journal b.starts → AllTimed Gives b.schedule (more ++ journal) b.starts)
         → IsLater left read_failures after failures is_flushed Gives b (more ++ journal) now
         → IsLater left read_failures after failures is_flushed Gives b journal now
     later_on more now given l = record {
       more = l.more ++ more;
       between = subst (λ (j : List Entry). IsBetween left read_failures after failures is_flushed b j now)
           (sym (append_assoc l.more more journal)) l.between;
-      moments = both_given Gives more l.more b.starts given l.moments;
+      moments = λ before.
+          subst (λ (j : List Entry). AllTimed Gives b.schedule j b.starts) (sym (append_assoc l.more more journal))
+          (l.moments (given before));
     }

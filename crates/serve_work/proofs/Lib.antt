@@ -19,5 +19,6 @@ pub mod Stopping
 pub mod Tallying
 pub mod Telling
 pub mod Texts
+pub mod Timing
 pub mod Told
 pub mod Working

@@ -113,7 +113,7 @@ collected_none None e old new m =
       tally = TalliesSeat-same old new (ap (λ (v : StreamSeatValue). v.number) same)
           (ap (λ (v : StreamSeatValue). v.chain) same) (ap (λ (v : StreamSeatValue). v.before) same)
           (ap (λ (v : StreamSeatValue). v.calls) same) (ap (λ (v : StreamSeatValue). v.accepted) same)
-          (ap (λ (v : StreamSeatValue). v.moment) same);
+          (ap (λ (v : StreamSeatValue). v.moments) same);
     }
 collected_none (Some pair) e old new m = collected_pair pair old new m.collects
 

@@ -1,5 +1,5 @@
 -- What the streams of a session come to, turn by turn.
-use Rattle.std.specs.Prelude.{IsErrAnd, MatchOption, drop, take, unwrap_or, ⊤, Bool, filter, reverse}
+use Rattle.std.specs.Prelude.{All, IfSome, IsErrAnd, MatchOption, drop, take, unwrap_or, ⊤, Bool, filter, reverse}
 use Rattle.std.specs.List.{AllByRecursion, AllZip}
 use Rattle.std.proofs.Common.{append_assoc, ◌≡◌, ◌≢◌, IfErr, ℕ, suc, ◌<◌, List, [], ◌∷◌, ◌++◌, length, get_or}
 use Rattle.std.proofs.Common.{map, Option, Some, None, append-nil, take_all, Result, Ok, Err, inl, inr, ◌⊎◌}
@@ -7,25 +7,32 @@ use Rattle.std.proofs.Common.{refl, sym, ap, ◌∙◌, subst, arith}
 use Rattle.std.proofs.lemmas.List.{drop_all, map-append, reverse-append}
 use Rattle.std.proofs.lemmas.List.Elements.{filter-append}
 use Rattle.y4m_stream.specs.Reader.{IsOfHeader, ReaderState}
+use Rattle.serve_core.specs.Desk.{desk_state}
+use Rattle.serve_core.specs.Leads.{state_from}
+use Rattle.serve_core.specs.Schedule.{ScheduleValue}
 use Rattle.serve_core.specs.Setup.{StreamSpec}
 use Rattle.serve_hub.specs.declared.entry.Act.{Act}
 use Rattle.serve_hub.specs.declared.entry.Entry.{Entry}
 use Rattle.serve_hub.specs.declared.entry.Seat.{Seat}
 use Rattle.serve_hub.specs.declared.entry.Seat.TheVariants as numbered
-use Rattle.serve_hub.specs.Ends.{AreStreamCalls, acts_of, is_same_seat}
+use Rattle.serve_hub.specs.declared.moments.Moments.{Moments}
+use Rattle.serve_hub.specs.Books.{specs_of}
+use Rattle.serve_hub.specs.Ends.{AreStreamCalls, HasCome, acts_of, is_same_seat}
+use Rattle.serve_hub.specs.Journal.{AreEntries, transcript_of}
 use Rattle.serve_hub.specs.Seats.{StreamSeatValue}
 use Rattle.serve_work.specs.declared.session.Served.{Served}
 use Rattle.serve_work.specs.declared.session.SessionFault.{SessionFault}
 use Rattle.serve_work.specs.declared.session.SessionFault.TheVariants.{BadLimit, NoMemory}
 use Rattle.serve_work.specs.declared.session.turn.Stream.{Stream}
-use Rattle.serve_work.specs.Clients.{AreAtMoments, ClientOutcome, ClientStart, IsAtMoment}
-use Rattle.serve_work.specs.Intervals.{IsSized}
+use Rattle.serve_work.specs.Clients.{AreAtMoments, ClientOutcome, ClientStart}
+use Rattle.serve_work.specs.Intervals.{HasNoCalls, IsSized}
 use Rattle.serve_work.specs.Rests.{Begun, IsRestOf, RestValue, Unbegun, reader_in}
-use Rattle.serve_work.specs.Sessions.{AllAtMoments, AreInputs, acts_in, outcome_of}
+use Rattle.serve_work.specs.Sessions.{AllTimed, AreInputs, AreTimed, acts_in, outcome_of}
 use Rattle.serve_work.specs.SessionInside.{AllBegin, AllGoOn, AllLeave, AllRun, AllStand, AreOver, AreUnread}
 use Rattle.serve_work.specs.SessionInside.{ClientLeft, GoesOn, HeldValue, IsReady, Over, Runs, Stands}
 use Rattle.serve_work.specs.SessionInside.{StandsAt, StreamValue, Waiting, held_at, held_with, stream_of}
-use Rattle.serve_work.proofs.Tallying.{KeepsMoments-same, all_both}
+use Rattle.serve_work.proofs.Tallying.{KeepsMoments-same}
+use Rattle.serve_work.proofs.Timing.{timed, timed_on}
 
 -- a stream's chain and its reader's header stay
 rest_header : (start : ClientStart) (past : List Act) (seat : StreamSeatValue) (rest : RestValue) → IsRestOf start past seat rest
@@ -102,34 +109,36 @@ module _ (Gives : ℕ → Type 0) (journal more : List Entry) where
         stand_on starts helds after p.1 q.1 (λ k d less. calls (suc k) d (omega (arith, less))),
       )
 
-  -- and all its frames were offered at moments that the clock gave
-  pub all_given : (starts : List ClientStart) (helds after : List HeldValue) → AllBegin journal starts helds → AllGoOn Gives helds after
-      → AreStreamCalls (reverse more) (map (λ held. held.seat) after) → AllByRecursion (λ held. held.seat.calls.list ≡ []) helds
-      → AllAtMoments Gives more starts
-  all_given [] [] [] p q calls none = tt
-  all_given [] [] (held ∷ after) p q calls none = absurd q
-  all_given [] (held ∷ helds) after p q calls none = absurd p
-  all_given (start ∷ starts) [] after p q calls none = absurd p
-  all_given (start ∷ starts) (held ∷ helds) [] p q calls none = absurd q
-  all_given (start ∷ starts) (held ∷ helds) (next ∷ after) p q calls none =
+  -- and its frames have moments that the clock may give, by the journal's own clock
+  pub all_timed : (first last : ScheduleValue) (starts : List ClientStart) (helds after : List HeldValue)
+      → state_from (desk_state first) (transcript_of (specs_of first) (desk_state first) journal) ≡ desk_state last
+      → AreEntries (specs_of first) (desk_state last) more → AllBegin journal starts helds → AllGoOn Gives helds after
+      → AreStreamCalls (reverse more) (map (λ held. held.seat) after)
+      → All (λ s. HasCome s.number s.moments (specs_of first) (desk_state last) more) (map (λ held. held.seat) after)
+      → AllByRecursion (λ held. HasNoCalls held.seat) helds → AllTimed Gives first journal starts
+      → AllTimed Gives first (more ++ journal) starts
+  all_timed first last [] helds after led entries p q calls come none given = tt
+  all_timed first last (start ∷ starts) [] after led entries p q calls come none given = absurd p
+  all_timed first last (start ∷ starts) (held ∷ helds) [] led entries p q calls come none given = absurd q
+  all_timed first last (start ∷ starts) (held ∷ helds) (next ∷ after) led entries p q calls come none given =
       let past : List Act = acts_in journal start in
-      let own = own_calls more start past next (q.0.0 start past p.0) (calls 0 next.seat (omega arith)) in (
-        subst (AreAtMoments Gives) own (q.0.1.calls (subst (AreAtMoments Gives) (sym none.0) tt)),
-        all_given starts helds after p.1 q.1 (λ k d less. calls (suc k) d (omega (arith, less))) none.1,
+      let specs = specs_of first in
+      let at : Stands start past next = q.0.0 start past p.0 in
+      let number : next.seat.number ≡ start.seat.number = seat_number start past next.seat next.stream at in
+      let own : next.seat.calls.list ≡ acts_in more start = own_calls more start past next at (calls 0 next.seat (omega arith)) in
+      let here : AreTimed Gives start.seat.number specs (desk_state last) more =
+      timed Gives start.seat.number next.seat.moments specs (desk_state last) more entries
+      (subst (λ (s : ℕ). HasCome s next.seat.moments specs (desk_state last) more) number (come 0 next.seat (omega arith)))
+      (q.0.1.first (subst (λ (o : Option Moments). IfSome o (λ t. Gives t.first)) (sym none.0.1) tt))
+      (subst (AreAtMoments Gives) own (q.0.1.calls (subst (AreAtMoments Gives) (sym none.0.0) tt))) in (
+        timed_on Gives start.seat.number specs (desk_state first) (desk_state last) journal more led given.0 here,
+        all_timed first last starts helds after led entries p.1 q.1 (λ k d less. calls (suc k) d (omega (arith, less)))
+            (λ k d less. come (suc k) d (omega (arith, less))) none.1 given.1,
       )
 
-pub none_yet : (Gives : ℕ → Type 0) (starts : List ClientStart) → AllAtMoments Gives [] starts
-none_yet Gives [] = tt
-none_yet Gives (start ∷ starts) = (tt, none_yet Gives starts)
-
-pub both_given : (Gives : ℕ → Type 0) (first second : List Entry) (starts : List ClientStart) → AllAtMoments Gives first starts
-    → AllAtMoments Gives second starts → AllAtMoments Gives (second ++ first) starts
-both_given Gives first second [] p q = tt
-both_given Gives first second (start ∷ starts) p q = (
-  subst (AreAtMoments Gives) (sym (acts_behind start first second))
-      (all_both (IsAtMoment Gives) (acts_in first start) (acts_in second start) p.0 q.0),
-  both_given Gives first second starts p.1 q.1,
-)
+pub none_yet : (Gives : ℕ → Type 0) (first : ScheduleValue) (starts : List ClientStart) → AllTimed Gives first [] starts
+none_yet Gives first [] = tt
+none_yet Gives first (start ∷ starts) = (tt, none_yet Gives first starts)
 
 pub same_length : {A B : Type 0} (f : A → B) (xs : List A) → length (map f xs) ≡ length xs
 same_length f [] = refl

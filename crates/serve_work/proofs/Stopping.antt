@@ -104,7 +104,7 @@ close_tally old new (Ok t) closed refused = rw closed (record {
   added = acts.Closed ∷ [];
   calls = refl;
   offers = omega (arith, offers_both old.calls.list (acts.Closed ∷ []));
-  moment = λ none. refl;
+  moments = λ none. refl;
   collections = omega (arith, collections_both old.calls.list (acts.Closed ∷ []));
 })
 close_tally old new (Err e) closed refused = rw refused.1 (TalliesSeat-same old old refl refl refl refl refl refl)
@@ -159,7 +159,7 @@ TalliesSeat-open old new t = record {
   added = t.added;
   calls = t.calls;
   offers = t.offers;
-  moment = t.moment;
+  moments = t.moments;
   collections = t.collections;
 }
 
@@ -195,7 +195,7 @@ TalliesSeat-opened old new t = record {
   added = t.added;
   calls = t.calls;
   offers = t.offers;
-  moment = t.moment;
+  moments = t.moments;
   collections = t.collections;
 }
 
@@ -207,7 +207,7 @@ TalliesSeat-closed mid closed t = record {
   added = t.added;
   calls = t.calls;
   offers = t.offers;
-  moment = t.moment;
+  moments = t.moments;
   collections = t.collections;
 }
 

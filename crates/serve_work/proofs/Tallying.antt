@@ -1,6 +1,7 @@
 -- How the calls of a seat add up.
 use Rattle.std.proofs.Common.{◌≡◌, ◌≢◌, ℕ, ◌+◌, List, [], ◌∷◌, ◌++◌, length, filter, sum_by, Bool, refl, sym}
 use Rattle.std.proofs.Common.{ap, ◌∙◌, append_assoc, append-nil, length-append, arith, subst, inl, inr, IfSome, Option}
+use Rattle.std.proofs.Common.{Some, None}
 use Rattle.std.specs.List.{AllByRecursion}
 use Rattle.std.proofs.lemmas.List.Elements.{filter-append}
 use Rattle.std.proofs.lemmas.List.Sums.{sum_by-cons}
@@ -9,9 +10,10 @@ use Rattle.y4m_stream.specs.Writer.{WriterState}
 use Rattle.serve_core.specs.declared.collected.Collected.{Collected}
 use Rattle.serve_hub.specs.declared.entry.Act.{Act}
 use Rattle.serve_hub.specs.declared.entry.Act.TheVariants as acts
+use Rattle.serve_hub.specs.declared.moments.Moments.{Moments}
 use Rattle.serve_hub.specs.Calls.{Accepts, Collects}
 use Rattle.serve_hub.specs.Journal.{tick_of}
-use Rattle.serve_hub.specs.Seats.{CallsValue, StreamSeatValue, one_collection}
+use Rattle.serve_hub.specs.Seats.{CallsValue, StreamSeatValue, moments_with, one_collection}
 use Rattle.serve_work.specs.Clients.{AreAtMoments, HasOtherNumber, IsAtMoment, collections_in, is_collection, is_offer, offers_in}
 use Rattle.serve_work.specs.ClientInside.{GivesUp, IsCounted, KeepsMoments, OffersAt, Tallies, TalliesSeat}
 
@@ -52,15 +54,15 @@ none_offered pair old new c =
     ap (λ (v : StreamSeatValue). offers_in v.calls.list) c.seat ∙ offers_both old.calls.list (acts.Collected c.number ∷ [])
 
 pub TalliesSeat-same : (old new : StreamSeatValue) → new.number ≡ old.number → new.chain ≡ old.chain → new.before ≡ old.before
-    → new.calls ≡ old.calls → new.accepted ≡ old.accepted → new.moment ≡ old.moment → TalliesSeat old new
-TalliesSeat-same old new number chain before calls accepted moment = record {
+    → new.calls ≡ old.calls → new.accepted ≡ old.accepted → new.moments ≡ old.moments → TalliesSeat old new
+TalliesSeat-same old new number chain before calls accepted moments = record {
   number = number;
   chain = chain;
   before = before;
   added = [];
   calls = ap (λ (c : CallsValue). c.list) calls ∙ sym (append-nil old.calls.list);
   offers = omega (arith, ap (λ (c : CallsValue). offers_in c.list) calls, accepted);
-  moment = λ none. moment;
+  moments = λ none. moments;
   collections = omega (arith, ap (λ (c : CallsValue). collections_in c.list) calls);
 }
 
@@ -72,8 +74,8 @@ TalliesSeat-trans a b c p q = record {
   added = p.added ++ q.added;
   calls = q.calls ∙ ap (λ l. l ++ q.added) p.calls ∙ append_assoc a.calls.list p.added q.added;
   offers = omega (arith, p.offers, q.offers);
-  moment = λ none.
-      let both = offers_both p.added q.added in q.moment (omega (arith, none, both)) ∙ p.moment (omega (arith, none, both));
+  moments = λ none.
+      let both = offers_both p.added q.added in q.moments (omega (arith, none, both)) ∙ p.moments (omega (arith, none, both));
   collections = omega (arith, p.collections, q.collections);
 }
 
@@ -85,7 +87,7 @@ TalliesSeat-accept frame n old new a = rw a.seat (record {
   added = acts.Offered a.tick n ∷ [];
   calls = refl;
   offers = omega (arith, offers_both old.calls.list (acts.Offered a.tick n ∷ []));
-  moment = λ none. absurd (omega (arith, none));
+  moments = λ none. absurd (omega (arith, none));
   collections = omega (arith, collections_both old.calls.list (acts.Offered a.tick n ∷ []));
 })
 
@@ -97,7 +99,7 @@ TalliesSeat-collect pair old new c = record {
   added = acts.Collected c.number ∷ [];
   calls = ap (λ (v : StreamSeatValue). v.calls.list) c.seat;
   offers = omega (arith, none_offered pair old new c, ap (λ (v : StreamSeatValue). v.accepted) c.seat);
-  moment = λ none. ap (λ (v : StreamSeatValue). v.moment) c.seat;
+  moments = λ none. ap (λ (v : StreamSeatValue). v.moments) c.seat;
   collections = omega (arith, one_collected pair old new c);
 }
 
@@ -128,7 +130,7 @@ pub seat_same : (old new : StreamSeatValue) → new ≡ old → TalliesSeat old 
 seat_same old new same = TalliesSeat-same old new (ap (λ (v : StreamSeatValue). v.number) same)
     (ap (λ (v : StreamSeatValue). v.chain) same) (ap (λ (v : StreamSeatValue). v.before) same)
     (ap (λ (v : StreamSeatValue). v.calls) same) (ap (λ (v : StreamSeatValue). v.accepted) same)
-    (ap (λ (v : StreamSeatValue). v.moment) same)
+    (ap (λ (v : StreamSeatValue). v.moments) same)
 
 pub counted_later : (past : List Act) (old new : StreamSeatValue) → TalliesSeat old new → IsCounted past old → IsCounted past new
 counted_later past old new t e =
@@ -155,14 +157,18 @@ all_both P (x ∷ xs) ys p q = (p.0, all_both P xs ys p.1 q)
 pub no_offers : (Gives : ℕ → Type 0) (calls : List Act) → offers_in calls ≡ 0 → AreAtMoments Gives calls
 no_offers Gives [] none = tt
 no_offers Gives (acts.Offered tick number ∷ calls) none = absurd (omega (arith, none))
-no_offers Gives (act ∷ calls) none = (tt, no_offers Gives calls none)
+no_offers Gives (act ∷ calls) none = ((0, tt), no_offers Gives calls none)
 
 pub KeepsMoments-same : (Gives : ℕ → Type 0) (old new : StreamSeatValue) → new ≡ old → KeepsMoments Gives old new
-KeepsMoments-same Gives old new same = rw same (record { calls = λ m. m; latest = λ m. m })
+KeepsMoments-same Gives old new same = rw same (record { calls = λ m. m; first = λ m. m; latest = λ m. m })
 
 pub KeepsMoments-trans : (Gives : ℕ → Type 0) (a b c : StreamSeatValue) → KeepsMoments Gives a b → KeepsMoments Gives b c
     → KeepsMoments Gives a c
-KeepsMoments-trans Gives a b c p q = record { calls = λ m. q.calls (p.calls m); latest = λ m. q.latest (p.latest m) }
+KeepsMoments-trans Gives a b c p q = record {
+  calls = λ m. q.calls (p.calls m);
+  first = λ m. q.first (p.first m);
+  latest = λ m. q.latest (p.latest m);
+}
 
 -- where no frame was accepted, none was offered
 pub none_accepted : (Gives : ℕ → Type 0) (old new : StreamSeatValue) → TalliesSeat old new → new.accepted ≡ old.accepted
@@ -178,22 +184,36 @@ none_accepted Gives old new t same =
     record {
       calls = λ m.
           subst (AreAtMoments Gives) (sym t.calls)
-          (all_both (IsAtMoment Gives) old.calls.list t.added m (no_offers Gives t.added none));
-      latest = λ m. subst (λ (o : Option ℕ). IfSome o Gives) (sym (t.moment none)) m;
+          (all_both (λ act. (clock : ℕ) × IsAtMoment Gives clock act) old.calls.list t.added m (no_offers Gives t.added none));
+      first = λ m. subst (λ (o : Option Moments). IfSome o (λ t. Gives t.first)) (sym (t.moments none)) m;
+      latest = λ m. subst (λ (o : Option Moments). IfSome o (λ t. Gives t.latest)) (sym (t.moments none)) m;
     }
 
 pub none_given : (Gives : ℕ → Type 0) (old new : StreamSeatValue) → TalliesSeat old new → GivesUp old new → KeepsMoments Gives old new
 none_given Gives old new t up = none_accepted Gives old new t (ap (λ (v : StreamSeatValue). v.accepted) up)
 
+first_with : (Gives : ℕ → Type 0) (moments : Option Moments) (at : ℕ) → IfSome moments (λ t. Gives t.first) → Gives at
+    → Gives (moments_with moments at).first
+first_with Gives None at given gives = gives
+first_with Gives (Some before) at given gives = given
+
+latest_with : (Gives : ℕ → Type 0) (moments : Option Moments) (at : ℕ) → Gives at → Gives (moments_with moments at).latest
+latest_with Gives None at gives = gives
+latest_with Gives (Some before) at gives = gives
+
 pub offers_at : (Gives : ℕ → Type 0) (at : ℕ) (old new : StreamSeatValue) → Gives at → OffersAt at old new → KeepsMoments Gives old new
 offers_at Gives at old new gives (inl same) = record {
   calls = λ m. subst (λ (k : CallsValue). AreAtMoments Gives k.list) (sym same.0) m;
-  latest = λ m. subst (λ (o : Option ℕ). IfSome o Gives) (sym same.1) m;
+  first = λ m. subst (λ (o : Option Moments). IfSome o (λ t. Gives t.first)) (sym same.1) m;
+  latest = λ m. subst (λ (o : Option Moments). IfSome o (λ t. Gives t.latest)) (sym same.1) m;
 }
 offers_at Gives at old new gives (inr notes) = record {
   calls = λ m.
       subst (λ (k : CallsValue). AreAtMoments Gives k.list) (sym notes.1.calls)
-      (all_both (IsAtMoment Gives) old.calls.list (acts.Offered (tick_of notes.0 at) notes.1.number ∷ []) m
-      ((notes.0, at, gives, refl), tt));
-  latest = λ m. subst (λ (o : Option ℕ). IfSome o Gives) (sym notes.1.moment) gives;
+      (all_both (λ act. (clock : ℕ) × IsAtMoment Gives clock act) old.calls.list
+      (acts.Offered (tick_of notes.0 at) notes.1.number ∷ []) m ((notes.0, (at, gives, refl)), tt));
+  first = λ m. subst (λ (o : Option Moments). IfSome o (λ t. Gives t.first)) (sym notes.1.moments)
+      (first_with Gives old.moments at m gives);
+  latest = λ m. subst (λ (o : Option Moments). IfSome o (λ t. Gives t.latest)) (sym notes.1.moments)
+      (latest_with Gives old.moments at gives);
 }

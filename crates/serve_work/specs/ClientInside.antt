@@ -142,7 +142,7 @@ pub record Accounted (seat : StreamSeatValue) (writer : WriterState) : Type 0 wh
   pub writing : writer.failed ≡ false
 
 -- calls were added to the seat's, among them each offer and each collection that was accepted; where no offer
--- was, the moment of the latest stays
+-- was, the moments of the first and the latest stay
 pub record TalliesSeat (old new : StreamSeatValue) : Type 0 where
   pub number : new.number ≡ old.number
   pub chain : new.chain ≡ old.chain
@@ -150,7 +150,7 @@ pub record TalliesSeat (old new : StreamSeatValue) : Type 0 where
   pub added : List Act
   pub calls : new.calls.list ≡ old.calls.list ++ added
   pub offers : offers_in new.calls.list + old.accepted ≡ offers_in old.calls.list + new.accepted
-  pub moment : offers_in added ≡ 0 → new.moment ≡ old.moment
+  pub moments : offers_in added ≡ 0 → new.moments ≡ old.moments
   pub collections : collections_in old.calls.list ≤ collections_in new.calls.list
 
 -- and the writer has put no more images than were collected
@@ -160,13 +160,14 @@ pub record Tallies (old new : StreamSeatValue) (writer writer' : WriterState) : 
 
 -- no frame was offered, or one at this moment
 abbrev pub OffersAt : (at : ℕ) → (old new : StreamSeatValue) → Type 0
-OffersAt at old new = (new.calls ≡ old.calls) × (new.moment ≡ old.moment) ⊎ Notes at old new
+OffersAt at old new = (new.calls ≡ old.calls) × (new.moments ≡ old.moments) ⊎ Notes at old new
 
--- where all frames were offered at moments that the clock gave, all still are, and where the latest was, the
--- latest still is
+-- where all frames were offered at moments that the clock may give, all still are, and where it may give that
+-- of the first, or of the latest, it still may
 pub record KeepsMoments (Gives : ℕ → Type 0) (old new : StreamSeatValue) : Type 0 where
   pub calls : AreAtMoments Gives old.calls.list → AreAtMoments Gives new.calls.list
-  pub latest : IfSome old.moment Gives → IfSome new.moment Gives
+  pub first : IfSome old.moments (λ m. Gives m.first) → IfSome new.moments (λ m. Gives m.first)
+  pub latest : IfSome old.moments (λ m. Gives m.latest) → IfSome new.moments (λ m. Gives m.latest)
 
 -- where the clock allows the stop that was kept, if one was, it allows the one that is kept or told then
 abbrev pub KeepsAllowed : (Gives : ℕ → Type 0) → (old new : Option Stop) → Type 0

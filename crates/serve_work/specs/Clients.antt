@@ -73,15 +73,18 @@ pub record HasOtherNumber (calls : List Act) : Type 0 where
   pub other : number ≢ offers_in before
   pub whole : calls ≡ before ++ Offered tick number ∷ later
 
--- a frame was offered at a moment that the clock gave: there it goes on to that moment, if it is later
-abbrev pub IsAtMoment : (Gives : ℕ → Type 0) → Act → Type 0
-IsAtMoment Gives (Offered tick number) = (clock : ℕ) × (at : ℕ) × Gives at × (tick ≡ tick_of clock at)
-IsAtMoment Gives act = ⊤
+-- an entry of a frame has a moment that the clock may give: where the journal's clock was earlier, it goes on
+-- to that moment, and else it stays
+abbrev pub IsAtMoment : (Gives : ℕ → Type 0) → (clock : ℕ) → Act → Type 0
+IsAtMoment Gives clock (Offered tick number) = (at : ℕ) × Gives at × (tick ≡ tick_of clock at)
+IsAtMoment Gives clock act = ⊤
 
+-- the same of all frames, each by some clock
 abbrev pub AreAtMoments : (Gives : ℕ → Type 0) → List Act → Type 0
-AreAtMoments Gives calls = AllByRecursion (IsAtMoment Gives) calls
+AreAtMoments Gives calls = AllByRecursion (λ act. (clock : ℕ) × IsAtMoment Gives clock act) calls
 
--- a clock that gives these moments allows the stop: its end is one only where it gave a moment past the last
+-- a clock that may give these moments allows the stop: its end is one only where it may give a moment past
+-- the last
 abbrev pub AllowsStop : (Gives : ℕ → Type 0) → Stop → Type 0
 AllowsStop Gives (Refused ClockEnd) = (at : ℕ) × (LAST_MOMENT < at) × Gives at
 AllowsStop Gives stop = ⊤

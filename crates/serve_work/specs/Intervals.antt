@@ -1,5 +1,5 @@
 -- What contracts inside the crate say of a session from one epoch to the next.
-use Rattle.std.specs.Prelude.{ℕ, suc, ◌≡◌, ◌≤◌, ◌<◌, ◌^◌, ⊤, All, Bool, List, [], ◌∷◌, ◌++◌, Option}
+use Rattle.std.specs.Prelude.{ℕ, suc, ◌≡◌, ◌≤◌, ◌<◌, ◌^◌, ⊤, All, Bool, List, [], ◌∷◌, ◌++◌, Option, None}
 use Rattle.std.specs.Prelude.{length, map}
 use Rattle.std.specs.List.{AllByRecursion}
 use Rattle.std.specs.Vec.{vec_capacity, vec_len}
@@ -11,12 +11,12 @@ use Rattle.serve_hub.specs.declared.entry.Entry.{Entry}
 use Rattle.serve_hub.specs.Books.{specs_of}
 use Rattle.serve_hub.specs.Ends.{AreStreamsOf, IsCharged}
 use Rattle.serve_hub.specs.Journal.{IsJournal}
-use Rattle.serve_hub.specs.Seats.{left_by, opened_streams}
+use Rattle.serve_hub.specs.Seats.{StreamSeatValue, left_by, opened_streams}
 use Rattle.serve_work.specs.declared.session.interval.Interval.{Interval}
 use Rattle.serve_work.specs.declared.session.opening.Opening.{Opening}
 use Rattle.serve_work.specs.declared.session.room.Room.{Room}
 use Rattle.serve_work.specs.Clients.{ClientStart}
-use Rattle.serve_work.specs.Sessions.{AllAtMoments, starts_of}
+use Rattle.serve_work.specs.Sessions.{AllTimed, starts_of}
 use Rattle.serve_work.specs.SessionInside.{AllBegin, AllStand, HeldValue, held_with, stream_of}
 
 -- streams whose seats have the numbers from this one on
@@ -69,14 +69,19 @@ pub record IsBetween {R W : Type 0} (left : R → Option (List ℕ)) (read_failu
   pub untold : now.served.items ≡ []
   pub places : length helds ≤ vec_capacity now.served
 
--- the same, with more entries behind those of this journal, whose frames were offered at moments that the
--- clock gave
+-- the same, with more entries behind those of this journal, whose frames too have moments that the clock may
+-- give
 pub record IsLater {R W : Type 0} (left : R → Option (List ℕ)) (read_failures : R → ℕ)
     (after : W → Option (List ℕ)) (failures : W → ℕ) (is_flushed : W → Bool) (Gives : ℕ → Type 0)
     (b : Beginning) (journal : List Entry) (now : Interval R W) : Type 0 where
   pub more : List Entry
   pub between : IsBetween left read_failures after failures is_flushed b (more ++ journal) now
-  pub moments : AllAtMoments Gives more b.starts
+  pub moments : AllTimed Gives b.schedule journal b.starts
+      → AllTimed Gives b.schedule (more ++ journal) b.starts
+
+-- the seat has made no call
+abbrev pub HasNoCalls : StreamSeatValue → Type 0
+HasNoCalls seat = (seat.calls.list ≡ []) × (seat.moments ≡ None)
 
 -- empty lists, with a place for each of so many streams
 pub record IsRoomFor {L R W : Type 0} (count : ℕ) (room : Room L R W) : Type 0 where
@@ -99,4 +104,4 @@ pub record CanBegin {L R W : Type 0} (left : R → Option (List ℕ)) (read_fail
   pub room : IsRoomFor (vec_len now.streams) now.room
   pub untold : now.served.items ≡ []
   pub places : vec_len now.streams ≤ vec_capacity now.served
-  pub no_calls : AllByRecursion (λ seat. seat.calls.list ≡ []) now.opened.1.items
+  pub no_calls : AllByRecursion HasNoCalls now.opened.1.items

@@ -80,8 +80,8 @@ IsReadyAt (Over outcome) seat = ⊤
 abbrev pub IsReady : HeldValue → Type 0
 IsReady held = IsReadyAt held.stream held.seat
 
--- a stream went on in an epoch, whatever it began with, with its frames at moments that the clock gave, and no
--- other stop than the clock allows
+-- a stream went on in an epoch, whatever it began with, with its frames at moments that the clock may give,
+-- and no other stop than the clock allows
 abbrev pub GoesOn : (Gives : ℕ → Type 0) → HeldValue → HeldValue → Type 0
 GoesOn Gives old new =
     ((start : ClientStart) (past : List Act) → Stands start past old → Stands start past new)

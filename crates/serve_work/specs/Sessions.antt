@@ -1,22 +1,25 @@
 -- What the streams of a session come to.
-use Rattle.std.specs.Prelude.{ℕ, ◌*◌, ◌≡◌, ◌≤◌, ◌++◌, Bool, List, [], ◌∷◌, Option, reverse}
+use Rattle.std.specs.Prelude.{ℕ, ◌*◌, ◌≡◌, ◌≤◌, ◌++◌, ⊤, Bool, List, [], ◌∷◌, Option, reverse}
 use Rattle.std.specs.List.{AllByRecursion, AllZip}
 use Rattle.filters.specs.Costs.{cost_of}
 use Rattle.y4m_stream.specs.declared.reader.Phase.TheVariants.{Open}
 use Rattle.y4m_stream.specs.Reader.{IsOfHeader, ReaderState}
+use Rattle.serve_core.specs.Bare.{Blank}
 use Rattle.serve_core.specs.Desk.{desk_state}
 use Rattle.serve_core.specs.Schedule.{HasStream, ScheduleValue, opened_schedule}
 use Rattle.serve_core.specs.Setup.{Setup, StreamSpec}
+use Rattle.serve_core.specs.States.{State}
 use Rattle.serve_core.specs.Streams.{KeptStream}
 use Rattle.serve_hub.specs.declared.entry.Act.{Act}
 use Rattle.serve_hub.specs.declared.entry.Entry.{Entry}
 use Rattle.serve_hub.specs.declared.entry.Seat.TheVariants.{Stream}
+use Rattle.serve_hub.specs.Books.{specs_of}
 use Rattle.serve_hub.specs.Ends.{acts_of}
-use Rattle.serve_hub.specs.Journal.{IsJournal}
+use Rattle.serve_hub.specs.Journal.{IsJournal, clock_in}
 use Rattle.serve_hub.specs.Seats.{StreamSeatValue}
 use Rattle.serve_work.specs.declared.session.Served.{Served}
 use Rattle.serve_work.specs.declared.stop.Stop.TheVariants.{Whole}
-use Rattle.serve_work.specs.Clients.{AllowsStop, AreAtMoments, ClientEnds, ClientOutcome, ClientStart}
+use Rattle.serve_work.specs.Clients.{AllowsStop, ClientEnds, ClientOutcome, ClientStart, IsAtMoment}
 
 -- nothing was read of a stream's frames, and its header has the size of the stream's chain
 pub record IsInput {W : Type 0} (spec : StreamSpec) (input : ReaderState × W) : Type 0 where
@@ -100,19 +103,29 @@ pub record IsServedBy (journal : List Entry) (last : ScheduleValue) (start : Cli
   pub calls : is_served.past ++ is_served.seat.calls.list ≡ acts_in journal start
   pub stream : HasStream last start.seat.number (IsLaneTold served)
 
--- each frame of these streams in the journal was offered at a moment that the clock gave
-abbrev pub AllAtMoments : (Gives : ℕ → Type 0) → List Entry → List ClientStart → Type 0
-AllAtMoments Gives journal starts =
-    AllByRecursion (λ start. AreAtMoments Gives (acts_in journal start)) starts
+-- by a journal from an opening state on, the latest entry first, each entry of a frame of stream s has a
+-- moment that the clock may give, by the journal's own clock as it was before that entry
+abbrev pub AreTimed : (Gives : ℕ → Type 0) → (s : ℕ) → List StreamSpec → (opening : State Blank) → List Entry
+    → Type 0
+AreTimed Gives s specs opening [] = ⊤
+AreTimed Gives s specs opening (e ∷ past) =
+    AreTimed Gives s specs opening past
+    × (e.seat ≡ Stream s → IsAtMoment Gives (clock_in specs opening past) e.act)
+
+-- and so for each of these streams, from where a schedule stood
+abbrev pub AllTimed : (Gives : ℕ → Type 0) → ScheduleValue → List Entry → List ClientStart → Type 0
+AllTimed Gives opening journal starts =
+    AllByRecursion (λ start.
+    AreTimed Gives start.seat.number (specs_of opening) (desk_state opening) journal) starts
 
 -- one journal of all epochs, the latest entry first, leads from where the setup opens to where the session
--- ended, and each stream was served by its calls in it, with its frames at moments that the clock gave, and
--- stopped as the clock allows
+-- ended, and each stream was served by its calls in it, with each frame at a moment that the clock may give,
+-- and stopped as the clock allows
 pub record IsSession (Gives : ℕ → Type 0) (setup : Setup) (starts : List ClientStart)
     (served : List ServedValue) : Type 0 where
   pub journal : List Entry
   pub last : ScheduleValue
   pub leads : IsJournal setup.streams (desk_state (opened_schedule setup)) journal (desk_state last)
   pub streams : AllZip (IsServedBy journal last) starts served
-  pub moments : AllAtMoments Gives journal starts
+  pub moments : AllTimed Gives (opened_schedule setup) journal starts
   pub stops : AllByRecursion (λ s. AllowsStop Gives s.outcome.stop) served

@@ -9,6 +9,7 @@ ghost use Rattle.serve_hub.specs.Seats.{HasPlace, kept_more};
 
 use super::StreamSeat;
 use crate::epoch::Epoch;
+use crate::moments::Moments;
 use crate::refusal::{Came, Refusal};
 use crate::shared::Shared;
 use cbs_account::limits::LAST_MOMENT;
@@ -127,7 +128,7 @@ impl<L: Epoch> StreamSeat<L> {
             Err((refusal, job)) => return Err((self.told_offer(at, &frame, refusal), Some(job))),
         };
         self.calls.count(book, total);
-        self.moment = Some(at);
+        self.moments = Some(Moments::with(self.moments, at));
         let next = self.keep(frame);
         if number != next {
             return Err((Refusal::Torn(Came::Number(number)), None));

@@ -8,7 +8,7 @@ use super::steps::Call::{Close, Collect, Offer, Work};
 use super::steps::{Step, TWELVE_FRAMES, follow};
 use super::{Core, PLAIN, Served, book_of, frame_of, same, setup_of, state_of, stream_spec_of};
 use serve_core::Setup;
-use serve_hub::{Act, Book, Ended, Entry, Epoch, Hub, Refusal, Seat, Settled};
+use serve_hub::{Act, Book, Ended, Entry, Epoch, Hub, Moments, Refusal, Seat, Settled};
 use std::alloc::Global;
 use std::marker::Brand;
 use std::process::Abort;
@@ -70,7 +70,7 @@ fn next_epoch<L: Epoch, R: Wait + Abort>(
     }
 }
 
-/// A frame of stream `s` at a moment.
+/// A frame of stream `s` at a moment. The first was offered at moment 3.
 fn offered_at<L: Epoch, R: Wait + Abort>(
     rt: &R,
     alloc: Global,
@@ -83,7 +83,11 @@ fn offered_at<L: Epoch, R: Wait + Abort>(
     let frame = frame_of(alloc, &[0x10])?;
     match hub.offer(rt, alloc, seat, at, frame) {
         Ok(_) => {
-            same(rt, seat.moment(), Some(at));
+            let moments = Moments {
+                first: 3,
+                latest: at,
+            };
+            same(rt, seat.moments(), Some(moments));
             Ok(())
         }
         Err(refused) => Err(refused.refusal.into()),

@@ -29,11 +29,11 @@ returns-in-Err-Some-clause-moment g c =
     let e = c.in-Err-Some in
     let some : e.field-0.frame ≡ Some e.frame = search rules in
     let back = matched _ _ e.field-0.frame e.frame some e.ensures.refused in
-    inl (ap (λ (v : StreamSeatValue). v.calls) back.1.seat, ap (λ (v : StreamSeatValue). v.moment) back.1.seat)
+    inl (ap (λ (v : StreamSeatValue). v.calls) back.1.seat, ap (λ (v : StreamSeatValue). v.moments) back.1.seat)
 
 pub returns-in-Err-Some-offer_over-clause-moment : goal.returns-in-Err-Some-offer_over-clause-moment
 returns-in-Err-Some-offer_over-clause-moment g c =
     let e = c.in-Err-Some-offer_over in
     let some : e.field-0.back ≡ Some (e.frame, e.image) = search rules in
     let back = matched _ _ e.field-0.back (e.frame, e.image) some e.ensures.refused in
-    inl (ap (λ (v : StreamSeatValue). v.calls) back.2.seat, ap (λ (v : StreamSeatValue). v.moment) back.2.seat)
+    inl (ap (λ (v : StreamSeatValue). v.calls) back.2.seat, ap (λ (v : StreamSeatValue). v.moments) back.2.seat)

@@ -4,7 +4,7 @@ use Rattle.serve_work.specs.SessionInside.{kept_stop}
 use Rattle.serve_work.proofs.Intervals.{from_setup}
 use Rattle.serve_work.proofs.SessionCharges.{are_served}
 use Rattle.serve_work.proofs.SessionStops.{stops_told}
-use Rattle.serve_work.proofs.SessionTurns.{both_given, no_bad_limit, none_yet}
+use Rattle.serve_work.proofs.SessionTurns.{no_bad_limit, none_yet}
 use Rattle.serve_work.proofs.session.serve_session.Goals as goal
 
 pub go_on-requires-clause-at : goal.go_on-requires-clause-at
@@ -38,8 +38,7 @@ returns-clause-session g c =
       last = c.in_ok-ended.ended.ended.book.desk;
       leads = from_setup c.args.setup journal _ last.between.past;
       streams = c.report.ensures.served b journal last.between;
-      moments = both_given gives (first.more ++ []) last.more b.starts
-          (both_given gives [] first.more b.starts (none_yet gives b.starts) first.moments) last.moments;
+      moments = last.moments (first.moments (none_yet gives b.schedule b.starts));
       stops = stops_told gives g.R.Source.remaining g.R.Source.failures g.W.Sink.contents g.W.Sink.failures g.W.Sink.is_flushed
           (map kept_stop c.in_ok-ended.ended.streams.items) c.report.result.items
           (c.in_ok-ended.ensures.stops c.in_ok-opened.ensures.stops) c.report.ensures.stops;

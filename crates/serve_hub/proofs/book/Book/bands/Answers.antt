@@ -1,4 +1,4 @@
-use Rattle.std.proofs.Common.{◌≡◌, sym, ◌∙◌, ap, arith, take_all}
+use Rattle.std.proofs.Common.{sym, ◌∙◌, ap, arith, take_all}
 use Rattle.serve_hub.specs.Books.{BookValue}
 use Rattle.serve_hub.specs.Journal.{bands_of}
 use Rattle.serve_hub.proofs.Bands.{bands_reversed}

@@ -1,5 +1,4 @@
-use Rattle.std.proofs.Common.{◌≤◌, length, subst, arith}
-use Rattle.serve_core.specs.Schedule.{ScheduleValue}
+use Rattle.std.proofs.Common.{◌≤◌, length, subst}
 use Rattle.serve_hub.specs.BookInside.{book}
 use Rattle.serve_hub.specs.Books.{BookValue}
 use Rattle.serve_hub.proofs.Opened.{more_streams}

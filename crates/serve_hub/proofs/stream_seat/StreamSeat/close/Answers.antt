@@ -23,5 +23,6 @@ invariant_of-shared g c =
             is.5,
             is.6,
             is.7,
+            is.8,
           ))
     ]

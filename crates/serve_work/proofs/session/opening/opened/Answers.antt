@@ -1,8 +1,8 @@
-use Rattle.std.proofs.Common.{◌≡◌, ℕ, [], arith, refl, subst, sym}
+use Rattle.std.proofs.Common.{ℕ, arith, refl, subst, sym}
 use Rattle.std.specs.List.{AllByRecursion}
 use Rattle.serve_hub.specs.Seats.{opened_rests}
 use Rattle.serve_work.specs.declared.session.SessionFault.TheVariants.{NoMemory}
-use Rattle.serve_work.specs.Intervals.{IsRoomFor}
+use Rattle.serve_work.specs.Intervals.{HasNoCalls, IsRoomFor}
 use Rattle.serve_work.specs.SessionInside.{stream_of}
 use Rattle.serve_work.proofs.Intervals.{begins_at, is_beginning, new_seats, no_entry}
 use Rattle.serve_work.proofs.SessionTurns.{are_unread, no_bad_limit, no_memory}
@@ -25,7 +25,7 @@ returns-clause-at g c =
           c.requires.inputs c.in_ok-opened.ensures.streams c.in_ok-streams.ensures;
       room = subst (λ (n : ℕ). IsRoomFor n c.in_ok-room.room) c.len-count.ensures c.in_ok-room.ensures;
       untold = c.in_ok-served.ensures.items;
-      no_calls = subst (AllByRecursion (λ seat. seat.calls.list ≡ [])) (sym c.in_ok-opened.ensures.streams)
+      no_calls = subst (AllByRecursion HasNoCalls) (sym c.in_ok-opened.ensures.streams)
           (new_seats c.args.limit (opened_rests 0 specs));
       places = omega (arith, c.len-count.ensures, c.in_ok-served.ensures.capacity);
     }

@@ -1,8 +1,8 @@
-use Rattle.std.proofs.Common.{◌≡◌, ℕ, ◌∙◌, [], ap, arith, map, refl, subst, sym}
+use Rattle.std.proofs.Common.{ℕ, ◌∙◌, ap, arith, map, refl, subst, sym}
 use Rattle.std.specs.List.{AllByRecursion}
 use Rattle.serve_hub.specs.Seats.{seat_over}
 use Rattle.serve_core.specs.Schedule.{ScheduleValue}
-use Rattle.serve_work.specs.Intervals.{IsRoomFor, LeadsTo}
+use Rattle.serve_work.specs.Intervals.{HasNoCalls, IsRoomFor, LeadsTo}
 use Rattle.serve_work.specs.SessionInside.{stream_of}
 use Rattle.serve_work.proofs.Intervals.{new_seats, stand_again, still_between}
 use Rattle.serve_work.proofs.Telling.{as_many}
@@ -25,7 +25,7 @@ returns-in-Ok-reopen-clause-at g c = λ b journal at.
           (c.in-Ok-reopen.ensures.streams ∙ ap (map (seat_over c.args.limit)) at.seats) at.streams;
       room = subst (λ (n : ℕ). IsRoomFor n c.in-Ok.room) c.len.ensures c.in-Ok.ensures;
       untold = at.untold;
-      no_calls = subst (AllByRecursion (λ seat. seat.calls.list ≡ [])) (sym c.in-Ok-reopen.ensures.streams)
+      no_calls = subst (AllByRecursion HasNoCalls) (sym c.in-Ok-reopen.ensures.streams)
           (new_seats c.args.limit c.args.interval.ended.streams);
       places = omega (arith, as_many _ _ _ _ _ b journal c.args.interval at, at.places, c.args.interval.streams.ok.0);
     }
