@@ -72,6 +72,15 @@ fn streams_are_served_to_their_ends(rt: HostRuntime) -> Result<(), Fail> {
     Ok(())
 }
 
+/// The first frame is offered at moment 5, each other one a moment later.
+#[test]
+fn each_frame_asks_the_clock_anew(rt: HostRuntime) -> Result<(), Fail> {
+    let plan = Plan { moment: 5, ..PLAIN };
+    let told = served(&rt, rt.alloc(), THREE, plan)?;
+    assert_eq!(rt; told.ticks.as_slice(), [5, 6, 7].as_slice());
+    Ok(())
+}
+
 #[test]
 fn twenty_frames_pass_a_queue_of_four(rt: HostRuntime) -> Result<(), Fail> {
     let (input, images) = numbered(rt.alloc(), 20)?;

@@ -70,7 +70,11 @@ fn short_journals_change_nothing(rt: HostRuntime) -> Result<(), Fail> {
             let name = format!(in rt.alloc(); "{}, {limit} entries", session.name)?;
             let short = Session {
                 name: &name,
-                hall: Hall { limit, ..WIDE },
+                hall: Hall {
+                    limit,
+                    moment: 7,
+                    ..WIDE
+                },
                 streams: session.streams,
                 told: session.told,
             };

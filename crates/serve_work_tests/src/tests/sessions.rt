@@ -11,10 +11,11 @@ use frame_view::Geometry;
 use lease::JobSpec;
 use row_bands::BandHeight;
 use serve_core::{Refusal as Core, Setup, StreamSpec};
-use serve_hub::{Epoch, Hub, Refusal, StreamSeat, WorkSeat};
+use serve_hub::{Act, Epoch, Hub, Refusal, StreamSeat, WorkSeat};
 use serve_work::{ClientEnd, ClientRest, ClientTurn, Clock, Gate, Stop, client, work};
 use std::alloc::Global;
 use std::marker::Brand;
+use std::sync::atomic::{AtomicU64, Ordering};
 use std::sync::ledger::Blank;
 use std::sync::{Arc, Wait};
 use std::test::Fail;
@@ -26,7 +27,7 @@ use y4m_stream::reader::Phase;
 use y4m_stream::{OverRead, OverWrite, Source, StreamReader};
 
 /// What a stream is served with: its operations, how many rows a band has, how many bytes its writer takes,
-/// how many frames it may accept, and the moment of all its offers.
+/// how many frames it may accept, and the moment of its first offer.
 #[derive(Clone, Copy)]
 pub(super) struct Plan<'a> {
     pub(super) ops: &'a str,
@@ -45,11 +46,12 @@ pub(super) const PLAIN: Plan<'static> = Plan {
     moment: 0,
 };
 
-/// What came of a stream: what was written, how many frames were accepted and how many images written whole,
-/// and why the client stopped.
+/// What came of a stream: what was written, the moments to which its frames moved the clock, how many frames
+/// were accepted and how many images written whole, and why the client stopped.
 #[derive(Drop)]
 pub(super) struct Told {
     pub(super) written: Vec<u8>,
+    pub(super) ticks: Vec<u64>,
     pub(super) accepted: u64,
     pub(super) delivered: u64,
     pub(super) stop: Stop,
@@ -78,6 +80,18 @@ impl Clock for Still {
 
     fn moment(&self) -> u64 {
         self.0
+    }
+}
+
+/// Each time that it is asked, the moment after the last one.
+#[derive(Drop)]
+struct Counting(AtomicU64);
+
+impl Clock for Counting {
+    ghost gives = { λ _ _. ⊤ };
+
+    fn moment(&self) -> u64 {
+        self.0.fetch_add(1, Ordering::SeqCst)
     }
 }
 
@@ -131,7 +145,7 @@ fn run<L: Epoch + Send + Sync, R: Source + Drop, T: Threads + Wait + Sync>(
     seat: StreamSeat<L>,
     reader: StreamReader<R>,
     writer: OverWrite<Room>,
-    clock: &Still,
+    clock: &Counting,
 ) -> Result<ClientEnd<L, R, OverWrite<Room>>, Fail>
     requires header { IsOfHeader reader.header seat.chain.geometry }
     requires fresh { IsNewSeat seat }
@@ -171,6 +185,17 @@ pub(super) fn served<T: Threads + Wait + Sync>(
     served_by::<Brand, _, _>(rt, alloc, Blank::new(80), setup, reader, plan)
 }
 
+/// The moments that these calls tell.
+fn ticks_in(alloc: Global, calls: &[Act]) -> Result<Vec<u64>, Fail> {
+    let mut ticks = Vec::new(alloc);
+    for call in calls {
+        if let Act::Offered(Some(tick), _) = call {
+            ticks.push(*tick)?;
+        }
+    }
+    Ok(ticks)
+}
+
 /// The same, with the ledger's name.
 fn served_by<L: Epoch + Send + Sync, R: Source + Drop, T: Threads + Wait + Sync>(
     rt: &T,
@@ -190,9 +215,10 @@ fn served_by<L: Epoch + Send + Sync, R: Source + Drop, T: Threads + Wait + Sync>
 {
     let (hub, seat, worker) = seated_of::<L>(alloc, blank, setup)?;
     let writer = OverWrite::new(Room::new(alloc, plan.room)?);
-    let clock = Still(plan.moment);
+    let clock = Counting(AtomicU64::new(plan.moment));
     let end = run(rt, alloc, &hub, worker, seat, reader, writer, &clock)?;
     Ok(Told {
+        ticks: ticks_in(alloc, end.seat.calls())?,
         written: end.writer.into_inner().taken,
         accepted: end.accepted,
         delivered: end.delivered,
