@@ -5,3 +5,5 @@ pub mod Reporting
 pub mod TakenAhead
 pub mod Openings
 pub mod Filtering
+pub mod Found
+pub mod Commands

@@ -12,3 +12,4 @@ pub mod Filtering
 pub mod Help
 pub mod Runs
 pub mod Options
+pub mod CommandLine

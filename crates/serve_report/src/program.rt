@@ -1,6 +1,6 @@
 // The program, over any reader and writers.
 ghost use Rattle.std.specs.Prelude.{ℕ, ◌≡◌, ◌≤◌, ◌⊎◌, ◌↔◌, Bool, IfOk, IsOk, List, Ok, Option, Result, true};
-ghost use Rattle.std.specs.Prelude.{string_bytes};
+ghost use Rattle.std.specs.Prelude.{map, string_bytes};
 ghost use Rattle.std.specs.Io.KnownBytes.{Appends, Keeps};
 ghost use Rattle.y4m_stream.specs.Filtered.{IsFiltered, IsFilteredAhead};
 ghost use Rattle.serve_report.specs.Filtering.{AreAsked, FiltersAll, FiltersTo};
@@ -87,8 +87,8 @@ where
     T: Threads + Wait + Clock + Copy + Drop + Send + Sync + 'static,
     ensures status { result ≤ 2 }
     ensures untouched { result ≡ 2 → Keeps (W.contents output.old) (W.contents output.new) }
-    ensures well { result ≡ 0 → RunsWell F.place_gives F.open_gives F.create_gives (R.remaining input)
-        (W.contents output.old) (W.contents output.new) }
+    ensures well { result ≡ 0 → RunsWell F.place_gives F.open_gives F.create_gives
+        (map string_bytes words.now) (R.remaining input) (W.contents output.old) (W.contents output.new) }
 {
     run_on(rt, alloc, words, input, output, errors, files, &Unwatched)
 }
@@ -117,8 +117,8 @@ where
     T: Threads + Wait + Clock + Copy + Drop + Send + Sync + 'static,
     ensures status { result ≤ 2 }
     ensures untouched { result ≡ 2 → Keeps (W.contents output.old) (W.contents output.new) }
-    ensures well { result ≡ 0 → RunsWell F.place_gives F.open_gives F.create_gives (R.remaining input)
-        (W.contents output.old) (W.contents output.new) }
+    ensures well { result ≡ 0 → RunsWell F.place_gives F.open_gives F.create_gives
+        (map string_bytes words.now) (R.remaining input) (W.contents output.old) (W.contents output.new) }
 {
     match read_words(alloc, words) {
         Ok(request) => run_request(rt, alloc, request, input, output, errors, files, watch),

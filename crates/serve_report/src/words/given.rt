@@ -1,6 +1,8 @@
 //! What the words of the command line give for each option.
-ghost use Rattle.std.specs.Prelude.{IfOk};
-ghost use Rattle.serve_report.specs.Options.{HasFilterOptions, HasServeOptions, IsNumberOf};
+ghost use Rattle.std.specs.Prelude.{◌≡◌, IfOk, codes};
+ghost use Rattle.serve_report.specs.Options.{HasFilterOptions, HasServeOptions, IsFlagOf, IsNumberOf};
+ghost use Rattle.serve_report.specs.Options.{found_in, text_of, texts_of};
+ghost use Rattle.serve_report.specs.ServeChecks.{words_asked};
 
 use super::{FEWEST_JOURNAL, FilterWords, ServeWords};
 use cbs_account::limits::MOST_WORKERS;
@@ -10,7 +12,10 @@ use serve_hub::limits::MOST_ENTRIES;
 use std::alloc::{AllocError, Global};
 
 /// The words that name the streams.
-fn stream_words<'a>(alloc: Global, matches: &ArgMatches<'a>) -> Result<Vec<&'a str>, AllocError> {
+fn stream_words<'a>(alloc: Global, matches: &ArgMatches<'a>) -> Result<Vec<&'a str>, AllocError>
+    ensures { IfOk result (λ streams.
+        words_asked streams.items ≡ texts_of (found_in matches.now) (codes "STREAM")) }
+{
     let mut streams = Vec::new(alloc);
     for word in matches.get_strs("STREAM").unwrap_or(&[]) {
         streams.push(*word)?;
@@ -20,20 +25,34 @@ fn stream_words<'a>(alloc: Global, matches: &ArgMatches<'a>) -> Result<Vec<&'a s
 
 /// The number of an option.
 fn number_of(matches: &ArgMatches<'_>, name: &str, default: u32) -> u32
-    ensures { IsNumberOf matches.now name.now default result }
+    ensures { IsNumberOf (found_in matches.now) name.now default result }
 {
     matches.get_one::<u32>(name).unwrap_or(default)
 }
 
+/// Whether a flag is raised.
+fn flag_of(matches: &ArgMatches<'_>, name: &str) -> bool
+    ensures { IsFlagOf (found_in matches.now) name.now result }
+{
+    matches.get_flag(name)
+}
+
+/// The operations.
+fn operations_of<'a>(matches: &ArgMatches<'a>) -> &'a str
+    ensures { result.now ≡ text_of (found_in matches.now) (codes "OPS") }
+{
+    matches.get_str("OPS").unwrap_or("")
+}
+
 /// What a stream is filtered by.
 pub fn filter_words<'a>(matches: &ArgMatches<'a>) -> FilterWords<'a>
-    ensures { HasFilterOptions matches.now result }
+    ensures { HasFilterOptions (found_in matches.now) result }
 {
     FilterWords {
-        operations: matches.get_str("OPS").unwrap_or(""),
+        operations: operations_of(matches),
         band: number_of(matches, "band", 16),
         threads: number_of(matches, "threads", 2),
-        is_quiet: matches.get_flag("quiet"),
+        is_quiet: flag_of(matches, "quiet"),
     }
 }
 
@@ -42,7 +61,7 @@ pub fn serve_words<'a>(
     alloc: Global,
     matches: &ArgMatches<'a>,
 ) -> Result<ServeWords<'a>, AllocError>
-    ensures { IfOk result (HasServeOptions matches.now) }
+    ensures { IfOk result (HasServeOptions (found_in matches.now)) }
 {
     Ok(ServeWords {
         workers: number_of(matches, "workers", 2).clamp(1, MOST_WORKERS as u32),
@@ -52,7 +71,7 @@ pub fn serve_words<'a>(
             FEWEST_JOURNAL as u32,
             MOST_ENTRIES as u32,
         ),
-        is_quiet: matches.get_flag("quiet"),
+        is_quiet: flag_of(matches, "quiet"),
         streams: stream_words(alloc, matches)?,
     })
 }

@@ -1,0 +1,16 @@
+use Rattle.std.proofs.Common.{codes, rules}
+use Rattle.std.proofs.lemmas.Result.{IfOk-weaker}
+use Rattle.clap.specs.Simple.{new_app}
+use Rattle.serve_report.specs.CommandLine.{IsCommand}
+use Rattle.serve_report.proofs.Commands.{by_argument}
+use Rattle.serve_report.proofs.words.command.serve_command.Goals as goal
+
+pub returns : goal.returns
+returns c =
+    let none : IsCommand (new_app (codes "serve")) c.after_long_help.result = record { same = search rules; local = search rules } in
+    let one = by_argument none c.workers_option.ensures c.in_ok-arg.ensures in
+    let two = by_argument one c.band_option.ensures c.in_ok-arg-2.ensures in
+    let three = by_argument two c.quantum_option.ensures c.in_ok-arg-3.ensures in
+    let four = by_argument three c.journal_option.ensures c.in_ok-arg-4.ensures in
+    let five = by_argument four c.quiet_flag.ensures c.in_ok-arg-5.ensures in
+    IfOk-weaker c.arg-6.result _ _ (λ command. by_argument five c.streams_argument.ensures) c.arg-6.ensures
