@@ -1,13 +1,17 @@
-//! Whether the seats are all there, and tell what the book has of them.
-ghost use Rattle.std.specs.Prelude.{◌≡◌, IsTrue};
+//! Whether the seats are all there, and agree with the book and with the clock of its journal.
+ghost use Rattle.std.specs.Prelude.{◌≡◌, ◌≤◌, ◌↔◌, IsSomeAnd, IsTrue, List, reverse};
 ghost use Rattle.std.specs.List.{Any};
+ghost use Rattle.serve_core.specs.Bare.{Blank};
+ghost use Rattle.serve_core.specs.Setup.{StreamSpec};
+ghost use Rattle.serve_core.specs.States.{State};
 ghost use Rattle.serve_hub.specs.Ends as rules;
-ghost use Rattle.serve_hub.specs.Ends.{AreStreamCalls, AreStreamsOf, AreWorkCalls, HaveStreams, HaveWorkers};
-ghost use Rattle.serve_hub.specs.Ends.{acts_of};
+ghost use Rattle.serve_hub.specs.Ends.{AreStreamCalls, AreStreamsOf, AreWorkCalls, HasCome, HaveCome};
+ghost use Rattle.serve_hub.specs.Ends.{HaveStreams, HaveWorkers, IsOfferOf, acts_of};
 
 use crate::book::Book;
 use crate::entry::{Act, Entry, Seat};
 use crate::epoch::Epoch;
+use crate::moments::Moments;
 use crate::stream_seat::StreamSeat;
 use crate::work_seat::WorkSeat;
 
@@ -110,4 +114,60 @@ pub(crate) fn have_their_streams<L: Epoch>(book: &Book, seats: &Vec<StreamSeat<L
         }
     }
     true
+}
+
+/// Whether the clock had come to the moment of each seat's first frame wherever the journal has an accepted
+/// frame of the seat. It was at `since` when the book was opened.
+pub(crate) fn have_come<L: Epoch>(book: &Book, since: u64, seats: &Vec<StreamSeat<L>>) -> bool
+    requires { since ≡ book.now.opening.clock }
+    ensures { IsTrue result → HaveCome book.now seats.now.items }
+{
+    for seat in seats {
+        if !has_come(book.journal(), since, seat.number(), seat.moments()) {
+            return false;
+        }
+    }
+    true
+}
+
+/// Whether it had, for a single stream.
+fn has_come(journal: &[Entry], since: u64, number: u32, moments: Option<Moments>) -> bool
+    ensures { (specs : List StreamSpec) (opening : State Blank) → opening.clock ≡ since → IsTrue result
+        → HasCome number moments specs opening (reverse journal.now) }
+{
+    let mut clock = since;
+    for entry in journal {
+        clock = clock_behind(clock, entry);
+        if is_offer_of(number, entry) && !has_begun(moments, clock) {
+            return false;
+        }
+    }
+    true
+}
+
+/// The clock behind a call, where it was this before.
+fn clock_behind(clock: u64, entry: &Entry) -> u64
+    ensures { result ≡ rules.clock_behind clock entry.now.seat entry.now.act }
+{
+    match (entry.seat, entry.act) {
+        (Seat::Stream(_), Act::Offered(Some(moment), _)) => moment,
+        _ => clock,
+    }
+}
+
+/// Whether the entry is that of an accepted frame of the stream.
+fn is_offer_of(number: u32, entry: &Entry) -> bool
+    ensures { IsTrue result ↔ IsOfferOf number entry.now.seat entry.now.act }
+{
+    match (entry.seat, entry.act) {
+        (Seat::Stream(stream), Act::Offered(_, _)) => stream == number,
+        _ => false,
+    }
+}
+
+/// Whether the clock has come to the first moment, where there is one.
+fn has_begun(moments: Option<Moments>, clock: u64) -> bool
+    ensures { IsTrue result → IsSomeAnd moments (λ m. m.first ≤ clock) }
+{
+    moments.is_some_and(|moments| moments.first <= clock)
 }

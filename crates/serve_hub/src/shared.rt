@@ -14,14 +14,15 @@ ghost use Rattle.serve_hub.specs.Ends.{AreFree, AreStreamCalls, AreStreamsOf, Ar
 ghost use Rattle.serve_hub.specs.Ends.{HaveCome, HaveWorkers, IsOpening, calls_in};
 ghost use Rattle.serve_hub.specs.Seats.{collected_by, left_by, opened_rest};
 
-use crate::agree::{have_streams, have_their_streams, have_workers, streams_agree, workers_agree};
+use crate::agree::{
+    have_come, have_streams, have_their_streams, have_workers, streams_agree, workers_agree,
+};
 use crate::book::Book;
 use crate::calls::Calls;
 use crate::ended::Ended;
 use crate::entry::Act;
 use crate::epoch::Epoch;
 use crate::limits::MOST_SEATS;
-use crate::moments::have_come;
 use crate::refusal::{Came, Refusal};
 use crate::refused::AdmitRefused;
 use crate::rest::SeatRest;

@@ -3,7 +3,7 @@ use Rattle.std.proofs.lemmas.List.Elements.{All-more, at_read}
 use Rattle.serve_hub.specs.Books.{opening_of, specs_of}
 use Rattle.serve_hub.specs.Ends.{HasCome, HaveCome}
 use Rattle.serve_hub.specs.Seats.{StreamSeatValue}
-use Rattle.serve_hub.proofs.moments.have_come.Goals as goal
+use Rattle.serve_hub.proofs.agree.have_come.Goals as goal
 
 pub loop-seat-preserved : goal.loop-seat-preserved
 loop-seat-preserved g c =

@@ -4,7 +4,7 @@ use Rattle.serve_core.specs.Setup.{StreamSpec}
 use Rattle.serve_core.specs.States.{State}
 use Rattle.serve_hub.specs.Ends.{HasCome}
 use Rattle.serve_hub.specs.Journal.{clock_in}
-use Rattle.serve_hub.proofs.moments.has_come.Given as goal
+use Rattle.serve_hub.proofs.agree.has_come.Given as goal
 
 abbrev pub invariant-loop-entry : goal.invariant-loop-entry
 invariant-loop-entry l =
