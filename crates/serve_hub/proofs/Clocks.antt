@@ -17,7 +17,7 @@ use Rattle.serve_hub.specs.declared.entry.Entry.{Entry}
 use Rattle.serve_hub.specs.declared.entry.Seat.{Seat}
 use Rattle.serve_hub.specs.declared.entry.Seat.TheVariants.{Stream, Worker}
 use Rattle.serve_hub.specs.declared.moments.Moments.{Moments}
-use Rattle.serve_hub.specs.Ends.{HasCome, IsOfferOf, clock_behind}
+use Rattle.serve_hub.specs.Ends.{ClockReached, IsOfferOf, clock_after}
 use Rattle.serve_hub.specs.Journal.{admission_of, clock_in, events_of, number_of, tick_of, transcript_of}
 use Rattle.serve_hub.proofs.Journals.{joined_transcript}
 
@@ -38,22 +38,22 @@ still_settled m w k None = still_banded m w k
 still_settled m w k (Some number) = still_banded m w k
 
 -- only an offer's tick moves the clock
-behind_is : (specs : List StreamSpec) (m : State Blank) (seat : Seat) (act : Act)
-    → (state_from m (events_of specs m seat act)).clock ≡ clock_behind m.clock seat act
-behind_is specs m (Stream s) (Offered None number) = refl
-behind_is specs m (Stream s) (Offered (Some moment) number) = refl
-behind_is specs m (Stream s) Admitted = still_admitted m s (slice_get specs s)
-behind_is specs m (Stream s) act = refl
-behind_is specs m (Worker w) (Settled k is_finished) = still_settled m w k (number_of is_finished (held_at m.workers w))
-behind_is specs m (Worker w) act = refl
+after_is : (specs : List StreamSpec) (m : State Blank) (seat : Seat) (act : Act)
+    → (state_from m (events_of specs m seat act)).clock ≡ clock_after m.clock seat act
+after_is specs m (Stream s) (Offered None number) = refl
+after_is specs m (Stream s) (Offered (Some moment) number) = refl
+after_is specs m (Stream s) Admitted = still_admitted m s (slice_get specs s)
+after_is specs m (Stream s) act = refl
+after_is specs m (Worker w) (Settled k is_finished) = still_settled m w k (number_of is_finished (held_at m.workers w))
+after_is specs m (Worker w) act = refl
 
 pub clock_step : (specs : List StreamSpec) (opening : State Blank) (past : List Entry) (e : Entry)
-    → clock_in specs opening (e ∷ past) ≡ clock_behind (clock_in specs opening past) e.seat e.act
+    → clock_in specs opening (e ∷ past) ≡ clock_after (clock_in specs opening past) e.seat e.act
 clock_step specs opening past e =
     let p = transcript_of specs opening past in
     let m = state_from opening p in
     ap (λ (n : State Blank). n.clock) (joined_state opening p (events_of specs m e.seat e.act))
-    ∙ behind_is specs m e.seat e.act
+    ∙ after_is specs m e.seat e.act
 
 -- behind a journal that led to a state, the clock goes on as from there
 pub clock_joined : (specs : List StreamSpec) (l m : State Blank) (first second : List Entry)
@@ -70,19 +70,19 @@ taken_more : (journal : List Entry) (i : ℕ) (d : Entry) → i < length journal
 taken_more journal i d less =
     ap reverse (take_more journal i d less) ∙ reverse-append (take i journal) (slice_index_or journal i d ∷ [])
 
--- one entry more, behind which the clock has come to where it should
-pub come_more : (s : ℕ) (moments : Option Moments) (specs : List StreamSpec) (opening : State Blank) (journal : List Entry)
-    (i : ℕ) (d : Entry) (clock behind : ℕ) → i < length journal
-    → (clock ≡ clock_in specs opening (reverse (take i journal))) × HasCome s moments specs opening (reverse (take i journal))
-    → let e = slice_index_or journal i d in behind ≡ clock_behind clock e.seat e.act
-    → (IsOfferOf s e.seat e.act → IsSomeAnd moments (λ m. m.first ≤ behind))
-    → (behind ≡ clock_in specs opening (reverse (take (i + 1) journal)))
-    × HasCome s moments specs opening (reverse (take (i + 1) journal))
-come_more s moments specs opening journal i d clock behind less at stands here =
+-- one entry more, after which the clock has reached what it should
+pub reached_more : (s : ℕ) (moments : Option Moments) (specs : List StreamSpec) (opening : State Blank) (journal : List Entry)
+    (i : ℕ) (d : Entry) (clock after : ℕ) → i < length journal
+    → (clock ≡ clock_in specs opening (reverse (take i journal))) × ClockReached s moments specs opening (reverse (take i journal))
+    → let e = slice_index_or journal i d in after ≡ clock_after clock e.seat e.act
+    → (IsOfferOf s e.seat e.act → IsSomeAnd moments (λ m. m.first ≤ after))
+    → (after ≡ clock_in specs opening (reverse (take (i + 1) journal)))
+    × ClockReached s moments specs opening (reverse (take (i + 1) journal))
+reached_more s moments specs opening journal i d clock after less at stands here =
     let e = slice_index_or journal i d in
     let past = reverse (take i journal) in
-    let same : behind ≡ clock_in specs opening (e ∷ past) =
-    stands ∙ ap (λ (c : ℕ). clock_behind c e.seat e.act) at.0 ∙ sym (clock_step specs opening past e) in
-    subst (λ (j : List Entry). (behind ≡ clock_in specs opening j) × HasCome s moments specs opening j)
+    let same : after ≡ clock_in specs opening (e ∷ past) =
+    stands ∙ ap (λ (c : ℕ). clock_after c e.seat e.act) at.0 ∙ sym (clock_step specs opening past e) in
+    subst (λ (j : List Entry). (after ≡ clock_in specs opening j) × ClockReached s moments specs opening j)
     (sym (taken_more journal i d less))
     (same, (at.1, λ is. subst (λ (c : ℕ). IsSomeAnd moments (λ m. m.first ≤ c)) same (here is)))

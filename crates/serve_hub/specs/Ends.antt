@@ -42,23 +42,24 @@ abbrev pub IsOfferOf : (s : ℕ) → Seat → Act → Type 0
 IsOfferOf s (Stream n) (Offered tick number) = n ≡ s
 IsOfferOf s seat act = ⊥
 
--- the clock behind a call, where it was this before
-abbrev pub clock_behind : ℕ → Seat → Act → ℕ
-clock_behind clock (Stream s) (Offered (Some moment) number) = moment
-clock_behind clock seat act = clock
+-- the clock after a call, where it was this before
+abbrev pub clock_after : ℕ → Seat → Act → ℕ
+clock_after clock (Stream s) (Offered (Some moment) number) = moment
+clock_after clock seat act = clock
 
--- by a journal with the latest entry first, wherever stream s had a frame accepted the clock had come to the
+-- by a journal with the latest entry first, wherever stream s had a frame accepted the clock had reached the
 -- first of these moments
-abbrev pub HasCome : (s : ℕ) → Option Moments → List StreamSpec → (opening : State Blank) → List Entry
+abbrev pub ClockReached : (s : ℕ) → Option Moments → List StreamSpec → (opening : State Blank) → List Entry
     → Type 0
-HasCome s moments specs opening [] = ⊤
-HasCome s moments specs opening (e ∷ past) =
-    HasCome s moments specs opening past
+ClockReached s moments specs opening [] = ⊤
+ClockReached s moments specs opening (e ∷ past) =
+    ClockReached s moments specs opening past
     × (IsOfferOf s e.seat e.act → IsSomeAnd moments (λ m. m.first ≤ clock_in specs opening (e ∷ past)))
 
 -- and so for each of these seats
-abbrev pub HaveCome : BookValue → List StreamSeatValue → Type 0
-HaveCome b seats = All (λ s. HasCome s.number s.moments (specs_of b.desk) (opening_of b) b.past) seats
+abbrev pub ClocksReached : BookValue → List StreamSeatValue → Type 0
+ClocksReached b seats =
+    All (λ s. ClockReached s.number s.moments (specs_of b.desk) (opening_of b) b.past) seats
 
 -- how many calls the seats' lists have
 abbrev pub calls_in : List StreamSeatValue → List WorkSeatValue → ℕ

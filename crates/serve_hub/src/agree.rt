@@ -5,8 +5,8 @@ ghost use Rattle.serve_core.specs.Bare.{Blank};
 ghost use Rattle.serve_core.specs.Setup.{StreamSpec};
 ghost use Rattle.serve_core.specs.States.{State};
 ghost use Rattle.serve_hub.specs.Ends as rules;
-ghost use Rattle.serve_hub.specs.Ends.{AreStreamCalls, AreStreamsOf, AreWorkCalls, HasCome, HaveCome};
-ghost use Rattle.serve_hub.specs.Ends.{HaveStreams, HaveWorkers, IsOfferOf, acts_of};
+ghost use Rattle.serve_hub.specs.Ends.{AreStreamCalls, AreStreamsOf, AreWorkCalls, ClockReached};
+ghost use Rattle.serve_hub.specs.Ends.{ClocksReached, HaveStreams, HaveWorkers, IsOfferOf, acts_of};
 
 use crate::book::Book;
 use crate::entry::{Act, Entry, Seat};
@@ -116,14 +116,18 @@ pub(crate) fn have_their_streams<L: Epoch>(book: &Book, seats: &Vec<StreamSeat<L
     true
 }
 
-/// Whether the clock had come to the moment of each seat's first frame wherever the journal has an accepted
-/// frame of the seat. It was at `since` when the book was opened.
-pub(crate) fn have_come<L: Epoch>(book: &Book, since: u64, seats: &Vec<StreamSeat<L>>) -> bool
-    requires { since ≡ book.now.opening.clock }
-    ensures { IsTrue result → HaveCome book.now seats.now.items }
+/// Whether the clock had reached the moment of each seat's first frame wherever the journal has an accepted
+/// frame of the seat. It was at `opened_at` when the book was opened.
+pub(crate) fn clocks_reached<L: Epoch>(
+    book: &Book,
+    opened_at: u64,
+    seats: &Vec<StreamSeat<L>>,
+) -> bool
+    requires { opened_at ≡ book.now.opening.clock }
+    ensures { IsTrue result → ClocksReached book.now seats.now.items }
 {
     for seat in seats {
-        if !has_come(book.journal(), since, seat.number(), seat.moments()) {
+        if !clock_reached(book.journal(), opened_at, seat.number(), seat.moments()) {
             return false;
         }
     }
@@ -131,23 +135,23 @@ pub(crate) fn have_come<L: Epoch>(book: &Book, since: u64, seats: &Vec<StreamSea
 }
 
 /// Whether it had, for a single stream.
-fn has_come(journal: &[Entry], since: u64, number: u32, moments: Option<Moments>) -> bool
-    ensures { (specs : List StreamSpec) (opening : State Blank) → opening.clock ≡ since → IsTrue result
-        → HasCome number moments specs opening (reverse journal.now) }
+fn clock_reached(journal: &[Entry], opened_at: u64, number: u32, moments: Option<Moments>) -> bool
+    ensures { (specs : List StreamSpec) (opening : State Blank) → opening.clock ≡ opened_at → IsTrue result
+        → ClockReached number moments specs opening (reverse journal.now) }
 {
-    let mut clock = since;
+    let mut clock = opened_at;
     for entry in journal {
-        clock = clock_behind(clock, entry);
-        if is_offer_of(number, entry) && !has_begun(moments, clock) {
+        clock = clock_after(clock, entry);
+        if is_offer_of(number, entry) && !is_first_reached(moments, clock) {
             return false;
         }
     }
     true
 }
 
-/// The clock behind a call, where it was this before.
-fn clock_behind(clock: u64, entry: &Entry) -> u64
-    ensures { result ≡ rules.clock_behind clock entry.now.seat entry.now.act }
+/// The clock after a call, where it was this before.
+fn clock_after(clock: u64, entry: &Entry) -> u64
+    ensures { result ≡ rules.clock_after clock entry.now.seat entry.now.act }
 {
     match (entry.seat, entry.act) {
         (Seat::Stream(_), Act::Offered(Some(moment), _)) => moment,
@@ -165,8 +169,8 @@ fn is_offer_of(number: u32, entry: &Entry) -> bool
     }
 }
 
-/// Whether the clock has come to the first moment, where there is one.
-fn has_begun(moments: Option<Moments>, clock: u64) -> bool
+/// Whether the clock has reached the first moment, where there is one.
+fn is_first_reached(moments: Option<Moments>, clock: u64) -> bool
     ensures { IsTrue result → IsSomeAnd moments (λ m. m.first ≤ clock) }
 {
     moments.is_some_and(|moments| moments.first <= clock)

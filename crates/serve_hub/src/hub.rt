@@ -7,7 +7,7 @@ ghost use Rattle.serve_core.specs.Setup.{IsWithinLimits};
 ghost use Rattle.serve_hub.specs.declared.ended.Fault.TheVariants as faults;
 ghost use Rattle.serve_hub.specs.Books.{IsBook, IsLimit};
 ghost use Rattle.serve_hub.specs.Ends.{AreCalls, AreFree, AreStreamCalls, AreStreamsOf, AreWorkCalls};
-ghost use Rattle.serve_hub.specs.Ends.{HasLeaseOut, HaveCome, HaveStreams, HaveWorkers, IsCharged};
+ghost use Rattle.serve_hub.specs.Ends.{ClocksReached, HasLeaseOut, HaveStreams, HaveWorkers, IsCharged};
 ghost use Rattle.serve_hub.specs.Ends.{IsHistory, IsMissing, IsOpening};
 ghost use Rattle.serve_hub.specs.Seats.{hub_of, left_by, opened_rests, opened_streams, opened_worker};
 
@@ -133,7 +133,7 @@ impl<L: Epoch> Hub<L> {
         ensures history { IfOk result (λ ended. IsHistory L.opening ended.book) }
         ensures book { IfOk result (λ ended. IsBook ended.book) }
         ensures kept { IfOk result (λ ended. AreStreamsOf ended.book.desk streams.items) }
-        ensures come { IfOk result (λ ended. HaveCome ended.book streams.items) }
+        ensures clock_reached { IfOk result (λ ended. ClocksReached ended.book streams.items) }
         ensures charges { IfOk result (λ ended. All IsCharged ended.book.desk.streams) }
         ensures left { IfOk result (λ ended. ended.streams ≡ map left_by streams.items) }
         ensures all_workers { IfOk result (λ ended. length ended.book.desk.workers ≡ self.workers) }
@@ -218,7 +218,7 @@ fn fault<L: Epoch>(
     ensures each_stream { IfNone result (HaveStreams counts.0 streams.now.items) }
     ensures each_worker { IfNone result (HaveWorkers counts.1 workers.now.items) }
     ensures kept { IfNone result (AreStreamsOf shared.now.book.desk streams.now.items) }
-    ensures come { IfNone result (HaveCome shared.now.book streams.now.items) }
+    ensures clock_reached { IfNone result (ClocksReached shared.now.book streams.now.items) }
     ensures free { IfNone result (AreFree shared.now.book.desk.workers) }
     ensures opened { IfNone result (IsOpening L.opening shared.now.book.opening counts.1) }
     ensures book { IfNone result (IsBook shared.now.book) }

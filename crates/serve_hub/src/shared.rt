@@ -11,11 +11,11 @@ ghost use Rattle.serve_hub.specs.declared.entry.Seat.TheVariants.{Stream};
 ghost use Rattle.serve_hub.specs.Books.{Appends, IsBook, room};
 ghost use Rattle.serve_hub.specs.Calls.{Admits, IsAdmitRefused};
 ghost use Rattle.serve_hub.specs.Ends.{AreFree, AreStreamCalls, AreStreamsOf, AreWorkCalls, HaveStreams};
-ghost use Rattle.serve_hub.specs.Ends.{HaveCome, HaveWorkers, IsOpening, calls_in};
+ghost use Rattle.serve_hub.specs.Ends.{ClocksReached, HaveWorkers, IsOpening, calls_in};
 ghost use Rattle.serve_hub.specs.Seats.{collected_by, left_by, opened_rest};
 
 use crate::agree::{
-    have_come, have_streams, have_their_streams, have_workers, streams_agree, workers_agree,
+    clocks_reached, have_streams, have_their_streams, have_workers, streams_agree, workers_agree,
 };
 use crate::book::Book;
 use crate::calls::Calls;
@@ -40,7 +40,7 @@ use std::sync::ledger::{Book as Total, Share};
 pub(crate) struct Shared<L: Epoch> {
     pub(crate) book: Book,
     pub(crate) limit: usize,
-    since: u64,
+    opened_at: u64,
     pub(crate) total: Total<L>,
     spare: Share<L>,
     streams: usize,
@@ -63,7 +63,7 @@ impl<L: Epoch> Model for Shared<L> {
         × (a.spare.parts + a.streams + a.workers ≡ L.parts) × (a.spare.amount ≡ 0)
         × IsOpening L.opening a.book.opening a.workers
         × (a.rests.items ≡ []) × (MOST_STREAMS ≤ vec_capacity a.rests) × (L.parts ≡ MOST_SEATS)
-        × (a.since ≡ L.opening.clock) };
+        × (a.opened_at ≡ L.opening.clock) };
 }
 
 impl<L: Epoch> Shared<L> {
@@ -86,11 +86,11 @@ impl<L: Epoch> Shared<L> {
         requires room { MOST_STREAMS ≤ vec_capacity rests }
         requires enough { L.parts ≡ MOST_SEATS }
     {
-        let since = book.desk().clock();
+        let opened_at = book.desk().clock();
         Shared {
             book,
             limit,
-            since,
+            opened_at,
             total,
             spare,
             streams,
@@ -212,7 +212,7 @@ impl<L: Epoch> Shared<L> {
         ensures each_stream { IsTrue result → HaveStreams self.now.streams streams.now.items }
         ensures each_worker { IsTrue result → HaveWorkers self.now.workers workers.now.items }
         ensures kept { IsTrue result → AreStreamsOf self.now.book.desk streams.now.items }
-        ensures come { IsTrue result → HaveCome self.now.book streams.now.items }
+        ensures clock_reached { IsTrue result → ClocksReached self.now.book streams.now.items }
         ensures free { IsTrue result → AreFree self.now.book.desk.workers }
     {
         let journal = self.book.journal();
@@ -224,7 +224,7 @@ impl<L: Epoch> Shared<L> {
             && have_streams(self.streams, streams)
             && have_workers(self.workers, workers)
             && have_their_streams(&self.book, streams)
-            && have_come(&self.book, self.since, streams)
+            && clocks_reached(&self.book, self.opened_at, streams)
             && self.book.is_free()
     }
 

@@ -13,7 +13,7 @@ use Rattle.serve_core.specs.Streams.{KeptStream, opened}
 use Rattle.serve_hub.specs.declared.entry.Act.{Act}
 use Rattle.serve_hub.specs.declared.entry.Entry.{Entry}
 use Rattle.serve_hub.specs.Books.{BookValue, IsBook, IsLimit, book_transcript, specs_of}
-use Rattle.serve_hub.specs.Ends.{HasCome, HaveCome, IsMissing}
+use Rattle.serve_hub.specs.Ends.{ClockReached, ClocksReached, IsMissing}
 use Rattle.serve_hub.specs.Journal.{AreEntries, IsJournal}
 use Rattle.serve_hub.proofs.Journals.{joined_is}
 use Rattle.serve_hub.proofs.Specs.{added, specs_led}
@@ -155,13 +155,13 @@ entries_on first last book is same specs =
     subst (λ (x : ScheduleValue). AreEntries (specs_of first) (desk_state x) book.past) same
     (subst (λ (xs : List StreamSpec). AreEntries xs (desk_state book.opening) book.past) specs is.journal.entries)
 
-pub come_on : (first last : ScheduleValue) (book : BookValue) (seats : List StreamSeatValue) → book.opening ≡ last
-    → specs_of book.desk ≡ specs_of first → HaveCome book seats
-    → All (λ s. HasCome s.number s.moments (specs_of first) (desk_state last) book.past) seats
-come_on first last book seats same specs come =
-    subst (λ (x : ScheduleValue). All (λ s. HasCome s.number s.moments (specs_of first) (desk_state x) book.past) seats) same
-    (subst (λ (xs : List StreamSpec). All (λ s. HasCome s.number s.moments xs (desk_state book.opening) book.past) seats) specs
-    come)
+pub reached_on : (first last : ScheduleValue) (book : BookValue) (seats : List StreamSeatValue) → book.opening ≡ last
+    → specs_of book.desk ≡ specs_of first → ClocksReached book seats
+    → All (λ s. ClockReached s.number s.moments (specs_of first) (desk_state last) book.past) seats
+reached_on first last book seats same specs reached =
+    subst (λ (x : ScheduleValue). All (λ s. ClockReached s.number s.moments (specs_of first) (desk_state x) book.past) seats) same
+    (subst (λ (xs : List StreamSpec). All (λ s. ClockReached s.number s.moments xs (desk_state book.opening) book.past) seats) specs
+    reached)
 
 opened_specs : (specs : List StreamSpec) → map (λ (stream : KeptStream). stream.state.spec) (map opened specs) ≡ specs
 opened_specs [] = refl

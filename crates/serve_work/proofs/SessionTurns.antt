@@ -17,7 +17,7 @@ use Rattle.serve_hub.specs.declared.entry.Seat.{Seat}
 use Rattle.serve_hub.specs.declared.entry.Seat.TheVariants as numbered
 use Rattle.serve_hub.specs.declared.moments.Moments.{Moments}
 use Rattle.serve_hub.specs.Books.{specs_of}
-use Rattle.serve_hub.specs.Ends.{AreStreamCalls, HasCome, acts_of, is_same_seat}
+use Rattle.serve_hub.specs.Ends.{AreStreamCalls, ClockReached, acts_of, is_same_seat}
 use Rattle.serve_hub.specs.Journal.{AreEntries, transcript_of}
 use Rattle.serve_hub.specs.Seats.{StreamSeatValue}
 use Rattle.serve_work.specs.declared.session.Served.{Served}
@@ -114,13 +114,13 @@ module _ (Gives : ℕ → Type 0) (journal more : List Entry) where
       → state_from (desk_state first) (transcript_of (specs_of first) (desk_state first) journal) ≡ desk_state last
       → AreEntries (specs_of first) (desk_state last) more → AllBegin journal starts helds → AllGoOn Gives helds after
       → AreStreamCalls (reverse more) (map (λ held. held.seat) after)
-      → All (λ s. HasCome s.number s.moments (specs_of first) (desk_state last) more) (map (λ held. held.seat) after)
+      → All (λ s. ClockReached s.number s.moments (specs_of first) (desk_state last) more) (map (λ held. held.seat) after)
       → AllByRecursion (λ held. HasNoCalls held.seat) helds → AllTimed Gives first journal starts
       → AllTimed Gives first (more ++ journal) starts
-  all_timed first last [] helds after led entries p q calls come none given = tt
-  all_timed first last (start ∷ starts) [] after led entries p q calls come none given = absurd p
-  all_timed first last (start ∷ starts) (held ∷ helds) [] led entries p q calls come none given = absurd q
-  all_timed first last (start ∷ starts) (held ∷ helds) (next ∷ after) led entries p q calls come none given =
+  all_timed first last [] helds after led entries p q calls reached none given = tt
+  all_timed first last (start ∷ starts) [] after led entries p q calls reached none given = absurd p
+  all_timed first last (start ∷ starts) (held ∷ helds) [] led entries p q calls reached none given = absurd q
+  all_timed first last (start ∷ starts) (held ∷ helds) (next ∷ after) led entries p q calls reached none given =
       let past : List Act = acts_in journal start in
       let specs = specs_of first in
       let at : Stands start past next = q.0.0 start past p.0 in
@@ -128,12 +128,12 @@ module _ (Gives : ℕ → Type 0) (journal more : List Entry) where
       let own : next.seat.calls.list ≡ acts_in more start = own_calls more start past next at (calls 0 next.seat (omega arith)) in
       let here : AreTimed Gives start.seat.number specs (desk_state last) more =
       timed Gives start.seat.number next.seat.moments specs (desk_state last) more entries
-      (subst (λ (s : ℕ). HasCome s next.seat.moments specs (desk_state last) more) number (come 0 next.seat (omega arith)))
+      (subst (λ (s : ℕ). ClockReached s next.seat.moments specs (desk_state last) more) number (reached 0 next.seat (omega arith)))
       (q.0.1.first (subst (λ (o : Option Moments). IfSome o (λ t. Gives t.first)) (sym none.0.1) tt))
       (subst (AreAtMoments Gives) own (q.0.1.calls (subst (AreAtMoments Gives) (sym none.0.0) tt))) in (
         timed_on Gives start.seat.number specs (desk_state first) (desk_state last) journal more led given.0 here,
         all_timed first last starts helds after led entries p.1 q.1 (λ k d less. calls (suc k) d (omega (arith, less)))
-            (λ k d less. come (suc k) d (omega (arith, less))) none.1 given.1,
+            (λ k d less. reached (suc k) d (omega (arith, less))) none.1 given.1,
       )
 
 pub none_yet : (Gives : ℕ → Type 0) (first : ScheduleValue) (starts : List ClientStart) → AllTimed Gives first [] starts

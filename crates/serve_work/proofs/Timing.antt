@@ -16,7 +16,7 @@ use Rattle.serve_hub.specs.declared.entry.Entry.{Entry}
 use Rattle.serve_hub.specs.declared.entry.Seat.{Seat}
 use Rattle.serve_hub.specs.declared.entry.Seat.TheVariants.{Stream}
 use Rattle.serve_hub.specs.declared.moments.Moments.{Moments}
-use Rattle.serve_hub.specs.Ends.{HasCome, IsOfferOf, acts_of, clock_behind, is_same_seat}
+use Rattle.serve_hub.specs.Ends.{ClockReached, IsOfferOf, acts_of, clock_after, is_same_seat}
 use Rattle.serve_hub.specs.Journal.{AreEntries, IsEntry, clock_in, entry_of, tick_of, transcript_of}
 use Rattle.serve_hub.proofs.Clocks.{clock_joined, clock_step}
 use Rattle.serve_work.specs.Clients.{AreAtMoments, IsAtMoment}
@@ -68,42 +68,42 @@ module _ (Gives : ℕ → Type 0) where
   -- an entry of a frame has a moment that the clock may give, where the first moment of its seat is one
   timed_by : (specs : List StreamSpec) (m : State Blank) (s : ℕ) (moments : Option Moments) (act : Act)
       → IsEntry specs m (Stream s) act
-      → (IsOfferOf s (Stream s) act → IsSomeAnd moments (λ t. t.first ≤ clock_behind m.clock (Stream s) act))
+      → (IsOfferOf s (Stream s) act → IsSomeAnd moments (λ t. t.first ≤ clock_after m.clock (Stream s) act))
       → IfSome moments (λ t. Gives t.first) → IsAtSome act → IsAtMoment Gives m.clock act
-  timed_by specs m s moments (acts.Offered (Some moment) number) is come given at =
+  timed_by specs m s moments (acts.Offered (Some moment) number) is reached given at =
       let same : at.1.0 ≡ moment = tick_by (nat_lt at.0 at.1.0) at.1.0 moment at.1.2 in
       (moment, subst Gives same at.1.1, goes_on m.clock moment is)
-  timed_by specs m s None (acts.Offered None number) is come given at = absurd (come refl)
-  timed_by specs m s (Some moments) (acts.Offered None number) is come given at =
-      (moments.first, given, stays m.clock moments.first (come refl))
-  timed_by specs m s moments act is come given at = tt
+  timed_by specs m s None (acts.Offered None number) is reached given at = absurd (reached refl)
+  timed_by specs m s (Some moments) (acts.Offered None number) is reached given at =
+      (moments.first, given, stays m.clock moments.first (reached refl))
+  timed_by specs m s moments act is reached given at = tt
 
   -- the same where the entry's seat is the stream's
   timed_entry : (specs : List StreamSpec) (m : State Blank) (s : ℕ) (moments : Option Moments) (seat : Seat) (act : Act)
-      (behind : ℕ) → behind ≡ clock_behind m.clock seat act → IsEntry specs m seat act
-      → (IsOfferOf s seat act → IsSomeAnd moments (λ t. t.first ≤ behind)) → IfSome moments (λ t. Gives t.first)
+      (after : ℕ) → after ≡ clock_after m.clock seat act → IsEntry specs m seat act
+      → (IsOfferOf s seat act → IsSomeAnd moments (λ t. t.first ≤ after)) → IfSome moments (λ t. Gives t.first)
       → AllByRecursion IsAtSome (acts_of (Stream s) (entry_of seat act ∷ [])) → seat ≡ Stream s → IsAtMoment Gives m.clock act
-  timed_entry specs m s moments seat act behind stands is come given at e =
+  timed_entry specs m s moments seat act after stands is reached given at e =
       let its : AllByRecursion IsAtSome (act ∷ []) =
       subst (AllByRecursion IsAtSome) (own_act s act) (subst (λ (x : Seat). AllByRecursion IsAtSome (acts_of (Stream s)
       (entry_of x act ∷ []))) e at) in
-      let there : behind ≡ clock_behind m.clock (Stream s) act = stands ∙ ap (λ (x : Seat). clock_behind m.clock x act) e in
+      let there : after ≡ clock_after m.clock (Stream s) act = stands ∙ ap (λ (x : Seat). clock_after m.clock x act) e in
       timed_by specs m s moments act (subst (λ (x : Seat). IsEntry specs m x act) e is)
-      (subst (λ (x : Seat). IsOfferOf s x act → IsSomeAnd moments (λ t. t.first ≤ clock_behind m.clock (Stream s) act)) e
-      (subst (λ (k : ℕ). IsOfferOf s seat act → IsSomeAnd moments (λ t. t.first ≤ k)) there come)) given its.0
+      (subst (λ (x : Seat). IsOfferOf s x act → IsSomeAnd moments (λ t. t.first ≤ clock_after m.clock (Stream s) act)) e
+      (subst (λ (k : ℕ). IsOfferOf s seat act → IsSomeAnd moments (λ t. t.first ≤ k)) there reached)) given its.0
 
   -- and so have all entries of a stream's frames
   pub timed : (s : ℕ) (moments : Option Moments) (specs : List StreamSpec) (opening : State Blank) (past : List Entry)
-      → AreEntries specs opening past → HasCome s moments specs opening past → IfSome moments (λ t. Gives t.first)
+      → AreEntries specs opening past → ClockReached s moments specs opening past → IfSome moments (λ t. Gives t.first)
       → AreAtMoments Gives (acts_of (Stream s) (reverse past)) → AreTimed Gives s specs opening past
-  timed s moments specs opening [] entries come given at = tt
-  timed s moments specs opening (e ∷ past) entries come given at =
+  timed s moments specs opening [] entries reached given at = tt
+  timed s moments specs opening (e ∷ past) entries reached given at =
       let earlier = acts_of (Stream s) (reverse past) in
       let both : AllByRecursion IsAtSome (earlier ++ acts_of (Stream s) (e ∷ [])) =
       subst (AllByRecursion IsAtSome) (own_calls (Stream s) past e) at in (
-        timed s moments specs opening past entries.0 come.0 given (front IsAtSome earlier (acts_of (Stream s) (e ∷ [])) both),
+        timed s moments specs opening past entries.0 reached.0 given (front IsAtSome earlier (acts_of (Stream s) (e ∷ [])) both),
         timed_entry specs (state_from opening (transcript_of specs opening past)) s moments e.seat e.act
-            (clock_in specs opening (e ∷ past)) (clock_step specs opening past e) entries.1 come.1 given
+            (clock_in specs opening (e ∷ past)) (clock_step specs opening past e) entries.1 reached.1 given
             (back IsAtSome earlier (acts_of (Stream s) (e ∷ [])) both),
       )
 

@@ -8,8 +8,8 @@ returns-clause-each_stream g c =
     let same : c.args.counts.0 ≡ c.args.shared.now.streams = omega (arith, agreed.streams refl) in
     subst (λ (n : ℕ). HaveStreams n c.args.streams.now.items) (sym same) (agreed.each_stream refl)
 
-pub returns-clause-come : goal.returns-clause-come
-returns-clause-come g c = c.if-not-agrees.ensures.come refl
+pub returns-clause-clock_reached : goal.returns-clause-clock_reached
+returns-clause-clock_reached g c = c.if-not-agrees.ensures.clock_reached refl
 
 pub returns-then-any_lease_out-clause-missing : goal.returns-then-any_lease_out-clause-missing
 returns-then-any_lease_out-clause-missing c = search rules

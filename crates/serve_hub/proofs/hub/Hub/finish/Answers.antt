@@ -2,7 +2,7 @@ use Rattle.std.proofs.Common.{◌∙◌, All, ap, sym, subst, length, rules}
 use Rattle.std.specs.Prelude.{reverse}
 use Rattle.serve_core.specs.Schedule.{ScheduleValue}
 use Rattle.serve_hub.specs.Books.{BookValue}
-use Rattle.serve_hub.specs.Ends.{AreStreamCalls, AreStreamsOf, AreWorkCalls, HaveCome, IsCharged, IsHistory}
+use Rattle.serve_hub.specs.Ends.{AreStreamCalls, AreStreamsOf, AreWorkCalls, ClocksReached, IsCharged, IsHistory}
 use Rattle.serve_hub.specs.Seats.{HubValue}
 use Rattle.serve_hub.proofs.Histories.{charged_between, history}
 use Rattle.serve_hub.proofs.Opened.{same_workers}
@@ -29,9 +29,9 @@ returns-clause-kept g c =
     subst (λ (b : BookValue). AreStreamsOf b.desk c.args.streams.items) (sym c.into_ended.ensures.book)
     c.in_default.ensures.kept
 
-pub returns-clause-come : goal.returns-clause-come
-returns-clause-come g c =
-    subst (λ (b : BookValue). HaveCome b c.args.streams.items) (sym c.into_ended.ensures.book) c.in_default.ensures.come
+pub returns-clause-clock_reached : goal.returns-clause-clock_reached
+returns-clause-clock_reached g c =
+    subst (λ (b : BookValue). ClocksReached b c.args.streams.items) (sym c.into_ended.ensures.book) c.in_default.ensures.clock_reached
 
 pub returns-clause-charges : goal.returns-clause-charges
 returns-clause-charges g c =

@@ -1,9 +1,9 @@
 use Rattle.std.proofs.Common.{◌≡◌, ◌≤◌, ◌∙◌, Some, ap, arith, length, map, subst}
 use Rattle.std.specs.Prelude.{reverse, vec_len}
-use Rattle.serve_hub.specs.Ends.{AreStreamCalls, AreStreamsOf, HaveCome}
+use Rattle.serve_hub.specs.Ends.{AreStreamCalls, AreStreamsOf, ClocksReached}
 use Rattle.serve_hub.specs.Seats.{left_by}
 use Rattle.serve_work.specs.SessionInside.{BeginsAgain, HeldValue, held_with, stream_of}
-use Rattle.serve_work.proofs.Intervals.{all_back, all_ready, come_on, entries_on, held_length, held_new, leads_on}
+use Rattle.serve_work.proofs.Intervals.{all_back, all_ready, entries_on, held_length, held_new, leads_on, reached_on}
 use Rattle.serve_work.proofs.SessionStops.{go_on_allowed}
 use Rattle.serve_work.proofs.SessionTurns.{all_timed, all_went, fault_stays, no_memory, same_length, stand_on, zip_length}
 use Rattle.serve_work.proofs.session.epochs.epoch.Goals as goal
@@ -71,12 +71,12 @@ returns-clause-between g c =
     let calls = subst (AreStreamCalls (reverse ended.book.past)) own c.in-Ok.ensures.calls.of_streams in
     let same = c.in-Ok.ensures.history.same in
     let on = leads_on b.schedule _ journal ended.book at.past c.in-Ok.ensures.book same as_many in
-    let come = subst (HaveCome ended.book) own c.in-Ok.ensures.come in
+    let reached = subst (ClocksReached ended.book) own c.in-Ok.ensures.clock_reached in
     record {
       more = ended.book.past;
       moments = all_timed gives journal ended.book.past b.schedule _ b.starts helds ran.0 at.past.is_journal.leads.1
           (entries_on b.schedule _ ended.book c.in-Ok.ensures.book same on.specs) at.stand ran.2 calls
-          (come_on b.schedule _ ended.book _ same on.specs come) (held_new value seats streams.items at.no_calls);
+          (reached_on b.schedule _ ended.book _ same on.specs reached) (held_new value seats streams.items at.no_calls);
       between = record {
         begun = at.begun;
         past = on;

@@ -1,9 +1,9 @@
 use Rattle.std.proofs.Common.{◌≡◌, List, slice_index_or, refl, sym, subst, arith, take_all}
 use Rattle.std.proofs.lemmas.List.Elements.{All-more, at_read}
 use Rattle.serve_hub.specs.Books.{opening_of, specs_of}
-use Rattle.serve_hub.specs.Ends.{HasCome, HaveCome}
+use Rattle.serve_hub.specs.Ends.{ClockReached, ClocksReached}
 use Rattle.serve_hub.specs.Seats.{StreamSeatValue}
-use Rattle.serve_hub.proofs.agree.have_come.Goals as goal
+use Rattle.serve_hub.proofs.agree.clocks_reached.Goals as goal
 
 pub loop-seat-preserved : goal.loop-seat-preserved
 loop-seat-preserved g c =
@@ -11,15 +11,15 @@ loop-seat-preserved g c =
     let b = c.args.book.now in
     let i = c.loop-seat.seat-index in
     let seat = c.seat-item.result in
-    let IsHere = λ (s : StreamSeatValue). HasCome s.number s.moments (specs_of b.desk) (opening_of b) b.past in
+    let IsHere = λ (s : StreamSeatValue). ClockReached s.number s.moments (specs_of b.desk) (opening_of b) b.past in
     let here : seat ≡ slice_index_or seats i seat =
     subst (λ (xs : List StreamSeatValue). seat ≡ slice_index_or xs i seat) c.deref-seat-items.ensures.value
     c.seat-item.is in
-    let come = c.if-not-has_come.ensures (specs_of b.desk) (opening_of b) (sym c.requires) refl in
+    let reached = c.if-not-clock_reached.ensures (specs_of b.desk) (opening_of b) (sym c.requires) refl in
     All-more IsHere seats i seat (omega arith) c.loop-seat.invariant
-    (at_read seats IsHere i seat (omega arith) here (rw (← c.number.ensures, ← c.moments.ensures, ← c.journal.ensures.past) come) seat)
+    (at_read seats IsHere i seat (omega arith) here (rw (← c.number.ensures, ← c.moments.ensures, ← c.journal.ensures.past) reached) seat)
 
 pub returns : goal.returns
 returns g c = λ e.
-    subst (HaveCome c.args.book.now) (take_all c.loop-seat.seat-index c.args.seats.now.items (omega arith))
+    subst (ClocksReached c.args.book.now) (take_all c.loop-seat.seat-index c.args.seats.now.items (omega arith))
     c.loop-seat.invariant

@@ -1,0 +1,21 @@
+use Rattle.std.proofs.Common.{List, reverse, refl, subst, arith, take_all}
+use Rattle.serve_hub.specs.declared.entry.Entry.{Entry}
+use Rattle.serve_hub.specs.Ends.{ClockReached}
+use Rattle.serve_hub.proofs.Clocks.{reached_more}
+use Rattle.serve_hub.proofs.agree.clock_reached.Goals.{else-is_offer_of-via-else-is_offer_of}
+use Rattle.serve_hub.proofs.agree.clock_reached.Goals.{else-is_offer_of-via-then-is_offer_of+else-not-is_first_reached}
+use Rattle.serve_hub.proofs.agree.clock_reached.Goals as goal
+
+pub loop-entry-preserved : goal.loop-entry-preserved
+loop-entry-preserved c = λ specs opening opened.
+    reached_more c.args.number c.args.moments specs opening c.args.journal.now c.loop-entry.entry-index _ c.loop-entry.clock
+    c.clock_after-clock.result (omega arith) (c.loop-entry.invariant specs opening opened) c.clock_after-clock.ensures
+    (elim c.else-is_offer_of.branch [
+      | else-is_offer_of-via-then-is_offer_of+else-not-is_first_reached w ↦ (λ offer. w.if-not-is_first_reached.ensures refl)
+      | else-is_offer_of-via-else-is_offer_of w ↦ (λ offer. let no = w.if-is_offer_of.ensures.1 offer in absurd (cc))
+    ])
+
+pub returns : goal.returns
+returns c = λ specs opening opened yes.
+    subst (λ (j : List Entry). ClockReached c.args.number c.args.moments specs opening (reverse j))
+    (take_all c.loop-entry.entry-index c.args.journal.now (omega arith)) (c.loop-entry.invariant specs opening opened).1
