@@ -7,3 +7,8 @@ pub mod Openings
 pub mod Filtering
 pub mod Found
 pub mod Commands
+pub mod Subcommands
+pub mod PlainWords
+pub mod FoundWords
+pub mod KnownStreams
+pub mod KnownWords

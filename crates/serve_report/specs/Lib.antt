@@ -13,3 +13,4 @@ pub mod Help
 pub mod Runs
 pub mod Options
 pub mod CommandLine
+pub mod KnownWords

@@ -1,5 +1,5 @@
 -- What the words give for each option, by what clap found of them.
-use Rattle.std.specs.Prelude.{ℕ, ◌+◌, ◌≡◌, ◌<◌, ◌^◌, Bool, true, false, min, max, List, [], codes}
+use Rattle.std.specs.Prelude.{ℕ, ◌+◌, ◌≡◌, ◌<◌, ◌^◌, ◌⊎◌, Bool, true, false, min, max, List, [], codes}
 use Rattle.std.specs.Prelude.{Option, Some, None, unwrap_or}
 use Rattle.std.specs.Str.Parse.{IsNumeral, digits_value, without_leading_plus}
 use Rattle.clap.specs.Faults.{fault_of}
@@ -71,14 +71,18 @@ pub record HasServeOptions (found : List Row) (words : ServeWords) : Type 0 wher
 abbrev pub Meets : Option (List ℕ × List Row) → (name : List ℕ) → List Row → Type 0
 Meets met name found = met ≡ Some (name, found)
 
+-- one of the three subcommands was met
+abbrev pub MeetsOne : Option (List ℕ × List Row) → Type 0
+MeetsOne met = (found : List Row)
+    × (Meets met (codes "filter") found ⊎ Meets met (codes "replay") found ⊎ Meets met (codes "serve") found)
+
 -- the request is that of the subcommand that was met
 abbrev pub IsRequestOf : Option (List ℕ × List Row) → Request → Type 0
 IsRequestOf met (Filter words) =
     (found : List Row) × Meets met (codes "filter") found × HasFilterOptions found words
 IsRequestOf met (Serve words) =
     (found : List Row) × Meets met (codes "serve") found × HasServeOptions found words
-IsRequestOf met Replay =
-    (found : List Row) → (¬ Meets met (codes "filter") found) × (¬ Meets met (codes "serve") found)
+IsRequestOf met Replay = (found : List Row) × Meets met (codes "replay") found
 
 -- clap finds no fault in these words, which stand behind the program's name
 abbrev pub AreTaken : (words : List (List ℕ)) → Type 0

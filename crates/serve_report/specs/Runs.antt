@@ -6,8 +6,9 @@ use Rattle.serve_script.specs.declared.fault.ReplayFault.{ReplayFault}
 use Rattle.serve_report.specs.Apart.{OfPlace}
 use Rattle.serve_report.specs.Entrants.{ServesAll}
 use Rattle.serve_report.specs.Filtering.{FiltersAll}
+use Rattle.serve_report.specs.Help.{AskForHelp}
 use Rattle.serve_report.specs.Openings.{OfName}
-use Rattle.serve_report.specs.Options.{AreTaken, AskFor}
+use Rattle.serve_report.specs.Options.{AskFor}
 use Rattle.serve_report.specs.declared.words.Request.{Request}
 use Rattle.serve_report.specs.declared.words.Request.TheVariants as asked
 
@@ -30,10 +31,10 @@ IsDone PlaceGives OpenGives CreateGives asked.Replay input before after =
 IsDone PlaceGives OpenGives CreateGives (asked.Serve words) input before after =
     ServesAll PlaceGives OpenGives CreateGives words before after
 
--- what the words ask for is done, or clap doesn't take them, and some text was written
+-- what the words ask for is done, or they ask for help, and some text was written
 abbrev pub RunsWell : (PlaceGives : OfPlace) (OpenGives CreateGives : OfName) → (words : List (List ℕ))
     → (input before after : Option (List ℕ)) → Type 0
 RunsWell PlaceGives OpenGives CreateGives words input before after =
     ((request : Request) × AskFor words request
     × IsDone PlaceGives OpenGives CreateGives request input before after)
-    ⊎ ((¬ AreTaken words) × WroteText before after)
+    ⊎ (AskForHelp words × WroteText before after)

@@ -5,6 +5,7 @@ mod ahead;
 pub mod files;
 mod help;
 pub mod inlet;
+pub mod laws;
 mod lent;
 pub mod lookout;
 pub mod program;

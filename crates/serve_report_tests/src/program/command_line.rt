@@ -22,6 +22,12 @@ const WRONG_WORDS: &[(&str, &str)] = &[
         "error: unrecognized subcommand 'filer'\n\n  tip: a similar subcommand exists: 'filter'\n\n\
          Usage: y4mserve <COMMAND>\n\nFor more information, try '--help'.\n",
     ),
+    // What stands behind `help` is a subcommand too.
+    (
+        "help filer",
+        "error: unrecognized subcommand 'filer'\n\n\
+         Usage: y4mserve <COMMAND>\n\nFor more information, try '--help'.\n",
+    ),
     (
         "filter invert hflip",
         "error: unexpected argument 'hflip' found\n\n\

@@ -3,7 +3,6 @@ use Rattle.serve_report.proofs.program.run_on.Goals as goal
 
 pub returns-in-Err-Help-clause-well : goal.returns-in-Err-Help-clause-well
 returns-in-Err-Help-clause-well g c = λ good.
-    let refusal = rw c.in-Err-Help.field-0-is at c.in-Err-Help.ensures.refusal in
     let help = rw c.in-Err-Help.field-0-is at c.in-Err-Help.ensures.help in
     let well = rw c.in-Err-Help.field-0-is at c.write_help.ensures.well in
-    inr ((λ taken. let is = refusal taken in cc), (string_bytes c.in-Err-Help.text, help, well good))
+    inr (help.0, (string_bytes c.in-Err-Help.text, help.1, well good))
