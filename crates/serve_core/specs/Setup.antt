@@ -10,7 +10,8 @@ use Rattle.filters.specs.Chain.{ChainValue}
 use Rattle.filters.specs.Costs.{step_costs}
 use Rattle.frame_view.specs.declared.geometry.Geometry.{Geometry}
 use Rattle.filters.specs.declared.limits.TheConstants.{MOST_COST}
-use Rattle.serve_core.specs.declared.limits.TheConstants.{MOST_FRAMES, MOST_QUANTUM}
+use Rattle.serve_core.specs.declared.limits.TheConstants.{MOST_QUANTUM}
+use Rattle.y4m_header.specs.declared.limits.TheConstants.{MOST_FRAMES}
 
 -- what a stream is served with
 pub record StreamSpec : Type 0 where

@@ -5,13 +5,13 @@ ghost use Rattle.serve_core.specs.Setup as rules;
 ghost use Rattle.serve_core.specs.Grants.{cost_of_band};
 ghost use Rattle.serve_core.specs.Setup.{IsWithinLimits, costs, steps};
 
-use crate::limits::MOST_FRAMES;
 use filters::MOST_COST;
 use frame_view::Geometry;
 use lease::JobSpec;
 use std::marker::Model;
 use std::sync::Arc;
 use stream_queue::limits::MOST_PLACES;
+use y4m_header::MOST_FRAMES;
 
 /// What a stream is served with: its frames' geometry, its chain, its account, and how many frames it may
 /// have. Contracts see it as the record of that name in `specs/Setup.antt`.

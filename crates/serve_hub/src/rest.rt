@@ -26,7 +26,7 @@ pub(crate) struct SeatRest {
 }
 
 impl Model for SeatRest {
-    ghost use Rattle.serve_core.specs.declared.limits.TheConstants.{MOST_FRAMES};
+    ghost use Rattle.y4m_header.specs.declared.limits.TheConstants.{MOST_FRAMES};
     ghost use Rattle.std.specs.Prelude.{◌≤◌};
     ghost use Rattle.std.specs.Arc.{arc_value};
     ghost use Rattle.std.specs.VecDeque.{deque_capacity};

@@ -1,6 +1,6 @@
 //! The seat of a stream.
 ghost use Rattle.std.specs.Prelude.{◌≡◌, ◌+◌, ◌≤◌, length, slice_get, IsSomeAnd, IsTrue};
-ghost use Rattle.serve_core.specs.declared.limits.TheConstants.{MOST_FRAMES};
+ghost use Rattle.y4m_header.specs.declared.limits.TheConstants.{MOST_FRAMES};
 ghost use Rattle.serve_core.specs.Schedule.{HasStream};
 ghost use Rattle.serve_hub.specs.Ends.{IsStreamOf};
 ghost use Rattle.serve_hub.specs.Seats.{collected_by, left_by, no_calls, seat_over, with_call};
@@ -41,7 +41,7 @@ pub struct StreamSeat<L: Epoch> {
 }
 
 impl<L: Epoch> Model for StreamSeat<L> {
-    ghost use Rattle.serve_core.specs.declared.limits.TheConstants.{MOST_FRAMES};
+    ghost use Rattle.y4m_header.specs.declared.limits.TheConstants.{MOST_FRAMES};
     ghost use Rattle.std.specs.Prelude.{◌≤◌};
     ghost use Rattle.std.specs.Arc.{arc_value};
     ghost use Rattle.std.specs.VecDeque.{deque_capacity};

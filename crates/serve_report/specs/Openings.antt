@@ -14,7 +14,7 @@ use Rattle.y4m_stream.specs.declared.device.Source as sources
 use Rattle.y4m_stream.specs.declared.fault.ReadFault.{ReadFault}
 use Rattle.y4m_stream.specs.Reader.{IsOfHeader, IsOpened, ReaderState}
 use Rattle.serve_core.specs.Setup.{StreamSpec}
-use Rattle.serve_core.specs.declared.limits.TheConstants.{MOST_FRAMES}
+use Rattle.y4m_header.specs.declared.limits.TheConstants.{MOST_FRAMES}
 use Rattle.serve_hub.specs.Seats.{opened_streams}
 use Rattle.serve_work.specs.Clients.{ClientStart}
 use Rattle.serve_work.specs.Sessions.{starts_of}

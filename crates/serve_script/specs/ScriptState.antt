@@ -2,7 +2,7 @@
 use Rattle.std.specs.Prelude.{ℕ, List, [], ⊤}
 use Rattle.filters.specs.ChainImage.{FrameValue}
 use Rattle.filters.specs.declared.error.FilterError.TheVariants.{BadCrop, TooManySteps}
-use Rattle.y4m_stream.specs.declared.passing.TheConstants.{MOST_FRAMES}
+use Rattle.y4m_header.specs.declared.limits.TheConstants.{MOST_FRAMES}
 use Rattle.serve_core.specs.Events.{Transcript}
 use Rattle.serve_core.specs.Setup.{Setup, StreamSpec}
 use Rattle.serve_script.specs.ScriptFault as faults

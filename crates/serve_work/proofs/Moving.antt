@@ -11,7 +11,7 @@ use Rattle.filters.specs.Chain.{ChainValue, Format}
 use Rattle.filters.specs.ChainImage.{IsChainImage, value_of}
 use Rattle.filters.proofs.ChainGeometry.{same_geometry}
 use Rattle.y4m_stream.specs.declared.fault.WriteFault.{WriteFault}
-use Rattle.y4m_stream.specs.declared.passing.TheConstants.{MOST_FRAMES}
+use Rattle.y4m_header.specs.declared.limits.TheConstants.{MOST_FRAMES}
 use Rattle.y4m_stream.specs.Reader.{IsOfHeader, frame_text_of}
 use Rattle.y4m_stream.specs.Served.{AreImages, IsImageText}
 use Rattle.y4m_stream.specs.Writer.{FailsToPut, IsOfSize, IsWriterFor, PutsFrame, WriterState}

@@ -11,7 +11,7 @@ use Rattle.frame_view.specs.declared.geometry.Geometry.{Geometry}
 use Rattle.filters.specs.Chain.{ChainValue, Format, format_of, last_format}
 use Rattle.y4m_header.specs.Header.{HeaderValue}
 use Rattle.y4m_header.specs.StreamText.{FrameText, IsFrameOf}
-use Rattle.y4m_stream.specs.declared.passing.TheConstants.{MOST_FRAMES}
+use Rattle.y4m_header.specs.declared.limits.TheConstants.{MOST_FRAMES}
 use Rattle.y4m_stream.specs.declared.reader.Phase.TheVariants.{Open}
 use Rattle.y4m_stream.specs.Front.{IsReadAhead}
 use Rattle.y4m_stream.specs.Reader.{IsOfHeader, ReaderState, data_len_of}

@@ -13,7 +13,7 @@ use Rattle.frame_view.specs.declared.frame.Frame.{Frame}
 use Rattle.filters.specs.Chain.{ChainValue}
 use Rattle.filters.specs.ChainImage.{FrameValue, value_of}
 use Rattle.y4m_stream.specs.declared.fault.WriteFault.{WriteFault}
-use Rattle.y4m_stream.specs.declared.passing.TheConstants.{MOST_FRAMES}
+use Rattle.y4m_header.specs.declared.limits.TheConstants.{MOST_FRAMES}
 use Rattle.y4m_stream.specs.declared.reader.Phase.TheVariants.{Open}
 use Rattle.y4m_stream.specs.Reader.{FailsAtFrame, ReaderState, TakesFrame, data_len_of, frame_text_of}
 use Rattle.y4m_stream.specs.Served.{AreImages, IsImageText}

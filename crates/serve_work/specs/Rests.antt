@@ -7,7 +7,7 @@ use Rattle.frame_view.specs.declared.frame.Frame.{Frame}
 use Rattle.filters.specs.Chain.{ChainValue}
 use Rattle.y4m_header.specs.Header.{HeaderValue}
 use Rattle.y4m_header.specs.StreamText.{FrameText}
-use Rattle.y4m_stream.specs.declared.passing.TheConstants.{MOST_FRAMES}
+use Rattle.y4m_header.specs.declared.limits.TheConstants.{MOST_FRAMES}
 use Rattle.y4m_stream.specs.declared.reader.Phase.TheVariants.{Open}
 use Rattle.y4m_stream.specs.Reader.{IsOfHeader, ReaderState}
 use Rattle.y4m_stream.specs.Served.{IsHeaderOfImages}

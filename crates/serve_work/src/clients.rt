@@ -3,7 +3,7 @@ ghost use Rattle.std.specs.Prelude.{◌≡◌, ◌≤◌, ℕ, List, IfOk, IfSom
 ghost use Rattle.serve_hub.specs.declared.entry.Act.{Act};
 ghost use Rattle.serve_hub.specs.Seats.{StreamSeatValue};
 ghost use Rattle.y4m_header.specs.Header.{HeaderValue};
-ghost use Rattle.y4m_stream.specs.declared.passing.TheConstants.{MOST_FRAMES};
+ghost use Rattle.y4m_header.specs.declared.limits.TheConstants.{MOST_FRAMES};
 ghost use Rattle.y4m_stream.specs.Reader.{IsOfHeader};
 ghost use Rattle.y4m_stream.specs.Served.{IsHeaderOfImages};
 ghost use Rattle.y4m_stream.specs.Writer.{IsOpenedFor, WriterState};

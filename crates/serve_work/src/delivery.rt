@@ -2,7 +2,7 @@
 ghost use Rattle.std.specs.Prelude.{◌≡◌, ◌+◌, ◌≤◌, [], IfErr, IfOk, IfSome, IsFalse, length, false};
 ghost use Rattle.serve_core.specs.Streams.{IsImageOf, source_in};
 ghost use Rattle.y4m_stream.specs.Writer.{IsWriterFor};
-ghost use Rattle.y4m_stream.specs.declared.passing.TheConstants.{MOST_FRAMES};
+ghost use Rattle.y4m_header.specs.declared.limits.TheConstants.{MOST_FRAMES};
 ghost use Rattle.serve_work.specs.declared.stop.Halt.TheVariants as halts;
 ghost use Rattle.serve_work.specs.declared.stop.Stop.TheVariants as stops;
 ghost use Rattle.serve_work.specs.Clients.{IsDrained};

@@ -18,4 +18,4 @@ pub use chroma::{Chroma, Divisors};
 pub use error::HeaderError;
 pub use frame_line::check_frame_line;
 pub use header::Header;
-pub use limits::{LARGEST_DATA, LONGEST_LINE, LONGEST_SIDE};
+pub use limits::{LARGEST_DATA, LONGEST_LINE, LONGEST_SIDE, MOST_FRAMES};

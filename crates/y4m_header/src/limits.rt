@@ -21,6 +21,9 @@ pub const LONGEST_SIDE: u32 = 16_384;
 /// The most data of a frame, in bytes.
 pub const LARGEST_DATA: u64 = 67_108_864;
 
+/// The most frames of a stream.
+pub const MOST_FRAMES: u64 = 16_777_216;
+
 /// Whether the planes of the chroma have whole numbers of columns and rows.
 pub fn is_divided(width: u32, height: u32, chroma: Chroma) -> bool
     ensures { IsTrue result ↔ IsDivided width height chroma }

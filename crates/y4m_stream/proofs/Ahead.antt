@@ -20,7 +20,7 @@ use Rattle.y4m_stream.specs.Reader.{ReaderState, AnswersOpen, MeetsEnd, TakesFra
 use Rattle.y4m_stream.specs.Served.{IsImageText}
 use Rattle.y4m_stream.specs.Writer.{PutsFrame, WriterState}
 use Rattle.y4m_stream.specs.declared.lookahead.TheConstants.{LINE_LIMIT}
-use Rattle.y4m_stream.specs.declared.passing.TheConstants.{MOST_FRAMES}
+use Rattle.y4m_header.specs.declared.limits.TheConstants.{MOST_FRAMES}
 use Rattle.y4m_stream.proofs.MoreFrames.{CanPass-next, PassesFrames, PassesFrames-none, PassesFrames-push}
 use Rattle.y4m_stream.proofs.MoreFrames.{HasPassed-all, HasPassed-cut, HasPassed-limit, HasPassed-memory}
 use Rattle.y4m_stream.proofs.MoreFrames.{HasPassed-read}

@@ -21,7 +21,7 @@ use Rattle.y4m_stream.specs.Front.{IsFrameAhead, IsReadAhead, StandsAtHeader, St
 use Rattle.y4m_stream.specs.Reader.{failures_at}
 use Rattle.y4m_stream.specs.Served.{IsAskedFor, Serves}
 use Rattle.y4m_stream.specs.Writer.{write_failures_at}
-use Rattle.y4m_stream.specs.declared.passing.TheConstants.{MOST_FRAMES}
+use Rattle.y4m_header.specs.declared.limits.TheConstants.{MOST_FRAMES}
 
 -- what the source had to give and what it has left, and what the sink held before and holds after, where
 -- these are known

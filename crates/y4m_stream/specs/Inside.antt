@@ -29,7 +29,7 @@ use Rattle.y4m_stream.specs.Reader.{ReaderState, IsOfHeader, MeetsEnd, TakesFram
 use Rattle.y4m_stream.specs.Reader.{data_len_of}
 use Rattle.y4m_stream.specs.Writer.{WriterState, CutsShort, FailsToPut, IsWriterFor, PutsFrame}
 use Rattle.y4m_stream.specs.Writer.{write_failures_at}
-use Rattle.y4m_stream.specs.declared.passing.TheConstants.{MOST_FRAMES}
+use Rattle.y4m_header.specs.declared.limits.TheConstants.{MOST_FRAMES}
 use Rattle.y4m_stream.specs.Served.{IsAskedFor, IsHeaderOfImages, IsImageText, AreImages, served_header}
 use Rattle.y4m_stream.specs.Filtered.{Progress, LacksChain, StopsAt, filter_reads_told}
 

@@ -19,7 +19,6 @@ pub use device::{OverRead, OverWrite, Sink, Source};
 pub use fault::{FilterFault, ReadFault, WriteFault};
 pub use filter::{filter_between, filter_bytes, filter_stream, resized_header, shown_header};
 pub use overlapped::{LEAST_OVERLAPPED, filter_overlapped};
-pub use passing::MOST_FRAMES;
 pub use put::put_all;
 pub use reader::StreamReader;
 pub use writer::StreamWriter;

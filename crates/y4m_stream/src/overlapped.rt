@@ -6,12 +6,12 @@ ghost use Rattle.y4m_stream.specs.Front.{IsFrameAhead};
 ghost use Rattle.y4m_stream.specs.Inside.{CanPass, HasImage, HasPassed, PutsBeside};
 ghost use Rattle.y4m_stream.specs.Reader.{AnswersOpen, IsOpened, answer_into, data_len_of, frame_text_of};
 ghost use Rattle.y4m_stream.specs.Writer.{FlushesOrFails, IsWriterFor, PutsOpen};
-ghost use Rattle.y4m_stream.specs.declared.passing.TheConstants.{MOST_FRAMES};
+ghost use Rattle.y4m_header.specs.declared.limits.TheConstants.{MOST_FRAMES};
 
 use crate::device::{Sink, Source};
 use crate::fault::{FilterFault, ReadFault, WriteFault};
 use crate::filter::{begin, close};
-use crate::passing::{MOST_FRAMES, pass_frames};
+use crate::passing::pass_frames;
 use crate::reader::{Phase, StreamReader};
 use crate::writer::StreamWriter;
 use filters::{Images, Op};
@@ -20,6 +20,7 @@ use row_bands::BandHeight;
 use std::alloc::Global;
 use std::mem::swap;
 use std::thread::{Threads, join_mut};
+use y4m_header::MOST_FRAMES;
 
 /// The fewest bytes of a frame's data for which a thread is started.
 ///

@@ -2,7 +2,7 @@
 ghost use Rattle.std.specs.Prelude.{◌≡◌, ◌<◌};
 ghost use Rattle.y4m_stream.specs.Filtered.{IsLineAhead};
 ghost use Rattle.y4m_stream.specs.Inside.{CanPass, HasPassed, PassesNext, ReadsTold};
-ghost use Rattle.y4m_stream.specs.declared.passing.TheConstants.{MOST_FRAMES};
+ghost use Rattle.y4m_header.specs.declared.limits.TheConstants.{MOST_FRAMES};
 
 use crate::device::{Sink, Source};
 use crate::fault::FilterFault;
@@ -11,9 +11,7 @@ use crate::writer::StreamWriter;
 use filters::Images;
 use frame_view::Frame;
 use std::alloc::Global;
-
-/// A stream has at most this many frames.
-pub const MOST_FRAMES: u64 = 16_777_216;
+use y4m_header::MOST_FRAMES;
 
 /// Reads the next frame and writes its image, or answers `false` at the end.
 fn pass_frame<R: Source + Drop, W: Sink>(

@@ -4,7 +4,7 @@ ghost use Rattle.std.specs.Io.KnownBytes.{Keeps};
 ghost use Rattle.y4m_stream.specs.Failures.{one_more};
 ghost use Rattle.y4m_stream.specs.Reader.{frame_text_of};
 ghost use Rattle.y4m_stream.specs.Writer.{CutsShort, FlushesOrFails, IsOfSize, IsOpenedFor, Puts};
-ghost use Rattle.y4m_stream.specs.declared.passing.TheConstants.{MOST_FRAMES};
+ghost use Rattle.y4m_header.specs.declared.limits.TheConstants.{MOST_FRAMES};
 ghost use Rattle.y4m_stream.specs.Writer.{write_failures_told};
 
 use crate::device::Sink;
@@ -32,7 +32,7 @@ pub struct StreamWriter<W: Sink> {
 impl<W: Sink> Model for StreamWriter<W> {
     ghost use Rattle.std.specs.Prelude.{◌≡◌, ◌+◌, ◌*◌, ◌≤◌, ◌^◌, false};
     ghost use Rattle.y4m_stream.specs.declared.lookahead.TheConstants.{LINE_LIMIT};
-    ghost use Rattle.y4m_stream.specs.declared.passing.TheConstants.{MOST_FRAMES};
+    ghost use Rattle.y4m_header.specs.declared.limits.TheConstants.{MOST_FRAMES};
     ghost use Rattle.y4m_stream.specs.Writer.{WriterState};
 
     ghost Value = { WriterState };

@@ -12,7 +12,7 @@ use Rattle.cbs_account.specs.declared.limits.TheConstants.{DEADLINE_END, LAST_MO
 use Rattle.cbs_account.specs.Admission.{share}
 use Rattle.cbs_account.specs.Laws.{Bandwidth, unit_count}
 use Rattle.cbs_account.specs.Rules.{CanCharge, Idle, OwnEvent, after_units, cbs}
-use Rattle.serve_core.specs.declared.limits.TheConstants.{MOST_FRAMES}
+use Rattle.y4m_header.specs.declared.limits.TheConstants.{MOST_FRAMES}
 use Rattle.serve_core.specs.Counts.{held, own_events, specs}
 use Rattle.serve_core.specs.Events.{Leased, Transcript}
 use Rattle.serve_core.specs.Grants.{cost_of_first}

@@ -4,7 +4,7 @@ use Rattle.std.proofs.Common.{slice_get, refl, ◌∙◌, ap, subst, arith}
 use Rattle.filters.specs.declared.limits.TheConstants.{MOST_COST}
 use Rattle.cbs_account.specs.Rules.{CanCharge}
 use Rattle.serve_core.specs.declared.held.Held.{Held}
-use Rattle.serve_core.specs.declared.limits.TheConstants.{MOST_FRAMES}
+use Rattle.y4m_header.specs.declared.limits.TheConstants.{MOST_FRAMES}
 use Rattle.serve_core.specs.AtOnce.{cost_of_next}
 use Rattle.serve_core.specs.Grants.{cost_of_first}
 use Rattle.serve_core.specs.Setup.{cost, costs, steps}

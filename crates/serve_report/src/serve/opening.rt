@@ -26,12 +26,12 @@ use frame_view::Geometry;
 use lease::JobSpec;
 use row_bands::BandHeight;
 use serve_core::StreamSpec;
-use serve_core::limits::MOST_FRAMES;
 use std::alloc::{AllocError, Global};
 use std::io::Read;
 use std::sync::{Arc, Wait};
 use std::thread::{self, Threads};
 use std::time::Clock;
+use y4m_header::MOST_FRAMES;
 use y4m_stream::{OverWrite, ReadFault, Sink, Source, StreamReader};
 
 /// The most frames of a stream that may be unfinished.

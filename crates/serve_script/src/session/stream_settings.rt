@@ -16,8 +16,7 @@ use row_bands::BandHeight;
 use serve_core::StreamSpec;
 use std::alloc::Global;
 use std::sync::Arc;
-use y4m_header::Header;
-use y4m_stream::MOST_FRAMES;
+use y4m_header::{Header, MOST_FRAMES};
 
 /// What `band` and `frames` have set for the streams that follow.
 #[derive(Clone, Copy)]

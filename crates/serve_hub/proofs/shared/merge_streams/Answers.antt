@@ -1,7 +1,7 @@
 use Rattle.std.proofs.Common.{◌≤◌, ◌∷◌, [], ◌++◌, ◌∙◌, List, length, map, sym, ap, arith}
 use Rattle.std.proofs.lemmas.List.{length-append}
 use Rattle.std.specs.Vec.Iter.{into_iter_items}
-use Rattle.serve_core.specs.declared.limits.TheConstants.{MOST_FRAMES}
+use Rattle.y4m_header.specs.declared.limits.TheConstants.{MOST_FRAMES}
 use Rattle.serve_hub.specs.Seats.{StreamRest, StreamSeatValue, collected_by, left_by}
 use Rattle.serve_hub.proofs.Moving.{All-behind, one_moved, sum_more}
 use Rattle.serve_hub.proofs.shared.merge_streams.Goals as goal

@@ -1,5 +1,5 @@
 use Rattle.std.proofs.Common.{◌≡◌, ◌∙◌, ◌≤◌, IfSome, ap, arith, subst, sym}
-use Rattle.y4m_stream.specs.declared.passing.TheConstants.{MOST_FRAMES}
+use Rattle.y4m_header.specs.declared.limits.TheConstants.{MOST_FRAMES}
 use Rattle.y4m_stream.specs.Reader.{IsOfHeader}
 use Rattle.serve_work.specs.Clients.{AllowsStop}
 use Rattle.serve_work.specs.Rests.{Begun, IsRestOf, IsUnbegun, RestValue, reader_in, rest_stop}
