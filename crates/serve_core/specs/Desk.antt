@@ -20,8 +20,9 @@ use Rattle.serve_core.specs.Events.{Event, Arrive, Tick, Reply, Accepted, Return
 use Rattle.serve_core.specs.Events.{Transcript, Start, Then}
 use Rattle.serve_core.specs.Leads.{Leads}
 use Rattle.serve_core.specs.Rules.{arrival_refusal}
-use Rattle.serve_core.specs.Schedule.{HasStream, IsAdmitAnswer, ScheduleValue, deadlines, stream_finished, stream_lent, stream_offered}
-use Rattle.serve_core.specs.Schedule.{state_by, stream_returned, with_held, with_stream_at}
+use Rattle.serve_core.specs.Schedule.{HasStream, IsAdmitAnswer, ScheduleValue, ready_deadlines, state_by}
+use Rattle.serve_core.specs.Schedule.{stream_finished, stream_lent, stream_offered, stream_returned}
+use Rattle.serve_core.specs.Schedule.{with_held, with_stream_at}
 use Rattle.serve_core.specs.Setup.{StreamSpec, steps}
 use Rattle.serve_core.specs.States.{State}
 use Rattle.serve_core.specs.Streams.{GainsImage, IsFresh, IsStarted, KeptStream, with_leased}
@@ -109,7 +110,7 @@ RefusesAdmission x spec e =
 
 -- a stream is ready
 abbrev pub SomeReady : ScheduleValue → Type 0
-SomeReady x = (s : ℕ) × IsEarliest (deadlines x.streams) s
+SomeReady x = (s : ℕ) × IsEarliest (ready_deadlines x.streams) s
 
 -- what a worker holds with a lease
 abbrev pub held_of : LeaseValue → Held

@@ -17,8 +17,9 @@ module _ {F : Type 0} where
   held_share moment x = if is_released moment x then 0 else share x.spec.maximum x.spec.period
 
   -- the share that a stream holds comes to a load
-  abbrev pub with_held : ℕ → StreamState F → Load → Load
-  with_held moment x load = record { workers = load.workers; shares = load.shares + held_share moment x }
+  abbrev pub with_held_share : ℕ → StreamState F → Load → Load
+  with_held_share moment x load =
+      record { workers = load.workers; shares = load.shares + held_share moment x }
 
   -- the workers, and the shares that are held of them
   abbrev pub held_load : State F → Load

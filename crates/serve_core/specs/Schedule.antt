@@ -61,8 +61,8 @@ state_by frames x = record {
 }
 
 -- the deadlines of the streams that are ready, by stream
-abbrev pub deadlines : List KeptStream → List (Option ℕ)
-deadlines streams = map (λ stream. ready_deadline stream.state) streams
+abbrev pub ready_deadlines : List KeptStream → List (Option ℕ)
+ready_deadlines streams = map (λ stream. ready_deadline stream.state) streams
 
 -- the workers, and the shares that their streams hold
 abbrev pub held_of_streams : (workers clock : ℕ) → List KeptStream → Load
@@ -105,8 +105,8 @@ tick_refusal clock to =
 -- why worker w gets no lease
 abbrev pub RefusesLease : ScheduleValue → ℕ → Refusal → Type 0
 RefusesLease x w e =
-    MatchOption (slice_get x.workers w) (e ≡ refusals.NoWorker) (λ held.
-    MatchOption held ((e ≡ refusals.NoneReady) × NoneReady (deadlines x.streams)) (λ l. e ≡ refusals.Busy))
+    MatchOption (slice_get x.workers w) (e ≡ refusals.NoWorker) (λ held. MatchOption held
+    ((e ≡ refusals.NoneReady) × NoneReady (ready_deadlines x.streams)) (λ l. e ≡ refusals.Busy))
 
 -- why stream s gives no image
 abbrev pub RefusesCollect : ScheduleValue → ℕ → Refusal → Type 0
@@ -163,7 +163,7 @@ pub record IsLent (w : ℕ) (old new : KeptStream) : Type 0 where
 
 -- worker w is lent the front job of the stream with the earliest deadline
 pub record IsLending (w : ℕ) (held : Held) (old new : ScheduleValue) : Type 0 where
-  pub earliest : IsEarliest (deadlines old.streams) held.stream
+  pub earliest : IsEarliest (ready_deadlines old.streams) held.stream
   pub stream_before : KeptStream
   pub stream_after : KeptStream
   pub here : slice_get old.streams held.stream ≡ Some stream_before

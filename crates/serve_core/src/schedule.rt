@@ -246,7 +246,7 @@ impl Schedule {
     /// Lends worker `w` the front job of stream `s`.
     fn lend(&mut self, w: u32, s: u32) -> Held
         requires worker { w < length self.old.workers }
-        requires earliest { IsEarliest (rules.deadlines self.old.streams) s }
+        requires earliest { IsEarliest (rules.ready_deadlines self.old.streams) s }
         ensures { rules.IsLending w result self.old self.new }
     {
         let stream = &mut self.streams[s as usize];

@@ -21,7 +21,7 @@ use Rattle.serve_hub.specs.Seats.{StreamRest, StreamSeatValue, hub_of, left_by, 
 use Rattle.serve_work.specs.declared.session.interval.Interval.{Interval}
 use Rattle.serve_work.specs.Clients.{ClientStart}
 use Rattle.serve_work.specs.Epochs.{IsReopened}
-use Rattle.serve_work.specs.Intervals.{Beginning, HasNoCalls, IsBeginning, IsBetween, IsLater, IsSized, LeadsTo, beginning_of}
+use Rattle.serve_work.specs.Intervals.{Beginning, HasNoCalls, IsBeginning, IsBetween, IsLater, IsSizedStart, LeadsTo, beginning_of}
 use Rattle.serve_work.specs.Rests.{IsRestOf, Unbegun}
 use Rattle.serve_work.specs.Sessions.{AllTimed, AreInputs, IsInput, acts_in, start_of, starts_of}
 use Rattle.serve_work.specs.SessionInside.{AllBegin, AllStand, HeldValue, IsReady, IsReadyAt, Over, StandsAt}
@@ -78,7 +78,7 @@ module _ {W : Type 0} (contents : W → Option (List ℕ)) (failures : W → ℕ
       (all_begin 0 specs inputs p)
 
   all_sized : (first : ℕ) (specs : List StreamSpec) (inputs : List (ReaderState × W)) → AreInputs specs inputs
-      → AllByRecursion IsSized (starts_of contents failures (opened_streams limit first specs) inputs)
+      → AllByRecursion IsSizedStart (starts_of contents failures (opened_streams limit first specs) inputs)
   all_sized first [] [] p = tt
   all_sized first [] (input ∷ inputs) p = absurd p
   all_sized first (spec ∷ specs) [] p = absurd p
@@ -177,12 +177,12 @@ from_setup setup journal last led =
 -- where a stream stands, its client may go on
 
 ready_at : (start : ClientStart) (past : List Act) (seat : StreamSeatValue) (stream : StreamValue) → StandsAt stream start past seat
-    → IsSized start → IsReadyAt stream seat
+    → IsSizedStart start → IsReadyAt stream seat
 ready_at start past seat (Waiting rest) a is = (rest_sized start past seat rest a is, (start, past, a))
 ready_at start past seat (Over outcome) a is = tt
 
 pub all_ready : (journal : List Entry) (starts : List ClientStart) (helds : List HeldValue) → AllBegin journal starts helds
-    → AllByRecursion IsSized starts → AllByRecursion IsReady helds
+    → AllByRecursion IsSizedStart starts → AllByRecursion IsReady helds
 all_ready journal [] [] p is = tt
 all_ready journal [] (held ∷ helds) p is = absurd p
 all_ready journal (start ∷ starts) [] p is = absurd p

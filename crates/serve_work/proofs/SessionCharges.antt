@@ -19,7 +19,7 @@ use Rattle.serve_hub.specs.Seats.{StreamSeatValue, collected_by, opened_streams}
 use Rattle.serve_work.specs.declared.stop.Stop.TheVariants.{Whole}
 use Rattle.serve_work.specs.Clients.{ClientEnds, ClientOutcome, ClientStart}
 use Rattle.serve_work.specs.Intervals.{AreFrom}
-use Rattle.serve_work.specs.Sessions.{AreServed, IsLaneTold, IsServedBy, ServedValue, starts_of}
+use Rattle.serve_work.specs.Sessions.{AreServed, IsStreamTold, IsServedBy, ServedValue, starts_of}
 use Rattle.serve_work.specs.SessionInside.{AllLeave, ClientLeft}
 use Rattle.serve_work.proofs.Tallying.{collections_both, collections_counted}
 
@@ -113,7 +113,7 @@ module _ {S : Type 0} (told : S → ServedValue) (journal : List Entry) (desk : 
       let here = subst (λ n. HasStream desk n (IsStreamOf left.seat)) (ends.number ∙ from.0) (streams 0 left.seat (omega arith)) in
       let at = stream_at desk first _ _ here (charges 0 first s (omega arith) (omega arith)) in
       let cost = cost_between start p.0.0 left.seat (told s).outcome (told s).charged at.stream ends at.first at.second (at.among all) in
-      let is_told : IsLaneTold (told s) at.stream =
+      let is_told : IsStreamTold (told s) at.stream =
       record { accepted = at.first.accepted ∙ ends.accepted; charged = sym at.second } in (
         record {
           is_served = record {
@@ -125,8 +125,8 @@ module _ {S : Type 0} (told : S → ServedValue) (journal : List Entry) (desk : 
             whole = cost.whole;
           };
           calls = p.0.2;
-          stream = subst (λ n. HasStream desk n (IsLaneTold (told s))) (sym from.0)
-              (subst (λ o. IsSomeAnd o (IsLaneTold (told s))) (sym at.here) is_told);
+          stream = subst (λ n. HasStream desk n (IsStreamTold (told s))) (sym from.0)
+              (subst (λ o. IsSomeAnd o (IsStreamTold (told s))) (sym at.here) is_told);
         },
         all_served_from (suc first) starts lefts served p.1 from.1
             (λ k d less. streams (suc k) d (omega (arith, less)))

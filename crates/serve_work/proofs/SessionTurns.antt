@@ -25,7 +25,7 @@ use Rattle.serve_work.specs.declared.session.SessionFault.{SessionFault}
 use Rattle.serve_work.specs.declared.session.SessionFault.TheVariants.{BadLimit, NoMemory}
 use Rattle.serve_work.specs.declared.session.turn.Stream.{Stream}
 use Rattle.serve_work.specs.Clients.{AreAtMoments, ClientOutcome, ClientStart}
-use Rattle.serve_work.specs.Intervals.{HasNoCalls, IsSized}
+use Rattle.serve_work.specs.Intervals.{HasNoCalls, IsSizedStart}
 use Rattle.serve_work.specs.Rests.{Begun, IsRestOf, RestValue, Unbegun, reader_in}
 use Rattle.serve_work.specs.Sessions.{AllTimed, AreInputs, AreTimed, acts_in, outcome_of}
 use Rattle.serve_work.specs.SessionInside.{AllBegin, AllGoOn, AllLeave, AllRun, AllStand, AreOver, AreUnread}
@@ -47,7 +47,7 @@ rest_chain start past seat (Begun begun) a = a.tally.chain
 
 -- what is left to do of a stream whose frames are those of its chain
 pub rest_sized : (start : ClientStart) (past : List Act) (seat : StreamSeatValue) (rest : RestValue) → IsRestOf start past seat rest
-    → IsSized start → IsOfHeader (reader_in rest).header seat.chain.geometry
+    → IsSizedStart start → IsOfHeader (reader_in rest).header seat.chain.geometry
 rest_sized start past seat rest a is = rw (rest_header start past seat rest a, rest_chain start past seat rest a) is
 
 pub header_stays : (start : ClientStart) (past past' : List Act) (seat seat' : StreamSeatValue) (rest rest' : RestValue)

@@ -25,8 +25,8 @@ AreFrom first [] = ⊤
 AreFrom first (start ∷ starts) = (start.seat.number ≡ first) × AreFrom (suc first) starts
 
 -- the stream's frames are those of its chain
-abbrev pub IsSized : ClientStart → Type 0
-IsSized start = IsOfHeader start.reader.header start.seat.chain.geometry
+abbrev pub IsSizedStart : ClientStart → Type 0
+IsSizedStart start = IsOfHeader start.reader.header start.seat.chain.geometry
 
 -- what a session begins with: the schedule that it opens, and its streams
 pub record Beginning : Type 0 where
@@ -42,7 +42,7 @@ beginning_of contents failures setup limit inputs = record {
 
 pub record IsBeginning (b : Beginning) : Type 0 where
   pub numbers : AreFrom 0 b.starts
-  pub sized : AllByRecursion IsSized b.starts
+  pub sized : AllByRecursion IsSizedStart b.starts
   pub few : length b.starts < 2 ^ 32
   pub each : length b.starts ≡ length b.schedule.streams
 

@@ -92,7 +92,7 @@ abbrev pub acts_in : List Entry → ClientStart → List Act
 acts_in journal start = acts_of (Stream start.seat.number) (reverse journal)
 
 -- of a stream as many frames were accepted as are told, and it was charged what is told
-pub record IsLaneTold (served : ServedValue) (stream : KeptStream) : Type 0 where
+pub record IsStreamTold (served : ServedValue) (stream : KeptStream) : Type 0 where
   pub accepted : stream.state.accepted ≡ served.outcome.accepted
   pub charged : stream.state.charged ≡ served.charged
 
@@ -101,7 +101,7 @@ pub record IsServedBy (journal : List Entry) (last : ScheduleValue) (start : Cli
     (served : ServedValue) : Type 0 where
   pub is_served : IsServed start served
   pub calls : is_served.past ++ is_served.seat.calls.list ≡ acts_in journal start
-  pub stream : HasStream last start.seat.number (IsLaneTold served)
+  pub stream : HasStream last start.seat.number (IsStreamTold served)
 
 -- by a journal from an opening state on, the latest entry first, each entry of a frame of stream s has a
 -- moment that the clock may give, by the journal's own clock as it was before that entry

@@ -206,7 +206,7 @@ admitted x y spec s h can p =
     )
 
 -- how a desk answers a stream that can be admitted: by its number, or by want of memory
-pub record Answers (x y : ScheduleValue) (spec : StreamSpec) (r : Result ℕ (Refusal × StreamSpec)) : Type 0 where
+pub record AnswersAdmission (x y : ScheduleValue) (spec : StreamSpec) (r : Result ℕ (Refusal × StreamSpec)) : Type 0 where
   pub events : IfOk r (λ s. LeadsDesk x (one (Admit spec) (Admitted s)) y)
   pub answer : OnOk r (IsAdmitAnswer x spec None)
   pub stream : IfOk r (λ s. (s ≡ length x.streams) × (y ≡ with_stream spec x))
@@ -215,7 +215,7 @@ pub record Answers (x y : ScheduleValue) (spec : StreamSpec) (r : Result ℕ (Re
   pub kept : IsDesk y
 
 pub added : (x y : ScheduleValue) (spec : StreamSpec) (s : ℕ) → IsDesk x → IsAdmitAnswer x spec None
-    → (s ≡ length x.streams) × (y ≡ with_stream spec x) → Answers x y spec (Ok s)
+    → (s ≡ length x.streams) × (y ≡ with_stream spec x) → AnswersAdmission x y spec (Ok s)
 added x y spec s h can p =
     let new = admitted x y spec s h can p in
     record {
@@ -228,7 +228,7 @@ added x y spec s h can p =
     }
 
 pub unfed : (x y : ScheduleValue) (spec back : StreamSpec) → IsDesk x → IsAdmitAnswer x spec None
-    → (back ≡ spec) × (y ≡ x) → Answers x y spec (Err (refusals.NoMemory, back))
+    → (back ≡ spec) × (y ≡ x) → AnswersAdmission x y spec (Err (refusals.NoMemory, back))
 unfed x y spec back h can p = record {
   events = tt;
   answer = tt;

@@ -19,7 +19,7 @@ use Rattle.serve_core.specs.Released.{held_load, held_share}
 use Rattle.serve_core.specs.Rules.{Allows, AllowsAdmit, AllowsArrive, AllowsCollect, AllowsLease}
 use Rattle.serve_core.specs.Rules.{RefusesAdmit, arrival_refusal, close_reply, grant, lack, settle_reply}
 use Rattle.serve_core.specs.Rules.{tick_reply}
-use Rattle.serve_core.specs.Schedule.{IsAdmitAnswer, RefusesCollect, RefusesLease, ScheduleValue, deadlines}
+use Rattle.serve_core.specs.Schedule.{IsAdmitAnswer, RefusesCollect, RefusesLease, ScheduleValue, ready_deadlines}
 use Rattle.serve_core.specs.Schedule.{held_by, state_by, stream_by, tick_refusal}
 use Rattle.serve_core.specs.Setup.{StreamSpec}
 use Rattle.serve_core.specs.Streams.{KeptStream}
@@ -39,7 +39,7 @@ same a b h = grind (arith, nat_tests)
 
 -- whatever frames are seen, the streams have the same deadlines
 pub deadlines_same : {F : Type 0} (frames : KeptStream → List F) (streams : List KeptStream)
-    → deadlines streams ≡ map states.ready_deadline (map (stream_by frames) streams)
+    → ready_deadlines streams ≡ map states.ready_deadline (map (stream_by frames) streams)
 deadlines_same frames [] = refl
 deadlines_same frames (stream ∷ streams) =
     ap (λ ds. states.ready_deadline stream.state ∷ ds) (deadlines_same frames streams)
@@ -159,7 +159,7 @@ module _ {F G : Type 0} (measures : StreamSpec → F → Bool → Type 0)
 
   -- leasing
   pub lease_allowed : (x : ScheduleValue) (w s n g : ℕ) (stream : KeptStream) → slice_get x.workers w ≡ Some None
-      → IsEarliest (deadlines x.streams) s → slice_get x.streams s ≡ Some stream → n ≡ stream.state.finished
+      → IsEarliest (ready_deadlines x.streams) s → slice_get x.streams s ≡ Some stream → n ≡ stream.state.finished
       → g ≡ grant x.quantum stream.state
       → Allows measures is_image (state_by frames x) (Lease w) (Leased s n g)
   lease_allowed x w s n g stream free first e number granted =
@@ -171,7 +171,7 @@ module _ {F G : Type 0} (measures : StreamSpec → F → Bool → Type 0)
 
   lease_by : (x : ScheduleValue) (o : Option (Option Held)) (k : Refusal)
       → MatchOption o (k ≡ refusals.NoWorker) (λ held.
-      MatchOption held ((k ≡ refusals.NoneReady) × NoneReady (deadlines x.streams)) (λ l. k ≡ refusals.Busy))
+      MatchOption held ((k ≡ refusals.NoneReady) × NoneReady (ready_deadlines x.streams)) (λ l. k ≡ refusals.Busy))
       → let r : Reply F G = Refused k in
       MatchOption o (r ≡ Refused refusals.NoWorker) (λ h.
       MatchOption h (AllowsLease (state_by frames x) r) (λ l. r ≡ Refused refusals.Busy))

@@ -4,17 +4,17 @@ use Rattle.std.proofs.Common.{Some, None, slice_get, slice_set, is_none, if◌th
 use Rattle.filters.specs.ChainImage.{FrameValue}
 use Rattle.lease.specs.Job.{JobValue}
 use Rattle.serve_core.specs.Desk.{brought_by}
-use Rattle.serve_core.specs.Schedule.{deadlines}
+use Rattle.serve_core.specs.Schedule.{ready_deadlines}
 use Rattle.serve_core.specs.States.{StreamState, is_ready, ready_deadline}
 use Rattle.serve_core.specs.Streams.{KeptStream}
 
 -- a stream that is as ready as it was
 pub shown_still : (streams : List KeptStream) (s : ℕ) (old new : KeptStream) → slice_get streams s ≡ Some old
-    → ready_deadline new.state ≡ ready_deadline old.state → deadlines streams ≡ deadlines (slice_set streams s new)
+    → ready_deadline new.state ≡ ready_deadline old.state → ready_deadlines streams ≡ ready_deadlines (slice_set streams s new)
 shown_still [] s old new e r = refl
 shown_still (stream ∷ streams) zero old new e r =
     let same : stream ≡ old = cc in
-    ap (λ (d : Option ℕ). d ∷ deadlines streams) (ap (λ (x : KeptStream). ready_deadline x.state) same ∙ sym r)
+    ap (λ (d : Option ℕ). d ∷ ready_deadlines streams) (ap (λ (x : KeptStream). ready_deadline x.state) same ∙ sym r)
 shown_still (stream ∷ streams) (suc s) old new e r =
     ap (λ (ds : List (Option ℕ)). ready_deadline stream.state ∷ ds) (shown_still streams s old new e r)
 

@@ -5,8 +5,8 @@ use Rattle.std.proofs.lemmas.List.{map_push, take_more}
 use Rattle.std.proofs.lemmas.List.Sums.{sum_by_push, sum_by-take-le}
 use Rattle.std.proofs.lemmas.Option.{get_or_from_slice_get, slice_get_within}
 use Rattle.cbs_account.specs.Admission.{Fits, Load}
-use Rattle.serve_core.specs.Released.{held_share, with_held}
-use Rattle.serve_core.specs.Schedule.{deadlines, held_of_streams}
+use Rattle.serve_core.specs.Released.{held_share, with_held_share}
+use Rattle.serve_core.specs.Schedule.{ready_deadlines, held_of_streams}
 use Rattle.serve_core.specs.States.{ready_deadline}
 use Rattle.serve_core.specs.Streams.{KeptStream}
 
@@ -17,7 +17,7 @@ same_load workers a b e = cc
 
 -- one stream more adds the share that it holds
 pub held_more : (workers t i : ℕ) (streams : List KeptStream) (stream : KeptStream) → slice_get streams i ≡ Some stream
-    → with_held t stream.state (held_of_streams workers t (take i streams)) ≡ held_of_streams workers t (take (i + 1) streams)
+    → with_held_share t stream.state (held_of_streams workers t (take i streams)) ≡ held_of_streams workers t (take (i + 1) streams)
 held_more workers t i streams stream e =
     let f = λ (stream : KeptStream). held_share t stream.state in
     let more : take (i + 1) streams ≡ take i streams ++ stream ∷ [] =
@@ -34,9 +34,9 @@ fits_first workers t n streams fits =
     omega (arith, fewer, all)
 
 -- the pool shows one stream more, which isn't ready
-pub shown_more : (pool : List (Option ℕ)) (streams : List KeptStream) (stream : KeptStream) → pool ≡ deadlines streams
-    → ready_deadline stream.state ≡ None → pool ++ None ∷ [] ≡ deadlines (streams ++ stream ∷ [])
+pub shown_more : (pool : List (Option ℕ)) (streams : List KeptStream) (stream : KeptStream) → pool ≡ ready_deadlines streams
+    → ready_deadline stream.state ≡ None → pool ++ None ∷ [] ≡ ready_deadlines (streams ++ stream ∷ [])
 shown_more pool streams stream shown idle =
     ap (λ (ds : List (Option ℕ)). ds ++ None ∷ []) shown
-    ∙ ap (λ (d : Option ℕ). deadlines streams ++ d ∷ []) (sym idle)
+    ∙ ap (λ (d : Option ℕ). ready_deadlines streams ++ d ∷ []) (sym idle)
     ∙ sym (map_push (λ (stream : KeptStream). ready_deadline stream.state) streams stream)

@@ -1,7 +1,7 @@
 //! The share that a stream holds until it is released.
 ghost use Rattle.std.specs.Prelude.{◌≡◌};
 ghost use Rattle.cbs_account.specs.Admission.{Fits};
-ghost use Rattle.serve_core.specs.Released.{is_released, with_held};
+ghost use Rattle.serve_core.specs.Released.{is_released, with_held_share};
 
 use super::Stream;
 use cbs_account::Admission;
@@ -19,8 +19,8 @@ impl Stream {
 
     /// Takes the share that the stream holds at a moment.
     pub(crate) fn hold(&self, moment: u64, admission: &mut Admission)
-        requires { Fits (with_held moment self.now.state admission.old) }
-        ensures { admission.new ≡ with_held moment self.now.state admission.old }
+        requires { Fits (with_held_share moment self.now.state admission.old) }
+        ensures { admission.new ≡ with_held_share moment self.now.state admission.old }
     {
         if self.is_released(moment) {
             return;

@@ -3,7 +3,7 @@ use Rattle.std.specs.Prelude.{ℕ}
 use Rattle.serve_core.specs.declared.refusal.Refusal.{Refusal}
 use Rattle.serve_core.specs.Schedule.{IsAdmitAnswer, ScheduleValue}
 use Rattle.serve_core.specs.Setup.{StreamSpec}
-use Rattle.serve_core.proofs.Calls.Desks.{Answers, added, unfed}
+use Rattle.serve_core.proofs.Calls.Desks.{AnswersAdmission, added, unfed}
 use Rattle.serve_core.proofs.desk.Desk.admit_newcomer.Goals as goal
 use Rattle.serve_core.proofs.desk.Desk.admit_newcomer.Goals.{in-Ok, in-Err}
 
@@ -15,13 +15,13 @@ can c =
     c.in_default.is c.admit_refusal.ensures in
     subst (λ (spec : StreamSpec). IsAdmitAnswer c.self.inside.schedule spec None) c.spec.ensures.spec told
 
-answers : (c : goal.Joined-join) → Answers c.args.self.now c.join.new.self c.args.newcomer c.match-join.result
+answers : (c : goal.Joined-join) → AnswersAdmission c.args.self.now c.join.new.self c.args.newcomer c.match-join.result
 answers c =
     let old = c.self.inside.schedule in
     let new = c.join.new.self in
     let spec = c.args.newcomer in
-    let is_answer = λ (r : Result ℕ (Refusal × StreamSpec)). Answers old new spec r in
-    subst (λ (x : ScheduleValue). Answers x new spec c.match-join.result) c.self.view_is (
+    let is_answer = λ (r : Result ℕ (Refusal × StreamSpec)). AnswersAdmission old new spec r in
+    subst (λ (x : ScheduleValue). AnswersAdmission x new spec c.match-join.result) c.self.view_is (
     elim c.match-join.branch [
       | in-Ok w ↦ subst is_answer (sym w.result-is)
           (added old new spec w.in-Ok.s c.self.invariant (can c) w.in-Ok.ensures.ok)

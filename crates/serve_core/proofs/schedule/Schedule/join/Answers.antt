@@ -1,5 +1,5 @@
 use Rattle.std.proofs.Common.{◌≡◌, None, List, [], ◌∷◌, ◌++◌, length, ◌∙◌, ap, arith, sym}
-use Rattle.serve_core.specs.Schedule.{ScheduleValue, deadlines, with_stream}
+use Rattle.serve_core.specs.Schedule.{ScheduleValue, ready_deadlines, with_stream}
 use Rattle.serve_core.specs.ScheduleInside.{schedule}
 use Rattle.serve_core.specs.States.{ready_deadline}
 use Rattle.serve_core.specs.Streams.{KeptStream}
@@ -14,7 +14,7 @@ invariant_of-self c =
     record {
       clock = c.self.invariant.clock;
       pool = c.grow.ensures ∙ shown_more c.self.inside.pool c.self.inside.streams.items stream c.self.invariant.pool idle
-          ∙ ap deadlines (sym c.in-Ok.ensures.items);
+          ∙ ap ready_deadlines (sym c.in-Ok.ensures.items);
     }
 
 pub returns-in-Ok-clause-ok : goal.returns-in-Ok-clause-ok

@@ -1,6 +1,6 @@
 use Rattle.std.proofs.Common.{refl, ◌∙◌}
 use Rattle.edf_pool.specs.Earliest.{IsEarliest}
-use Rattle.serve_core.specs.Schedule.{deadlines}
+use Rattle.serve_core.specs.Schedule.{ready_deadlines}
 use Rattle.serve_core.proofs.Items.Lists.{slice_get_here}
 use Rattle.serve_core.proofs.Schedules.Shown.{earliest_within, shown_again}
 use Rattle.serve_core.proofs.schedule.Schedule.lend.Goals as goal
@@ -15,7 +15,7 @@ invariant_of-self c = record {
 pub returns : goal.returns
 returns c =
     let streams = c.self.inside.streams.items in
-    let first : IsEarliest (deadlines streams) c.args.s = rw (← c.self.view_is) at c.requires.earliest in
+    let first : IsEarliest (ready_deadlines streams) c.args.s = rw (← c.self.view_is) at c.requires.earliest in
     let here = slice_get_here streams c.args.s c.index_mut-stream.result.now (earliest_within streams c.args.s first)
     c.index_mut-stream.ensures.value in
     rw (← c.self.view_is) (record {

@@ -1,6 +1,6 @@
 use Rattle.std.proofs.Common.{ℕ, ◌≡◌, arith, length, map, replicate, None, sym, ◌∙◌, ap}
 use Rattle.std.proofs.IntoIterSteps.{All-taken}
-use Rattle.serve_core.specs.Schedule.{deadlines}
+use Rattle.serve_core.specs.Schedule.{ready_deadlines}
 use Rattle.serve_core.specs.Streams.{opened}
 use Rattle.serve_core.proofs.Schedules.Shown.{none_ready}
 use Rattle.serve_core.proofs.schedule.Schedule.new.Goals as goal
@@ -17,5 +17,5 @@ invariant_of-result c =
     record {
       clock = omega arith;
       pool = c.in_ok-pool.ensures ∙ ap (λ (n : ℕ). replicate n None) count ∙ none_ready specs
-          ∙ sym (ap deadlines streams);
+          ∙ sym (ap ready_deadlines streams);
     }
