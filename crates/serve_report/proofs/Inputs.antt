@@ -74,17 +74,17 @@ module _ {W : Type 0} (contents : W → Option (List ℕ)) (failures : W → ℕ
       ap (λ (starts : List ClientStart). start_of contents failures seat input ∷ starts) (starts_told seats inputs)
 
   -- so what a session of them left is told
-  pub leaves_told : (workers quantum journal : ℕ) (openings : List Opening) (specs : List StreamSpec) (inputs : List (ReaderState × W))
-      (left : List ServedValue)
+  pub leaves_told : (Gives : ℕ → Type 0) (workers quantum journal : ℕ) (openings : List Opening) (specs : List StreamSpec)
+      (inputs : List (ReaderState × W)) (left : List ServedValue)
       → specs ≡ specs_in openings → map (input_of contents failures) inputs ≡ inputs_in openings
-      → Leaves workers quantum specs (starts_of contents failures (opened_streams journal 0 specs) inputs) left
-      → Leaves workers quantum (specs_in openings) (starts_in journal openings) left
-  leaves_told workers quantum journal openings specs inputs left same told leaves =
+      → Leaves Gives workers quantum specs (starts_of contents failures (opened_streams journal 0 specs) inputs) left
+      → Leaves Gives workers quantum (specs_in openings) (starts_in journal openings) left
+  leaves_told Gives workers quantum journal openings specs inputs left same told leaves =
       let seats = opened_streams journal 0 (specs_in openings) in
-      let by_specs = subst (λ (all : List StreamSpec). Leaves workers quantum all
+      let by_specs = subst (λ (all : List StreamSpec). Leaves Gives workers quantum all
       (starts_of contents failures (opened_streams journal 0 all) inputs) left)
       same leaves in
-      let by_starts = subst (λ (starts : List ClientStart). Leaves workers quantum (specs_in openings) starts left)
+      let by_starts = subst (λ (starts : List ClientStart). Leaves Gives workers quantum (specs_in openings) starts left)
       (sym (starts_told seats inputs)) by_specs in
-      subst (λ (all : List (ReaderState × Output)). Leaves workers quantum (specs_in openings)
+      subst (λ (all : List (ReaderState × Output)). Leaves Gives workers quantum (specs_in openings)
       (starts_of (λ output. output.contents) (λ output. output.failures) seats all) left) told by_starts

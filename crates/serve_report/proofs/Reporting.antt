@@ -5,7 +5,7 @@ use Rattle.std.proofs.lemmas.List.{flat_map_more, take_more}
 use Rattle.std.specs.List.{AllByRecursion, flat_map}
 use Rattle.serve_core.specs.Setup.{StreamSpec}
 use Rattle.serve_report.specs.Entrants.{IsInTime, Leaves, given_at, rows_given, served_row, stopped_row, told_row}
-use Rattle.serve_report.specs.Moments.{IsMoment}
+use Rattle.serve_report.specs.Moments.{AreMoments}
 use Rattle.serve_report.specs.declared.serve.opening.Entrant.{Entrant}
 use Rattle.serve_report.specs.declared.serve.report.StreamStop.{StreamStop}
 use Rattle.serve_work.specs.Clients.{AllowsStop, ClientStart}
@@ -42,14 +42,15 @@ module _ {R W : Type 0} (left_of : R → Option (List ℕ)) (read_failures : R �
   rows_told (entrant ∷ more) left = row_told_of entrant.name entrant.stop left more (rows_told more)
 
 -- a session whose clock gives no moment past the last leaves no stream that was stopped by it
-stopped_in_time : (left : List ServedValue) → AllByRecursion (λ s. AllowsStop IsMoment s.outcome.stop) left → AllByRecursion IsInTime left
-stopped_in_time [] stops = tt
-stopped_in_time (served ∷ left) stops = (
-  λ is. let ended = subst (AllowsStop IsMoment) is stops.0 in omega (arith, ended.1, ended.2),
-  stopped_in_time left stops.1,
-)
+module _ (Gives : ℕ → Type 0) (most : AreMoments Gives) where
+  stopped_in_time : (left : List ServedValue) → AllByRecursion (λ s. AllowsStop Gives s.outcome.stop) left → AllByRecursion IsInTime left
+  stopped_in_time [] stops = tt
+  stopped_in_time (served ∷ left) stops = (
+    λ is. let ended = subst (AllowsStop Gives) is stops.0 in let last = most ended.0 ended.2 in omega (arith, ended.1, last),
+    stopped_in_time left stops.1,
+  )
 
-pub left_in_time : (workers quantum : ℕ) (specs : List StreamSpec) (starts : List ClientStart) (left : List ServedValue)
-    → Leaves workers quantum specs starts left → AllByRecursion IsInTime left
-left_in_time workers quantum specs starts left (inl none) = subst (AllByRecursion IsInTime) (sym none.1) tt
-left_in_time workers quantum specs starts left (inr session) = stopped_in_time left session.stops
+  pub left_in_time : (workers quantum : ℕ) (specs : List StreamSpec) (starts : List ClientStart) (left : List ServedValue)
+      → Leaves Gives workers quantum specs starts left → AllByRecursion IsInTime left
+  left_in_time workers quantum specs starts left (inl none) = subst (AllByRecursion IsInTime) (sym none.1) tt
+  left_in_time workers quantum specs starts left (inr session) = stopped_in_time left session.stops

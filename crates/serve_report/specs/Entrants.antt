@@ -9,7 +9,7 @@ use Rattle.std.specs.Option.{option_map}
 use Rattle.serve_core.specs.Setup.{StreamSpec, setup_of}
 use Rattle.serve_script.specs.ScriptReport.{line_text}
 use Rattle.serve_report.specs.Apart.{FilesGive, OfPlace}
-use Rattle.serve_report.specs.Moments.{IsMoment}
+use Rattle.serve_report.specs.Moments.{AreMoments, IsMoment}
 use Rattle.serve_report.specs.Openings.{IsOpening, OfName, Opening, entrant_of, specs_in, starts_in}
 use Rattle.serve_report.specs.ServeChecks.{AreSaid, ChecksGive, HasOptions, all_told}
 use Rattle.serve_report.specs.ServeReport.{row_text, stop_told}
@@ -98,34 +98,38 @@ rows_text rows = flat_map (λ row. line_text (row_text row)) rows
 abbrev pub report_text : List StreamRow → List ℕ
 report_text rows = rows_text rows ++ line_text (codes "units " ++ decimal (charged_in rows))
 
--- what a session of these streams left of them; where none takes part there is none
-abbrev pub Leaves : (workers quantum : ℕ) → List StreamSpec → List ClientStart → List ServedValue → Type 0
-Leaves workers quantum specs starts left =
-    ((specs ≡ []) × (left ≡ [])) ⊎ IsSession IsMoment (setup_of workers quantum specs) starts left
+-- what a session of these streams, by a clock that may give these moments, left of them; where none takes
+-- part there is none
+abbrev pub Leaves : (Gives : ℕ → Type 0) → (workers quantum : ℕ) → List StreamSpec → List ClientStart
+    → List ServedValue → Type 0
+Leaves Gives workers quantum specs starts left =
+    ((specs ≡ []) × (left ≡ [])) ⊎ IsSession Gives (setup_of workers quantum specs) starts left
 
--- a stream wasn't stopped since the clock of the run had ended
+-- a stream wasn't stopped since the clock had ended
 abbrev pub IsInTime : ServedValue → Type 0
 IsInTime served = served.outcome.stop ≢ Refused ClockEnd
 
--- each row tells of its stream: why it took no part, or what the session left of it
-pub record Tells (workers quantum journal : ℕ) (openings : List Opening)
+-- each row tells of its stream: why it took no part, or what the session left of it; a clock that gives no
+-- moment past the last stops none
+pub record Tells (Gives : ℕ → Type 0) (workers quantum journal : ℕ) (openings : List Opening)
     (rows : List StreamRow) : Type 0 where
   pub left : List ServedValue
-  pub session : Leaves workers quantum (specs_in openings) (starts_in journal openings) left
+  pub session : Leaves Gives workers quantum (specs_in openings) (starts_in journal openings) left
   pub given : rows_given told_row (map entrant_of openings) left ≡ Some rows
-  pub in_time : AllByRecursion IsInTime left
+  pub in_time : AreMoments Gives → AllByRecursion IsInTime left
 
 -- the streams were opened as their words ask, and the rows tell of them
-pub record Serves (OpenGives CreateGives : OfName) (checked : Checked) (rows : List StreamRow) : Type 0 where
+pub record Serves (OpenGives CreateGives : OfName) (Gives : ℕ → Type 0) (checked : Checked)
+    (rows : List StreamRow) : Type 0 where
   pub openings : List Opening
   pub opened : AllZip (IsOpening OpenGives CreateGives checked.height) checked.streams.items openings
-  pub tells : Tells checked.workers checked.quantum checked.journal openings rows
+  pub tells : Tells Gives checked.workers checked.quantum checked.journal openings rows
 
 -- what is reported of these streams, in their order, went out; and whether all of them are whole
-pub record Reports (OpenGives CreateGives : OfName) (checked : Checked) (old new : Option (List ℕ))
-    (whole : Bool) : Type 0 where
+pub record Reports (OpenGives CreateGives : OfName) (Gives : ℕ → Type 0) (checked : Checked)
+    (old new : Option (List ℕ)) (whole : Bool) : Type 0 where
   pub rows : List StreamRow
-  pub serves : Serves OpenGives CreateGives checked rows
+  pub serves : Serves OpenGives CreateGives Gives checked rows
   pub all : whole ≡ list_all is_whole rows
   pub wrote : Appends old new (report_text rows)
 
@@ -138,4 +142,4 @@ pub record ServesAll (PlaceGives : OfPlace) (OpenGives CreateGives : OfName) (wo
   pub asked : ChecksGive words (Ok (all_told checked.streams.items))
   pub said : AreSaid checked.streams.items
   pub apart : FilesGive PlaceGives (all_told checked.streams.items) None
-  pub reported : Reports OpenGives CreateGives checked old new true
+  pub reported : Reports OpenGives CreateGives IsMoment checked old new true

@@ -22,13 +22,12 @@ use crate::progress::{Watch, following};
 use crate::tell::tell;
 use crate::words::ServeWords;
 use serve_core::{Setup, StreamSpec};
-use serve_work::{Served, SessionFault, serve_session};
+use serve_work::{Clock, Served, SessionFault, serve_session};
 use std::alloc::{AllocError, Global};
-use std::fmt;
 use std::io::{self, Write};
 use std::sync::Wait;
 use std::thread::Threads;
-use std::time::Clock;
+use std::{fmt, time};
 use y4m_stream::{Sink, Source};
 
 mod apart;
@@ -90,7 +89,7 @@ where
     E: Write,
     F: Files + Sync,
     V: Watch + Sync,
-    T: Threads + Wait + Clock + Copy + Drop + Send + Sync + 'static,
+    T: Threads + Wait + time::Clock + Copy + Drop + Send + Sync + 'static,
     ensures status { result ≤ 2 }
     ensures untouched { result ≡ 2 → Keeps (W.contents output.old) (W.contents output.new) }
     ensures well { result ≡ 0
@@ -105,7 +104,8 @@ where
         return refuse(errors, fault);
     }
     let told = following(watch, words.is_quiet);
-    match serve(rt, alloc, checked, output, files, told) {
+    let clock = Counter::new(rt);
+    match serve(rt, alloc, checked, output, files, told, &clock) {
         Ok(true) => 0,
         Ok(false) => 1,
         Err(fault) => {
@@ -124,26 +124,30 @@ fn refuse<E: Write>(errors: &mut E, fault: WordFault<'_>) -> u8
     fault.status()
 }
 
-/// Serves the streams, whose files are told apart, and reports them. It answers whether all are whole.
-fn serve<W, F, V, T>(
+/// Serves the streams, whose files are told apart, by a clock, and reports them. It answers whether all are
+/// whole.
+fn serve<W, F, V, K, T>(
     rt: &T,
     alloc: Global,
     checked: Checked<'_>,
     output: &mut W,
     files: &F,
     told: Option<&V>,
+    clock: &K,
 ) -> Result<bool, RunFault>
 where
     W: Write,
     F: Files + Sync,
     V: Watch + Sync,
-    T: Threads + Wait + Clock + Copy + Drop + Send + Sync + 'static,
+    K: Clock + Sync,
+    T: Threads + Wait + time::Clock + Copy + Drop + Send + Sync + 'static,
     requires apart { FilesGive F.place_gives (all_told checked.streams.items) None }
     ensures { IfOk result
-        (Reports F.open_gives F.create_gives checked.entry (W.contents output.old) (W.contents output.new)) }
+        (Reports F.open_gives F.create_gives (K.gives clock.now) checked.entry (W.contents output.old)
+        (W.contents output.new)) }
 {
     let told = begun(alloc, &checked.streams, told);
-    let rows = serve_files(rt, alloc, checked, files, told);
+    let rows = serve_files(rt, alloc, checked, files, told, clock);
     if let Some(watch) = told {
         watch.ends();
     }
@@ -165,18 +169,21 @@ fn begun<'w, V: Watch>(alloc: Global, streams: &[Asked<'_>], told: Option<&'w V>
 }
 
 /// Serves the streams between their files, and answers what is reported of each, in order.
-fn serve_files<'a, F, V, T>(
+fn serve_files<'a, F, V, K, T>(
     rt: &T,
     alloc: Global,
     checked: Checked<'a>,
     files: &F,
     told: Option<&V>,
+    clock: &K,
 ) -> Result<Vec<StreamRow<'a>>, RunFault>
 where
     F: Files + Sync,
     V: Watch + Sync,
-    T: Threads + Wait + Clock + Copy + Drop + Send + Sync + 'static,
-    ensures { IfOk result (λ rows. Serves F.open_gives F.create_gives checked.entry rows.items) }
+    K: Clock + Sync,
+    T: Threads + Wait + time::Clock + Copy + Drop + Send + Sync + 'static,
+    ensures { IfOk result
+        (λ rows. Serves F.open_gives F.create_gives (K.gives clock.now) checked.entry rows.items) }
 {
     let Checked {
         workers,
@@ -186,25 +193,27 @@ where
         streams,
     } = checked;
     let tried = open_all(rt, alloc, streams, height, files, told)?;
-    let rows = serve_tried(rt, alloc, workers, quantum, journal, tried)?;
+    let rows = serve_tried(rt, alloc, workers, quantum, journal, tried, clock)?;
     Ok(rows)
 }
 
 /// Serves the streams by what came of opening them.
-fn serve_tried<'a, R, W, T>(
+fn serve_tried<'a, R, W, K, T>(
     rt: &T,
     alloc: Global,
     workers: u64,
     quantum: u64,
     journal: usize,
     tried: Vec<Tried<'a, R, W>>,
+    clock: &K,
 ) -> Result<Vec<StreamRow<'a>>, RunFault>
 where
     R: Source + Drop + Send,
     W: Sink + Drop + Send,
+    K: Clock + Sync,
     T: Threads + Wait + Sync,
     ensures { IfOk result (λ rows.
-        Tells workers quantum journal (openings_of tried.entry.items) rows.items) }
+        Tells (K.gives clock.now) workers quantum journal (openings_of tried.entry.items) rows.items) }
 {
     let Opened {
         entrants,
@@ -213,7 +222,7 @@ where
     } = all_tried(alloc, tried)?;
     // No memory is taken after the session, so that one that ended is reported.
     let rows = Vec::with_capacity(alloc, entrants.len())?;
-    let left = serve_opened(rt, alloc, workers, quantum, journal, specs, inputs)?;
+    let left = serve_opened(rt, alloc, workers, quantum, journal, specs, inputs, clock)?;
     let Some(rows) = rows_of(rows, &entrants, &left) else {
         return Err(RunFault::Session(SessionFault::Mismatch));
     };
@@ -221,7 +230,7 @@ where
 }
 
 /// Serves the streams that were opened; none where there is none.
-fn serve_opened<R, W, T>(
+fn serve_opened<R, W, K, T>(
     rt: &T,
     alloc: Global,
     workers: u64,
@@ -229,13 +238,15 @@ fn serve_opened<R, W, T>(
     journal: usize,
     specs: Vec<StreamSpec>,
     inputs: Vec<Input<R, W>>,
+    clock: &K,
 ) -> Result<Vec<Served<R, W>>, SessionFault>
 where
     R: Source + Drop + Send,
     W: Sink + Drop + Send,
+    K: Clock + Sync,
     T: Threads + Wait + Sync,
     requires inputs { AreInputs specs.items inputs.items }
-    ensures { IfOk result (λ left. Leaves workers quantum specs.items
+    ensures { IfOk result (λ left. Leaves (K.gives clock.now) workers quantum specs.items
         (starts_of W.contents W.failures (opened_streams journal 0 specs.items) inputs.items)
         (map (served_of R.remaining R.failures W.contents W.failures W.is_flushed) left.items)) }
 {
@@ -245,7 +256,6 @@ where
     let Ok(setup) = Setup::new(workers, quantum, specs) else {
         return Err(SessionFault::Mismatch);
     };
-    let clock = Counter::new(rt);
-    let left = serve_session(rt, alloc, setup, inputs, journal, &PlainGate, &clock)?;
+    let left = serve_session(rt, alloc, setup, inputs, journal, &PlainGate, clock)?;
     Ok(left)
 }
