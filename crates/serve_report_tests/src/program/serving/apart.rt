@@ -196,6 +196,9 @@ fn one_film_is_read_by_two_streams(rt: HostRuntime) -> Result<(), Fail> {
             status: 0,
         };
         serves(&rt, rt.alloc(), line, &files, expected)?;
+        // Two files are opened, and two made.
+        let asked = *files.asked.lock(&rt);
+        assert_eq!(rt; asked, 4);
         holds(&rt, &outputs[0], A_INVERTED);
         holds(&rt, &outputs[1], A_INVERTED);
     }

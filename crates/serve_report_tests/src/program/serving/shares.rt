@@ -7,10 +7,10 @@ use std::alloc::Global;
 use std::io::{self, Empty, ErrorKind, Read, Write};
 use std::process::Abort;
 use std::sync::Wait;
-use std::sync::atomic::AtomicU64;
 use std::sync::atomic::Ordering::SeqCst;
+use std::sync::atomic::{AtomicBool, AtomicU64};
 use std::test::Fail;
-use std::thread::Threads;
+use std::thread::{self, Threads};
 use std::time::Clock;
 
 /// Its frames have four bands of 128 rows. Their work takes longer than a client that was woken waits for a
@@ -23,26 +23,36 @@ const LINE: &[u8] = b"FRAME\n";
 const FRAME: u64 = 6 + 2048 * 512;
 
 /// How often a run is tried: other work may hold up a client, whose stream is then not served in its turn.
-const TRIES: u32 = 10;
+const TRIES: u32 = 16;
+
+/// In so many of these runs the streams are to be served in their turn.
+const ENOUGH: u32 = 3;
+
+/// How often an input that begins later looks whether it may.
+const LOOKS: u32 = 20_000_000;
 
 /// Two streams of a run: how many bytes of each were written, and what is to be seen of the second one.
 #[derive(Drop)]
 struct Pair {
     /// How many frames each has.
     frames: [u64; 2],
-    /// The images of the second are counted when so many of the first were written.
-    seen_at: u64,
+    /// The frames of the second come when so many images of the first were written.
+    begins_at: u64,
     written: [AtomicU64; 2],
+    /// How many images of the second were there when the first ended.
     seen: AtomicU64,
+    /// The second began before it may.
+    is_early: AtomicBool,
 }
 
 impl Pair {
-    fn new(frames: [u64; 2], seen_at: u64) -> Pair {
+    fn new(frames: [u64; 2], begins_at: u64) -> Pair {
         Pair {
             frames,
-            seen_at,
+            begins_at,
             written: [AtomicU64::new(0), AtomicU64::new(0)],
             seen: AtomicU64::new(u64::MAX),
+            is_early: AtomicBool::new(false),
         }
     }
 
@@ -54,12 +64,23 @@ impl Pair {
         }
     }
 
+    /// Waits until the frames of the second may come, or for long.
+    fn wait(&self) {
+        for _ in 0..LOOKS {
+            if self.images(0) >= self.begins_at || self.is_early.load(SeqCst) {
+                return;
+            }
+            thread::yield_now();
+        }
+        self.is_early.store(true, SeqCst);
+    }
+
     /// So many bytes more of the stream were written.
     fn add(&self, stream: usize, bytes: u64) {
         if let Some(written) = self.written.get(stream) {
             written.fetch_add(bytes, SeqCst);
         }
-        if stream == 0 && self.images(0) >= self.seen_at {
+        if stream == 0 && self.images(0) >= self.frames[0] {
             let _ = self
                 .seen
                 .compare_exchange(u64::MAX, self.images(1), SeqCst, SeqCst);
@@ -93,6 +114,9 @@ impl Read for Input<'_> {
         let header = HEADER.len() as u64;
         if self.given >= header.saturating_add(frames.saturating_mul(FRAME)) {
             return Ok(0);
+        }
+        if self.stream == 1 && self.given >= header {
+            self.pair.wait();
         }
         let (text, at) = self.piece();
         let taken = match text.get(at as usize..) {
@@ -195,7 +219,34 @@ fn runs<T: Abort + Threads + Wait + Clock + Copy + Drop + Send + Sync + 'static>
         rows.is_some_and(|rows| rows.contains("stop whole")),
         "{line}"
     );
+    assert!(rt; !pair.is_early.load(SeqCst), "the first took too long");
     Ok(pair.seen.load(SeqCst))
+}
+
+/// Runs both streams again and again, and sees that often enough at most so many images of the second were
+/// there when the first ended.
+fn counts_at_most<T: Abort + Threads + Wait + Clock + Copy + Drop + Send + Sync + 'static>(
+    rt: &T,
+    alloc: Global,
+    line: &str,
+    frames: [u64; 2],
+    begins_at: u64,
+    most: u64,
+) -> Result<(), Fail> {
+    let mut few = 0u32;
+    for _ in 0..TRIES {
+        let pair = Pair::new(frames, begins_at);
+        let seen = runs(rt, alloc, line, &pair)?;
+        few = few.saturating_add(u32::from(seen <= most));
+        if few >= ENOUGH {
+            break;
+        }
+    }
+    assert!(rt;
+        few >= ENOUGH,
+        "{line}: {few} runs with at most {most} images of the second"
+    );
+    Ok(())
 }
 
 /// Words of which the first stream has 24 times the share of the second, in either order. A frame costs 32.
@@ -209,18 +260,24 @@ const SHARES: &[&str] = &[
 #[test]
 fn who_has_the_greater_share_is_served_first(rt: HostRuntime) -> Result<(), Fail> {
     for line in SHARES {
-        let mut least = u64::MAX;
-        for _ in 0..TRIES {
-            let pair = Pair::new([48, 48], 48);
-            least = least.min(runs(&rt, rt.alloc(), line, &pair)?);
-            if least <= 24 {
-                break;
-            }
-        }
-        assert!(rt;
-            least <= 24,
-            "{line}: {least} images of the second beside 48"
-        );
+        counts_at_most(&rt, rt.alloc(), line, [48, 48], 0, 24)?;
+    }
+    Ok(())
+}
+
+/// Words whose budgets last for all frames, while too few moments pass for an idle stream to begin anew: each
+/// deadline is that of the first arrival. The period of the second stream is the shorter one by 10.
+const PERIODS: &[&str] = &[
+    "serve --workers 1 --band 128 a:first:first:790:1200:blur:7 b:second:second:400:1190:blur:7",
+    "serve --workers 1 --band 128 b:second:second:400:1190:blur:7 a:first:first:790:1200:blur:7",
+];
+
+/// The second comes when 12 frames or more were offered. So its deadline is the later one, by two moments at
+/// least, and it is served where the first has no frame waiting. Had no moment passed, it would go first.
+#[test]
+fn who_comes_later_has_the_later_deadline(rt: HostRuntime) -> Result<(), Fail> {
+    for line in PERIODS {
+        counts_at_most(&rt, rt.alloc(), line, [24, 12], 12, 3)?;
     }
     Ok(())
 }
