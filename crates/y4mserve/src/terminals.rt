@@ -44,6 +44,7 @@ impl<'a> Terminals<'a> {
         let Some(time) = self.time() else {
             return;
         };
+        // As in `main`, `lock` of a standard stream holds no lock here.
         let mut errors = self.rt.stderr().lock();
         match self.board.get() {
             Some(board) => board.draw(&mut errors, time),
