@@ -44,7 +44,7 @@ no_units zero w m e = absurd (cc)
 no_units (suc n) zero m e = cc
 no_units (suc n) (suc w) m e = no_units n w m e
 
--- where no lease is out, there is an entry for each stream at most
+-- where no lease is out, an entry is reserved for each stream at most
 none_out : (workers : List (Option Held)) → AreFree workers → sum_by one_out workers ≡ 0
 none_out [] free = refl
 none_out (Some held ∷ workers) free = absurd (free 0 held refl)
@@ -60,8 +60,12 @@ few_open [] = omega arith
 few_open (stream ∷ streams) =
     omega (arith, sum_by-cons one_open stream streams, few_open streams, one_or_none stream.state.is_closed)
 
+-- there is one for each open stream, and no other
+pub only_closes : (x : ScheduleValue) → AreFree x.workers → reserved x ≡ sum_by one_open x.streams
+only_closes x free = omega (arith, none_out x.workers free)
+
 pub few_reserved : (x : ScheduleValue) → AreFree x.workers → reserved x ≤ length x.streams
-few_reserved x free = omega (arith, none_out x.workers free, few_open x.streams)
+few_reserved x free = omega (arith, only_closes x free, few_open x.streams)
 
 -- a book without entries over any desk
 is_book_over : (desk : ScheduleValue) (limit : ℕ) → Sound (desk_state desk) → reserved desk ≤ limit

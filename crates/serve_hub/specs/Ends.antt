@@ -19,7 +19,7 @@ use Rattle.serve_hub.specs.declared.entry.Seat.TheVariants.{Stream, Worker}
 use Rattle.serve_hub.specs.declared.moments.Moments.{Moments}
 use Rattle.serve_hub.specs.Books.{BookValue, book_transcript, opening_of, specs_of}
 use Rattle.serve_hub.specs.Journal.{clock_in}
-use Rattle.serve_hub.specs.Seats.{HubValue, StreamRest, StreamSeatValue, WorkSeatValue, collected_by}
+use Rattle.serve_hub.specs.Seats.{StreamRest, StreamSeatValue, WorkSeatValue, collected_by}
 
 abbrev pub is_same_seat : Seat → Seat → Bool
 is_same_seat (Stream a) (Stream b) = a == b
@@ -73,9 +73,9 @@ pub record AreCalls (b : BookValue) (streams : List StreamSeatValue) (workers : 
   pub of_workers : AreWorkCalls (reverse b.past) workers
   pub once : length b.past ≡ calls_in streams workers
 
--- seats of the hub aren't there
-abbrev pub IsMissing : HubValue → (streams workers : ℕ) → Type 0
-IsMissing hub streams workers = (streams ≢ hub.streams) ⊎ (workers ≢ hub.workers)
+-- so many seats of streams and of workers aren't all of a hub's
+abbrev pub IsMissing : (all_streams all_workers streams workers : ℕ) → Type 0
+IsMissing all_streams all_workers streams workers = (streams ≢ all_streams) ⊎ (workers ≢ all_workers)
 
 abbrev pub is_lease : Act → Bool
 is_lease (Leased s number grant) = true

@@ -89,10 +89,12 @@ pub record WorkSeatValue : Type 0 where
   pub number : ℕ
   pub calls : CallsValue
 
--- how many seats a hub has: of the streams that it opened with, and of its workers
+-- how many seats a hub has: of the streams that it opened with, and of its workers; and how many entries its
+-- journal may have
 pub record HubValue : Type 0 where
   pub streams : ℕ
   pub workers : ℕ
+  pub limit : ℕ
 
 abbrev pub no_calls : ℕ → CallsValue
 no_calls limit = record { limit = limit; list = [] }
@@ -158,5 +160,5 @@ pub record SharedValue : Type 0 where
   pub streams : ℕ
   pub workers : ℕ
 
-abbrev pub hub_of : (streams workers : ℕ) → HubValue
-hub_of streams workers = record { streams = streams; workers = workers }
+abbrev pub hub_of : (streams workers limit : ℕ) → HubValue
+hub_of streams workers limit = record { streams = streams; workers = workers; limit = limit }

@@ -122,6 +122,13 @@ impl Book {
         self.journal.last().copied()
     }
 
+    /// The most entries.
+    pub(crate) fn limit(&self) -> usize
+        ensures { result ≡ self.now.limit }
+    {
+        self.limit
+    }
+
     /// How many entries are left, beside those that are reserved.
     pub fn room(&self) -> usize
         ensures { result ≡ rules.room self.now }

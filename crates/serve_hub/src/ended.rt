@@ -1,12 +1,12 @@
 //! What is left of a hub.
-ghost use Rattle.std.specs.Prelude.{◌≡◌, ◌≤◌, [], IfSome, length, reverse, slice_get};
+ghost use Rattle.std.specs.Prelude.{◌≡◌, ◌<◌, ◌≤◌, ◌↔◌, [], IfSome, IsTrue, length, reverse, slice_get};
 ghost use Rattle.std.specs.Option.{option_map};
 ghost use Rattle.std.specs.Vec.{vec_capacity};
 ghost use Rattle.serve_core.specs.Bare.{measures_any, is_any_image};
 ghost use Rattle.serve_core.specs.Desk.{desk_state};
 ghost use Rattle.serve_core.specs.Reached.{IsReached};
 ghost use Rattle.serve_core.specs.Schedule.{account_of, counts_of};
-ghost use Rattle.serve_hub.specs.Books.{IsBook, IsLimit, book_transcript, opened_book, opening_of};
+ghost use Rattle.serve_hub.specs.Books.{IsBook, IsLimit, book_transcript, opened_book, opening_of, room};
 ghost use Rattle.serve_hub.specs.Ends.{AreFree, IsOpening};
 ghost use Rattle.serve_hub.specs.Journal.{bands_of, units_from};
 
@@ -91,6 +91,20 @@ impl Ended {
         self.book.journal()
     }
 
+    /// The most entries that the journal could have.
+    pub fn limit(&self) -> usize
+        ensures { result ≡ self.now.book.limit }
+    {
+        self.book.limit()
+    }
+
+    /// Whether the journal has no place for another lease and its settlement.
+    pub fn is_full(&self) -> bool
+        ensures { IsTrue result ↔ (room self.now.book < 2) }
+    {
+        self.book.room() < 2
+    }
+
     /// The moment at the end.
     pub fn clock(&self) -> u64
         ensures { result ≡ self.now.book.desk.clock }
@@ -100,14 +114,16 @@ impl Ended {
 
     /// The budget and the deadline of stream `s`.
     pub fn account(&self, s: u32) -> Option<(u64, u64)>
-        ensures { result ≡ option_map (λ stream. account_of stream.state) (slice_get self.now.book.desk.streams s) }
+        ensures { result
+            ≡ option_map (λ stream. account_of stream.state) (slice_get self.now.book.desk.streams s) }
     {
         self.book.desk().account(s)
     }
 
     /// How many frames of stream `s` were accepted, finished and collected, and what it was charged.
     pub fn counts(&self, s: u32) -> Option<Counts>
-        ensures { result ≡ option_map (λ stream. counts_of stream.state) (slice_get self.now.book.desk.streams s) }
+        ensures { result
+            ≡ option_map (λ stream. counts_of stream.state) (slice_get self.now.book.desk.streams s) }
     {
         self.book.desk().counts(s)
     }
@@ -137,7 +153,8 @@ pub enum Fault {
     /// A worker holds a lease.
     LeaseOut,
     /// What a seat keeps of its calls, or of its stream, isn't what the book has, or a frame of it was
-    /// accepted before the clock had come to the moment of the seat's first.
+    /// accepted before the clock had come to the moment of the seat's first; or the book has another limit
+    /// than the hub.
     Differs,
 }
 

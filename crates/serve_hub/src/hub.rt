@@ -39,7 +39,8 @@ use std::sync::{Condvar, Mutex, Wait};
 /// A book under one lock, for the seats of its streams and workers, whose calls wait for the lock.
 ///
 /// `L` is the name of the ledger that counts the journal's entries, and tells which hub a seat belongs to.
-/// Contracts see how many streams it opened with, and how many workers it has.
+/// Contracts see how many streams it opened with, how many workers it has, and the most entries of its
+/// journal.
 ///
 /// A call wakes those whom it may help. A frame that is accepted and an image that is collected wake a
 /// worker, and a frame that is finished wakes the client of its stream. All workers wake at a close, at an
@@ -61,7 +62,7 @@ impl<L: Epoch> Model for Hub<L> {
 
     ghost Value = { HubValue };
 
-    ghost view = { λ a. record { streams = a.streams; workers = a.workers } };
+    ghost view = { λ a. record { streams = a.streams; workers = a.workers; limit = a.limit } };
 }
 
 /// A hub with the seats of its streams and of its workers.
@@ -80,7 +81,7 @@ impl<L: Epoch> Hub<L> {
         requires parts { blank.parts ≡ L.parts }
         requires enough { blank.parts ≡ MOST_SEATS }
         requires opening { opened_schedule setup ≡ L.opening }
-        ensures hub { IfOk result (λ r. r.0 ≡ hub_of (length setup.streams) setup.workers) }
+        ensures hub { IfOk result (λ r. r.0 ≡ hub_of (length setup.streams) setup.workers limit) }
         ensures streams { IfOk result (λ r. r.1.items ≡ opened_streams limit 0 setup.streams) }
         ensures workers { IfOk result (λ r.
             r.2.items ≡ map (opened_worker limit) (range_with_len 0 setup.workers)) }
@@ -102,7 +103,7 @@ impl<L: Epoch> Hub<L> {
     }
 
     pub(crate) fn of(shared: Shared<L>, streams: usize, workers: usize, limit: usize) -> Hub<L>
-        ensures { result ≡ hub_of streams workers }
+        ensures { result ≡ hub_of streams workers limit }
     {
         Hub {
             shared: Mutex::new(shared),
@@ -114,13 +115,13 @@ impl<L: Epoch> Hub<L> {
         }
     }
 
-    /// What the hub did, where all seats are back, no lease is out, and what the seats keep of their calls
-    /// and their streams is what the book has. A hub that can't be ended comes back with the seats, and with
-    /// the number of all streams, those that were admitted too.
+    /// What the hub did, where all seats are back, no lease is out, what the seats keep of their calls and
+    /// their streams is what the book has, and its limit is the hub's. A hub that can't be ended comes back
+    /// with the seats, and with the number of all streams, those that were admitted too.
     ///
     /// No contract can name what is under a lock, so what the end tells of the streams' chains and of their
-    /// counts is compared with the seats here, and the journal's clock with the seats' first moments. What
-    /// the hub opened from is a part of its name.
+    /// counts is compared with the seats here, the journal's clock with the seats' first moments, and its
+    /// limit with the hub's. What the hub opened from is a part of its name.
     pub fn finish(
         self,
         streams: Vec<StreamSeat<L>>,
@@ -132,16 +133,18 @@ impl<L: Epoch> Hub<L> {
         ensures each_worker { OnOk result (HaveWorkers self.workers workers.items) }
         ensures history { IfOk result (λ ended. IsHistory L.opening ended.book) }
         ensures book { IfOk result (λ ended. IsBook ended.book) }
+        ensures limit { IfOk result (λ ended. ended.book.limit ≡ self.limit) }
+        ensures free { IfOk result (λ ended. AreFree ended.book.desk.workers) }
         ensures kept { IfOk result (λ ended. AreStreamsOf ended.book.desk streams.items) }
         ensures clock_reached { IfOk result (λ ended. ClocksReached ended.book streams.items) }
         ensures charges { IfOk result (λ ended. All IsCharged ended.book.desk.streams) }
         ensures left { IfOk result (λ ended. ended.streams ≡ map left_by streams.items) }
         ensures all_workers { IfOk result (λ ended. length ended.book.desk.workers ≡ self.workers) }
         ensures missing { MatchResult result
-            (λ ended. ¬ IsMissing (hub_of (length ended.book.desk.streams) self.workers) (vec_len streams)
+            (λ ended. ¬ IsMissing (length ended.book.desk.streams) self.workers (vec_len streams)
             (vec_len workers))
-            (λ m. (m.fault ≡ faults.SeatMissing) ↔ IsMissing (hub_of m.all_streams self.workers)
-            (vec_len streams) (vec_len workers)) }
+            (λ m. (m.fault ≡ faults.SeatMissing) ↔ IsMissing m.all_streams self.workers (vec_len streams)
+            (vec_len workers)) }
         ensures all_streams { IfErr result (λ m. length L.opening.streams ≤ m.all_streams) }
         ensures out { IfErr result (λ m. m.fault ≡ faults.LeaseOut
             → ¬ All (λ s. ¬ HasLeaseOut s) workers.items) }
@@ -159,7 +162,8 @@ impl<L: Epoch> Hub<L> {
         } = self;
         let shared = shared.into_inner();
         let all_streams = shared.book.desk().streams();
-        if let Some(fault) = fault(&shared, (all_streams, worker_count), &streams, &workers) {
+        let counts = (all_streams, worker_count);
+        if let Some(fault) = fault(&shared, counts, limit, &streams, &workers) {
             return Err(Mismatch {
                 fault,
                 hub: Hub::of(shared, stream_count, worker_count, limit),
@@ -197,15 +201,17 @@ impl<L: Epoch> Hub<L> {
     }
 }
 
-/// What does not fit between a hub of so many streams and workers and the seats.
+/// What does not fit between a hub of so many streams and workers, for a journal of at most `limit` entries,
+/// and the seats.
 fn fault<L: Epoch>(
     shared: &Shared<L>,
     counts: (usize, usize),
+    limit: usize,
     streams: &Vec<StreamSeat<L>>,
     workers: &Vec<WorkSeat<L>>,
 ) -> Option<Fault>
     ensures missing { (result ≡ Some faults.SeatMissing)
-        ↔ IsMissing (hub_of counts.0 counts.1) (vec_len streams.now) (vec_len workers.now) }
+        ↔ IsMissing counts.0 counts.1 (vec_len streams.now) (vec_len workers.now) }
     ensures out { result ≡ Some faults.LeaseOut → ¬ All (λ s. ¬ HasLeaseOut s) workers.now.items }
     ensures settled { IfNone result (All (λ s. ¬ HasLeaseOut s) workers.now.items) }
     ensures there { IfNone result ((vec_len streams.now ≡ shared.now.streams)
@@ -222,6 +228,7 @@ fn fault<L: Epoch>(
     ensures free { IfNone result (AreFree shared.now.book.desk.workers) }
     ensures opened { IfNone result (IsOpening L.opening shared.now.book.opening counts.1) }
     ensures book { IfNone result (IsBook shared.now.book) }
+    ensures limit { IfNone result (shared.now.book.limit ≡ limit) }
 {
     let (stream_count, worker_count) = counts;
     if streams.len() != stream_count || workers.len() != worker_count {
@@ -230,7 +237,7 @@ fn fault<L: Epoch>(
     if any_lease_out(workers) {
         return Some(Fault::LeaseOut);
     }
-    if !shared.agrees(streams, workers) {
+    if !shared.agrees(limit, streams, workers) {
         return Some(Fault::Differs);
     }
     None

@@ -89,7 +89,7 @@ impl<L: Epoch> Room<L> {
         requires left { self.rests.items ≡ [] }
         requires left_room { MOST_STREAMS ≤ vec_capacity self.rests }
         requires enough { L.parts ≡ MOST_SEATS }
-        ensures hub { result.0 ≡ hub_of (vec_len rests) workers }
+        ensures hub { result.0 ≡ hub_of (vec_len rests) workers limit }
         ensures streams { result.1.items ≡ map (seat_over limit) rests.items }
         ensures workers { result.2.items ≡ self.workers.items }
     {

@@ -196,11 +196,17 @@ impl<L: Epoch> Shared<L> {
             .is_some_and(|counts| counts.finished < counts.accepted)
     }
 
-    /// Whether the seats are all there, their lists are the journal's, what they tell of their streams is
-    /// what the book has, and no frame of theirs was accepted before the clock had come to the moment of its
-    /// seat's first.
-    pub(crate) fn agrees(&self, streams: &Vec<StreamSeat<L>>, workers: &Vec<WorkSeat<L>>) -> bool
+    /// Whether the book has this limit, the seats are all there, their lists are the journal's, what they
+    /// tell of their streams is what the book has, and no frame of theirs was accepted before the clock had
+    /// come to the moment of its seat's first.
+    pub(crate) fn agrees(
+        &self,
+        limit: usize,
+        streams: &Vec<StreamSeat<L>>,
+        workers: &Vec<WorkSeat<L>>,
+    ) -> bool
         ensures book { IsBook self.now.book }
+        ensures limit { IsTrue result → self.now.book.limit ≡ limit }
         ensures opened { IsOpening L.opening self.now.book.opening self.now.workers }
         ensures streams { IsTrue result → vec_len streams.now ≡ self.now.streams }
         ensures workers { IsTrue result → vec_len workers.now ≡ self.now.workers }
@@ -216,7 +222,8 @@ impl<L: Epoch> Shared<L> {
         ensures free { IsTrue result → AreFree self.now.book.desk.workers }
     {
         let journal = self.book.journal();
-        streams.len() == self.streams
+        self.limit == limit
+            && streams.len() == self.streams
             && workers.len() == self.workers
             && self.book.desk().streams() == self.streams
             && streams_agree(journal, streams)

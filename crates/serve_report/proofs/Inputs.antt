@@ -77,14 +77,14 @@ module _ {W : Type 0} (contents : W → Option (List ℕ)) (failures : W → ℕ
   pub leaves_told : (Gives : ℕ → Type 0) (workers quantum journal : ℕ) (openings : List Opening) (specs : List StreamSpec)
       (inputs : List (ReaderState × W)) (left : List ServedValue)
       → specs ≡ specs_in openings → map (input_of contents failures) inputs ≡ inputs_in openings
-      → Leaves Gives workers quantum specs (starts_of contents failures (opened_streams journal 0 specs) inputs) left
-      → Leaves Gives workers quantum (specs_in openings) (starts_in journal openings) left
+      → Leaves Gives workers quantum journal specs (starts_of contents failures (opened_streams journal 0 specs) inputs) left
+      → Leaves Gives workers quantum journal (specs_in openings) (starts_in journal openings) left
   leaves_told Gives workers quantum journal openings specs inputs left same told leaves =
       let seats = opened_streams journal 0 (specs_in openings) in
-      let by_specs = subst (λ (all : List StreamSpec). Leaves Gives workers quantum all
+      let by_specs = subst (λ (all : List StreamSpec). Leaves Gives workers quantum journal all
       (starts_of contents failures (opened_streams journal 0 all) inputs) left)
       same leaves in
-      let by_starts = subst (λ (starts : List ClientStart). Leaves Gives workers quantum (specs_in openings) starts left)
+      let by_starts = subst (λ (starts : List ClientStart). Leaves Gives workers quantum journal (specs_in openings) starts left)
       (sym (starts_told seats inputs)) by_specs in
-      subst (λ (all : List (ReaderState × Output)). Leaves Gives workers quantum (specs_in openings)
+      subst (λ (all : List (ReaderState × Output)). Leaves Gives workers quantum journal (specs_in openings)
       (starts_of (λ output. output.contents) (λ output. output.failures) seats all) left) told by_starts

@@ -50,7 +50,7 @@ module _ (Gives : ℕ → Type 0) (most : AreMoments Gives) where
     stopped_in_time left stops.1,
   )
 
-  pub left_in_time : (workers quantum : ℕ) (specs : List StreamSpec) (starts : List ClientStart) (left : List ServedValue)
-      → Leaves Gives workers quantum specs starts left → AllByRecursion IsInTime left
-  left_in_time workers quantum specs starts left (inl none) = subst (AllByRecursion IsInTime) (sym none.1) tt
-  left_in_time workers quantum specs starts left (inr session) = stopped_in_time left session.stops
+  pub left_in_time : (workers quantum journal : ℕ) (specs : List StreamSpec) (starts : List ClientStart) (left : List ServedValue)
+      → Leaves Gives workers quantum journal specs starts left → AllByRecursion IsInTime left
+  left_in_time workers quantum journal specs starts left (inl none) = subst (AllByRecursion IsInTime) (sym none.1) tt
+  left_in_time workers quantum journal specs starts left (inr session) = stopped_in_time left session.stops

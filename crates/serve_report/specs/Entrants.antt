@@ -98,12 +98,12 @@ rows_text rows = flat_map (λ row. line_text (row_text row)) rows
 abbrev pub report_text : List StreamRow → List ℕ
 report_text rows = rows_text rows ++ line_text (codes "units " ++ decimal (charged_in rows))
 
--- what a session of these streams, by a clock that may give these moments, left of them; where none takes
--- part there is none
-abbrev pub Leaves : (Gives : ℕ → Type 0) → (workers quantum : ℕ) → List StreamSpec → List ClientStart
+-- what a session of these streams, by a clock that may give these moments and with at most so many entries in
+-- an epoch's journal, left of them; where none takes part there is none
+abbrev pub Leaves : (Gives : ℕ → Type 0) → (workers quantum journal : ℕ) → List StreamSpec → List ClientStart
     → List ServedValue → Type 0
-Leaves Gives workers quantum specs starts left =
-    ((specs ≡ []) × (left ≡ [])) ⊎ IsSession Gives (setup_of workers quantum specs) starts left
+Leaves Gives workers quantum journal specs starts left =
+    ((specs ≡ []) × (left ≡ [])) ⊎ IsSession Gives (setup_of workers quantum specs) journal starts left
 
 -- a stream wasn't stopped since the clock had ended
 abbrev pub IsInTime : ServedValue → Type 0
@@ -114,7 +114,7 @@ IsInTime served = served.outcome.stop ≢ Refused ClockEnd
 pub record Tells (Gives : ℕ → Type 0) (workers quantum journal : ℕ) (openings : List Opening)
     (rows : List StreamRow) : Type 0 where
   pub left : List ServedValue
-  pub session : Leaves Gives workers quantum (specs_in openings) (starts_in journal openings) left
+  pub session : Leaves Gives workers quantum journal (specs_in openings) (starts_in journal openings) left
   pub given : rows_given told_row (map entrant_of openings) left ≡ Some rows
   pub in_time : AreMoments Gives → AllByRecursion IsInTime left
 

@@ -35,8 +35,8 @@ pub record Entry : Type 0 where
   pub spec : StreamSpec
   pub input : ReaderState × Output
 
--- what came of opening a stream: how many files were opened and how many made for it, and its entry, or why it
--- takes no part
+-- what came of opening a stream: how many files were opened and how many made for it, and its entry, or why
+-- it takes no part
 pub record Opening : Type 0 where
   pub name : Bor (List ℕ)
   pub opened : ℕ
@@ -80,15 +80,16 @@ pub record LacksHeader (OpenGives : OfName) (asked : Asked) (fault : ReadFault) 
   pub none : HasNoHeader bytes fault
 
 -- the operations are refused, for this reason, for frames of the size in its header
-pub record LacksChain (OpenGives : OfName) (height : BandHeight) (asked : Asked) (error : FilterError) : Type 0 where
+pub record LacksChain (OpenGives : OfName) (height : BandHeight) (asked : Asked) (error : FilterError)
+    : Type 0 where
   pub reader : ReaderState
   pub input : HasInput OpenGives asked reader
   pub geometry : Geometry
   pub size : IsOfHeader reader.header geometry
   pub refused : IsChainRefusedAs error (chain_of asked.ops.items geometry height)
 
--- the entry that a word asks for: it is read from behind the header of a file of the input's name, and written
--- to one of the output's name, of which no call failed yet
+-- the entry that a word asks for: it is read from behind the header of a file of the input's name, and
+-- written to one of the output's name, of which no call failed yet
 pub record IsEntry (OpenGives CreateGives : OfName) (height : BandHeight) (asked : Asked)
     (entry : Entry) : Type 0 where
   pub spec : IsAsked height asked entry.spec
@@ -146,7 +147,7 @@ specs_in openings = map (λ entry. entry.spec) (entries_in openings)
 abbrev pub inputs_in : List Opening → List (ReaderState × Output)
 inputs_in openings = map (λ entry. entry.input) (entries_in openings)
 
--- what their clients begin with, where a journal has so many entries
+-- what their clients begin with, where an epoch's journal has at most so many entries
 abbrev pub starts_in : (journal : ℕ) → List Opening → List ClientStart
 starts_in journal openings =
     starts_of (λ output. output.contents) (λ output. output.failures)
@@ -155,7 +156,8 @@ starts_in journal openings =
 -- the same of what the program has
 abbrev pub input_of : {W : Type 0} → (contents : W → Option (List ℕ)) (failures : W → ℕ) → ReaderState × W
     → ReaderState × Output
-input_of contents failures input = (input.0, record { contents = contents input.1; failures = failures input.1 })
+input_of contents failures input =
+    (input.0, record { contents = contents input.1; failures = failures input.1 })
 
 module _ {R W : Type 0} {source : sources.Ghosts R} {sink : sinks.Ghosts W} where
   abbrev pub entry_of : Ready R W source sink → Entry

@@ -246,7 +246,7 @@ where
     K: Clock + Sync,
     T: Threads + Wait + Sync,
     requires inputs { AreInputs specs.items inputs.items }
-    ensures { IfOk result (λ left. Leaves (K.gives clock.now) workers quantum specs.items
+    ensures { IfOk result (λ left. Leaves (K.gives clock.now) workers quantum journal specs.items
         (starts_of W.contents W.failures (opened_streams journal 0 specs.items) inputs.items)
         (map (served_of R.remaining R.failures W.contents W.failures W.is_flushed) left.items)) }
 {

@@ -17,13 +17,13 @@ use Rattle.serve_hub.specs.Ends.{ClockReached, ClocksReached, IsMissing}
 use Rattle.serve_hub.specs.Journal.{AreEntries, IsJournal}
 use Rattle.serve_hub.proofs.Journals.{joined_is}
 use Rattle.serve_hub.proofs.Specs.{added, specs_led}
-use Rattle.serve_hub.specs.Seats.{StreamRest, StreamSeatValue, hub_of, left_by, opened_rest, opened_streams, seat_over}
+use Rattle.serve_hub.specs.Seats.{StreamRest, StreamSeatValue, left_by, opened_rest, opened_streams, seat_over}
 use Rattle.serve_work.specs.declared.session.interval.Interval.{Interval}
 use Rattle.serve_work.specs.Clients.{ClientStart}
 use Rattle.serve_work.specs.Epochs.{IsReopened}
 use Rattle.serve_work.specs.Intervals.{Beginning, HasNoCalls, IsBeginning, IsBetween, IsLater, IsSizedStart, LeadsTo, beginning_of}
 use Rattle.serve_work.specs.Rests.{IsRestOf, Unbegun}
-use Rattle.serve_work.specs.Sessions.{AllTimed, AreInputs, IsInput, acts_in, start_of, starts_of}
+use Rattle.serve_work.specs.Sessions.{AllTimed, AreInputs, IsInput, IsOfEpochs, acts_in, start_of, starts_of}
 use Rattle.serve_work.specs.SessionInside.{AllBegin, AllStand, HeldValue, IsReady, IsReadyAt, Over, StandsAt}
 use Rattle.serve_work.specs.SessionInside.{StreamValue, Waiting, held_at, held_with, unread}
 use Rattle.serve_work.proofs.Crossing.{new_stream_is_unbegun, streams_cross}
@@ -114,7 +114,7 @@ equal (suc m) zero not = absurd (not (λ e. omega (arith, e)))
 equal (suc m) (suc n) not = ap suc (equal m n (λ differs. not (λ e. differs (omega (arith, e)))))
 
 -- where no seat is missing, each stream has one
-pub all_back : (streams workers count most : ℕ) → ¬ IsMissing (hub_of count most) streams workers → streams ≡ count
+pub all_back : (streams workers count most : ℕ) → ¬ IsMissing count most streams workers → streams ≡ count
 all_back streams workers count most not = equal streams count (λ differs. not (inl differs))
 
 none_more : (xs ys : List StreamSpec) → length (xs ++ ys) ≡ length xs → ys ≡ []
@@ -268,25 +268,30 @@ module _ {R W : Type 0} (left : R → Option (List ℕ)) (read_failures : R → 
     seats = rw e at.seats;
     kept = rw e at.kept;
     charges = rw e at.charges;
+    limit = rw e at.limit;
     untold = rw h at.untold;
     places = rw h at.places;
   }
 
   module _ (Gives : ℕ → Type 0) where
-    pub no_later : (now : Interval R W) → IsBetween left read_failures after failures is_flushed b journal now
-        → IsLater left read_failures after failures is_flushed Gives b journal now
-    no_later now at = record { more = []; between = at; moments = λ given. given }
+    pub no_later : (went_on : Bool) (now : Interval R W) → IsBetween left read_failures after failures is_flushed b journal now
+        → (IsOfEpochs b.limit b.schedule went_on journal → IsOfEpochs b.limit b.schedule now.goes_on journal)
+        → IsLater left read_failures after failures is_flushed Gives b went_on journal now
+    no_later went_on now at epochs = record { more = []; between = at; moments = λ given. given; epochs = epochs }
 
     -- what is later than what is later
-    pub later_on : (more : List Entry) (now : Interval R W)
+    pub later_on : (went_on goes_on : Bool) (more : List Entry) (now : Interval R W)
         → (AllTimed Gives b.schedule journal b.starts → AllTimed Gives b.schedule (more ++ journal) b.starts)
-        → IsLater left read_failures after failures is_flushed Gives b (more ++ journal) now
-        → IsLater left read_failures after failures is_flushed Gives b journal now
-    later_on more now given l = record {
+        → (IsOfEpochs b.limit b.schedule went_on journal → IsOfEpochs b.limit b.schedule goes_on (more ++ journal))
+        → IsLater left read_failures after failures is_flushed Gives b goes_on (more ++ journal) now
+        → IsLater left read_failures after failures is_flushed Gives b went_on journal now
+    later_on went_on goes_on more now given epochs l = record {
       more = l.more ++ more;
       between = subst (λ (j : List Entry). IsBetween left read_failures after failures is_flushed b j now)
           (sym (append_assoc l.more more journal)) l.between;
       moments = λ before.
           subst (λ (j : List Entry). AllTimed Gives b.schedule j b.starts) (sym (append_assoc l.more more journal))
           (l.moments (given before));
+      epochs = λ before.
+          subst (IsOfEpochs b.limit b.schedule now.goes_on) (sym (append_assoc l.more more journal)) (l.epochs (epochs before));
     }

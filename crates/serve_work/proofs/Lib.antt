@@ -3,6 +3,7 @@ pub mod Crossing
 pub mod Ending
 pub mod Fronts
 pub mod Intervals
+pub mod Journals
 pub mod Moving
 pub mod Offering
 pub mod OfferingOn

@@ -16,7 +16,7 @@ use Rattle.serve_work.specs.declared.session.interval.Interval.{Interval}
 use Rattle.serve_work.specs.declared.session.opening.Opening.{Opening}
 use Rattle.serve_work.specs.declared.session.room.Room.{Room}
 use Rattle.serve_work.specs.Clients.{ClientStart}
-use Rattle.serve_work.specs.Sessions.{AllTimed, starts_of}
+use Rattle.serve_work.specs.Sessions.{AllTimed, IsOfEpochs, starts_of}
 use Rattle.serve_work.specs.SessionInside.{AllBegin, AllStand, HeldValue, held_with, stream_of}
 
 -- streams whose seats have the numbers from this one on
@@ -28,16 +28,19 @@ AreFrom first (start ∷ starts) = (start.seat.number ≡ first) × AreFrom (suc
 abbrev pub IsSizedStart : ClientStart → Type 0
 IsSizedStart start = IsOfHeader start.reader.header start.seat.chain.geometry
 
--- what a session begins with: the schedule that it opens, and its streams
+-- what a session begins with: the schedule that it opens, its streams, and the most entries of an epoch's
+-- journal
 pub record Beginning : Type 0 where
   pub schedule : ScheduleValue
   pub starts : List ClientStart
+  pub limit : ℕ
 
 abbrev pub beginning_of : {W : Type 0} (contents : W → Option (List ℕ)) (failures : W → ℕ) → Setup
     → (limit : ℕ) → List (ReaderState × W) → Beginning
 beginning_of contents failures setup limit inputs = record {
   schedule = opened_schedule setup;
   starts = starts_of contents failures (opened_streams limit 0 setup.streams) inputs;
+  limit = limit;
 }
 
 pub record IsBeginning (b : Beginning) : Type 0 where
@@ -52,8 +55,8 @@ pub record LeadsTo (first : ScheduleValue) (journal : List Entry) (last : Schedu
   pub specs : specs_of last ≡ specs_of first
 
 -- a session that began so stands between two epochs, with this journal of all until now: each stream where
--- its client came to, with its seat of the epoch that ended; none is told yet, and there is a place for each
--- that is
+-- its client came to, with its seat of the epoch that ended, whose journal had the session's limit; none is
+-- told yet, and there is a place for each that is
 pub record IsBetween {R W : Type 0} (left : R → Option (List ℕ)) (read_failures : R → ℕ)
     (after : W → Option (List ℕ)) (failures : W → ℕ) (is_flushed : W → Bool) (b : Beginning)
     (journal : List Entry) (now : Interval R W) : Type 0 where
@@ -66,18 +69,21 @@ pub record IsBetween {R W : Type 0} (left : R → Option (List ℕ)) (read_failu
   pub seats : now.ended.streams ≡ map left_by (map (λ held. held.seat) helds)
   pub kept : AreStreamsOf now.ended.book.desk (map (λ held. held.seat) helds)
   pub charges : All IsCharged now.ended.book.desk.streams
+  pub limit : now.ended.book.limit ≡ b.limit
   pub untold : now.served.items ≡ []
   pub places : length helds ≤ vec_capacity now.served
 
--- the same, with more entries behind those of this journal, whose frames too have moments that the clock may
--- give
+-- the same, with more entries behind those of this journal: where its frames have moments that the clock may
+-- give, so have those of both together, and where it is that of epochs, so are both together
 pub record IsLater {R W : Type 0} (left : R → Option (List ℕ)) (read_failures : R → ℕ)
     (after : W → Option (List ℕ)) (failures : W → ℕ) (is_flushed : W → Bool) (Gives : ℕ → Type 0)
-    (b : Beginning) (journal : List Entry) (now : Interval R W) : Type 0 where
+    (b : Beginning) (went_on : Bool) (journal : List Entry) (now : Interval R W) : Type 0 where
   pub more : List Entry
   pub between : IsBetween left read_failures after failures is_flushed b (more ++ journal) now
   pub moments : AllTimed Gives b.schedule journal b.starts
       → AllTimed Gives b.schedule (more ++ journal) b.starts
+  pub epochs : IsOfEpochs b.limit b.schedule went_on journal
+      → IsOfEpochs b.limit b.schedule now.goes_on (more ++ journal)
 
 -- the seat has made no call
 abbrev pub HasNoCalls : StreamSeatValue → Type 0
@@ -92,8 +98,8 @@ pub record IsRoomFor {L R W : Type 0} (count : ℕ) (room : Room L R W) : Type 0
   pub no_streams : room.places.streams.items ≡ []
   pub streams : count ≤ vec_capacity room.places.streams
 
--- an epoch of a session that began so can begin from this schedule, behind this journal: each stream stands
--- with its seat, and there is room for what comes of all
+-- an epoch of a session that began so can begin from this schedule, behind this journal, by a hub of the
+-- session's limit: each stream stands with its seat, and there is room for what comes of all
 pub record CanBegin {L R W : Type 0} (left : R → Option (List ℕ)) (read_failures : R → ℕ)
     (after : W → Option (List ℕ)) (failures : W → ℕ) (is_flushed : W → Bool) (b : Beginning)
     (journal : List Entry) (from : ScheduleValue) (now : Opening L R W) : Type 0 where
@@ -105,3 +111,4 @@ pub record CanBegin {L R W : Type 0} (left : R → Option (List ℕ)) (read_fail
   pub untold : now.served.items ≡ []
   pub places : vec_len now.streams ≤ vec_capacity now.served
   pub no_calls : AllByRecursion HasNoCalls now.opened.1.items
+  pub limit : now.opened.0.limit ≡ b.limit

@@ -1,6 +1,6 @@
 -- What contracts inside the crate say of the streams of a session, from epoch to epoch.
-use Rattle.std.specs.Prelude.{ℕ, ◌≡◌, ◌<◌, ⊤, Bool, List, [], ◌∷◌, ◌++◌, Option, Some, IfSome, IsSomeAnd, map}
-use Rattle.std.specs.Prelude.{slice_index_or}
+use Rattle.std.specs.Prelude.{ℕ, ◌≡◌, ◌<◌, ⊤, All, Bool, true, false, IsFalse, List, [], ◌∷◌, ◌++◌, Option}
+use Rattle.std.specs.Prelude.{Some, IfSome, IsSomeAnd, map, slice_index_or}
 use Rattle.std.specs.List.{AllByRecursion, AllZip}
 use Rattle.y4m_stream.specs.declared.reader.Phase.TheVariants.{Open}
 use Rattle.y4m_stream.specs.Reader.{IsOfHeader, ReaderState}
@@ -27,6 +27,15 @@ abbrev pub stream_of : {R W : Type 0} (left : R → Option (List ℕ)) (read_fai
 stream_of left read_failures after failures is_flushed (streams.Waiting rest) = Waiting rest
 stream_of left read_failures after failures is_flushed (streams.Over served) =
     Over (outcome_of left read_failures after failures is_flushed served)
+
+-- whether something is left to do of a stream
+abbrev pub is_waiting : {R W : Type 0} → Stream R W → Bool
+is_waiting (streams.Waiting rest) = true
+is_waiting (streams.Over served) = false
+
+-- nothing is left to do of these
+abbrev pub AreAllOver : {R W : Type 0} → List (Stream R W) → Type 0
+AreAllOver streams = All (λ stream. IsFalse (is_waiting stream)) streams
 
 -- the stop that is kept for a stream, or that it came to
 abbrev pub stream_stop : StreamValue → Option Stop

@@ -1,11 +1,13 @@
 -- What the streams of a session come to.
-use Rattle.std.specs.Prelude.{ℕ, ◌*◌, ◌≡◌, ◌≤◌, ◌++◌, ⊤, Bool, List, [], ◌∷◌, Option, reverse}
+use Rattle.std.specs.Prelude.{ℕ, ◌+◌, ◌*◌, ◌≡◌, ◌<◌, ◌≤◌, ◌++◌, ⊤, Bool, true, false, IsTrue, if◌then◌else◌}
+use Rattle.std.specs.Prelude.{List, [], ◌∷◌, Option, flat_map, length, reverse, sum_by}
 use Rattle.std.specs.List.{AllByRecursion, AllZip}
 use Rattle.filters.specs.Costs.{cost_of}
 use Rattle.y4m_stream.specs.declared.reader.Phase.TheVariants.{Open}
 use Rattle.y4m_stream.specs.Reader.{IsOfHeader, ReaderState}
 use Rattle.serve_core.specs.Bare.{Blank}
 use Rattle.serve_core.specs.Desk.{desk_state}
+use Rattle.serve_core.specs.Leads.{state_from}
 use Rattle.serve_core.specs.Schedule.{HasStream, ScheduleValue, opened_schedule}
 use Rattle.serve_core.specs.Setup.{Setup, StreamSpec}
 use Rattle.serve_core.specs.States.{State}
@@ -14,8 +16,8 @@ use Rattle.serve_hub.specs.declared.entry.Act.{Act}
 use Rattle.serve_hub.specs.declared.entry.Entry.{Entry}
 use Rattle.serve_hub.specs.declared.entry.Seat.TheVariants.{Stream}
 use Rattle.serve_hub.specs.Books.{specs_of}
-use Rattle.serve_hub.specs.Ends.{acts_of}
-use Rattle.serve_hub.specs.Journal.{IsJournal, clock_in}
+use Rattle.serve_hub.specs.Ends.{AreFree, acts_of}
+use Rattle.serve_hub.specs.Journal.{IsJournal, clock_in, transcript_of}
 use Rattle.serve_hub.specs.Seats.{StreamSeatValue}
 use Rattle.serve_work.specs.declared.session.Served.{Served}
 use Rattle.serve_work.specs.declared.stop.Stop.TheVariants.{Whole}
@@ -118,13 +120,42 @@ AllTimed Gives opening journal starts =
     AllByRecursion (λ start.
     AreTimed Gives start.seat.number (specs_of opening) (desk_state opening) journal) starts
 
--- one journal of all epochs, the latest entry first, leads from where the setup opens to where the session
--- ended, and each stream was served by its calls in it, with each frame at a moment that the clock may give,
--- and stopped as the clock allows
-pub record IsSession (Gives : ℕ → Type 0) (setup : Setup) (starts : List ClientStart)
+-- how many streams aren't closed
+abbrev pub open_streams : State Blank → ℕ
+open_streams m = sum_by (λ x. if x.is_closed then 0 else 1) m.streams
+
+-- an epoch with this journal ends in this state: no worker holds a lease, and the journal has room for a
+-- close of each open stream. Where another comes, it has none for a lease and its settlement beside these
+pub record IsEpoch (limit : ℕ) (goes_on : Bool) (epoch : List Entry) (m : State Blank) : Type 0 where
+  pub free : AreFree m.workers
+  pub fits : length epoch + open_streams m ≤ limit
+  pub full : IsTrue goes_on → limit < length epoch + open_streams m + 2
+
+-- these are the journals of epochs, the latest first, from an opening state on. Behind each but the latest
+-- comes another, and behind that one where the session goes on
+abbrev pub AreEpochs : (limit : ℕ) → List StreamSpec → (opening : State Blank) → (goes_on : Bool)
+    → List (List Entry) → Type 0
+AreEpochs limit specs opening goes_on [] = ⊤
+AreEpochs limit specs opening goes_on (epoch ∷ before) =
+    AreEpochs limit specs opening true before
+    × IsEpoch limit goes_on epoch
+    (state_from opening (transcript_of specs opening (flat_map (λ journal. journal) (epoch ∷ before))))
+
+-- a journal is that of epochs, one behind the other from where a schedule stood
+pub record IsOfEpochs (limit : ℕ) (opening : ScheduleValue) (goes_on : Bool) (journal : List Entry)
+    : Type 0 where
+  pub epochs : List (List Entry)
+  pub joined : flat_map (λ epoch. epoch) epochs ≡ journal
+  pub each : AreEpochs limit (specs_of opening) (desk_state opening) goes_on epochs
+
+-- one journal, the latest entry first, leads from where the setup opens to where the session ended. It is
+-- that of epochs of at most so many entries each. Each stream was served by its calls in it, with each frame
+-- at a moment that the clock may give, and stopped as the clock allows
+pub record IsSession (Gives : ℕ → Type 0) (setup : Setup) (limit : ℕ) (starts : List ClientStart)
     (served : List ServedValue) : Type 0 where
   pub journal : List Entry
   pub last : ScheduleValue
+  pub epochs : IsOfEpochs limit (opened_schedule setup) false journal
   pub leads : IsJournal setup.streams (desk_state (opened_schedule setup)) journal (desk_state last)
   pub streams : AllZip (IsServedBy journal last) starts served
   pub moments : AllTimed Gives (opened_schedule setup) journal starts

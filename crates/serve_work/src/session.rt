@@ -108,7 +108,7 @@ pub fn serve_session<
     ensures streams { IfOk result (λ served. AreServed
         (starts_of W.contents W.failures (opened_streams limit 0 setup.streams) inputs.items)
         (map (served_of R.remaining R.failures W.contents W.failures W.is_flushed) served.items)) }
-    ensures session { IfOk result (λ served. IsSession (K.gives clock.now) setup
+    ensures session { IfOk result (λ served. IsSession (K.gives clock.now) setup limit
         (starts_of W.contents W.failures (opened_streams limit 0 setup.streams) inputs.items)
         (map (served_of R.remaining R.failures W.contents W.failures W.is_flushed) served.items)) }
     ensures bad_limit { IsErrOf result SessionFault.BadLimit ↔ ¬ IsLimit (length setup.streams) limit }
@@ -117,6 +117,6 @@ pub fn serve_session<
     let opened = first::<Brand, R, W, G, K, T>(
         rt, alloc, blank, setup, inputs, limit, gate, clock,
     )?;
-    let ended = go_on(rt, alloc, opened, limit, gate, clock)?;
+    let ended = go_on(rt, alloc, opened, gate, clock)?;
     Ok(report(ended))
 }

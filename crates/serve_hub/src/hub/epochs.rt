@@ -46,7 +46,7 @@ impl<L: Epoch> Hub<L> {
         requires enough { blank.parts ≡ MOST_SEATS }
         requires opening { ended.book.desk ≡ L.opening }
         ensures hub { IfOk result (λ r.
-            r.hub ≡ hub_of (length ended.streams) (length ended.book.desk.workers)) }
+            r.hub ≡ hub_of (length ended.streams) (length ended.book.desk.workers) limit) }
         ensures streams { IfOk result (λ r. r.streams.items ≡ map (seat_over limit) ended.streams) }
         ensures workers { IfOk result (λ r.
             r.workers.items

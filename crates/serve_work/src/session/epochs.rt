@@ -1,11 +1,12 @@
 //! The epochs of a session, each with a journal of its own.
-ghost use Rattle.std.specs.Prelude.{◌≡◌, ◌≢◌, ◌↔◌, List, [], IfErr, IfOk, IsErrOf, OnOk, length, map};
+ghost use Rattle.std.specs.Prelude.{◌≡◌, ◌≢◌, ◌<◌, ◌↔◌, true, List, [], IfErr, IfOk, IsErrOf, IsFalse, IsTrue};
+ghost use Rattle.std.specs.Prelude.{OnOk, length, map};
 ghost use Rattle.serve_core.specs.Schedule.{opened_schedule};
-ghost use Rattle.serve_hub.specs.Books.{IsLimit};
+ghost use Rattle.serve_hub.specs.Books.{IsLimit, room};
 ghost use Rattle.serve_hub.specs.declared.entry.Entry.{Entry};
 ghost use Rattle.serve_work.specs.Intervals.{Beginning, CanBegin, IsBetween, IsLater, beginning_of};
 ghost use Rattle.serve_work.specs.Sessions.{AreInputs};
-ghost use Rattle.serve_work.specs.SessionInside.{AreAllowed, kept_stop};
+ghost use Rattle.serve_work.specs.SessionInside.{AreAllOver, AreAllowed, kept_stop};
 
 use super::SessionFault;
 use super::interval::Interval;
@@ -16,8 +17,8 @@ use super::threads::run_threads;
 use super::turn::{Stream, seated};
 use crate::gate::{Clock, Gate};
 use serve_core::Setup;
-use serve_hub::Epoch;
 use serve_hub::limits::MOST_SEATS;
+use serve_hub::{Ended, Epoch};
 use std::alloc::Global;
 use std::marker::Brand;
 use std::sync::Wait;
@@ -26,8 +27,28 @@ use std::thread::Threads;
 use y4m_stream::{Sink, Source, StreamReader};
 
 /// Whether anything is left to do of a stream.
-fn any_waits<R: Source, W: Sink>(streams: &Vec<Stream<R, W>>) -> bool {
-    streams.iter().any(|stream| stream.is_waiting())
+fn any_waits<R: Source, W: Sink>(streams: &Vec<Stream<R, W>>) -> bool
+    ensures waits { IsTrue result → ¬ AreAllOver streams.now.items }
+    ensures over { IsFalse result → AreAllOver streams.now.items }
+{
+    for stream in streams {
+        if stream.is_waiting() {
+            return true;
+        }
+    }
+    false
+}
+
+/// Whether another epoch is to come: a worker started in this one, its journal is full, and a stream waits.
+fn another_comes<R: Source, W: Sink>(
+    is_on: bool,
+    ended: &Ended,
+    streams: &Vec<Stream<R, W>>,
+) -> bool
+    ensures full { IsTrue result → room ended.now.book < 2 }
+    ensures comes { IsTrue is_on → room ended.now.book < 2 → ¬ AreAllOver streams.now.items → IsTrue result }
+{
+    is_on && ended.is_full() && any_waits(streams)
 }
 
 /// The streams go on with their seats of this epoch, until all are over or the journal is full. In the first
@@ -52,7 +73,7 @@ fn epoch<
     ensures between { (b : Beginning) (journal : List Entry)
         → CanBegin R.remaining R.failures W.contents W.failures W.is_flushed b journal L.opening opening
         → IfOk result (IsLater R.remaining R.failures W.contents W.failures W.is_flushed
-        (K.gives clock.now) b journal) }
+        (K.gives clock.now) b true journal) }
     ensures stops { AreAllowed (K.gives clock.now) (map kept_stop opening.streams.items)
         → IfOk result (λ now. AreAllowed (K.gives clock.now) (map kept_stop now.streams.items)) }
     ensures fault { IfErr result (λ e. e ≢ SessionFault.BadLimit) }
@@ -80,7 +101,7 @@ fn epoch<
     let Ok(ended) = hub.finish(seats, back) else {
         return Err(SessionFault::Mismatch);
     };
-    let goes_on = is_on && any_waits(&streams);
+    let goes_on = another_comes(is_on, &ended, &streams);
     Ok(Interval {
         ended,
         streams,
@@ -114,7 +135,7 @@ pub(super) fn first<
     requires opening { opened_schedule setup ≡ L.opening }
     requires inputs { AreInputs setup.streams inputs.items }
     ensures between { IfOk result (IsLater R.remaining R.failures W.contents W.failures W.is_flushed
-        (K.gives clock.now) (beginning_of W.contents W.failures setup limit inputs.items) []) }
+        (K.gives clock.now) (beginning_of W.contents W.failures setup limit inputs.items) true []) }
     ensures stops { IfOk result (λ now. AreAllowed (K.gives clock.now) (map kept_stop now.streams.items)) }
     ensures limit { OnOk result (IsLimit (length setup.streams) limit) }
     ensures bad_limit { IsErrOf result SessionFault.BadLimit ↔ ¬ IsLimit (length setup.streams) limit }
@@ -136,7 +157,6 @@ fn later<
     alloc: Global,
     blank: Blank,
     interval: Interval<R, W>,
-    limit: usize,
     gate: &G,
     clock: &K,
 ) -> Result<Interval<R, W>, SessionFault>
@@ -149,12 +169,12 @@ fn later<
     ensures between { (b : Beginning) (journal : List Entry)
         → IsBetween R.remaining R.failures W.contents W.failures W.is_flushed b journal interval
         → IfOk result (IsLater R.remaining R.failures W.contents W.failures W.is_flushed
-        (K.gives clock.now) b journal) }
+        (K.gives clock.now) b true journal) }
     ensures stops { AreAllowed (K.gives clock.now) (map kept_stop interval.streams.items)
         → IfOk result (λ now. AreAllowed (K.gives clock.now) (map kept_stop now.streams.items)) }
     ensures fault { IfErr result (λ e. e ≢ SessionFault.BadLimit) }
 {
-    match reopened::<L, R, W>(alloc, blank, interval, limit) {
+    match reopened::<L, R, W>(alloc, blank, interval) {
         Err(interval) => Ok(interval),
         Ok(opening) => epoch(rt, alloc, opening, false, gate, clock),
     }
@@ -171,7 +191,6 @@ pub(super) fn go_on<
     rt: &T,
     alloc: Global,
     interval: Interval<R, W>,
-    limit: usize,
     gate: &G,
     clock: &K,
 ) -> Result<Interval<R, W>, SessionFault>
@@ -180,7 +199,7 @@ pub(super) fn go_on<
     ensures between { (b : Beginning) (journal : List Entry)
         → IsBetween R.remaining R.failures W.contents W.failures W.is_flushed b journal interval
         → IfOk result (IsLater R.remaining R.failures W.contents W.failures W.is_flushed
-        (K.gives clock.now) b journal) }
+        (K.gives clock.now) b interval.goes_on journal) }
     ensures stops { AreAllowed (K.gives clock.now) (map kept_stop interval.streams.items)
         → IfOk result (λ now. AreAllowed (K.gives clock.now) (map kept_stop now.streams.items)) }
     ensures fault { IfErr result (λ e. e ≢ SessionFault.BadLimit) }
@@ -192,7 +211,7 @@ pub(super) fn go_on<
             return Ok(interval);
         }
         let blank = Blank::new(MOST_SEATS);
-        interval = later::<Brand, R, W, G, K, T>(rt, alloc, blank, interval, limit, gate, clock)?;
+        interval = later::<Brand, R, W, G, K, T>(rt, alloc, blank, interval, gate, clock)?;
     }
     unreachable!()
 }

@@ -1,5 +1,5 @@
 //! What an epoch begins with.
-ghost use Rattle.std.specs.Prelude.{◌≡◌, ◌↔◌, List, [], IfErr, IfOk, IsErrOf, OnOk, length, map};
+ghost use Rattle.std.specs.Prelude.{◌≡◌, ◌↔◌, List, [], IfErr, IfOk, IsErrOf, IsFalse, OnOk, length, map};
 ghost use Rattle.serve_core.specs.Schedule.{opened_schedule};
 ghost use Rattle.serve_hub.specs.Books.{IsLimit};
 ghost use Rattle.serve_hub.specs.declared.entry.Entry.{Entry};
@@ -61,12 +61,12 @@ pub(super) fn opened<L: Epoch, R: Source + Drop, W: Sink + Drop>(
     })
 }
 
-/// Opens the next epoch of a session. Where none can be opened, the session comes back, and doesn't go on.
+/// Opens the next epoch of a session, with a journal of as many entries as the last one's. Where none can be
+/// opened, the session comes back, and doesn't go on.
 pub(super) fn reopened<L: Epoch, R: Source + Drop, W: Sink + Drop>(
     alloc: Global,
     blank: Blank,
     interval: Interval<R, W>,
-    limit: usize,
 ) -> Result<Opening<L, R, W>, Interval<R, W>>
     requires name { blank.name ≡ L.name }
     requires parts { blank.parts ≡ L.parts }
@@ -80,6 +80,7 @@ pub(super) fn reopened<L: Epoch, R: Source + Drop, W: Sink + Drop>(
         → IfErr result (IsBetween R.remaining R.failures W.contents W.failures W.is_flushed b journal) }
     ensures streams { IfOk result (λ opening. opening.streams ≡ interval.streams) }
     ensures same { IfErr result (λ back. back.streams ≡ interval.streams) }
+    ensures over { IfErr result (λ back. IsFalse back.goes_on) }
 {
     let Interval {
         ended,
@@ -97,6 +98,7 @@ pub(super) fn reopened<L: Epoch, R: Source + Drop, W: Sink + Drop>(
             goes_on: false,
         });
     };
+    let limit = ended.limit();
     match Hub::<L>::reopen(alloc, blank, ended, limit) {
         Err(refused) => Err(Interval {
             ended: refused.ended,

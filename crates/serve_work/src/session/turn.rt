@@ -8,6 +8,7 @@ ghost use Rattle.serve_work.specs.Clients.{ClientEnds, ClientStart};
 ghost use Rattle.serve_work.specs.Turns.{end_of};
 ghost use Rattle.serve_work.specs.Sessions.{outcome_of};
 ghost use Rattle.serve_work.specs.ClientInside.{IsNoNewEnd};
+ghost use Rattle.serve_work.specs.SessionInside as rules;
 ghost use Rattle.serve_work.specs.SessionInside.{AreUnread, GoesOn, IsReady, Runs, StandsAt, held_with};
 ghost use Rattle.serve_work.specs.SessionInside.{kept_stop, stream_of, unread};
 
@@ -31,7 +32,9 @@ pub(crate) enum Stream<R: Source, W: Sink> {
 }
 
 impl<R: Source, W: Sink> Stream<R, W> {
-    pub(super) fn is_waiting(&self) -> bool {
+    pub(super) fn is_waiting(&self) -> bool
+        ensures { result ≡ rules.is_waiting self.now }
+    {
         matches!(self, Stream::Waiting(_))
     }
 }

@@ -9,6 +9,6 @@ returns g c =
     let sink = g.W.Sink in
     let told = map (served_of g.R.Source.remaining g.R.Source.failures sink.contents sink.failures sink.is_flushed)
     c.in_ok-left.left.items in
-    inr (subst (λ (setup : Setup). IsSession (g.K.Clock.gives c.args.clock.now) setup
+    inr (subst (λ (setup : Setup). IsSession (g.K.Clock.gives c.args.clock.now) setup c.args.journal
     (starts_of sink.contents sink.failures (opened_streams c.args.journal 0 setup.streams) c.args.inputs.items) told) c.in-Ok.ensures.setup
     c.in_ok-left.ensures.session)

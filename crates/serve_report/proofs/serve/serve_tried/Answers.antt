@@ -18,5 +18,5 @@ returns g c =
       session = leaves_told g.W.Sink.contents g.W.Sink.failures _ _ _ _ (openings_of c.args.tried.items) _ _ told opened.specs
           opened.inputs c.in_ok-left.ensures;
       given = ap (λ streams. rows_given told_row streams told) (sym opened.entrants) ∙ rows_told _ _ _ _ _ entrants left ∙ sym given;
-      in_time = λ most. left_in_time _ most _ _ _ _ told c.in_ok-left.ensures;
+      in_time = λ most. left_in_time _ most _ _ _ _ _ told c.in_ok-left.ensures;
     }

@@ -1,7 +1,8 @@
-use Rattle.std.proofs.Common.{[], ◌++◌, map}
+use Rattle.std.proofs.Common.{true, [], ◌++◌, map}
 use Rattle.serve_work.specs.Intervals.{beginning_of}
 use Rattle.serve_work.specs.SessionInside.{kept_stop}
 use Rattle.serve_work.proofs.Intervals.{from_setup}
+use Rattle.serve_work.proofs.Journals.{no_epochs, no_more_epochs}
 use Rattle.serve_work.proofs.SessionCharges.{are_served}
 use Rattle.serve_work.proofs.SessionStops.{stops_told}
 use Rattle.serve_work.proofs.SessionTurns.{no_bad_limit, none_yet}
@@ -36,6 +37,7 @@ returns-clause-session g c =
     record {
       journal = journal;
       last = c.in_ok-ended.ended.ended.book.desk;
+      epochs = no_more_epochs b.limit b.schedule _ journal (last.epochs (first.epochs (no_epochs b.limit b.schedule true)));
       leads = from_setup c.args.setup journal _ last.between.past;
       streams = c.report.ensures.served b journal last.between;
       moments = last.moments (first.moments (none_yet gives b.schedule b.starts));

@@ -2,7 +2,7 @@ use Rattle.std.proofs.Common.{◌∙◌, All, ap, sym, subst, length, rules}
 use Rattle.std.specs.Prelude.{reverse}
 use Rattle.serve_core.specs.Schedule.{ScheduleValue}
 use Rattle.serve_hub.specs.Books.{BookValue}
-use Rattle.serve_hub.specs.Ends.{AreStreamCalls, AreStreamsOf, AreWorkCalls, ClocksReached, IsCharged, IsHistory}
+use Rattle.serve_hub.specs.Ends.{AreFree, AreStreamCalls, AreStreamsOf, AreWorkCalls, ClocksReached, IsCharged, IsHistory}
 use Rattle.serve_hub.specs.Seats.{HubValue}
 use Rattle.serve_hub.proofs.Histories.{charged_between, history}
 use Rattle.serve_hub.proofs.Opened.{same_workers}
@@ -23,6 +23,10 @@ returns-clause-history g c =
     let told = c.in_default.ensures in
     subst (λ (b : BookValue). IsHistory g.L.Epoch.opening b) (sym c.into_ended.ensures.book)
     (history _ _ _ told.book told.opened)
+
+pub returns-clause-free : goal.returns-clause-free
+returns-clause-free g c =
+    subst (λ (b : BookValue). AreFree b.desk.workers) (sym c.into_ended.ensures.book) c.in_default.ensures.free
 
 pub returns-clause-kept : goal.returns-clause-kept
 returns-clause-kept g c =

@@ -4,6 +4,7 @@ use Rattle.serve_hub.specs.Ends.{AreStreamCalls, AreStreamsOf, ClocksReached}
 use Rattle.serve_hub.specs.Seats.{left_by}
 use Rattle.serve_work.specs.SessionInside.{BeginsAgain, HeldValue, held_with, stream_of}
 use Rattle.serve_work.proofs.Intervals.{all_back, all_ready, entries_on, held_length, held_new, leads_on, reached_on}
+use Rattle.serve_work.proofs.Journals.{ends_epoch, one_epoch_more}
 use Rattle.serve_work.proofs.SessionStops.{go_on_allowed}
 use Rattle.serve_work.proofs.SessionTurns.{all_timed, all_went, fault_stays, no_memory, same_length, stand_on, zip_length}
 use Rattle.serve_work.proofs.session.epochs.epoch.Goals as goal
@@ -72,8 +73,12 @@ returns-clause-between g c =
     let same = c.in-Ok.ensures.history.same in
     let on = leads_on b.schedule _ journal ended.book at.past c.in-Ok.ensures.book same as_many in
     let reached = subst (ClocksReached ended.book) own c.in-Ok.ensures.clock_reached in
+    let hub_limit = c.in-Ok.ensures.limit ∙ at.limit in
     record {
       more = ended.book.past;
+      epochs = λ before.
+          one_epoch_more b.limit b.schedule _ _ journal ended.book.past before on
+          (ends_epoch b.limit _ ended.book c.in-Ok.ensures.book hub_limit c.in-Ok.ensures.free c.another_comes-goes_on.ensures.full);
       moments = all_timed gives journal ended.book.past b.schedule _ b.starts helds ran.0 at.past.is_journal.leads.1
           (entries_on b.schedule _ ended.book c.in-Ok.ensures.book same on.specs) at.stand ran.2 calls
           (reached_on b.schedule _ ended.book _ same on.specs reached) (held_new value seats streams.items at.no_calls);
@@ -86,6 +91,7 @@ returns-clause-between g c =
         seats = c.in-Ok.ensures.left ∙ ap (map left_by) own;
         kept = subst (AreStreamsOf ended.book.desk) own c.in-Ok.ensures.kept;
         charges = c.in-Ok.ensures.charges;
+        limit = hub_limit;
         untold = at.untold;
         places = omega (arith, all_went gives helds ran.0 ran.2, held_length value seats streams.items, streams.ok.0, at.places);
       };

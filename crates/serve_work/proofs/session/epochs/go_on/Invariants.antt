@@ -16,7 +16,7 @@ invariant-loop g l = record {
   later : (b : Beginning) (journal : List Entry)
       → IsBetween g.R.Source.remaining g.R.Source.failures g.W.Sink.contents g.W.Sink.failures g.W.Sink.is_flushed b journal l.fn.interval
       → IsLater g.R.Source.remaining g.R.Source.failures g.W.Sink.contents g.W.Sink.failures g.W.Sink.is_flushed
-      (g.K.Clock.gives l.fn.clock) b journal l.interval;
+      (g.K.Clock.gives l.fn.clock) b l.fn.interval.goes_on journal l.interval;
   stops : AreAllowed (g.K.Clock.gives l.fn.clock) (map kept_stop l.fn.interval.streams.items)
       → AreAllowed (g.K.Clock.gives l.fn.clock) (map kept_stop l.interval.streams.items);
 }

@@ -1,4 +1,7 @@
+use Rattle.std.proofs.Common.{Bool, true, subst, sym}
+use Rattle.serve_work.specs.Sessions.{IsOfEpochs}
 use Rattle.serve_work.proofs.Intervals.{no_later}
+use Rattle.serve_work.proofs.Journals.{no_more_epochs}
 use Rattle.serve_work.proofs.session.epochs.later.Goals as goal
 
 pub epoch-requires-clause-at : goal.epoch-requires-clause-at
@@ -11,7 +14,9 @@ returns-in-Ok-clause-between g c = λ b journal at. c.epoch.ensures.between b jo
 pub returns-in-Err-clause-between : goal.returns-in-Err-clause-between
 returns-in-Err-clause-between g c =
     let gives = g.K.Clock.gives c.args.clock.now in
-    λ b journal at. no_later _ _ _ _ _ b journal gives _ (c.in-Err.ensures.back b journal at)
+    λ b journal at. no_later _ _ _ _ _ b journal gives true _ (c.in-Err.ensures.back b journal at) (λ full.
+    subst (λ (on : Bool). IsOfEpochs b.limit b.schedule on journal) (sym c.in-Err.ensures.over)
+    (no_more_epochs b.limit b.schedule true journal full))
 
 pub returns-in-Ok-clause-stops : goal.returns-in-Ok-clause-stops
 returns-in-Ok-clause-stops g c = λ allowed. c.epoch.ensures.stops (rw c.in-Ok.ensures.streams allowed)

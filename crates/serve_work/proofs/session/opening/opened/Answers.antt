@@ -1,6 +1,6 @@
-use Rattle.std.proofs.Common.{ℕ, arith, refl, subst, sym}
+use Rattle.std.proofs.Common.{ℕ, ap, arith, refl, subst, sym}
 use Rattle.std.specs.List.{AllByRecursion}
-use Rattle.serve_hub.specs.Seats.{opened_rests}
+use Rattle.serve_hub.specs.Seats.{HubValue, opened_rests}
 use Rattle.serve_work.specs.declared.session.SessionFault.TheVariants.{NoMemory}
 use Rattle.serve_work.specs.Intervals.{HasNoCalls, IsRoomFor}
 use Rattle.serve_work.specs.SessionInside.{stream_of}
@@ -28,6 +28,7 @@ returns-clause-at g c =
       no_calls = subst (AllByRecursion HasNoCalls) (sym c.in_ok-opened.ensures.streams)
           (new_seats c.args.limit (opened_rests 0 specs));
       places = omega (arith, c.len-count.ensures, c.in_ok-served.ensures.capacity);
+      limit = ap (λ (hub : HubValue). hub.limit) c.in_ok-opened.ensures.hub;
     }
 
 pub returns-clause-limit : goal.returns-clause-limit
