@@ -95,6 +95,7 @@ fn three_epochs_give_fifteen_images(rt: HostRuntime) -> Result<(), Fail> {
     for steps in [FIRST_IMAGES, NEXT_IMAGES, LAST_IMAGES] {
         let (next, entries) = next_epoch::<Brand, _>(&rt, alloc, Blank::new(80), ended, steps)?;
         same(&rt, (entries, next.journal().len()), (before, 15));
+        same(&rt, (next.limit(), next.is_full()), (16, true));
         same(&rt, (next.bands(0), next.units(0)), (5, Some(5)));
         before = 15;
         ended = next;

@@ -37,6 +37,7 @@ fn offers_fill_the_journal(rt: HostRuntime) -> Result<(), Fail> {
     let setup = setup_of(rt.alloc(), 1, &[PLAIN])?;
     let ended = ended_after::<Brand, _>(&rt, rt.alloc(), Blank::new(80), setup, FIFTEEN_FRAMES)?;
     same(&rt, ended.journal().len(), 16);
+    same(&rt, (ended.limit(), ended.is_full()), (16, true));
     Ok(())
 }
 

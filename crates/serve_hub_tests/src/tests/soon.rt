@@ -62,6 +62,7 @@ fn two_streams_do_not_wait_for_one_worker(rt: HostRuntime) -> Result<(), Fail> {
     let setup = setup_of(rt.alloc(), 1, &[PLAIN, PLAIN])?;
     let ended = followed::<Brand, _>(&rt, rt.alloc(), Blank::new(80), setup, TWO_STREAMS)?;
     same(&rt, ended.journal().len(), 8);
+    same(&rt, ended.is_full(), false);
     Ok(())
 }
 
