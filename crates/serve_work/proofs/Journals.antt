@@ -37,7 +37,7 @@ no_more_epochs limit opening goes_on journal is = record {
   each = are_over limit (specs_of opening) (desk_state opening) goes_on is.epochs is.each;
 }
 
--- streams are as open in a desk's state as in the desk
+-- as many streams are open in a desk's state as in the desk
 as_open : (streams : List KeptStream)
     → sum_by (λ (x : StreamState Blank). if x.is_closed then 0 else 1) (map (stream_by bare_frames) streams)
     ≡ sum_by one_open streams

@@ -73,8 +73,9 @@ pub record IsBetween {R W : Type 0} (left : R → Option (List ℕ)) (read_failu
   pub untold : now.served.items ≡ []
   pub places : length helds ≤ vec_capacity now.served
 
--- the same, with more entries behind those of this journal: where its frames have moments that the clock may
--- give, so have those of both together, and where it is that of epochs, so are both together
+-- the same, with more entries behind those of this journal. Where its frames have moments that the clock may
+-- give, so have those of both together. Where it is that of epochs of a session that went on so, both are
+-- that of epochs of one that goes on as it does now
 pub record IsLater {R W : Type 0} (left : R → Option (List ℕ)) (read_failures : R → ℕ)
     (after : W → Option (List ℕ)) (failures : W → ℕ) (is_flushed : W → Bool) (Gives : ℕ → Type 0)
     (b : Beginning) (went_on : Bool) (journal : List Entry) (now : Interval R W) : Type 0 where

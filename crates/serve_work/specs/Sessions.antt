@@ -132,7 +132,7 @@ pub record IsEpoch (limit : ℕ) (goes_on : Bool) (epoch : List Entry) (m : Stat
   pub full : IsTrue goes_on → limit < length epoch + open_streams m + 2
 
 -- these are the journals of epochs, the latest first, from an opening state on. Behind each but the latest
--- comes another, and behind that one where the session goes on
+-- comes another, and behind the latest too where the session goes on
 abbrev pub AreEpochs : (limit : ℕ) → List StreamSpec → (opening : State Blank) → (goes_on : Bool)
     → List (List Entry) → Type 0
 AreEpochs limit specs opening goes_on [] = ⊤

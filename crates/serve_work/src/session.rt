@@ -52,7 +52,7 @@ pub enum SessionFault {
     /// Memory was refused, or a worker's thread, in the first epoch. No frame was offered.
     #[error("NoMemory")]
     NoMemory,
-    /// The journal and the seats differ.
+    /// The journal isn't what the seats and the hub tell.
     #[error("Mismatch")]
     Mismatch,
 }

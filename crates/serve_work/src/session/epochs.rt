@@ -39,16 +39,12 @@ fn any_waits<R: Source, W: Sink>(streams: &Vec<Stream<R, W>>) -> bool
     false
 }
 
-/// Whether another epoch is to come: a worker started in this one, its journal is full, and a stream waits.
-fn another_comes<R: Source, W: Sink>(
-    is_on: bool,
-    ended: &Ended,
-    streams: &Vec<Stream<R, W>>,
-) -> bool
-    ensures full { IsTrue result → room ended.now.book < 2 }
-    ensures comes { IsTrue is_on → room ended.now.book < 2 → ¬ AreAllOver streams.now.items → IsTrue result }
+/// Whether another epoch is to come: the journal of this one is full, and a stream waits. Where no worker
+/// started it has no entry, so it isn't full.
+fn another_comes<R: Source, W: Sink>(ended: &Ended, streams: &Vec<Stream<R, W>>) -> bool
+    ensures { IsTrue result ↔ (room ended.now.book < 2) × ¬ AreAllOver streams.now.items }
 {
-    is_on && ended.is_full() && any_waits(streams)
+    ended.is_full() && any_waits(streams)
 }
 
 /// The streams go on with their seats of this epoch, until all are over or the journal is full. In the first
@@ -94,14 +90,14 @@ fn epoch<
     let workers = work_seats.len();
     let turns = seated(turns, seats, streams);
     slotted(&mut slots, work_seats);
-    let (is_on, turns) = run_threads(rt, alloc, &hub, &slots, turns, is_first, gate, clock)?;
+    let turns = run_threads(rt, alloc, &hub, &slots, turns, is_first, gate, clock)?;
     unslotted(slots, &mut back);
     places.fill(turns);
     let Places { seats, streams } = places;
     let Ok(ended) = hub.finish(seats, back) else {
         return Err(SessionFault::Mismatch);
     };
-    let goes_on = another_comes(is_on, &ended, &streams);
+    let goes_on = another_comes(&ended, &streams);
     Ok(Interval {
         ended,
         streams,

@@ -21,7 +21,7 @@ pub(super) struct Interval<R: Source, W: Sink> {
     pub(super) served: Vec<Served<R, W>>,
     /// How many workers there are.
     pub(super) workers: usize,
-    /// Whether a next epoch may bring a stream further.
+    /// Whether another epoch is to come.
     pub(super) goes_on: bool,
 }
 

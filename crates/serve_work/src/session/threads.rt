@@ -85,7 +85,8 @@ fn work_in<L: Epoch, G: Gate + Sync, T: Threads + Wait>(
     }
 }
 
-/// Starts the workers, runs the clients, and waits until the workers are back. It answers whether any worked.
+/// Starts the workers, runs the clients, and waits until the workers are back. Where no worker started, no
+/// client runs.
 ///
 /// The seat of a worker whose thread is refused stays in its slot. Where all are needed, all streams are
 /// closed then, and those workers that run end by that.
@@ -105,19 +106,19 @@ pub(super) fn run_threads<
     needs_all: bool,
     gate: &G,
     clock: &K,
-) -> Result<(bool, Vec<Turn<L, R, W>>), SessionFault>
-    ensures count { IfOk result (λ r. vec_len r.1 ≡ vec_len turns) }
-    ensures run { IfOk result (λ r. AllRun (K.gives clock.now) turns.items r.1.items) }
+) -> Result<Vec<Turn<L, R, W>>, SessionFault>
+    ensures count { IfOk result (λ after. vec_len after ≡ vec_len turns) }
+    ensures run { IfOk result (λ after. AllRun (K.gives clock.now) turns.items after.items) }
     ensures refused { IfErr result (λ e. e ≡ SessionFault.NoMemory) }
 {
     thread::scope(
         thread::scope_env(),
         rt,
-        |scope| -> Result<(bool, Vec<Turn<L, R, W>>), SessionFault>
+        |scope| -> Result<Vec<Turn<L, R, W>>, SessionFault>
             requires { IsSync T.row × IsSync G.row × IsSync K.row × IsSync L.row × IsSend L.row
                 × IsSend R.row × IsSend W.row }
-            ensures count { IfOk result (λ r. vec_len r.1 ≡ vec_len turns) }
-            ensures run { IfOk result (λ r. AllRun (K.gives clock.entry.now) turns.items r.1.items) }
+            ensures count { IfOk result (λ after. vec_len after ≡ vec_len turns) }
+            ensures run { IfOk result (λ after. AllRun (K.gives clock.entry.now) turns.items after.items) }
             ensures refused { IfErr result (λ e. e ≡ SessionFault.NoMemory) }
         {
             let mut any_works = false;
@@ -133,10 +134,7 @@ pub(super) fn run_threads<
                 close_all(rt, hub, turns);
                 return Err(SessionFault::NoMemory);
             }
-            Ok((
-                any_works,
-                run_beside(rt, alloc, hub, turns, clock, any_works),
-            ))
+            Ok(run_beside(rt, alloc, hub, turns, clock, any_works))
         },
     )
 }

@@ -25,10 +25,10 @@ fill-requires g c =
     let seats = c.args.opening.opened.1.items in
     let streams = c.args.opening.streams in
     let helds = held_with value seats streams.items in
-    let ran = c.in_ok-is_on.ensures.run helds c.seated-turns.ensures in
-    let few : vec_len c.in_ok-is_on.turns ≤ vec_len streams = omega (
+    let ran = c.in_ok-turns.ensures.run helds c.seated-turns.ensures in
+    let few : vec_len c.in_ok-turns.turns ≤ vec_len streams = omega (
       arith,
-      c.in_ok-is_on.ensures.count,
+      c.in_ok-turns.ensures.count,
       c.seated-turns.result.ok.0,
       ap length c.seated-turns.ensures,
       same_length Some helds,
@@ -43,9 +43,9 @@ fill-requires g c =
       held = (ran.0, ran.1);
     }
 
-pub returns-in_err-is_on-clause-fault : goal.returns-in_err-is_on-clause-fault
-returns-in_err-is_on-clause-fault g c =
-    fault_stays _ _ c.from_residual.ensures.1 (no_memory _ c.in_err-is_on.ensures.refused)
+pub returns-in_err-turns-clause-fault : goal.returns-in_err-turns-clause-fault
+returns-in_err-turns-clause-fault g c =
+    fault_stays _ _ c.from_residual.ensures.1 (no_memory _ c.in_err-turns.ensures.refused)
 
 pub returns-clause-between : goal.returns-clause-between
 returns-clause-between g c =
@@ -55,7 +55,7 @@ returns-clause-between g c =
     let seats = c.args.opening.opened.1.items in
     let streams = c.args.opening.streams in
     let helds = held_with value seats streams.items in
-    let ran = c.in_ok-is_on.ensures.run helds c.seated-turns.ensures in
+    let ran = c.in_ok-turns.ensures.run helds c.seated-turns.ensures in
     let ended = c.in-Ok.ended in
     let own = c.fill.ensures.seats ran.0 ran.1 in
     let as_many : length ended.book.desk.streams ≡ length b.schedule.streams = omega (
@@ -78,7 +78,7 @@ returns-clause-between g c =
       more = ended.book.past;
       epochs = λ before.
           one_epoch_more b.limit b.schedule _ _ journal ended.book.past before on
-          (ends_epoch b.limit _ ended.book c.in-Ok.ensures.book hub_limit c.in-Ok.ensures.free c.another_comes-goes_on.ensures.full);
+          (ends_epoch b.limit _ ended.book c.in-Ok.ensures.book hub_limit c.in-Ok.ensures.free (λ on. (c.another_comes-goes_on.ensures.0 on).0));
       moments = all_timed gives journal ended.book.past b.schedule _ b.starts helds ran.0 at.past.is_journal.leads.1
           (entries_on b.schedule _ ended.book c.in-Ok.ensures.book same on.specs) at.stand ran.2 calls
           (reached_on b.schedule _ ended.book _ same on.specs reached) (held_new value seats streams.items at.no_calls);
@@ -102,7 +102,7 @@ returns-clause-stops g c =
     let value = stream_of g.R.Source.remaining g.R.Source.failures g.W.Sink.contents g.W.Sink.failures g.W.Sink.is_flushed in
     let seats = c.args.opening.opened.1.items in
     let streams = c.args.opening.streams.items in
-    let ran = c.in_ok-is_on.ensures.run (held_with value seats streams) c.seated-turns.ensures in
+    let ran = c.in_ok-turns.ensures.run (held_with value seats streams) c.seated-turns.ensures in
     let sink = g.W.Sink in
     go_on_allowed (g.K.Clock.gives c.args.clock.now) g.R.Source.remaining g.R.Source.failures sink.contents sink.failures sink.is_flushed
     seats streams c.fill.new.self.streams.items ran.0 ran.2 (c.fill.ensures.streams ran.0 ran.1)
