@@ -23,7 +23,7 @@ const LINE: &[u8] = b"FRAME\n";
 const FRAME: u64 = 6 + 2048 * 512;
 
 /// How often a run is tried at most: other work may hold up a client, whose stream is then not served in its
-/// turn. Beside as much work as there are processors, that is so in most runs.
+/// turn.
 const TRIES: u32 = 64;
 
 /// In so many of these runs the streams are to be served in their turn.
