@@ -61,8 +61,8 @@ pub(super) fn opened<L: Epoch, R: Source + Drop, W: Sink + Drop>(
     })
 }
 
-/// Opens the next epoch of a session, whose journal has the limit of the last one's. Where none can be opened,
-/// the session comes back, and doesn't go on.
+/// Opens the next epoch of a session, whose journal has the limit of the last one's. Where none can be
+/// opened, the session comes back, and doesn't go on.
 pub(super) fn reopened<L: Epoch, R: Source + Drop, W: Sink + Drop>(
     alloc: Global,
     blank: Blank,

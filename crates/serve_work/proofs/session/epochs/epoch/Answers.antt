@@ -78,7 +78,8 @@ returns-clause-between g c =
       more = ended.book.past;
       epochs = λ before.
           one_epoch_more b.limit b.schedule _ _ journal ended.book.past before on
-          (ends_epoch b.limit _ ended.book c.in-Ok.ensures.book hub_limit c.in-Ok.ensures.free (λ on. (c.another_comes-goes_on.ensures.0 on).0));
+          (ends_epoch b.limit _ ended.book c.in-Ok.ensures.book hub_limit c.in-Ok.ensures.free
+          (λ on. (c.another_comes-goes_on.ensures.0 on).0));
       moments = all_timed gives journal ended.book.past b.schedule _ b.starts helds ran.0 at.past.is_journal.leads.1
           (entries_on b.schedule _ ended.book c.in-Ok.ensures.book same on.specs) at.stand ran.2 calls
           (reached_on b.schedule _ ended.book _ same on.specs reached) (held_new value seats streams.items at.no_calls);
