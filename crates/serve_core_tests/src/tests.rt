@@ -14,6 +14,7 @@ use lease::JobSpec;
 use row_bands::BandHeight;
 use serve_core::{Event, Machine, Refusal, Reply, Setup, StreamSpec, run};
 use std::alloc::Global;
+use std::fmt::{Debug, Display};
 use std::process::Abort;
 use std::sync::Arc;
 use std::test::Fail;
@@ -100,6 +101,22 @@ enum Told<'a> {
 enum Line<'a> {
     Asks(Asked<'a>, Told<'a>),
     Stands(u32, [u64; 6]),
+}
+
+/// Compares what a call gave with what is wanted. Beside a machine a branch is dear to prove: a call of this is
+/// none, and `assert_eq!` is one.
+fn same<T: PartialEq + Debug + Drop>(rt: &impl Abort, got: T, want: T) {
+    assert_eq!(rt; got, want);
+}
+
+/// The same, and tells where it was.
+fn same_at<T: PartialEq + Debug + Drop, P: Display + Drop>(
+    rt: &impl Abort,
+    got: T,
+    want: T,
+    place: P,
+) {
+    assert_eq!(rt; got, want, "at {place}");
 }
 
 fn geometry_of(size: Size) -> Geometry {
@@ -227,7 +244,7 @@ fn are_told(replies: &[Reply], script: &[Line<'_>]) -> bool {
 /// Runs the events of a script at once.
 fn runs(rt: &impl Abort, alloc: Global, plan: &Plan<'_>, script: &[Line<'_>]) -> Result<(), Fail> {
     let replies = replies_to(alloc, plan, script)?;
-    assert!(rt; are_told(&replies, script), "replies {replies:?}");
+    same(rt, are_told(&replies, script), true);
     Ok(())
 }
 
@@ -238,10 +255,10 @@ fn steps(rt: &impl Abort, alloc: Global, plan: &Plan<'_>, script: &[Line<'_>]) -
         match line {
             Line::Asks(asked, wanted) => {
                 let reply = machine.step(alloc, event_of(alloc, asked)?);
-                assert_eq!(rt; content_of(&reply), *wanted, "line {i}");
+                same_at(rt, content_of(&reply), *wanted, i);
             }
             Line::Stands(s, wanted) => {
-                assert_eq!(rt; state_of(&machine, *s), Some(*wanted), "line {i}");
+                same_at(rt, state_of(&machine, *s), Some(*wanted), i);
             }
         }
     }

@@ -6,8 +6,10 @@ use super::Told::{
     Accepted, Admitted, Closing, Finished, GivenBack, Image, Leased, Refused, SpecBack, Stepped,
     Ticked,
 };
-use super::{LINE, PLAIN, Plan, Served, serves, setup_of, spec_of};
-use serve_core::{Desk, Newcomer, Refusal};
+use super::{LINE, PLAIN, Plan, Served, same, serves, setup_of, spec_of};
+use serve_core::{Desk, Newcomer, Refusal, StreamSpec};
+use std::alloc::Global;
+use std::process::Abort;
 use std::test::Fail;
 
 /// Half of a worker.
@@ -112,59 +114,117 @@ fn streams_are_admitted_and_leave_their_shares(rt: HostRuntime) -> Result<(), Fa
     Ok(())
 }
 
+fn desk_of(alloc: Global) -> Result<Desk, Fail> {
+    Ok(Desk::new(alloc, setup_of(alloc, &HALVES)?)?)
+}
+
+fn newcomer_of(alloc: Global, served: &Served<'_>) -> Result<Newcomer, Fail> {
+    match Newcomer::new(alloc, spec_of(alloc, served)?) {
+        Ok(newcomer) => Ok(newcomer),
+        Err((refusal, _)) => Err(refusal.into()),
+    }
+}
+
+/// The number of a stream that a desk admits, or why it doesn't.
+fn entered(alloc: Global, desk: &mut Desk, spec: StreamSpec) -> Result<u32, Refusal> {
+    match desk.admit(alloc, spec) {
+        Ok(s) => Ok(s),
+        Err((refusal, _)) => Err(refusal),
+    }
+}
+
+/// The same of a newcomer.
+fn joined(desk: &mut Desk, newcomer: Newcomer) -> Result<u32, Refusal> {
+    match desk.admit_newcomer(newcomer) {
+        Ok(s) => Ok(s),
+        Err((refusal, _)) => Err(refusal),
+    }
+}
+
+/// The spec that a desk gives back, since no half is left.
+fn given_back(
+    rt: &impl Abort,
+    alloc: Global,
+    desk: &mut Desk,
+    half: StreamSpec,
+) -> Option<StreamSpec> {
+    same(rt, desk.admit_refusal(&half), Some(Refusal::Overload));
+    match desk.admit(alloc, half) {
+        Ok(_) => None,
+        Err((refusal, half)) => {
+            same(rt, (refusal, desk.streams()), (Refusal::Overload, 2));
+            Some(half)
+        }
+    }
+}
+
+/// Two halves are left once both streams are closed.
+fn admits_two(
+    rt: &impl Abort,
+    alloc: Global,
+    desk: &mut Desk,
+    half: StreamSpec,
+    newcomer: Newcomer,
+) {
+    let _closed = (desk.close(0), desk.close(1));
+    same(rt, desk.admit_refusal(&half), None);
+    same(rt, newcomer.spec().queue(), 4);
+    let admitted = (entered(alloc, desk, half), joined(desk, newcomer));
+    same(rt, admitted, (Ok(2), Ok(3)));
+    let accounts = (desk.account(3), desk.account(4));
+    same(rt, (desk.streams(), accounts), (4, (Some((1, 0)), None)));
+}
+
 /// A first stream is closed, so that its share is left again.
 #[test]
 fn a_desk_admits_two_streams(rt: HostRuntime) -> Result<(), Fail> {
     let alloc = rt.alloc();
-    let mut desk = Desk::new(alloc, setup_of(alloc, &HALVES)?)?;
-    let half = spec_of(alloc, &HALF)?;
-    assert_eq!(rt;
-        (desk.streams(), desk.admit_refusal(&half)),
-        (2, Some(Refusal::Overload))
-    );
-    let Err((Refusal::Overload, half)) = desk.admit(alloc, half) else {
-        return Err("a half was left".into());
-    };
-    let _closed = desk.close(0);
-    let _closed = desk.close(1);
-    assert_eq!(rt; desk.admit_refusal(&half), None);
-    let Ok(s) = desk.admit(alloc, half) else {
-        return Err("NoMemory".into());
-    };
-    let Ok(newcomer) = Newcomer::new(alloc, spec_of(alloc, &HALF)?) else {
-        return Err("NoMemory".into());
-    };
-    assert_eq!(rt; newcomer.spec().queue(), 4);
-    let Ok(t) = desk.admit_newcomer(newcomer) else {
-        return Err("NoMemory".into());
-    };
-    assert_eq!(rt; (s, t, desk.streams()), (2, 3, 4));
-    assert_eq!(rt; (desk.account(3), desk.account(4)), (Some((1, 0)), None));
+    let (half, newcomer) = (spec_of(alloc, &HALF)?, newcomer_of(alloc, &HALF)?);
+    let mut desk = desk_of(alloc)?;
+    match given_back(&rt, alloc, &mut desk, half) {
+        Some(half) => admits_two(&rt, alloc, &mut desk, half, newcomer),
+        None => same(&rt, "a half was left", ""),
+    }
     Ok(())
+}
+
+/// What comes back of a newcomer for which no share is left.
+fn comes_back(rt: &impl Abort, desk: &mut Desk, newcomer: Newcomer) {
+    match desk.admit_newcomer(newcomer) {
+        Ok(_) => same(rt, "a share was left", ""),
+        Err((refusal, newcomer)) => {
+            let spec = newcomer.into_spec();
+            let back = (refusal, desk.streams(), spec.queue(), spec.outbox());
+            same(rt, back, (Refusal::Overload, 2, 4, 4));
+        }
+    }
 }
 
 #[test]
 fn a_newcomer_comes_back(rt: HostRuntime) -> Result<(), Fail> {
-    let alloc = rt.alloc();
-    let mut desk = Desk::new(alloc, setup_of(alloc, &HALVES)?)?;
-    let Ok(newcomer) = Newcomer::new(alloc, spec_of(alloc, &SMALL)?) else {
-        return Err("NoMemory".into());
-    };
-    let Err((refusal, newcomer)) = desk.admit_newcomer(newcomer) else {
-        return Err("a share was left".into());
-    };
-    assert_eq!(rt; (refusal, desk.streams()), (Refusal::Overload, 2));
-    let spec = newcomer.into_spec();
-    assert_eq!(rt; (spec.queue(), spec.outbox()), (4, 4));
+    let newcomer = newcomer_of(rt.alloc(), &SMALL)?;
+    let mut desk = desk_of(rt.alloc())?;
+    comes_back(&rt, &mut desk, newcomer);
+    Ok(())
+}
+
+/// Why a spec makes no newcomer, and the queue of the spec that comes back.
+fn refused(alloc: Global, served: &Served<'_>) -> Result<Option<(Refusal, u64)>, Fail> {
+    match Newcomer::new(alloc, spec_of(alloc, served)?) {
+        Ok(_) => Ok(None),
+        Err((refusal, spec)) => Ok(Some((refusal, spec.queue()))),
+    }
+}
+
+#[test]
+fn a_spec_that_no_stream_may_have_comes_back(rt: HostRuntime) -> Result<(), Fail> {
     for (served, wanted) in [
         (EXCESS, Refusal::BadBandwidth),
         (Served { queue: 0, ..HALF }, Refusal::BadLimits),
         (Served { queue: 0, ..EXCESS }, Refusal::BadLimits),
     ] {
-        let Err((refusal, spec)) = Newcomer::new(alloc, spec_of(alloc, &served)?) else {
-            return Err("a spec that no stream may have was taken".into());
-        };
-        assert_eq!(rt; (refusal, spec.queue()), (wanted, served.queue));
+        let back = refused(rt.alloc(), &served)?;
+        same(&rt, back, Some((wanted, served.queue)));
     }
     Ok(())
 }

@@ -1,6 +1,6 @@
 //! Streams that have all the places that a stream can have, and frames with the longest line.
 use super::Size::Dot;
-use super::{PLAIN, Plan, Served, geometry_of, setup_of};
+use super::{PLAIN, Plan, Served, geometry_of, same, same_at, setup_of};
 use frame_view::Frame;
 use serve_core::{Desk, Event, Machine, Refusal, Reply};
 use std::alloc::Global;
@@ -121,19 +121,19 @@ fn long_frame(alloc: Global, n: u64) -> Result<Arc<Frame>, Fail> {
 fn fill<S: Serves>(rt: &impl Abort, alloc: Global, server: &mut S, s: u32) -> Result<(), Fail> {
     for n in 0..PLACES {
         let answer = server.arrive(alloc, s, long_frame(alloc, n)?);
-        assert_eq!(rt; answer, Ok(n), "stream {s}");
+        same_at(rt, answer, Ok(n), s);
     }
     let answer = server.arrive(alloc, s, long_frame(alloc, PLACES)?);
-    assert_eq!(rt; answer, Err(Some(Refusal::Full)), "stream {s}");
+    same_at(rt, answer, Err(Some(Refusal::Full)), s);
     Ok(())
 }
 
 /// Works on all frames, the two streams taking turns. Their images then fill both outboxes.
 fn work<S: Serves>(rt: &impl Abort, alloc: Global, server: &mut S) {
     for n in 0..2 * PLACES {
-        assert_eq!(rt; server.work(alloc), Ok(n / 2));
+        same(rt, server.work(alloc), Ok(n / 2));
     }
-    assert_eq!(rt; server.work(alloc), Err(Some(Refusal::NoneReady)));
+    same(rt, server.work(alloc), Err(Some(Refusal::NoneReady)));
 }
 
 /// Collects the images of stream `s`, and none after them.
@@ -142,12 +142,16 @@ fn collect<S: Serves>(rt: &impl Abort, alloc: Global, server: &mut S, s: u32) {
         match server.image(alloc, s) {
             Ok(image) => {
                 let wanted = (1_023, Some(&(255 - n as u8)));
-                assert_eq!(rt; (image.line().len(), image.data().first()), wanted);
+                same(rt, (image.line().len(), image.data().first()), wanted);
             }
             Err(_) => panic!(rt; "no image {n} of {s}"),
         }
     }
-    assert!(rt; matches!(server.image(alloc, s), Err(Some(Refusal::Empty))));
+    same(
+        rt,
+        matches!(server.image(alloc, s), Err(Some(Refusal::Empty))),
+        true,
+    );
 }
 
 /// Two streams are filled, worked and collected.

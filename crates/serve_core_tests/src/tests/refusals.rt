@@ -3,7 +3,7 @@ use super::Asked::{Arrive, Band, Close, Collect, Lease, Settle, Tick};
 use super::Line::{self, Asks, Stands};
 use super::Size::{Dot, Pair};
 use super::Told::{Accepted, Closing, GivenBack, Leased, Refused, Ticked};
-use super::{LINE, PLAIN, Plan, Served, serves};
+use super::{LINE, PLAIN, Plan, Served, same, serves};
 use serve_core::{CoreError, Refusal, SetupError};
 use std::alloc::{AllocError, Global};
 use std::fmt::Display;
@@ -151,7 +151,7 @@ fn prints(
     name: &str,
 ) -> Result<(), AllocError> {
     let text = format!(in alloc; "{refused}")?;
-    assert_eq!(rt; text.as_str(), name);
+    same(rt, text.as_str(), name);
     Ok(())
 }
 

@@ -1,6 +1,6 @@
 //! Which setups there are.
 use super::Size::Pair;
-use super::{PLAIN, Served, geometry_of, spec_of, specs_of};
+use super::{PLAIN, Served, geometry_of, same, same_at, spec_of, specs_of};
 use serve_core::{Setup, SetupError, StreamSpec};
 use std::alloc::Global;
 use std::process::Abort;
@@ -188,7 +188,7 @@ const LIMITS: &[Case<'_>] = &[
 fn are_faulty(rt: &impl Abort, alloc: Global, cases: &[Case<'_>]) -> Result<(), Fail> {
     for (name, workers, quantum, streams, wanted) in cases {
         let fault = Setup::new(*workers, *quantum, specs_of(alloc, streams)?).err();
-        assert_eq!(rt; fault, *wanted, "{name}");
+        same_at(rt, fault, *wanted, name);
     }
     Ok(())
 }
@@ -210,6 +210,6 @@ fn a_chain_is_made_for_the_frames_of_its_stream(rt: HostRuntime) -> Result<(), F
     let spec = spec_of(alloc, &PLAIN)?;
     streams.push(StreamSpec::new(geometry_of(Pair), spec.job().clone()?, 2, 10, 4, 4, 1))?;
     let fault = Setup::new(1, 4, streams).err();
-    assert_eq!(rt; fault, Some(SetupError::BadLimits));
+    same(&rt, fault, Some(SetupError::BadLimits));
     Ok(())
 }
