@@ -42,11 +42,10 @@ use std::sync::{Condvar, Mutex, Wait};
 /// Contracts see how many streams it opened with, how many workers it has, and the most entries of its
 /// journal.
 ///
-/// A call wakes those whom it may help. A frame that is accepted and an image that is collected wake a
-/// worker, and a frame that is finished wakes the client of its stream. All workers wake at a close, at an
-/// admission and where nothing is left to lease, and all who wait where the journal is full. A worker that
-/// settles is to ask for another lease, so its settlement wakes no other worker: where it doesn't ask, the
-/// stream that it gave back may stay without one until the next frame or image.
+/// Each accepted call wakes those whom it may help. One that may make a stream ready wakes a worker: a frame
+/// that is accepted, an image that is collected, and a settlement that leaves its stream a frame that isn't
+/// finished. A frame that is finished wakes the client of its stream. All workers wake at a close, at an
+/// admission and where nothing is left to lease, and all who wait where the journal is full.
 #[derive(Drop)]
 pub struct Hub<L: Epoch> {
     shared: Mutex<Shared<L>>,

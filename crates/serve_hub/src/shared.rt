@@ -189,7 +189,7 @@ impl<L: Epoch> Shared<L> {
     }
 
     /// Whether a stream has a frame that isn't finished.
-    fn has_work(&self, stream: u32) -> bool {
+    pub(crate) fn has_work(&self, stream: u32) -> bool {
         self.book
             .desk()
             .counts(stream)

@@ -15,6 +15,7 @@ mod soon;
 mod steps;
 mod threads;
 mod twins;
+mod waking;
 
 use self::steps::Answer;
 use filters::{Chain, parse_ops};

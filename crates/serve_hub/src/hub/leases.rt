@@ -59,7 +59,8 @@ impl<L: Epoch> Hub<L> {
 
     /// The worker gives its lease back, with its job and all bands that were done.
     ///
-    /// The worker is to ask for another lease then: no other is woken for the stream that it gives back.
+    /// Another worker is woken where the stream has a frame that isn't finished: who settles need not ask for
+    /// another lease.
     pub fn settle(
         &self,
         rt: &impl Wait,
@@ -74,6 +75,7 @@ impl<L: Epoch> Hub<L> {
         let mut shared = self.shared.lock(rt);
         let answer = seat.settle(&mut shared, lease);
         let (is_full, is_over) = (shared.is_full(), shared.book.desk().is_over());
+        let has_work = shared.has_work(stream);
         drop(shared);
         if !matches!(answer, Ok(Settled::Returned)) {
             self.for_stream(stream).notify_all();
@@ -81,7 +83,7 @@ impl<L: Epoch> Hub<L> {
         if is_over {
             self.for_workers.notify_all();
         }
-        self.wake(answer.is_err(), is_full);
+        self.wake(has_work, is_full);
         answer
     }
 }

@@ -1,0 +1,166 @@
+//! A worker that gives its frame back and asks for no more, beside one that waits.
+ghost use Rattle.std.specs.Prelude.{◌≡◌};
+ghost use Rattle.serve_core.specs.Schedule.{opened_schedule};
+ghost use Rattle.std.specs.Thread.{IsSend, IsSync};
+
+use super::leases::{TALL, TALL_FRAME};
+use super::seated::{Seated, seated_after};
+use super::{same, setup_of, stepped};
+use lease::Lease;
+use serve_core::Setup;
+use serve_hub::{Epoch, Hub, LeaseRefused, Refusal, Settled, StreamSeat, WorkSeat};
+use std::alloc::Global;
+use std::marker::Brand;
+use std::process::Abort;
+use std::rt::Clock;
+use std::sync::Wait;
+use std::sync::ledger::Blank;
+use std::test::Fail;
+use std::thread;
+use std::thread::Threads;
+use std::time::Duration;
+
+/// For how many milliseconds the first worker keeps its lease, so that the other one waits, and a client
+/// pauses before it looks for its image again.
+const PAUSE: u64 = 5;
+
+/// How often a client looks for its image.
+const LOOKS: u32 = 1_000;
+
+/// What the first worker's settlement answered, and the first sample of the image that came in time.
+type Came = (Result<Settled, Refusal>, Option<u8>);
+
+/// A frame of two bands. Nobody offers or collects after it came back.
+#[test]
+fn a_frame_that_came_back_wakes_a_worker(rt: HostRuntime) -> Result<(), Fail> {
+    for _ in 0..20 {
+        let setup = setup_of(rt.alloc(), 2, &[TALL])?;
+        let seated = handed_over::<Brand, _>(&rt, rt.alloc(), Blank::new(80), setup)?;
+        let ended = seated.ended(&rt);
+        same(&rt, (ended.bands(0), ended.bands(1)), (0, 2));
+    }
+    Ok(())
+}
+
+/// The hub after the first worker has leased the frame and given it back, and the second one finished it.
+fn handed_over<L: Epoch + Send + Sync, R: Threads + Wait + Abort + Clock + Sync>(
+    rt: &R,
+    alloc: Global,
+    blank: Blank,
+    setup: Setup,
+) -> Result<Seated<L>, Fail>
+    requires name { blank.name ≡ L.name }
+    requires parts { blank.parts ≡ L.parts }
+    requires enough { blank.parts ≡ 80 }
+    requires opening { opened_schedule setup ≡ L.opening }
+{
+    let mut seated = seated_after::<L, R>(rt, alloc, blank, setup, TALL_FRAME)?;
+    let second = seated.workers.pop().expect(rt, "a seat");
+    let (second, came) = helped(rt, &mut seated, second);
+    same(rt, came, (Ok(Settled::Returned), Some(254)));
+    seated.workers.push(second?)?;
+    Ok(seated)
+}
+
+/// The first worker gives its lease back while the second one waits for one.
+fn helped<L: Epoch + Send + Sync, R: Threads + Wait + Abort + Clock + Sync>(
+    rt: &R,
+    seated: &mut Seated<L>,
+    second: WorkSeat<L>,
+) -> (Result<WorkSeat<L>, Fail>, Came) {
+    let Seated {
+        hub,
+        streams,
+        workers,
+    } = seated;
+    let hub = &*hub;
+    let first = workers.first_mut().expect(rt, "a worker");
+    let stream = streams.first_mut().expect(rt, "a stream");
+    thread::scope(
+        thread::scope_env(),
+        rt,
+        |scope|
+            requires { IsSync R.row × IsSync L.row × IsSend L.row }
+        {
+            let lease = hub.try_lease(rt, first);
+            let working = scope.spawn(move || work(rt, hub, second));
+            pause(rt);
+            let done = given_back(rt, hub, first, lease);
+            let came = image_in_time(rt, hub, stream);
+            let _closed = hub.close(rt, stream);
+            match working {
+                Ok(working) => (Ok(working.join(rt)), (done, came)),
+                Err(_) => (
+                    Err("was a thread or its memory refused?".into()),
+                    (done, came),
+                ),
+            }
+        },
+    )
+}
+
+/// Leases, does what is granted and settles, until nothing is left.
+fn work<L: Epoch, R: Wait>(rt: &R, hub: &Hub<L>, seat: WorkSeat<L>) -> WorkSeat<L> {
+    let mut seat = seat;
+    for _ in rt.forever() {
+        let Ok(lease) = hub.lease(rt, &mut seat) else {
+            return seat;
+        };
+        let granted = lease.granted();
+        if settled(rt, hub, &mut seat, stepped(lease, granted)).is_err() {
+            return seat;
+        }
+    }
+    unreachable!()
+}
+
+/// Settles a lease that was given.
+fn given_back<L: Epoch>(
+    rt: &impl Wait,
+    hub: &Hub<L>,
+    seat: &mut WorkSeat<L>,
+    lease: Result<Lease, Refusal>,
+) -> Result<Settled, Refusal> {
+    match lease {
+        Ok(lease) => settled(rt, hub, seat, lease),
+        Err(refusal) => Err(refusal),
+    }
+}
+
+/// Settles a lease. A refused one ends.
+fn settled<L: Epoch>(
+    rt: &impl Wait,
+    hub: &Hub<L>,
+    seat: &mut WorkSeat<L>,
+    lease: Lease,
+) -> Result<Settled, Refusal> {
+    match hub.settle(rt, seat, lease) {
+        Ok(done) => Ok(done),
+        Err(refused) => {
+            let LeaseRefused { refusal, lease } = refused;
+            if let Some(lease) = lease {
+                let _job = lease.into_job();
+            }
+            Err(refusal)
+        }
+    }
+}
+
+/// The first sample of the next image, if it comes in time.
+fn image_in_time<L: Epoch, R: Wait + Clock>(
+    rt: &R,
+    hub: &Hub<L>,
+    stream: &mut StreamSeat<L>,
+) -> Option<u8> {
+    for _ in 0..LOOKS {
+        if let Ok(pair) = hub.try_collect(rt, stream) {
+            return pair.image.data().first().copied();
+        }
+        pause(rt);
+    }
+    None
+}
+
+fn pause(clock: &impl Clock) {
+    thread::sleep(clock, Duration::from_millis(PAUSE));
+}
