@@ -160,5 +160,10 @@ pub record SharedValue : Type 0 where
   pub streams : ℕ
   pub workers : ℕ
 
+-- a hub without its lock, and the book that stood under it
+pub record UnlockedValue : Type 0 where
+  pub hub : HubValue
+  pub book : BookValue
+
 abbrev pub hub_of : (streams workers limit : ℕ) → HubValue
 hub_of streams workers limit = record { streams = streams; workers = workers; limit = limit }

@@ -13,9 +13,9 @@ ghost use Rattle.serve_hub.specs.Journal.{bands_of, units_from};
 use crate::book::Book;
 use crate::entry::Entry;
 use crate::epoch::Epoch;
-use crate::hub::Hub;
 use crate::rest::SeatRest;
 use crate::stream_seat::StreamSeat;
+use crate::unlocked::Unlocked;
 use crate::work_seat::WorkSeat;
 use cbs_account::limits::MOST_WORKERS;
 use edf_pool::limits::MOST_STREAMS;
@@ -158,13 +158,11 @@ pub enum Fault {
     Differs,
 }
 
-/// A hub that isn't ended, with the number of all its streams, those that were admitted too, and the seats
-/// that were handed over.
+/// A hub that isn't ended, without its lock, and the seats that were handed over.
 #[derive(Drop)]
 pub struct Mismatch<L: Epoch> {
     pub fault: Fault,
-    pub hub: Hub<L>,
-    pub all_streams: usize,
+    pub unlocked: Unlocked<L>,
     pub streams: Vec<StreamSeat<L>>,
     pub workers: Vec<WorkSeat<L>>,
 }

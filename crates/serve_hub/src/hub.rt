@@ -26,6 +26,7 @@ use crate::rest::SeatRest;
 use crate::room::Room;
 use crate::shared::Shared;
 use crate::stream_seat::StreamSeat;
+use crate::unlocked::Unlocked;
 use crate::work_seat::WorkSeat;
 use edf_pool::limits::MOST_STREAMS;
 pub use epochs::{ReopenRefused, Reopened};
@@ -116,7 +117,7 @@ impl<L: Epoch> Hub<L> {
 
     /// What the hub did, where all seats are back, no lease is out, what the seats keep of their calls and
     /// their streams is what the book has, and its limit is the hub's. A hub that can't be ended comes back
-    /// with the seats, and with the number of all streams, those that were admitted too.
+    /// with the seats, and without its lock, so that its book tells which seats there are.
     ///
     /// No contract can name what is under a lock, so what the end tells of the streams' chains and of their
     /// counts is compared with the seats here, the journal's clock with the seats' first moments, and its
@@ -142,13 +143,17 @@ impl<L: Epoch> Hub<L> {
         ensures missing { MatchResult result
             (λ ended. ¬ IsMissing (length ended.book.desk.streams) self.workers (vec_len streams)
             (vec_len workers))
-            (λ m. (m.fault ≡ faults.SeatMissing) ↔ IsMissing m.all_streams self.workers (vec_len streams)
+            (λ m. (m.fault ≡ faults.SeatMissing)
+            ↔ IsMissing (length m.unlocked.book.desk.streams) self.workers (vec_len streams)
             (vec_len workers)) }
-        ensures all_streams { IfErr result (λ m. length L.opening.streams ≤ m.all_streams) }
+        ensures all_streams { IfErr result (λ m.
+            length L.opening.streams ≤ length m.unlocked.book.desk.streams) }
+        ensures of_opening { IfErr result (λ m.
+            IsBook m.unlocked.book × (m.unlocked.book.opening ≡ L.opening)) }
         ensures out { IfErr result (λ m. m.fault ≡ faults.LeaseOut
             → ¬ All (λ s. ¬ HasLeaseOut s) workers.items) }
         ensures settled { OnOk result (All (λ s. ¬ HasLeaseOut s) workers.items) }
-        ensures hub { IfErr result (λ m. m.hub ≡ self) }
+        ensures hub { IfErr result (λ m. m.unlocked.hub ≡ self) }
         ensures back { IfErr result (λ m. (m.streams.items ≡ streams.items)
             × (m.workers.items ≡ workers.items)) }
     {
@@ -160,13 +165,11 @@ impl<L: Epoch> Hub<L> {
             ..
         } = self;
         let shared = shared.into_inner();
-        let all_streams = shared.book.desk().streams();
-        let counts = (all_streams, worker_count);
+        let counts = (shared.all_streams(), worker_count);
         if let Some(fault) = fault(&shared, counts, limit, &streams, &workers) {
             return Err(Mismatch {
                 fault,
-                hub: Hub::of(shared, stream_count, worker_count, limit),
-                all_streams,
+                unlocked: Unlocked::of(shared, stream_count, worker_count, limit),
                 streams,
                 workers,
             });

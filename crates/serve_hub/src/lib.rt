@@ -21,6 +21,7 @@ mod rest;
 mod room;
 mod shared;
 pub mod stream_seat;
+pub mod unlocked;
 pub mod work_seat;
 
 pub use book::Book;
@@ -34,4 +35,5 @@ pub use moments::Moments;
 pub use refusal::{Came, Refusal};
 pub use refused::{AdmitRefused, CollectRefused, LeaseRefused, OfferRefused, OverRefused};
 pub use stream_seat::StreamSeat;
+pub use unlocked::Unlocked;
 pub use work_seat::WorkSeat;

@@ -136,6 +136,17 @@ impl<L: Epoch> Shared<L> {
         }
     }
 
+    /// How many streams there are, those that were admitted too.
+    pub(crate) fn all_streams(&self) -> usize
+        ensures count { result ≡ length self.now.book.desk.streams }
+        ensures more { length L.opening.streams ≤ result }
+        ensures book { IsBook self.now.book }
+        ensures opening { self.now.book.opening ≡ L.opening }
+    {
+        let _journal = self.book.journal();
+        self.book.desk().streams()
+    }
+
     /// Whether the journal has no place for another lease and its settlement.
     pub(crate) fn is_full(&self) -> bool
         ensures { IsTrue result ↔ (room self.now.book < 2) }

@@ -40,7 +40,7 @@ fn not_ended<L: Epoch, R: Abort>(rt: &R, seated: Seated<L>, fault: Fault) -> Sea
         Err(mismatch) => {
             same(rt, mismatch.fault, fault);
             Seated {
-                hub: mismatch.hub,
+                hub: mismatch.unlocked.lock(),
                 streams: mismatch.streams,
                 workers: mismatch.workers,
             }
