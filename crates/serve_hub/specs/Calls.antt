@@ -1,5 +1,5 @@
 -- How the calls of a hub leave the seats, and which refusals a seat can be told.
-use Rattle.std.specs.Prelude.{ℕ, ◌+◌, ◌≡◌, ◌≢◌, ◌≤◌, ◌<◌, ◌↔◌, ⊤, true, IsTrue, [], ◌∷◌}
+use Rattle.std.specs.Prelude.{ℕ, ◌+◌, ◌≡◌, ◌≢◌, ◌≤◌, ◌<◌, ◌↔◌, ◌⊎◌, ⊤, true, IsTrue, [], ◌∷◌}
 use Rattle.std.specs.Prelude.{◌++◌, drop, length, slice_get, Option, Some, MatchOption}
 use Rattle.std.specs.Arc.{arc_value}
 use Rattle.cbs_account.specs.declared.limits.TheConstants.{LAST_MOMENT}
@@ -180,6 +180,16 @@ IsCollectRefused e old new =
 abbrev pub Leases : LeaseValue → (old new : WorkSeatValue) → Type 0
 Leases lease old new =
     new ≡ record old { calls = with_call (acts.Leased lease.stream lease.number lease.granted) old.calls }
+
+-- why a worker gets no lease at once, and why it gets none in the end
+abbrev pub IsLeaseRefusal : Refusal → Type 0
+IsLeaseRefusal (Core e) = (e ≡ cores.NoWorker) ⊎ (e ≡ cores.Busy) ⊎ (e ≡ cores.NoneReady)
+IsLeaseRefusal HistoryFull = ⊤
+IsLeaseRefusal (Torn came.Other) = ⊤
+IsLeaseRefusal e = ⊥
+
+abbrev pub IsEndOfLeases : Refusal → Type 0
+IsEndOfLeases e = (e ≡ Core cores.Drained) ⊎ IsLeaseRefusal e
 
 -- the worker gave this lease back, with this outcome
 abbrev pub Settles : LeaseValue → code.Settled → (old new : WorkSeatValue) → Type 0

@@ -1,6 +1,7 @@
 //! The seat of a worker.
-ghost use Rattle.std.specs.Prelude.{◌≡◌, ◌↔◌, IfErr, IfOk, IsTrue, MatchOption, OnErr, length};
-ghost use Rattle.serve_hub.specs.Calls.{FinishesOther, HasNumber, IsOutcome, Leases, Settles};
+ghost use Rattle.std.specs.Prelude.{◌≡◌, ◌≢◌, ◌↔◌, IfErr, IfOk, IsTrue, MatchOption, OnErr, length};
+ghost use Rattle.serve_hub.specs.declared.refusal.Refusal.TheVariants.{HistoryFull};
+ghost use Rattle.serve_hub.specs.Calls.{FinishesOther, HasNumber, IsLeaseRefusal, IsOutcome, Leases, Settles};
 ghost use Rattle.serve_hub.specs.Ends.{HasLeaseOut};
 ghost use Rattle.serve_hub.specs.Seats.{opened_worker};
 
@@ -73,6 +74,7 @@ impl<L: Epoch> WorkSeat<L> {
         ensures given { IfOk result (λ lease. Leases lease self.old self.new) }
         ensures unused { IfOk result (λ lease. lease.used ≡ 0) }
         ensures refused { OnErr result (self.new ≡ self.old) }
+        ensures refusals { IfErr result IsLeaseRefusal }
     {
         if self.calls.limit != shared.limit {
             return Err(Refusal::Torn(Came::Other));
@@ -94,6 +96,7 @@ impl<L: Epoch> WorkSeat<L> {
         ensures refused { IfErr result (λ e. MatchOption e.lease
             (FinishesOther lease e.refusal self.old self.new)
             (λ back. (back ≡ lease) × (self.new ≡ self.old))) }
+        ensures reserved { IfErr result (λ e. e.refusal ≢ HistoryFull) }
     {
         if self.calls.limit != shared.limit {
             return Err(LeaseRefused {

@@ -1,8 +1,9 @@
 //! Leases that threads get and settle.
 ghost use Rattle.std.specs.Prelude.{◌≡◌, ◌≢◌, IfErr, IfOk, OnErr};
 ghost use Rattle.serve_core.specs.declared.refusal.Refusal.TheVariants.{NoneReady};
-ghost use Rattle.serve_hub.specs.declared.refusal.Refusal.TheVariants.{Core};
-ghost use Rattle.serve_hub.specs.Calls.{HasNumber, IsOutcome, IsSettleRefused, Leases, Settles};
+ghost use Rattle.serve_hub.specs.declared.refusal.Refusal.TheVariants.{Core, HistoryFull};
+ghost use Rattle.serve_hub.specs.Calls.{HasNumber, IsEndOfLeases, IsLeaseRefusal, IsOutcome};
+ghost use Rattle.serve_hub.specs.Calls.{IsSettleRefused, Leases, Settles};
 
 use super::Hub;
 use crate::entry::Settled;
@@ -21,6 +22,7 @@ impl<L: Epoch> Hub<L> {
         ensures given { IfOk result (λ lease. Leases lease seat.old seat.new) }
         ensures unused { IfOk result (λ lease. lease.used ≡ 0) }
         ensures refused { OnErr result (seat.new ≡ seat.old) }
+        ensures refusals { IfErr result IsLeaseRefusal }
     {
         let mut shared = self.shared.lock(rt);
         let answer = seat.lease(&mut shared);
@@ -37,6 +39,7 @@ impl<L: Epoch> Hub<L> {
         ensures unused { IfOk result (λ lease. lease.used ≡ 0) }
         ensures waited { IfErr result (λ e. e ≢ Core NoneReady) }
         ensures refused { OnErr result (seat.new ≡ seat.old) }
+        ensures refusals { IfErr result IsEndOfLeases }
     {
         let mut shared = self.shared.lock(rt);
         for _ in rt.forever() {
@@ -70,6 +73,7 @@ impl<L: Epoch> Hub<L> {
         ensures settled { IfOk result (λ done. Settles lease done seat.old seat.new) }
         ensures outcome { IfOk result (λ done. IsOutcome lease done × HasNumber lease done) }
         ensures refused { IfErr result (λ e. IsSettleRefused lease e seat.old seat.new) }
+        ensures reserved { IfErr result (λ e. e.refusal ≢ HistoryFull) }
     {
         let stream = lease.stream();
         let mut shared = self.shared.lock(rt);
