@@ -14,7 +14,7 @@ use Rattle.serve_work.specs.declared.stop.Stop.{Stop}
 use Rattle.serve_work.specs.declared.stop.Stop.TheVariants.{Whole, Read, Write, Refused, Torn}
 use Rattle.serve_work.specs.Clients.{AllowsStop}
 use Rattle.serve_work.specs.ClientInside.{AllowsFed, Flushes, IsFirst, IsNoNewEnd, IsOfCollection, IsOfDelivery, IsOffered, IsUnread}
-use Rattle.serve_work.specs.ClientInside.{KeepsAllowed, fed_before, fed_of}
+use Rattle.serve_work.specs.ClientInside.{KeepsAllowed, TellsKept, fed_before, fed_of}
 use Rattle.serve_work.specs.Rests.{CourseValue, Discarding, Draining, Feeding, Holding, course_stop, stop_given_up}
 
 module _ (Gives : ℕ → Type 0) where
@@ -103,11 +103,21 @@ flushed_stop Torn flush told f is = ap Some (sym f) ∙ is
 
 pub given_up_stop : (course : CourseValue) → IsNoNewEnd (course_stop course) (Some (stop_given_up course))
 given_up_stop (Feeding in_hand) is = absurd (cc)
-given_up_stop (Holding None held) is = absurd (cc)
-given_up_stop (Holding (Some frame) held) is = is
+given_up_stop (Holding in_hand held) is = is
 given_up_stop (Draining Whole) is = absurd (cc)
 given_up_stop (Draining (Read fault)) is = is
 given_up_stop (Draining (Write fault)) is = is
 given_up_stop (Draining (Refused cause)) is = is
 given_up_stop (Draining Torn) is = is
 given_up_stop (Discarding stop) is = is
+
+-- a client that is given up tells the fault that it keeps
+pub given_up_kept : (course : CourseValue) → TellsKept (course_stop course) (stop_given_up course)
+given_up_kept (Feeding in_hand) = tt
+given_up_kept (Holding in_hand held) = λ fault. refl
+given_up_kept (Draining Whole) = λ fault. absurd (fault refl)
+given_up_kept (Draining (Read f)) = λ fault. refl
+given_up_kept (Draining (Write f)) = λ fault. refl
+given_up_kept (Draining (Refused cause)) = λ fault. refl
+given_up_kept (Draining Torn) = λ fault. refl
+given_up_kept (Discarding stop) = λ fault. refl

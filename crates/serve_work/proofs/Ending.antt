@@ -1,6 +1,6 @@
 -- What a client comes to.
 use Rattle.std.proofs.Common.{◌≡◌, ◌≢◌, ◌↔◌, ◌⊎◌, ℕ, ◌+◌, true, false, List, [], ◌∷◌, ◌++◌, length, take}
-use Rattle.std.proofs.Common.{Option, Result, Ok, Err, OnOk, IfErr, refl, sym, ap, ◌∙◌, append-nil}
+use Rattle.std.proofs.Common.{Option, None, Some, Result, Ok, Err, OnOk, IfErr, refl, sym, ap, ◌∙◌, append-nil}
 use Rattle.std.proofs.Common.{length-append, arith, subst, inl, inr, unwrap_or}
 use Rattle.std.proofs.KnownBytes.{Appends-kept, Appends-trans, Consumes-nil}
 use Rattle.std.proofs.lemmas.List.{length-take-le}
@@ -21,9 +21,9 @@ use Rattle.serve_hub.specs.Seats.{StreamSeatValue}
 use Rattle.serve_work.specs.declared.stop.Cause.TheVariants.{NoMemory}
 use Rattle.serve_work.specs.declared.stop.Stop.{Stop}
 use Rattle.serve_work.specs.declared.stop.Stop.TheVariants.{Whole, Read, Write, Refused, Torn}
-use Rattle.serve_work.specs.Clients.{ClientEnds, ClientOutcome, ClientProgress, ClientStart, CutsHeader}
-use Rattle.serve_work.specs.Clients.{ClientStopsAt, WroteImages, WroteNothing, reads_at}
-use Rattle.serve_work.specs.ClientInside.{BreaksOff, Flushes, IsSent, SendsWhole, Serves, TalliesSeat}
+use Rattle.serve_work.specs.Clients.{ClientOutcome, ClientProgress, ClientStart, CutsHeader, Ends, GivesUpAt}
+use Rattle.serve_work.specs.Clients.{ClientStopsAt, StreamStopsAt, WroteImages, WroteNothing, reads_at}
+use Rattle.serve_work.specs.ClientInside.{BreaksOff, Flushes, IsSent, SendsWhole, ServesTo, TalliesSeat, TellsKept}
 use Rattle.serve_work.specs.Rests.{IsFresh, IsTallied, IsUnbegun}
 use Rattle.serve_work.proofs.Tallying.{counted_later}
 
@@ -70,7 +70,7 @@ module _ {T : Type 0} where
   whole_flush (Write f) flush told e is = let both : Write f ≡ Whole = sym e ∙ is in absurd (cc)
   whole_flush Torn flush told e is = let both : Torn ≡ Whole = sym e ∙ is in absurd (cc)
 
-  stops_flushed : (stop : Stop) (flush : Result T WriteFault) (told : Stop) (at : ClientProgress) → Flushes stop flush told
+  pub stops_flushed : (stop : Stop) (flush : Result T WriteFault) (told : Stop) (at : ClientProgress) → Flushes stop flush told
       → ClientStopsAt stop at → ClientStopsAt told at
   stops_flushed Whole (Ok t) told at e a = subst (λ s. ClientStopsAt s at) (sym e) a
   stops_flushed Whole (Err f) told at e a = subst (λ s. ClientStopsAt s at) (sym e) (inr a)
@@ -78,6 +78,19 @@ module _ {T : Type 0} where
   stops_flushed (Refused cause) flush told at e a = subst (λ s. ClientStopsAt s at) (sym e) a
   stops_flushed (Write f) flush told at e a = subst (λ s. ClientStopsAt s at) (sym e) a
   stops_flushed Torn flush told at e a = subst (λ s. ClientStopsAt s at) (sym e) a
+
+  -- the same of a stream
+  pub stream_flushed : (stop : Stop) (flush : Result T WriteFault) (told : Stop) (at : ClientProgress) → Flushes stop flush told
+      → StreamStopsAt stop at → StreamStopsAt told at
+  stream_flushed stop flush told at e (inl a) = inl (stops_flushed stop flush told at e a)
+  stream_flushed stop flush told at e (inr a) =
+      inr (subst (λ s. GivesUpAt s at) (sym (stop_stays stop flush told e (λ is. subst (λ s. GivesUpAt s at) is a))) a)
+
+  -- a fault that was kept is told behind the flush too
+  pub told_kept : (kept : Option Stop) (stop : Stop) (flush : Result T WriteFault) (told : Stop) → Flushes stop flush told
+      → TellsKept kept stop → TellsKept kept told
+  told_kept None stop flush told e k = tt
+  told_kept (Some s) stop flush told e k = λ fault. stop_stays stop flush told e (λ is. fault (sym (k fault) ∙ is)) ∙ k fault
 
   reads_flushed : (stop : Stop) (flush : Result T WriteFault) (told : Stop) (n : ℕ) → Flushes stop flush told
       → reads_at told n ≡ reads_at stop n
@@ -225,13 +238,14 @@ module _ (start : ClientStart) (end : ClientOutcome) (shown : HeaderValue) (writ
   }
 
   -- the header line was written, and the stream was served
-  pub ClientEnds-served : {T : Type 0} (past : List Act) (stop : Stop) (reader' : ReaderState) (seat' : StreamSeatValue)
-      (writer' : WriterState)
-      (flush : Result T WriteFault) → Serves past stop start.reader reader' start.seat seat' writer writer'
+  pub Ends-served : {T : Type 0} (StopsAt : Stop → ClientProgress → Type 0) (past : List Act) (stop : Stop) (reader' : ReaderState)
+      (seat' : StreamSeatValue) (writer' : WriterState) (flush : Result T WriteFault)
+      → ((told : Stop) (at : ClientProgress) → Flushes stop flush told → StopsAt stop at → StopsAt told at)
+      → ServesTo StopsAt past stop start.reader reader' start.seat seat' writer writer'
       → IsFresh start.seat → IsTallied past start.seat seat' writer' → Finishes writer' flush end
       → Flushes stop flush end.stop → end.accepted ≡ seat'.accepted → end.delivered ≡ writer'.frames
-      → end.left ≡ reader'.left → end.read_failures ≡ reader'.failures → ClientEnds start past seat' end
-  ClientEnds-served past stop reader' seat' writer' flush s fresh tally fin flushes accepted delivered left reads =
+      → end.left ≡ reader'.left → end.read_failures ≡ reader'.failures → Ends StopsAt start past seat' end
+  Ends-served StopsAt past stop reader' seat' writer' flush flushed s fresh tally fin flushes accepted delivered left reads =
       let at : ℕ → Option (List ℕ) → ClientProgress = λ k l. record {
         len = data_len_of start.reader.header;
         count = k;
@@ -247,8 +261,8 @@ module _ (start : ClientStart) (end : ClientOutcome) (shown : HeaderValue) (writ
         each = s.read.each;
         taken = s.read.taken;
         count = omega (arith, counted, fresh.accepted);
-        stops = inr (inr (stops_flushed stop flush end.stop (at end.accepted end.left) flushes
-            (subst (ClientStopsAt stop) (ap (λ k. at k reader'.left) counted ∙ ap (at end.accepted) (sym left)) s.read.stops)));
+        stops = inr (inr (flushed end.stop (at end.accepted end.left) flushes
+            (subst (StopsAt stop) (ap (λ k. at k reader'.left) counted ∙ ap (at end.accepted) (sym left)) s.read.stops)));
         reads = reads ∙ s.read.reads ∙ sym (reads_flushed stop flush end.stop start.reader.failures flushes);
         out = inr (inr (wrote_until s.frames stop writer' flush s.sent (λ is. (s.whole is).1) fin flushes delivered));
         whole = λ is.
@@ -297,12 +311,12 @@ module _ (start : ClientStart) (end : ClientOutcome) where
   delivered_none (inl a) = a.none
   delivered_none (inr a) = a.none
 
-  pub ClientEnds-unopened : (past : List Act) (seat seat' : StreamSeatValue) (reader : ReaderState) (contents : Option (List ℕ))
-      (failures : ℕ)
+  pub Ends-unopened : (StopsAt : Stop → ClientProgress → Type 0) (past : List Act) (seat seat' : StreamSeatValue)
+      (reader : ReaderState) (contents : Option (List ℕ)) (failures : ℕ)
       → IsUnbegun start past seat reader contents failures → TalliesSeat seat seat'
       → seat'.accepted ≡ seat.accepted → end.accepted ≡ 0 → end.read_failures ≡ start.reader.failures
-      → WroteNothing start end ⊎ CutsHeader start end → ClientEnds start past seat' end
-  ClientEnds-unopened past seat seat' reader contents failures unbegun tally same accepted reads out = record {
+      → WroteNothing start end ⊎ CutsHeader start end → Ends StopsAt start past seat' end
+  Ends-unopened StopsAt past seat seat' reader contents failures unbegun tally same accepted reads out = record {
     frames = [];
     rest = start.reader.rest;
     each = All-nil (IsFrameOf (data_len_of start.reader.header));

@@ -15,7 +15,8 @@ use Rattle.serve_work.specs.declared.holding.Onward.{Onward}
 use Rattle.serve_work.specs.declared.holding.Onward.TheVariants as onward
 use Rattle.serve_work.specs.declared.stop.Stop.{Stop}
 use Rattle.serve_work.specs.declared.stop.Stop.TheVariants.{Whole, Read, Write, Refused, Torn}
-use Rattle.serve_work.specs.ClientInside.{HasInHand, HasPassed, Holds, IsCounted, IsNoWrite, IsOffered, IsUnread, OffersOn, Passes, text_in}
+use Rattle.serve_work.specs.ClientInside.{HasInHand, HasPassed, Holds, IsCounted, IsNoWrite, IsOffered, IsUnread, Passes, text_in}
+use Rattle.serve_work.specs.Holding.{OffersOn}
 use Rattle.serve_work.proofs.Tallying.{seat_same}
 use Rattle.serve_work.proofs.Moving.{Moves-accept, Moves-none}
 use Rattle.serve_work.proofs.Offering.{offer_stopped}

@@ -70,7 +70,7 @@ stops_of_seat Whole at own next limit = absurd own
 stops_of_seat (Read fault) at own next limit = absurd own
 stops_of_seat (Refused TooManyFrames) at own next limit = (limit refl, next)
 stops_of_seat (Refused ClockEnd) at own next limit = next
-stops_of_seat (Refused NoMemory) at own next limit = inl (inl next)
+stops_of_seat (Refused NoMemory) at own next limit = next
 stops_of_seat (Write fault) at own next limit = inl next
 stops_of_seat Torn at own next limit = inl (inl next)
 
@@ -150,7 +150,7 @@ module _ (reader mid : ReaderState) (seat between : StreamSeatValue) (writer v :
       rest = mid.rest;
       each = so_far.each;
       taken = so_far.taken;
-      stops = inl (inl (next_of (u.0) reader' u.1));
+      stops = next_of (u.0) reader' u.1;
       reads = u.1.no_failure ∙ so_far.no_failure;
     };
     moved = so_far.moved;

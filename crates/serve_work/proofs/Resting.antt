@@ -24,17 +24,18 @@ use Rattle.serve_work.specs.declared.feeding.Fed.{Fed}
 use Rattle.serve_work.specs.declared.course.Course as code
 use Rattle.serve_work.specs.declared.course.Course.TheVariants as courses
 use Rattle.serve_work.specs.declared.stop.Cause.TheVariants.{NoMemory}
+use Rattle.serve_work.specs.declared.stop.Stop.{Stop}
 use Rattle.serve_work.specs.declared.stop.Stop.TheVariants.{Whole, Read, Write, Refused, Torn}
-use Rattle.serve_work.specs.Clients.{ClientStart}
+use Rattle.serve_work.specs.Clients.{ClientStart, StreamStopsAt}
 use Rattle.serve_work.specs.ClientInside.{Accounted, AreBuffersFor, FeedsOn, HasInHand, Holds, IsCounted, IsSized, Moves}
-use Rattle.serve_work.specs.ClientInside.{Serves, Stays, Tallies, texts_of}
+use Rattle.serve_work.specs.ClientInside.{Serves, ServesTo, Stays, Tallies, texts_of}
 use Rattle.serve_work.specs.Rests.{BegunValue, CanFeed, CanGoOn, CourseValue, Feeding, Draining, Discarding, HasMemoryFor, Holding}
 use Rattle.serve_work.specs.Rests.{IsAt, IsBegun, IsFresh, IsOutset, IsRunning, IsTallied, IsUnbegun, Outset, as_open, course_of}
 use Rattle.serve_work.specs.Rests.{stop_given_up}
 use Rattle.serve_work.proofs.Tallying.{collections_both, counted_later}
 use Rattle.serve_work.proofs.Moving.{Accounted-later, few_of, one_size, size_later}
 use Rattle.serve_work.proofs.Passing.{FeedsOn-behind, takes_of}
-use Rattle.serve_work.proofs.Spoiling.{held_told, read_in_hand, sent_told}
+use Rattle.serve_work.proofs.Spoiling.{held_told, held_up, read_in_hand}
 use Rattle.serve_work.proofs.Stopping.{moves_until, sends_whole}
 
 -- what is tallied over the epochs
@@ -243,10 +244,23 @@ feeding_first start past seat reader contents failures opened is = record {
   is_open = ap (λ (r : ReaderState). r.phase) is.same_reader ∙ is.is_open;
 }
 
--- a client that gives up was served that far
+-- what a client served, a stream was served
+serves_more : (past : List Act) (stop : Stop) (o : Outset) (reader : ReaderState) (seat : StreamSeatValue) (writer : WriterState)
+    → Serves past stop o.reader reader o.seat seat o.writer writer
+    → ServesTo StreamStopsAt past stop o.reader reader o.seat seat o.writer writer
+serves_more past stop o reader seat writer a = record {
+  frames = a.frames;
+  read = record { rest = a.read.rest; each = a.read.each; taken = a.read.taken; stops = inl a.read.stops; reads = a.read.reads };
+  count = a.count;
+  sent = a.sent;
+  whole = a.whole;
+}
+
+-- a client that is given up was served that far
 pub given_up : (course : CourseValue) (past : List Act) (o : Outset) (reader : ReaderState) (seat : StreamSeatValue) (writer : WriterState)
     → IsOutset o → IsReadAhead reader.rest reader.left
-    → IsAt course past o reader seat writer → Serves past (stop_given_up course) o.reader reader o.seat seat o.writer writer
+    → IsAt course past o reader seat writer
+    → ServesTo StreamStopsAt past (stop_given_up course) o.reader reader o.seat seat o.writer writer
 given_up (Feeding in_hand) past o reader seat writer is ahead at = record {
   frames = at.frames;
   read = read_in_hand in_hand past o.reader at.before reader o.seat seat at.frames
@@ -255,19 +269,14 @@ given_up (Feeding in_hand) past o reader seat writer is ahead at = record {
   sent = inl (sends_whole o.seat o.writer at.frames is.fresh.kept is.writing seat writer at.passed.moved, λ f same. absurd (cc));
   whole = λ same. absurd (cc);
 }
-given_up (Holding None held) past o reader seat writer is ahead at = record {
-  frames = at.frames;
-  read = read_in_hand None past o.reader at.before reader o.seat seat at.frames at.read at.holds ahead;
-  count = at.count;
-  sent = sent_told o.seat.chain at.frames o.writer writer held (Refused NoMemory) (λ f same. absurd (cc)) at.sent;
-  whole = λ same. absurd (cc);
-}
-given_up (Holding (Some frame) held) past o reader seat writer is ahead at = held_told held o reader seat writer frame past at
+given_up (Holding None held) past o reader seat writer is ahead at = held_up held o reader seat writer past at ahead
+given_up (Holding (Some frame) held) past o reader seat writer is ahead at =
+    serves_more past held o reader seat writer (held_told held o reader seat writer frame past at)
 given_up (Draining Whole) past o reader seat writer is ahead at =
     let a = at.1 in
     record {
       frames = a.frames;
-      read = record { rest = a.read.rest; each = a.read.each; taken = a.read.taken; stops = inl (inr a.read.stops); reads = a.read.reads };
+      read = record { rest = a.read.rest; each = a.read.each; taken = a.read.taken; stops = inr (inl a.read.stops); reads = a.read.reads };
       count = a.count;
       sent = inl (sends_whole o.seat o.writer a.frames is.fresh.kept is.writing (as_open seat) writer a.moved, λ f same. absurd (cc));
       whole = λ same. absurd (cc);
@@ -276,7 +285,7 @@ given_up (Draining (Read fault)) past o reader seat writer is ahead at =
     let a = at.1 in
     record {
       frames = a.frames;
-      read = record { rest = a.read.rest; each = a.read.each; taken = a.read.taken; stops = a.read.stops; reads = a.read.reads };
+      read = record { rest = a.read.rest; each = a.read.each; taken = a.read.taken; stops = inl a.read.stops; reads = a.read.reads };
       count = a.count;
       sent = inl (sends_whole o.seat o.writer a.frames is.fresh.kept is.writing (as_open seat) writer a.moved, λ f same. absurd (cc));
       whole = λ same. absurd (cc);
@@ -285,11 +294,11 @@ given_up (Draining (Refused cause)) past o reader seat writer is ahead at =
     let a = at.1 in
     record {
       frames = a.frames;
-      read = record { rest = a.read.rest; each = a.read.each; taken = a.read.taken; stops = a.read.stops; reads = a.read.reads };
+      read = record { rest = a.read.rest; each = a.read.each; taken = a.read.taken; stops = inl a.read.stops; reads = a.read.reads };
       count = a.count;
       sent = inl (sends_whole o.seat o.writer a.frames is.fresh.kept is.writing (as_open seat) writer a.moved, λ f same. absurd (cc));
       whole = λ same. absurd (cc);
     }
 given_up (Draining (Write fault)) past o reader seat writer is ahead at = absurd at.0
 given_up (Draining Torn) past o reader seat writer is ahead at = absurd at.0
-given_up (Discarding stop) past o reader seat writer is ahead at = at.1
+given_up (Discarding stop) past o reader seat writer is ahead at = serves_more past stop o reader seat writer at.1

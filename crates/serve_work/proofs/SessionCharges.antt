@@ -17,7 +17,7 @@ use Rattle.serve_hub.specs.declared.entry.Entry.{Entry}
 use Rattle.serve_hub.specs.Ends.{AreStreamsOf, IsCharged, IsStreamOf}
 use Rattle.serve_hub.specs.Seats.{StreamSeatValue, collected_by, opened_streams}
 use Rattle.serve_work.specs.declared.stop.Stop.TheVariants.{Whole}
-use Rattle.serve_work.specs.Clients.{ClientEnds, ClientOutcome, ClientStart}
+use Rattle.serve_work.specs.Clients.{ClientOutcome, ClientStart, StreamEnds}
 use Rattle.serve_work.specs.Intervals.{AreFrom}
 use Rattle.serve_work.specs.Sessions.{AreServed, IsStreamTold, IsServedBy, ServedValue, starts_of}
 use Rattle.serve_work.specs.SessionInside.{AllLeave, ClientLeft}
@@ -35,7 +35,7 @@ are_from contents failures limit first (spec ∷ specs) (input ∷ inputs) =
 -- how much a stream was charged
 
 -- no more images were delivered than were collected, in all epochs
-few_delivered : (start : ClientStart) (past : List Act) (seat : StreamSeatValue) (end : ClientOutcome) → ClientEnds start past seat end
+few_delivered : (start : ClientStart) (past : List Act) (seat : StreamSeatValue) (end : ClientOutcome) → StreamEnds start past seat end
     → end.delivered ≤ collected_by seat
 few_delivered start past seat end ends =
     omega (arith, ends.collections, ends.before, collections_both past seat.calls.list, collections_counted seat.calls.list)
@@ -47,7 +47,7 @@ record Charges (start : ClientStart) (end : ClientOutcome) (charged : ℕ) : Typ
   whole : end.stop ≡ Whole → charged ≡ end.accepted * cost_of start.seat.chain
 
 cost_between : (start : ClientStart) (past : List Act) (seat : StreamSeatValue) (end : ClientOutcome) (charged : ℕ) (stream : KeptStream)
-    → ClientEnds start past seat end → IsStreamOf seat stream → charged ≡ stream.state.charged → IsCharged stream
+    → StreamEnds start past seat end → IsStreamOf seat stream → charged ≡ stream.state.charged → IsCharged stream
     → Charges start end charged
 cost_between start past seat end charged stream ends of same bounds =
     let cost : ℕ = cost_of start.seat.chain in
@@ -109,7 +109,7 @@ module _ {S : Type 0} (told : S → ServedValue) (journal : List Entry) (desk : 
   all_served_from first (start ∷ starts) (left ∷ lefts) [] p from streams e charges = absurd (omega (arith, ap length e))
   all_served_from first (start ∷ starts) (left ∷ lefts) (s ∷ served) p from streams e charges =
       let outcome : (told s).outcome ≡ left.outcome = ap (λ os. get_or os 0 left.outcome) e in
-      let ends : ClientEnds start p.0.0 left.seat (told s).outcome = subst (ClientEnds start p.0.0 left.seat) (sym outcome) p.0.1 in
+      let ends : StreamEnds start p.0.0 left.seat (told s).outcome = subst (StreamEnds start p.0.0 left.seat) (sym outcome) p.0.1 in
       let here = subst (λ n. HasStream desk n (IsStreamOf left.seat)) (ends.number ∙ from.0) (streams 0 left.seat (omega arith)) in
       let at = stream_at desk first _ _ here (charges 0 first s (omega arith) (omega arith)) in
       let cost = cost_between start p.0.0 left.seat (told s).outcome (told s).charged at.stream ends at.first at.second (at.among all) in

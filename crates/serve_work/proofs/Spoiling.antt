@@ -14,9 +14,9 @@ use Rattle.serve_work.specs.declared.stop.Cause.TheVariants.{NoMemory}
 use Rattle.serve_work.specs.declared.stop.Halt.TheVariants.{Stopped}
 use Rattle.serve_work.specs.declared.stop.Stop.{Stop}
 use Rattle.serve_work.specs.declared.stop.Stop.TheVariants.{Whole, Read, Write, Refused, Torn}
-use Rattle.serve_work.specs.Clients.{ClientProgress, ClientStopsAt, HasMoreOrEnds, reads_at}
+use Rattle.serve_work.specs.Clients.{ClientProgress, ClientStopsAt, GivesUpAt, HasMoreOrEnds, StreamStopsAt, reads_at}
 use Rattle.serve_work.specs.ClientInside.{Breaks, Feeds, HasInHand, Holds, IsFirst, IsNoWrite, IsOfCollection, IsSent, IsUseful}
-use Rattle.serve_work.specs.ClientInside.{SendsWhole, Serves, StopsReading, StopsWith, Takes}
+use Rattle.serve_work.specs.ClientInside.{SendsWhole, Serves, ServesTo, StopsReading, StopsReadingAt, StopsWith, Takes}
 use Rattle.serve_work.specs.Rests.{IsOutset, Outset, Spoils}
 use Rattle.serve_work.proofs.Staying.{GivesUp-stays, stays_frames}
 use Rattle.serve_work.proofs.Moving.{StopsWith-later}
@@ -75,6 +75,13 @@ held_at (Refused cause) at spoilt more = absurd (spoilt tt)
 held_at (Write fault) at spoilt more = more
 held_at Torn at spoilt more = inl more
 
+held_ahead : (held : Stop) (at : ClientProgress) → (IsUseful held → ⊥) → IsReadAhead at.rest at.left → GivesUpAt held at
+held_ahead Whole at spoilt ahead = absurd (spoilt tt)
+held_ahead (Read fault) at spoilt ahead = absurd (spoilt tt)
+held_ahead (Refused cause) at spoilt ahead = absurd (spoilt tt)
+held_ahead (Write fault) at spoilt ahead = ahead
+held_ahead Torn at spoilt ahead = ahead
+
 reads_held : (held : Stop) (n : ℕ) → (IsUseful held → ⊥) → reads_at held n ≡ n
 reads_held Whole n spoilt = refl
 reads_held (Read fault) n spoilt = absurd (spoilt tt)
@@ -100,22 +107,22 @@ next_behind reader before reader' frames frame a one = record {
   ahead = one.ahead;
 }
 
--- a client is given up for want of memory, with a frame in hand or with what was read ahead
+-- a client is given up that reads, with a frame in hand or with what was read ahead
 pub read_in_hand : (in_hand : Option FrameText) (past : List Act) (reader before reader' : ReaderState) (seat seat' : StreamSeatValue)
     (frames : List FrameText) → Takes reader before frames → Holds before reader' in_hand → IsReadAhead reader'.rest reader'.left
-    → StopsReading past (Refused NoMemory) reader reader' seat seat' frames
+    → StopsReadingAt StreamStopsAt past (Refused NoMemory) reader reader' seat seat' frames
 read_in_hand None past reader before reader' seat seat' frames a same ahead = record {
   rest = before.rest;
   each = a.each;
   taken = a.taken;
-  stops = inr (subst (λ (r : ReaderState). IsReadAhead r.rest reader'.left) same ahead);
+  stops = inr (inr (subst (λ (r : ReaderState). IsReadAhead r.rest reader'.left) same ahead));
   reads = ap (λ (r : ReaderState). r.failures) same ∙ a.no_failure;
 }
 read_in_hand (Some frame) past reader before reader' seat seat' frames a one ahead = record {
   rest = before.rest;
   each = a.each;
   taken = a.taken;
-  stops = inl (inl (next_behind reader before reader' frames frame a one.0));
+  stops = inl (next_behind reader before reader' frames frame a one.0);
   reads = one.0.no_failure ∙ a.no_failure;
 }
 
@@ -153,6 +160,23 @@ module _ (held : Stop) (o : Outset) (reader : ReaderState) (seat : StreamSeatVal
     spoilt = a.spoilt;
     holds = b.holds;
     is_open = b.is_open;
+  }
+
+  -- it is told where the client is given up, with what was read ahead
+  pub held_up : (past : List Act) → Spoils held o reader seat writer None → IsReadAhead reader.rest reader.left
+      → ServesTo StreamStopsAt past held o.reader reader o.seat seat o.writer writer
+  held_up past a ahead = record {
+    frames = a.frames;
+    read = record {
+      rest = a.before.rest;
+      each = a.read.each;
+      taken = a.read.taken;
+      stops = inr (held_ahead held _ a.spoilt (subst (λ (r : ReaderState). IsReadAhead r.rest reader.left) a.holds ahead));
+      reads = ap (λ (r : ReaderState). r.failures) a.holds ∙ a.read.no_failure ∙ sym (reads_held held o.reader.failures a.spoilt);
+    };
+    count = a.count;
+    sent = a.sent;
+    whole = λ is. absurd (a.spoilt (subst IsUseful (sym is) tt));
   }
 
   -- it is told, with a frame in hand

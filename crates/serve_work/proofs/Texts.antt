@@ -12,10 +12,11 @@ use Rattle.y4m_stream.proofs.Puts.{behind_line}
 use Rattle.serve_hub.specs.declared.entry.Act.{Act}
 use Rattle.serve_hub.specs.Seats.{StreamSeatValue}
 use Rattle.serve_work.specs.declared.stop.Cause.TheVariants.{NoMemory}
+use Rattle.serve_work.specs.declared.stop.Stop.{Stop}
 use Rattle.serve_work.specs.declared.stop.Stop.TheVariants.{Whole, Write, Refused}
-use Rattle.serve_work.specs.Clients.{ClientEnds, ClientOutcome, ClientProgress, ClientStart, CutsHeader, EndsWithin}
-use Rattle.serve_work.specs.Clients.{ClientStopsAt, WroteImages, WroteNothing}
-use Rattle.serve_work.specs.Laws.{InputIsServed, ServesAll}
+use Rattle.serve_work.specs.Clients.{ClientOutcome, ClientProgress, ClientStart, ClientStopsAt, CutsHeader, Ends, EndsWithin}
+use Rattle.serve_work.specs.Clients.{HasEnded, StreamStopsAt, WroteImages, WroteNothing}
+use Rattle.serve_work.specs.Laws.{InputIsServed, InputIsServedTo, ServesAll}
 
 -- all known bytes were read, and none is left
 all_read : (a b c : Option (List ℕ)) (text : List ℕ) → Consumes a b text → IsAtEnd b → Keeps b c
@@ -30,8 +31,9 @@ no_part : (chain : ChainValue) (part : List ℕ) (old new : ℕ) → EndsWithin 
 no_part chain part old new (inl a) = a.0
 no_part chain part old new (inr a) = let both : [] ≡ a.0.next ∷ a.0.later = a.0.first in absurd (cc)
 
-module _ (input : Option (List ℕ)) (text : List ℕ) (start : ClientStart) (past : List Act) (seat : StreamSeatValue) (end : ClientOutcome)
-    (e : ClientEnds start past seat end) (taken : Consumes input e.rest text) (is : end.stop ≡ Whole) where
+module _ (StopsAt : Stop → ClientProgress → Type 0) (ended : (at : ClientProgress) → StopsAt Whole at → HasEnded at)
+    (input : Option (List ℕ)) (text : List ℕ) (start : ClientStart) (past : List Act) (seat : StreamSeatValue) (end : ClientOutcome)
+    (e : Ends StopsAt start past seat end) (taken : Consumes input e.rest text) (is : end.stop ≡ Whole) where
   abbrev at : ClientProgress
   at = record {
     len = data_len_of start.reader.header;
@@ -42,10 +44,10 @@ module _ (input : Option (List ℕ)) (text : List ℕ) (start : ClientStart) (pa
     calls = past ++ seat.calls.list;
   }
 
-  whole_at : WroteNothing start end ⊎ CutsHeader start end ⊎ ClientStopsAt end.stop at → IsAtEnd e.rest × Keeps e.rest end.left
+  whole_at : WroteNothing start end ⊎ CutsHeader start end ⊎ StopsAt end.stop at → IsAtEnd e.rest × Keeps e.rest end.left
   whole_at (inl a) = let both : Whole ≡ Refused NoMemory = sym is ∙ a.stop in absurd (cc)
   whole_at (inr (inl a)) = let both : Whole ≡ Write a.fault = sym is ∙ a.stop in absurd (cc)
-  whole_at (inr (inr a)) = subst (λ s. ClientStopsAt s at) is a
+  whole_at (inr (inr a)) = ended at (subst (λ s. StopsAt s at) is a)
 
   at_end : IsAtEnd e.rest × Keeps e.rest end.left
   at_end = whole_at e.stops
@@ -68,8 +70,9 @@ module _ (input : Option (List ℕ)) (text : List ℕ) (start : ClientStart) (pa
         wrote = subst (Appends start.before end.after) (ap (λ l. a.served ++ l) part ∙ append-nil a.served) a.wrote;
       }
 
-pub input_is_served : InputIsServed
-input_is_served input failures start past seat end opened e =
+input_is_served_to : (StopsAt : Stop → ClientProgress → Type 0) → ((at : ClientProgress) → StopsAt Whole at → HasEnded at)
+    → InputIsServedTo StopsAt
+input_is_served_to StopsAt ended input failures start past seat end opened e =
     let text : List ℕ = stream_text start.reader.header.line e.frames in
     let taken : Consumes input e.rest text =
     subst (Consumes input e.rest) (behind_line start.reader.header.line (frames_text e.frames))
@@ -91,5 +94,12 @@ input_is_served input failures start past seat end opened e =
       taken = taken;
       stops = e.stops;
       out = e.out;
-      whole = λ is. serves_all input text start past seat end e taken is e.out;
+      whole = λ is. serves_all StopsAt ended input text start past seat end e taken is e.out;
     }
+
+whole_stream : (at : ClientProgress) → StreamStopsAt Whole at → HasEnded at
+whole_stream here (inl a) = a
+whole_stream here (inr a) = absurd a
+
+pub input_is_served : InputIsServed
+input_is_served = (input_is_served_to ClientStopsAt (λ here a. a), input_is_served_to StreamStopsAt whole_stream)

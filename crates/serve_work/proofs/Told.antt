@@ -1,5 +1,5 @@
 -- A fault that stands in the input is told.
-use Rattle.std.proofs.Common.{◌≡◌, ◌⊎◌, ◌++◌, ℕ, List, Option, Some, None, Result, Ok, Err, refl, subst, inl, inr}
+use Rattle.std.proofs.Common.{◌≡◌, ◌⊎◌, ◌++◌, ℕ, List, Option, Some, None, Result, Ok, Err, refl, sym, subst, inl, inr}
 use Rattle.std.specs.Io.KnownBytes.{Consumes, IsAtEnd}
 use Rattle.y4m_header.specs.StreamText.{FrameText, IsFrameOf, text_of}
 use Rattle.y4m_stream.specs.declared.fault.ReadFault.{ReadFault}
@@ -12,9 +12,8 @@ use Rattle.serve_hub.specs.declared.entry.Act.{Act}
 use Rattle.serve_work.specs.declared.stop.Cause.TheVariants.{TooManyFrames, ClockEnd, NoMemory}
 use Rattle.serve_work.specs.declared.stop.Stop.{Stop}
 use Rattle.serve_work.specs.declared.stop.Stop.TheVariants.{Whole, Read, Write, Refused, Torn}
-use Rattle.serve_work.specs.Clients.{HasMoreOrEnds, HasOtherNumber}
-use Rattle.serve_work.specs.Clients.{ClientProgress, ClientStopsAt}
-use Rattle.serve_work.specs.Laws.{InputFaultIsTold, TellsFault}
+use Rattle.serve_work.specs.Clients.{ClientProgress, ClientStopsAt, GivesUpAt, HasMoreOrEnds, HasOtherNumber, StreamStopsAt}
+use Rattle.serve_work.specs.Laws.{InputFaultIsTold, IsOfGivingUp, TellsFault}
 
 module _ (len : ℕ) (bytes : List ℕ) (fault : ReadFault) (left : Option (List ℕ)) (of_bytes : IsOfBytes fault)
     (stands : StandsAtFrame len fault (Some bytes) left) where
@@ -46,16 +45,34 @@ module _ (len : ℕ) (bytes : List ℕ) (fault : ReadFault) (left : Option (List
     neither (inl a) = no_next rest after same a
     neither (inr a) = not_at_end rest same a.0
 
-    told_at : (stop : Stop) → ClientStopsAt stop at
-        → TellsFault fault stop ⊎ (stop ≡ Torn) × HasOtherNumber calls ⊎ (stop ≡ Refused NoMemory)
+    told_at : (stop : Stop) → ClientStopsAt stop at → TellsFault fault stop ⊎ (stop ≡ Torn) × HasOtherNumber calls
     told_at Whole a = absurd (not_at_end rest same a.0)
     told_at (Read told) a = inl (told, refl, λ of_told. one_fault told after of_told (subst (λ r. StandsAtFrame len told r after) same a))
     told_at (Refused TooManyFrames) a = absurd (no_next rest after same a.1)
     told_at (Refused ClockEnd) a = absurd (no_next rest after same a)
-    told_at (Refused NoMemory) a = inr (inr refl)
+    told_at (Refused NoMemory) a = absurd (no_next rest after same a)
     told_at (Write f) a = absurd (neither a)
     told_at Torn (inl a) = absurd (neither a)
-    told_at Torn (inr a) = inr (inl (refl, a.0))
+    told_at Torn (inr a) = inr (refl, a.0)
+
+    -- the same of a stream
+    torn_or_told : (stop : Stop) → TellsFault fault stop ⊎ (stop ≡ Torn) × HasOtherNumber calls
+        → TellsFault fault stop ⊎ IsOfGivingUp stop
+    torn_or_told stop (inl a) = inl a
+    torn_or_told stop (inr a) = inr (subst IsOfGivingUp (sym a.0) tt)
+
+    of_giving_up : (stop : Stop) → GivesUpAt stop at → IsOfGivingUp stop
+    of_giving_up Whole a = a
+    of_giving_up (Read told) a = a
+    of_giving_up (Refused TooManyFrames) a = a
+    of_giving_up (Refused ClockEnd) a = a
+    of_giving_up (Refused NoMemory) a = tt
+    of_giving_up (Write f) a = tt
+    of_giving_up Torn a = tt
+
+    stream_told_at : (stop : Stop) → StreamStopsAt stop at → TellsFault fault stop ⊎ IsOfGivingUp stop
+    stream_told_at stop (inl a) = torn_or_told stop (told_at stop a)
+    stream_told_at stop (inr a) = inr (of_giving_up stop a)
 
 -- a client that was cut off before it read anything, or such a stop
 or_told : (A B P Q : Type 0) → (P → Q) → A ⊎ B ⊎ P → A ⊎ B ⊎ Q
@@ -64,6 +81,11 @@ or_told A B P Q f (inr (inl a)) = inr (inl a)
 or_told A B P Q f (inr (inr a)) = inr (inr (f a))
 
 pub input_fault_is_told : InputFaultIsTold
-input_fault_is_told start past seat end e fault bytes left same of_bytes stands =
-    or_told _ _ _ _ (told_at (data_len_of start.reader.header) bytes fault left of_bytes stands end.accepted start.seat.frames e.rest
-    end.left (past ++ seat.calls.list) same end.stop) e.stops
+input_fault_is_told start past seat end fault bytes left of_bytes stands =
+    let len : ℕ = data_len_of start.reader.header in
+    let calls : List Act = past ++ seat.calls.list in (
+      λ e same. or_told _ _ _ _
+          (told_at len bytes fault left of_bytes stands end.accepted start.seat.frames e.rest end.left calls same end.stop) e.stops,
+      λ e same. or_told _ _ _ _
+          (stream_told_at len bytes fault left of_bytes stands end.accepted start.seat.frames e.rest end.left calls same end.stop) e.stops,
+    )

@@ -30,14 +30,13 @@ use Rattle.serve_work.specs.declared.feeding.Fed.{Fed}
 use Rattle.serve_work.specs.declared.feeding.Fed.TheVariants as feds
 use Rattle.serve_work.specs.declared.feeding.Offered.{Offered}
 use Rattle.serve_work.specs.declared.feeding.Offered.TheVariants as offered
-use Rattle.serve_work.specs.declared.holding.Onward.{Onward}
-use Rattle.serve_work.specs.declared.holding.Onward.TheVariants as onward
 use Rattle.serve_work.specs.declared.stop.Cause.TheVariants as causes
 use Rattle.serve_work.specs.declared.stop.Halt.{Halt}
 use Rattle.serve_work.specs.declared.stop.Halt.TheVariants.{Full, Stopped}
 use Rattle.serve_work.specs.declared.stop.Stop.{Stop}
 use Rattle.serve_work.specs.declared.stop.Stop.TheVariants.{Whole, Read, Write, Refused, Torn}
-use Rattle.serve_work.specs.Clients.{AllowsStop, AreAtMoments, ClientStopsAt, HasOtherNumber, IsDrained}
+use Rattle.serve_work.specs.Clients.{AllowsStop, AreAtMoments, ClientProgress, ClientStopsAt, HasOtherNumber}
+use Rattle.serve_work.specs.Clients.{IsDrained}
 use Rattle.serve_work.specs.Clients.{collections_in, offers_in, reads_at}
 
 -- a refusal that isn't that of a full journal
@@ -365,13 +364,13 @@ pub record Breaks (stop : Stop) (reader reader' : ReaderState) (seat seat' : Str
   pub stays : GivesUp mid seat'
   pub spoilt : IsUseful stop → ⊥
 
--- why a client reads no more, and how far it came
-pub record StopsReading (past : List Act) (stop : Stop) (reader reader' : ReaderState)
-    (seat seat' : StreamSeatValue) (frames : List FrameText) : Type 0 where
+-- why no more is read of a stream, and how far it came
+pub record StopsReadingAt (StopsAt : Stop → ClientProgress → Type 0) (past : List Act) (stop : Stop)
+    (reader reader' : ReaderState) (seat seat' : StreamSeatValue) (frames : List FrameText) : Type 0 where
   pub rest : Option (List ℕ)
   pub each : All (IsFrameOf (data_len_of reader.header)) frames
   pub taken : Consumes reader.rest rest (frames_text frames)
-  pub stops : ClientStopsAt stop (record {
+  pub stops : StopsAt stop (record {
     len = data_len_of reader.header;
     count = seat.accepted + length frames;
     most = seat.frames;
@@ -380,6 +379,11 @@ pub record StopsReading (past : List Act) (stop : Stop) (reader reader' : Reader
     calls = past ++ seat'.calls.list;
   })
   pub reads : reader'.failures ≡ reads_at stop reader.failures
+
+-- why a client reads no more
+abbrev pub StopsReading : List Act → Stop → ReaderState → ReaderState → StreamSeatValue → StreamSeatValue
+    → List FrameText → Type 0
+StopsReading = StopsReadingAt ClientStopsAt
 
 -- some frames were taken and accepted, and then the client stopped
 pub record Feeds (past : List Act) (stop : Stop) (reader reader' : ReaderState) (seat seat' : StreamSeatValue)
@@ -414,33 +418,6 @@ abbrev pub IsSizedFed : ChainValue → WriterState → Fed → Type 0
 IsSizedFed chain writer (feds.Paused in_hand) = IsSized chain in_hand × IsWriterFor chain writer
 IsSizedFed chain writer (feds.Held stop) = ⊤
 IsSizedFed chain writer (feds.Stopped stop) = ⊤
-
--- where no image is written any more: the journal or the queue is full, or the client stops
-abbrev pub OffersOn : Onward → List Act → ReaderState → ReaderState → StreamSeatValue → StreamSeatValue
-    → WriterState → Type 0
-OffersOn (onward.Paused in_hand) past reader reader' seat seat' writer =
-    HasInHand reader reader' seat seat' writer writer (text_in in_hand)
-OffersOn onward.QueueFull past reader reader' seat seat' writer =
-    (frame : FrameText) × HasInHand reader reader' seat seat' writer writer (Some frame)
-OffersOn (onward.Stopped stop) past reader reader' seat seat' writer =
-    IsNoWrite stop × Feeds past stop reader reader' seat seat' writer writer
-
-abbrev pub OffersOnce : {T : Type 0} → Result T Onward → List Act → ReaderState → ReaderState
-    → StreamSeatValue → StreamSeatValue → WriterState → Type 0
-OffersOnce (Ok t) past reader reader' seat seat' writer = HasPassed reader reader' seat seat' writer writer
-OffersOnce (Err stopped) past reader reader' seat seat' writer =
-    OffersOn stopped past reader reader' seat seat' writer
-
-abbrev pub AllowsOnward : (Gives : ℕ → Type 0) → Onward → Type 0
-AllowsOnward Gives (onward.Paused in_hand) = ⊤
-AllowsOnward Gives onward.QueueFull = ⊤
-AllowsOnward Gives (onward.Stopped stop) = AllowsStop Gives stop
-
--- the frame that is left in hand is for this chain
-abbrev pub IsSizedOnward : ChainValue → Onward → Type 0
-IsSizedOnward chain (onward.Paused in_hand) = IsSized chain in_hand
-IsSizedOnward chain onward.QueueFull = ⊤
-IsSizedOnward chain (onward.Stopped stop) = ⊤
 
 -- the images of the first of these frames went out, whole
 pub record GoesOut (chain : ChainValue) (frames : List FrameText) (writer writer' : WriterState)
@@ -480,15 +457,25 @@ IsSent stop chain frames writer writer' =
     ⊎ ((fault : WriteFault) × BreaksOff chain frames writer writer' fault
     × ((f : WriteFault) → stop ≡ Write f → f ≡ fault))
 
--- a client's frames, why there are no more, and what went out
-pub record Serves (past : List Act) (stop : Stop) (reader reader' : ReaderState)
-    (seat seat' : StreamSeatValue) (writer writer' : WriterState) : Type 0 where
+-- a stream's frames, why there are no more, and what went out
+pub record ServesTo (StopsAt : Stop → ClientProgress → Type 0) (past : List Act) (stop : Stop)
+    (reader reader' : ReaderState) (seat seat' : StreamSeatValue) (writer writer' : WriterState)
+    : Type 0 where
   pub frames : List FrameText
-  pub read : StopsReading past stop reader reader' seat seat' frames
+  pub read : StopsReadingAt StopsAt past stop reader reader' seat seat' frames
   pub count : seat'.accepted ≡ seat.accepted + length frames
   pub sent : IsSent stop seat.chain frames writer writer'
   pub whole : stop ≡ Whole
       → (writer'.frames ≡ writer.frames + length frames) × (writer'.failed ≡ false) × IsDrained seat'
+
+-- the same, by a client
+abbrev pub Serves : List Act → Stop → ReaderState → ReaderState → StreamSeatValue → StreamSeatValue
+    → WriterState → WriterState → Type 0
+Serves = ServesTo ClientStopsAt
+
+-- a stop that was kept is told, if it is a fault
+abbrev pub TellsKept : Option Stop → Stop → Type 0
+TellsKept kept told = IfSome kept (λ stop. stop ≢ Whole → told ≡ stop)
 
 -- the stop, or the fault of the flush where all went well before
 abbrev pub Flushes : {T : Type 0} → Stop → Result T WriteFault → Stop → Type 0

@@ -112,16 +112,27 @@ HasEnded at = IsAtEnd at.rest × Keeps at.rest at.left
 abbrev pub HasMoreOrEnds : ClientProgress → Type 0
 HasMoreOrEnds at = HasNext at.len at.rest at.left ⊎ HasEnded at
 
--- why no more frames were accepted; where one was accepted with another number, and where a stream was given
--- up for want of memory, no frame behind them need have been read
+-- why a client has no more frames accepted; where one was accepted with another number, no frame behind them
+-- need have been read
 abbrev pub ClientStopsAt : Stop → ClientProgress → Type 0
 ClientStopsAt Whole at = HasEnded at
 ClientStopsAt (Read fault) at = StandsAtFrame at.len fault at.rest at.left
 ClientStopsAt (Refused TooManyFrames) at = (at.count ≡ at.most) × HasNext at.len at.rest at.left
-ClientStopsAt (Refused NoMemory) at = HasMoreOrEnds at ⊎ IsReadAhead at.rest at.left
 ClientStopsAt (Refused cause) at = HasNext at.len at.rest at.left
 ClientStopsAt (Write fault) at = HasMoreOrEnds at
 ClientStopsAt Torn at = HasMoreOrEnds at ⊎ HasOtherNumber at.calls × IsReadAhead at.rest at.left
+
+-- where a stream stands that is given up while it reads, or while images are left to write, or while a fault is
+-- held: no frame behind those that were accepted need have been read
+abbrev pub GivesUpAt : Stop → ClientProgress → Type 0
+GivesUpAt (Refused NoMemory) at = HasEnded at ⊎ IsReadAhead at.rest at.left
+GivesUpAt (Write fault) at = IsReadAhead at.rest at.left
+GivesUpAt Torn at = IsReadAhead at.rest at.left
+GivesUpAt stop at = ⊥
+
+-- why no more frames of a stream were accepted: its client stopped, or the stream was given up
+abbrev pub StreamStopsAt : Stop → ClientProgress → Type 0
+StreamStopsAt stop at = ClientStopsAt stop at ⊎ GivesUpAt stop at
 
 -- a read failed where that is why the client stopped
 abbrev pub reads_at : Stop → ℕ → ℕ
@@ -186,17 +197,17 @@ pub record IsWhole (start : ClientStart) (end : ClientOutcome) : Type 0 where
   pub no_failure : end.failures ≡ start.failures
   pub flushed : end.is_flushed ≡ true
 
--- what a client comes to: the frames that it took off the front of its reader and that were accepted, why
--- there are no more, and what went out. Where nothing was written, or not all of the header line, no frame
--- was read. The seat is that of the last epoch, and its stream's seats made these calls in the epochs before
-pub record ClientEnds (start : ClientStart) (past : List Act) (seat : StreamSeatValue)
-    (end : ClientOutcome) : Type 0 where
+-- what becomes of a stream: the frames that were taken off the front of its reader and accepted, why there are
+-- no more, and what went out. Where nothing was written, or not all of the header line, no frame was read. The
+-- seat is that of the last epoch, and its stream's seats made these calls in the epochs before
+pub record Ends (StopsAt : Stop → ClientProgress → Type 0) (start : ClientStart) (past : List Act)
+    (seat : StreamSeatValue) (end : ClientOutcome) : Type 0 where
   pub frames : List FrameText
   pub rest : Option (List ℕ)
   pub each : All (IsFrameOf (data_len_of start.reader.header)) frames
   pub taken : Consumes start.reader.rest rest (frames_text frames)
   pub count : length frames ≡ end.accepted
-  pub stops : WroteNothing start end ⊎ CutsHeader start end ⊎ ClientStopsAt end.stop (record {
+  pub stops : WroteNothing start end ⊎ CutsHeader start end ⊎ StopsAt end.stop (record {
     len = data_len_of start.reader.header;
     count = end.accepted;
     most = start.seat.frames;
@@ -215,3 +226,11 @@ pub record ClientEnds (start : ClientStart) (past : List Act) (seat : StreamSeat
   pub offers : offers_in (past ++ seat.calls.list) ≡ end.accepted
   pub collections : end.delivered ≤ collections_in (past ++ seat.calls.list)
   pub before : seat.before ≡ start.seat.before + collections_in past
+
+-- what a client comes to
+abbrev pub ClientEnds : ClientStart → List Act → StreamSeatValue → ClientOutcome → Type 0
+ClientEnds = Ends ClientStopsAt
+
+-- what a stream comes to, whose client may have been given up between epochs
+abbrev pub StreamEnds : ClientStart → List Act → StreamSeatValue → ClientOutcome → Type 0
+StreamEnds = Ends StreamStopsAt

@@ -1,6 +1,7 @@
 pub mod Clients
 pub mod ClientInside
 pub mod Epochs
+pub mod Holding
 pub mod Intervals
 pub mod Laws
 pub mod RestInside

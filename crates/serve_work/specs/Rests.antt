@@ -43,12 +43,10 @@ course_of (courses.Holding in_hand held) = Holding (text_in in_hand) held
 course_of (courses.Draining stop) = Draining stop
 course_of (courses.Discarding stop) = Discarding stop
 
--- why a client stops that doesn't go on: for want of memory, unless it has stopped before. What it holds is
--- its stop where a frame is in hand
+-- why a client stops that doesn't go on: for the fault that it keeps, and else for want of memory
 abbrev pub stop_given_up : CourseValue → Stop
 stop_given_up (Feeding in_hand) = Refused NoMemory
-stop_given_up (Holding None held) = Refused NoMemory
-stop_given_up (Holding (Some frame) held) = held
+stop_given_up (Holding in_hand held) = held
 stop_given_up (Draining Whole) = Refused NoMemory
 stop_given_up (Draining stop) = stop
 stop_given_up (Discarding stop) = stop

@@ -12,7 +12,7 @@ use Rattle.serve_work.specs.declared.session.Served.{Served}
 use Rattle.serve_work.specs.declared.session.turn.Stream.{Stream}
 use Rattle.serve_work.specs.declared.session.turn.Stream.TheVariants as streams
 use Rattle.serve_work.specs.declared.stop.Stop.{Stop}
-use Rattle.serve_work.specs.Clients.{AllowsStop, ClientEnds, ClientOutcome, ClientStart}
+use Rattle.serve_work.specs.Clients.{AllowsStop, ClientEnds, ClientOutcome, ClientStart, StreamEnds}
 use Rattle.serve_work.specs.ClientInside.{IsNoNewEnd, KeepsAllowed, KeepsMoments}
 use Rattle.serve_work.specs.Rests.{IsRest, IsRestOf, RestValue, Unbegun, reader_in, rest_stop}
 use Rattle.serve_work.specs.Sessions.{acts_in, outcome_of}
@@ -123,7 +123,7 @@ pub record ClientLeft : Type 0 where
 
 abbrev pub Leaves : List Entry → ClientStart → ClientLeft → Type 0
 Leaves journal start left =
-    (past : List Act) × ClientEnds start past left.seat left.outcome
+    (past : List Act) × StreamEnds start past left.seat left.outcome
     × (past ++ left.seat.calls.list ≡ acts_in journal start)
 
 abbrev pub AllLeave : List Entry → List ClientStart → List ClientLeft → Type 0
@@ -145,7 +145,7 @@ abbrev pub IsOver : {R W : Type 0} (left : R → Option (List ℕ)) (read_failur
 IsOver left read_failures after failures is_flushed stream served =
     ((start : ClientStart) (past : List Act) (seat : StreamSeatValue)
     → StandsAt (stream_of left read_failures after failures is_flushed stream) start past seat
-    → ClientEnds start past seat (outcome_of left read_failures after failures is_flushed served))
+    → StreamEnds start past seat (outcome_of left read_failures after failures is_flushed served))
     × IsNoNewEnd (kept_stop stream) (Some served.stop)
 
 abbrev pub AreOver : {R W : Type 0} (left : R → Option (List ℕ)) (read_failures : R → ℕ)

@@ -21,7 +21,7 @@ use Rattle.serve_hub.specs.Journal.{IsJournal, clock_in, transcript_of}
 use Rattle.serve_hub.specs.Seats.{StreamSeatValue}
 use Rattle.serve_work.specs.declared.session.Served.{Served}
 use Rattle.serve_work.specs.declared.stop.Stop.TheVariants.{Whole}
-use Rattle.serve_work.specs.Clients.{AllowsStop, ClientEnds, ClientOutcome, ClientStart, IsAtMoment}
+use Rattle.serve_work.specs.Clients.{AllowsStop, ClientOutcome, ClientStart, IsAtMoment, StreamEnds}
 
 -- nothing was read of a stream's frames, and its header has the size of the stream's chain
 pub record IsInput {W : Type 0} (spec : StreamSpec) (input : ReaderState × W) : Type 0 where
@@ -79,7 +79,7 @@ served_of left read_failures after failures is_flushed served = record {
 pub record IsServed (start : ClientStart) (served : ServedValue) : Type 0 where
   pub past : List Act
   pub seat : StreamSeatValue
-  pub ends : ClientEnds start past seat served.outcome
+  pub ends : StreamEnds start past seat served.outcome
   pub least : served.outcome.delivered * cost_of start.seat.chain ≤ served.charged
   pub most : served.charged ≤ served.outcome.accepted * cost_of start.seat.chain
   pub whole : served.outcome.stop ≡ Whole

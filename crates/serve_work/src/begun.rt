@@ -2,8 +2,8 @@
 ghost use Rattle.serve_hub.specs.declared.entry.Act.{Act};
 ghost use Rattle.serve_hub.specs.Seats.{StreamSeatValue};
 ghost use Rattle.std.specs.Prelude.{List, Some};
-ghost use Rattle.serve_work.specs.Clients.{ClientEnds, ClientStart};
-ghost use Rattle.serve_work.specs.ClientInside.{IsNoNewEnd};
+ghost use Rattle.serve_work.specs.Clients.{ClientStart, StreamEnds};
+ghost use Rattle.serve_work.specs.ClientInside.{IsNoNewEnd, TellsKept};
 ghost use Rattle.serve_work.specs.Rests.{IsBegun, course_stop};
 ghost use Rattle.serve_work.specs.Sessions.{outcome_of};
 
@@ -45,9 +45,10 @@ impl<R: Source + Drop, W: Sink> Begun<R, W> {
     /// The end of the stream where no epoch comes any more.
     pub(crate) fn give_up(self) -> Served<R, W>
         ensures ends { (start : ClientStart) (past : List Act) (seat : StreamSeatValue)
-            → IsBegun start past seat self → ClientEnds start past seat
+            → IsBegun start past seat self → StreamEnds start past seat
             (outcome_of R.remaining R.failures W.contents W.failures W.is_flushed result) }
         ensures stop { IsNoNewEnd (course_stop self.course) (Some result.stop) }
+        ensures kept { TellsKept (course_stop self.course) result.stop }
     {
         let Begun {
             reader,

@@ -20,15 +20,13 @@ pub(crate) enum Course {
 }
 
 impl Course {
-    /// Why a client stops that doesn't go on: for want of memory, unless it has stopped before. What it holds
-    /// is its stop where a frame is in hand.
+    /// Why a client stops that doesn't go on: for the fault that it keeps, and else for want of memory.
     pub(crate) fn given_up(self) -> Stop
         ensures { result ≡ stop_in self }
     {
         match self {
             Course::Feeding(_) => Stop::Refused(Cause::NoMemory),
-            Course::Holding(None, _) => Stop::Refused(Cause::NoMemory),
-            Course::Holding(Some(_), held) => held,
+            Course::Holding(_, held) => held,
             Course::Draining(stop) => stop.or(Stop::Refused(Cause::NoMemory)),
             Course::Discarding(stop) => stop,
         }

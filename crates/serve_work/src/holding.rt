@@ -4,8 +4,9 @@ ghost use Rattle.std.specs.Arc.{arc_value};
 ghost use Rattle.serve_hub.specs.declared.entry.Act.{Act};
 ghost use Rattle.y4m_stream.specs.Reader.{IsOfHeader, ReaderState, frame_text_of};
 ghost use Rattle.y4m_stream.specs.Writer.{WriterState};
-ghost use Rattle.serve_work.specs.ClientInside.{AllowsOnward, Holds, IsCounted, IsSized, IsSizedOnward};
-ghost use Rattle.serve_work.specs.ClientInside.{KeepsMoments, OffersOn, OffersOnce, TalliesSeat, text_in};
+ghost use Rattle.serve_work.specs.ClientInside.{Holds, IsCounted, IsSized, KeepsMoments, TalliesSeat};
+ghost use Rattle.serve_work.specs.ClientInside.{text_in};
+ghost use Rattle.serve_work.specs.Holding.{AllowsOnward, IsSizedOnward, OffersOn, OffersOnce};
 
 use crate::feeding::{Offered, offer_once, read_new};
 use crate::gate::Clock;

@@ -2,8 +2,8 @@
 ghost use Rattle.std.specs.Prelude.{◌≡◌, List, Some};
 ghost use Rattle.serve_hub.specs.declared.entry.Act.{Act};
 ghost use Rattle.serve_hub.specs.Seats.{StreamSeatValue};
-ghost use Rattle.serve_work.specs.Clients.{ClientEnds, ClientStart};
-ghost use Rattle.serve_work.specs.ClientInside.{IsNoNewEnd};
+ghost use Rattle.serve_work.specs.Clients.{ClientStart, StreamEnds};
+ghost use Rattle.serve_work.specs.ClientInside.{IsNoNewEnd, TellsKept};
 ghost use Rattle.serve_work.specs.Rests.{IsRestOf, Unbegun, accepted_in, collected_in, delivered_in};
 ghost use Rattle.serve_work.specs.Rests.{rest_stop};
 ghost use Rattle.serve_work.specs.Sessions.{outcome_of};
@@ -75,13 +75,14 @@ impl<R: Source + Drop, W: Sink> ClientRest<R, W> {
         }
     }
 
-    /// The end of a stream where no epoch comes any more: it stops for want of memory, unless it has stopped
-    /// before. What it was charged isn't told here.
+    /// The end of a stream where no epoch comes any more: it stops for the fault that it keeps, and else for
+    /// want of memory. What it was charged isn't told here.
     pub(crate) fn give_up(self) -> Served<R, W>
         ensures ends { (start : ClientStart) (past : List Act) (seat : StreamSeatValue)
-            → IsRestOf start past seat self → ClientEnds start past seat
+            → IsRestOf start past seat self → StreamEnds start past seat
             (outcome_of R.remaining R.failures W.contents W.failures W.is_flushed result) }
         ensures stop { IsNoNewEnd (rest_stop self) (Some result.stop) }
+        ensures kept { TellsKept (rest_stop self) result.stop }
     {
         match self.state {
             State::Unbegun(reader, writer) => Served {

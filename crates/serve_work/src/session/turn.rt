@@ -4,10 +4,10 @@ ghost use Rattle.std.specs.Prelude.{◌≡◌, ◌≤◌, List, [], IfOk, Option
 ghost use Rattle.std.specs.List.{AllByRecursion};
 ghost use Rattle.serve_hub.specs.declared.entry.Act.{Act};
 ghost use Rattle.serve_hub.specs.Seats.{StreamSeatValue};
-ghost use Rattle.serve_work.specs.Clients.{ClientEnds, ClientStart};
+ghost use Rattle.serve_work.specs.Clients.{ClientStart, StreamEnds};
 ghost use Rattle.serve_work.specs.Turns.{end_of};
 ghost use Rattle.serve_work.specs.Sessions.{outcome_of};
-ghost use Rattle.serve_work.specs.ClientInside.{IsNoNewEnd};
+ghost use Rattle.serve_work.specs.ClientInside.{IsNoNewEnd, TellsKept};
 ghost use Rattle.serve_work.specs.SessionInside as rules;
 ghost use Rattle.serve_work.specs.SessionInside.{AreUnread, GoesOn, IsReady, Runs, StandsAt, held_with};
 ghost use Rattle.serve_work.specs.SessionInside.{kept_stop, stream_of, unread};
@@ -43,9 +43,10 @@ impl<R: Source, W: Sink> Stream<R, W> {
 pub(super) fn told<R: Source + Drop, W: Sink + Drop>(stream: Stream<R, W>) -> Served<R, W>
     ensures ends { (start : ClientStart) (past : List Act) (seat : StreamSeatValue)
         → StandsAt (stream_of R.remaining R.failures W.contents W.failures W.is_flushed stream)
-        start past seat → ClientEnds start past seat
+        start past seat → StreamEnds start past seat
         (outcome_of R.remaining R.failures W.contents W.failures W.is_flushed result) }
     ensures stop { IsNoNewEnd (kept_stop stream) (Some result.stop) }
+    ensures kept { TellsKept (kept_stop stream) result.stop }
 {
     match stream {
         Stream::Over(served) => served,

@@ -6,8 +6,8 @@ use Rattle.y4m_stream.specs.Failures.{one_more}
 use Rattle.y4m_stream.specs.Reader.{ReaderState}
 use Rattle.y4m_stream.specs.Served.{IsHeaderOfImages}
 use Rattle.y4m_stream.specs.Writer.{CutsShort, IsOpenedFor}
-use Rattle.serve_work.specs.Clients.{AllowsStop}
-use Rattle.serve_work.proofs.Ending.{ClientEnds-unopened, shown_for}
+use Rattle.serve_work.specs.Clients.{AllowsStop, ClientStopsAt}
+use Rattle.serve_work.proofs.Ending.{Ends-unopened, shown_for}
 use Rattle.serve_work.proofs.Resting.{can_begin, feeding_first, opened_size}
 use Rattle.serve_work.proofs.Tallying.{none_accepted}
 use Rattle.serve_work.proofs.clients.begin.Goals as goal
@@ -15,7 +15,7 @@ use Rattle.serve_work.proofs.clients.begin.Goals as goal
 pub returns-in_default-clause-turn : goal.returns-in_default-clause-turn
 returns-in_default-clause-turn g c = λ start past is.
     let u = c.unopened.ensures in
-    ClientEnds-unopened start _ past c.args.seat _ _ _ _ is u.tally u.accepted u.none.0
+    Ends-unopened start _ ClientStopsAt past c.args.seat _ _ _ _ is u.tally u.accepted u.none.0
     (u.failures ∙ ap (λ (r : ReaderState). r.failures) is.same_reader) (inl (record {
       stop = u.stop;
       unread = u.remaining ∙ ap (λ (r : ReaderState). r.left) is.same_reader;
@@ -37,7 +37,7 @@ returns-in-Err-clause-turn g c = λ start past is.
     let shown : IsHeaderOfImages start.seat.chain start.reader.header h =
     subst (λ (r : ReaderState). IsHeaderOfImages start.seat.chain r.header h) is.same_reader
     (subst (λ (chain : ChainValue). IsHeaderOfImages chain c.args.reader.header h) is.stays.chain own) in
-    ClientEnds-unopened start _ past c.args.seat _ _ _ _ is u.tally u.accepted u.none.0
+    Ends-unopened start _ ClientStopsAt past c.args.seat _ _ _ _ is u.tally u.accepted u.none.0
     (u.failures ∙ ap (λ (r : ReaderState). r.failures) is.same_reader) (inr (record {
       fault = c.in-Err.fault;
       stop = u.stop;

@@ -1,11 +1,13 @@
 use Rattle.serve_work.proofs.Allowing.{flushed_stop}
-use Rattle.serve_work.proofs.Ending.{ClientEnds-served}
+use Rattle.serve_work.specs.Clients.{ClientStopsAt}
+use Rattle.serve_work.proofs.Ending.{Ends-served, stops_flushed}
 use Rattle.serve_work.proofs.clients.end.Goals as goal
 
 pub returns-clause-ends : goal.returns-clause-ends
 returns-clause-ends g c = λ start past shown opened header is_opened fresh serves tally.
     let finish = c.finish-writer.ensures in
-    ClientEnds-served start _ shown opened header is_opened past c.args.stop c.args.reader c.args.seat c.args.writer _ serves fresh tally
+    Ends-served start _ shown opened header is_opened ClientStopsAt past c.args.stop c.args.reader c.args.seat c.args.writer _
+    (stops_flushed c.args.stop c.finish-writer.result.1) serves fresh tally
     (record {
       kept = finish.kept;
       flushed = finish.flushed;

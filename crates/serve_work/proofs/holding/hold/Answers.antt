@@ -3,7 +3,8 @@ use Rattle.std.specs.declared.alloc.Global.{Global}
 use Rattle.std.specs.declared.sync.Arc.{Arc}
 use Rattle.frame_view.specs.declared.frame.Frame.{Frame}
 use Rattle.y4m_stream.specs.Reader.{ReaderState}
-use Rattle.serve_work.specs.ClientInside.{Holds, OffersOn, text_in}
+use Rattle.serve_work.specs.ClientInside.{Holds, text_in}
+use Rattle.serve_work.specs.Holding.{OffersOn}
 use Rattle.serve_work.proofs.Tallying.{KeepsMoments-trans, TalliesSeat-trans, counted_later}
 use Rattle.serve_work.proofs.OfferingOn.{OffersOn-behind}
 use Rattle.serve_work.proofs.holding.hold.Goals as goal

@@ -1,9 +1,10 @@
 use Rattle.std.proofs.Common.{Some, ap, ◌∙◌, subst, sym}
 use Rattle.serve_work.specs.declared.stop.Stop.{Stop}
-use Rattle.serve_work.specs.ClientInside.{IsNoNewEnd, Serves}
+use Rattle.serve_work.specs.Clients.{StreamStopsAt}
+use Rattle.serve_work.specs.ClientInside.{IsNoNewEnd, ServesTo, TellsKept}
 use Rattle.serve_work.specs.Rests.{BegunValue, IsBegun, Outset, course_of, course_stop}
-use Rattle.serve_work.proofs.Allowing.{flushed_stop, given_up_stop}
-use Rattle.serve_work.proofs.Ending.{ClientEnds-served}
+use Rattle.serve_work.proofs.Allowing.{flushed_stop, given_up_kept, given_up_stop}
+use Rattle.serve_work.proofs.Ending.{Ends-served, stream_flushed, told_kept}
 use Rattle.serve_work.proofs.Resting.{given_up, outset_of}
 use Rattle.serve_work.proofs.begun.Begun.give_up.Goals as goal
 
@@ -12,14 +13,15 @@ returns-clause-ends g c = λ start past seat at.
     let inside = c.self.inside in
     let b = subst (IsBegun start past seat) (sym c.self.view_is) at in
     let o : Outset = record { reader = start.reader; seat = start.seat; writer = b.opened } in
-    let serves = subst (λ (stop : Stop). Serves past stop start.reader inside.reader start.seat seat b.opened inside.writer)
+    let serves = subst (λ (stop : Stop).
+    ServesTo StreamStopsAt past stop start.reader inside.reader start.seat seat b.opened inside.writer)
     (sym c.given_up-stop.ensures)
     (given_up (course_of inside.course) past o inside.reader seat inside.writer (outset_of start b.shown b.opened b.first b.is_opened)
     c.into_source.ensures.ahead b.at)
     in
     let finish = c.finish-writer.ensures in
-    ClientEnds-served start _ b.shown b.opened b.header b.is_opened past c.given_up-stop.result inside.reader seat inside.writer _ serves
-    b.first b.tally
+    Ends-served start _ b.shown b.opened b.header b.is_opened StreamStopsAt past c.given_up-stop.result inside.reader seat
+    inside.writer _ (stream_flushed c.given_up-stop.result c.finish-writer.result.1) serves b.first b.tally
     (record {
       kept = finish.kept;
       flushed = finish.flushed;
@@ -36,3 +38,11 @@ returns-clause-stop g c =
     subst (λ (b : BegunValue). IsNoNewEnd (course_stop b.course) (Some c.flushed.result)) c.self.view_is
     (λ is. given_up_stop (course_of inside.course) (ap Some (sym c.given_up-stop.ensures)
     ∙ flushed_stop c.given_up-stop.result c.finish-writer.result.1 c.flushed.result c.flushed.ensures is))
+
+pub returns-clause-kept : goal.returns-clause-kept
+returns-clause-kept g c =
+    let inside = c.self.inside in
+    let kept = subst (TellsKept (course_stop (course_of inside.course))) (sym c.given_up-stop.ensures)
+    (given_up_kept (course_of inside.course)) in
+    subst (λ (b : BegunValue). TellsKept (course_stop b.course) c.flushed.result) c.self.view_is
+    (told_kept _ c.given_up-stop.result c.finish-writer.result.1 c.flushed.result c.flushed.ensures kept)

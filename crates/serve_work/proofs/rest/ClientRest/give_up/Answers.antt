@@ -2,9 +2,10 @@ use Rattle.std.proofs.Common.{◌∙◌, ap, inl, refl, subst, sym}
 use Rattle.std.proofs.KnownBytes.{Keeps-refl}
 use Rattle.std.specs.Io.KnownBytes.{Keeps}
 use Rattle.y4m_stream.specs.Reader.{ReaderState}
+use Rattle.serve_work.specs.Clients.{StreamStopsAt}
 use Rattle.serve_work.specs.Rests.{IsRestOf, IsUnbegun}
 use Rattle.serve_work.specs.RestInside.{rest_of}
-use Rattle.serve_work.proofs.Ending.{ClientEnds-unopened}
+use Rattle.serve_work.proofs.Ending.{Ends-unopened}
 use Rattle.serve_work.proofs.Tallying.{TalliesSeat-same}
 use Rattle.serve_work.proofs.rest.ClientRest.give_up.Goals as goal
 
@@ -16,7 +17,7 @@ returns-in-Unbegun-clause-ends g c = λ start past seat at.
     subst (IsRestOf start past seat) (sym c.self.view_is ∙ ap (rest_of contents g.W.Sink.failures) c.in-Unbegun.is) at in
     let kept : Keeps start.before (contents writer) = subst (λ b. Keeps b (contents writer)) is.same_contents (Keeps-refl (contents writer))
     in
-    ClientEnds-unopened start _ past seat seat _ _ _ is (TalliesSeat-same seat seat refl refl refl refl refl refl) refl refl
+    Ends-unopened start _ StreamStopsAt past seat seat _ _ _ is (TalliesSeat-same seat seat refl refl refl refl refl refl) refl refl
     (c.into_source.ensures.failures ∙ ap (λ (r : ReaderState). r.failures) (c.in-Unbegun.reader-is ∙ is.same_reader))
     (inl (record {
       stop = refl;
