@@ -2,16 +2,17 @@
 ghost use Rattle.serve_work.specs.Epochs.{NewStreamIsUnbegun, StreamsCross};
 ghost use Rattle.serve_work.specs.Laws.{AFrontWentOut, InputFaultIsTold, InputIsServed};
 
-/// Where a reader was opened on an input and a client has ended, a stream text of the accepted frames stands
-/// at the front of the input. Where the client stopped whole, that is the whole input, and what it is served
-/// as was written.
+/// Where a reader was opened on an input and a client has ended, or its stream was given up, a stream text of
+/// the accepted frames stands at the front of the input. Where the stop is `Whole`, that is the whole input,
+/// and what it is served as was written.
 pub fn the_input_is_served()
     ensures { InputIsServed }
 {}
 
 /// Where a fault lies in the bytes behind the accepted frames, a client that began to read tells it, or a
 /// fault of the reader that isn't in the bytes; or its stop is `Torn`, and an offer was answered with another
-/// number than its own; or it stopped for want of memory.
+/// number than its own. Where its stream was given up, it may be told as want of memory, or as a fault of the
+/// writer or a `Torn` that was held.
 pub fn an_input_fault_is_told()
     ensures { InputFaultIsTold }
 {}

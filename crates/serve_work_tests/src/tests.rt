@@ -2,6 +2,7 @@
 mod clients;
 mod epochs;
 mod gates;
+mod given_up;
 mod late;
 mod library;
 mod many;

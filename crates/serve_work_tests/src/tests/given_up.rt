@@ -1,0 +1,193 @@
+//! A stream that is given up between epochs, behind a write that failed.
+ghost use Rattle.std.specs.Prelude.{IfOk};
+ghost use Rattle.serve_work.specs.Sessions.{IsInput};
+
+use super::{Open, PLAIN, Plan, Still, stream_of};
+use serve_core::{Setup, StreamSpec};
+use serve_work::{Served, SessionFault, Stop, serve_session};
+use std::alloc::Global;
+use std::io;
+use std::process::Abort;
+use std::sync::Wait;
+use std::sync::atomic::{AtomicU64, Ordering};
+use std::test::Fail;
+use std::thread::Threads;
+use test_tools::streams::{HEADER, ONE, numbered};
+use test_tools::{Room, Tape};
+use y4m_stream::{OverRead, OverWrite, Sink, Source, StreamReader, WriteFault};
+
+/// How often a source is asked at most whether it is ready. Then it says so.
+const PATIENCE: u64 = 10_000_000;
+
+/// How many bytes a sink took, and how many of its writes failed.
+#[derive(Drop)]
+struct Counts {
+    taken: AtomicU64,
+    failed: AtomicU64,
+}
+
+impl Counts {
+    fn new() -> Counts {
+        Counts {
+            taken: AtomicU64::new(0),
+            failed: AtomicU64::new(0),
+        }
+    }
+}
+
+/// A source that is ready once a sink has taken so many bytes.
+#[derive(Drop)]
+struct Silent<'a, S: Source> {
+    source: S,
+    heard: &'a Counts,
+    least: u64,
+    asked: AtomicU64,
+}
+
+impl<'a, S: Source> Source for Silent<'a, S> {
+    ghost remaining = { λ s. S.remaining s.source };
+
+    ghost failures = { λ s. S.failures s.source };
+
+    fn read(&mut self, buf: &mut [u8]) -> io::Result<usize> {
+        self.source.read(buf)
+    }
+
+    fn is_ready(&self, _milliseconds: u64) -> bool {
+        self.heard.taken.load(Ordering::SeqCst) >= self.least
+            || self.asked.fetch_add(1, Ordering::SeqCst) > PATIENCE
+    }
+}
+
+/// A sink whose writes are counted.
+#[derive(Drop)]
+struct Counted<'a, S: Sink> {
+    sink: S,
+    counts: &'a Counts,
+}
+
+impl<'a, S: Sink> Sink for Counted<'a, S> {
+    ghost contents = { λ s. S.contents s.sink };
+
+    ghost failures = { λ s. S.failures s.sink };
+
+    ghost is_flushed = { λ s. S.is_flushed s.sink };
+
+    fn write(&mut self, buf: &[u8]) -> io::Result<usize> {
+        let answer = self.sink.write(buf);
+        match &answer {
+            Ok(n) => self.counts.taken.fetch_add(*n as u64, Ordering::SeqCst),
+            Err(_) => self.counts.failed.fetch_add(1, Ordering::SeqCst),
+        };
+        answer
+    }
+
+    fn flush(&mut self) -> io::Result<()> {
+        self.sink.flush()
+    }
+}
+
+/// A stream: its bytes, how many another one's sink takes before the rest of them come, how many its own sink
+/// takes, and where these are counted.
+#[derive(Clone, Copy)]
+struct Side<'a> {
+    input: &'a [u8],
+    heard: &'a Counts,
+    least: u64,
+    room: usize,
+    counts: &'a Counts,
+}
+
+type Reader<'a> = Silent<'a, OverRead<Tape<'a>>>;
+
+type Writer<'a> = Counted<'a, OverWrite<Room>>;
+
+type OneServed<'a> = Served<Reader<'a>, Writer<'a>>;
+
+fn opened<'a>(
+    alloc: Global,
+    side: Side<'a>,
+) -> Result<(StreamSpec, (StreamReader<Reader<'a>>, Writer<'a>)), Fail>
+    ensures { IfOk result (λ made. IsInput made.0 made.1) }
+{
+    let reader = StreamReader::open(
+        alloc,
+        Silent {
+            source: OverRead::new(Tape::new(side.input, false)),
+            heard: side.heard,
+            least: side.least,
+            asked: AtomicU64::new(0),
+        },
+    )?;
+    let plan = Plan {
+        room: side.room,
+        ..PLAIN
+    };
+    let spec = stream_of(alloc, reader.header(), plan)?;
+    let sink = OverWrite::new(Room::new(alloc, side.room)?);
+    let counts = side.counts;
+    Ok((spec, (reader, Counted { sink, counts })))
+}
+
+/// Serves two streams by two workers, with room for sixteen entries an epoch.
+fn served_beside<'a, T: Threads + Wait + Sync>(
+    rt: &T,
+    alloc: Global,
+    first: Side<'a>,
+    second: Side<'a>,
+) -> Result<Result<Vec<OneServed<'a>>, SessionFault>, Fail> {
+    let (first, input) = opened(alloc, first)?;
+    let (second, other) = opened(alloc, second)?;
+    let mut specs = Vec::new(alloc);
+    specs.push(first)?;
+    specs.push(second)?;
+    let mut inputs = Vec::new(alloc);
+    inputs.push(input)?;
+    inputs.push(other)?;
+    let setup = Setup::new(2, 4, specs)?;
+    Ok(serve_session(rt, alloc, setup, inputs, 16, &Open, &Still(0)))
+}
+
+/// The one frame's image isn't taken behind the header line, and that is told.
+fn tells_its_fault(rt: &impl Abort, served: OneServed<'_>) -> Result<(), Fail> {
+    if served.stop != Stop::Write(WriteFault::Device(22)) {
+        return Err("the fault that was held isn't told".into());
+    }
+    let counts = (served.accepted, served.delivered, served.charged);
+    assert_eq!(rt; counts, (1, 0, 1));
+    let written = served.writer.sink.into_inner().taken;
+    assert_eq!(rt; written.as_slice(), HEADER);
+    Ok(())
+}
+
+/// A stream of one frame whose sink takes the header line alone, and whose end comes once another one's
+/// images are all written: 222 bytes, in a dozen epochs. Where the next of these epochs finds no memory, the
+/// fault of the write is told all the same.
+///
+/// It holds whichever growth is refused: `bench/growths` refuses each in turn.
+#[test]
+fn a_held_fault_is_told_where_no_epoch_comes(rt: HostRuntime) -> Result<(), Fail> {
+    let alloc = rt.alloc();
+    let (frames, _) = numbered(alloc, 20)?;
+    let (heard, counts) = (Counts::new(), Counts::new());
+    let talker = Side {
+        input: &frames,
+        heard: &heard,
+        least: 0,
+        room: 1 << 16,
+        counts: &heard,
+    };
+    let narrow = Side {
+        input: ONE,
+        heard: &heard,
+        least: 222,
+        room: 22,
+        counts: &counts,
+    };
+    let mut all = served_beside(&rt, alloc, talker, narrow)??;
+    let served = all.pop().ok_or("no stream")?;
+    if counts.failed.load(Ordering::SeqCst) == 0 {
+        return Err("NoMemory before the image was written".into());
+    }
+    tells_its_fault(&rt, served)
+}
