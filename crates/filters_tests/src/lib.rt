@@ -1,5 +1,0 @@
-//! Operations, their texts and chains of them over the public calls of `filters`.
-#![tactic(auto)]
-
-#[cfg(test)]
-mod tests;

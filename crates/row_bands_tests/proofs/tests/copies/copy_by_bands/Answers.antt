@@ -1,9 +1,0 @@
-use Rattle.std.proofs.Common.{rules}
-use Rattle.row_bands_tests.proofs.tests.copies.copy_by_bands.Goals.{then-from-to, else-from-to}
-use Rattle.row_bands_tests.proofs.tests.copies.copy_by_bands.Goals as goal
-
-pub loop-k-preserved : goal.loop-k-preserved
-loop-k-preserved g c = elim c.if-from-to.branch [
-  | then-from-to w ↦ search rules
-  | else-from-to w ↦ search rules
-]

@@ -1,5 +1,0 @@
-//! Bands, canvases and painters over the public calls of `row_bands`.
-#![tactic(auto)]
-
-#[cfg(test)]
-mod tests;
