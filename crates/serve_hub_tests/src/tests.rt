@@ -35,7 +35,7 @@ use y4m_header::{Chroma, check_frame_line};
 const LINE: &[u8] = b"FRAME";
 
 /// The size of a mono frame: one column.
-#[derive(Clone, Copy)]
+#[derive(Clone, Copy, Debug)]
 enum Size {
     /// One sample.
     Dot,
@@ -44,7 +44,7 @@ enum Size {
 }
 
 /// What one stream is served with.
-#[derive(Clone, Copy)]
+#[derive(Clone, Copy, Debug)]
 struct Served<'a> {
     size: Size,
     ops: &'a str,
@@ -62,9 +62,20 @@ const PLAIN: Served<'static> = Served {
     queue: 16,
 };
 
-/// Compares what a call gave with what is wanted.
+/// Compares what a call gave with what is wanted. Beside a hub or a book a branch is dear to prove: a call of
+/// this is none, and `assert_eq!` is one.
 fn same<T: PartialEq + Debug + Drop>(rt: &impl Abort, got: T, want: T) {
     assert_eq!(rt; got, want);
+}
+
+/// The same, and tells where it was.
+fn same_at<T: PartialEq + Debug + Drop, P: Debug + Drop>(
+    rt: &impl Abort,
+    got: T,
+    want: T,
+    place: P,
+) {
+    assert_eq!(rt; got, want, "at {place:?}");
 }
 
 /// Compares a list with the one that is wanted.

@@ -2,13 +2,15 @@
 ghost use Rattle.std.specs.Prelude.{◌≡◌};
 ghost use Rattle.serve_core.specs.Schedule.{opened_schedule};
 
-use super::seated::{Seated, seated_after};
-use super::steps::Answer::{Accepted, Closed, Given, Refused, Worked};
-use super::steps::Call::{Close, Collect, Offer, Work};
-use super::steps::{Step, TWELVE_FRAMES, follow};
-use super::{Core, PLAIN, Served, book_of, frame_of, same, setup_of, state_of, stream_spec_of};
-use serve_core::Setup;
-use serve_hub::{Act, Book, Ended, Entry, Epoch, Hub, Moments, Refusal, Seat, Settled};
+use super::seated::{again_after, ended_after, followed, seated_of};
+use super::steps::Answer::{
+    Accepted, AcceptedAt, Admitted, Closed, Given, Refused, SpecBack, Worked,
+};
+use super::steps::Call::{Admit, Close, Collect, Offer, OfferAt, WaitAndWork, Work};
+use super::steps::{Answer, Step, TWELVE_FRAMES, follow};
+use super::{Core, PLAIN, Served, book_of, same, setup_of, state_of, stream_spec_of};
+use serve_core::{Setup, StreamSpec};
+use serve_hub::{Act, Book, Ended, Entry, Epoch, Moments, Refusal, Seat, Settled};
 use std::alloc::Global;
 use std::marker::Brand;
 use std::process::Abort;
@@ -23,106 +25,14 @@ const HALF: Served<'static> = Served {
     ..PLAIN
 };
 
-/// What a hub leaves after a stream was admitted, another refused, and these calls.
-fn ended_after<L: Epoch, R: Wait + Abort>(
-    rt: &R,
-    alloc: Global,
-    seated: Seated<L>,
-    steps: &[Step],
-) -> Result<Ended, Fail> {
-    let mut seated = seated;
-    same(rt, seated.admit(rt, alloc, &HALF)?, None);
-    let refused = seated.admit(rt, alloc, &HALF)?;
-    same(rt, refused, Some(Refusal::Core(Core::Overload)));
-    seated.follow(rt, alloc, steps)?;
-    Ok(seated.ended(rt))
-}
-
-fn first_epoch<L: Epoch, R: Wait + Abort>(
-    rt: &R,
-    alloc: Global,
-    blank: Blank,
-    setup: Setup,
-) -> Result<Ended, Fail>
-    requires name { blank.name ≡ L.name }
-    requires parts { blank.parts ≡ L.parts }
-    requires enough { blank.parts ≡ 80 }
-    requires opening { opened_schedule setup ≡ L.opening }
-{
-    let seated = seated_after::<L, _>(rt, alloc, blank, setup, &[])?;
-    ended_after(rt, alloc, seated, FIRST_CALLS)
-}
-
-fn next_epoch<L: Epoch, R: Wait + Abort>(
-    rt: &R,
-    alloc: Global,
-    blank: Blank,
-    ended: Ended,
-) -> Result<Ended, Fail>
-    requires name { blank.name ≡ L.name }
-    requires parts { blank.parts ≡ L.parts }
-    requires enough { blank.parts ≡ 80 }
-    requires opening { ended.book.desk ≡ L.opening }
-{
-    match Hub::<L>::reopen(alloc, blank, ended, 16) {
-        Err(refused) => Err(refused.refusal.into()),
-        Ok(reopened) => ended_after(rt, alloc, Seated::again(reopened), NEXT_CALLS),
-    }
-}
-
-/// A frame of stream `s` at a moment. The first was offered at moment 3.
-fn offered_at<L: Epoch, R: Wait + Abort>(
-    rt: &R,
-    alloc: Global,
-    seated: &mut Seated<L>,
-    s: u32,
-    at: u64,
-) -> Result<(), Fail> {
-    let Seated { hub, streams, .. } = seated;
-    let seat = streams.get_mut(s as usize).ok_or("no seat")?;
-    let frame = frame_of(alloc, &[0x10])?;
-    match hub.offer(rt, alloc, seat, at, frame) {
-        Ok(_) => {
-            let moments = Moments {
-                first: 3,
-                latest: at,
-            };
-            same(rt, seat.moments(), Some(moments));
-            Ok(())
-        }
-        Err(refused) => Err(refused.refusal.into()),
-    }
-}
-
-/// What a hub leaves whose first stream is collected at once, but has the deadline 4.
-fn share_held<L: Epoch, R: Wait + Abort>(
-    rt: &R,
-    alloc: Global,
-    blank: Blank,
-    setup: Setup,
-) -> Result<Ended, Fail>
-    requires name { blank.name ≡ L.name }
-    requires parts { blank.parts ≡ L.parts }
-    requires enough { blank.parts ≡ 80 }
-    requires opening { opened_schedule setup ≡ L.opening }
-{
-    let overload = Some(Refusal::Core(Core::Overload));
-    let mut seated = seated_after::<L, _>(rt, alloc, blank, setup, COLLECTED)?;
-    same(rt, seated.admit(rt, alloc, &HALF)?, overload);
-    offered_at(rt, alloc, &mut seated, 1, 3)?;
-    same(rt, seated.admit(rt, alloc, &HALF)?, overload);
-    offered_at(rt, alloc, &mut seated, 1, 4)?;
-    same(rt, seated.admit(rt, alloc, &HALF)?, None);
-    seated.follow(rt, alloc, LATER_CALLS)?;
-    Ok(seated.ended(rt))
-}
+/// Nothing is left of the worker for another half.
+const NO_HALF: Step = (Admit(&HALF), SpecBack(Refusal::Core(Core::Overload), 2, 4));
 
 /// The new stream's deadline is 6, that of the second 5 and then 7.
 #[test]
 fn a_share_is_held_up_to_the_deadline(rt: HostRuntime) -> Result<(), Fail> {
-    let alloc = rt.alloc();
-    let setup = setup_of(alloc, 1, &[HALF, HALF])?;
-    let ended = share_held::<Brand, _>(&rt, alloc, Blank::new(80), setup)?;
+    let parts = &[COLLECTED, HELD, LATER_CALLS];
+    let ended = ended_after(&rt, rt.alloc(), 1, &[HALF, HALF], parts)?;
     let states = (
         state_of(ended.account(1), ended.counts(1)),
         state_of(ended.account(2), ended.counts(2)),
@@ -132,36 +42,11 @@ fn a_share_is_held_up_to_the_deadline(rt: HostRuntime) -> Result<(), Fail> {
     Ok(())
 }
 
-fn called_again<L: Epoch, R: Wait + Abort>(
-    rt: &R,
-    alloc: Global,
-    blank: Blank,
-    setup: Setup,
-) -> Result<Ended, Fail>
-    requires name { blank.name ≡ L.name }
-    requires parts { blank.parts ≡ L.parts }
-    requires enough { blank.parts ≡ 80 }
-    requires opening { opened_schedule setup ≡ L.opening }
-{
-    let mut seated = seated_after::<L, _>(rt, alloc, blank, setup, &[(Close(0), Closed)])?;
-    match seated.lease(rt, 0) {
-        Err(refusal) => same(rt, refusal, Refusal::Core(Core::Drained)),
-        Ok(lease) => {
-            let _job = lease.into_job();
-            return Err("a lease".into());
-        }
-    }
-    same(rt, seated.admit(rt, alloc, &HALF)?, None);
-    seated.follow(rt, alloc, ASKED_AGAIN)?;
-    Ok(seated.ended(rt))
-}
-
 /// Nobody calls a worker back that was told that all is drained. It gets the lease where it asks again.
 #[test]
 fn a_worker_asks_again_for_the_stream_that_came_later(rt: HostRuntime) -> Result<(), Fail> {
-    let alloc = rt.alloc();
-    let setup = setup_of(alloc, 1, &[HALF])?;
-    let ended = called_again::<Brand, _>(&rt, alloc, Blank::new(80), setup)?;
+    let parts = &[DRAINED, ASKED_AGAIN];
+    let ended = ended_after(&rt, rt.alloc(), 1, &[HALF], parts)?;
     same(&rt, ended.journal().len(), 6);
     Ok(())
 }
@@ -178,20 +63,18 @@ fn admitted_or_not<L: Epoch, R: Wait + Abort>(
     requires enough { blank.parts ≡ 80 }
     requires opening { opened_schedule setup ≡ L.opening }
 {
-    let mut seated = seated_after::<L, _>(rt, alloc, blank, setup, &[])?;
-    let spec = stream_spec_of(alloc, &HALF)?;
-    match seated.hub.admit(rt, alloc, spec) {
-        Ok(seat) => {
-            same(rt, (seat.number(), seat.calls().len()), (1, 1));
-            seated.streams.push(seat)?;
-        }
-        Err(refused) => {
-            same(rt, refused.refusal, Refusal::Core(Core::NoMemory));
-            same(rt, (refused.spec.queue(), refused.spec.outbox()), (2, 4));
-            seated.follow(rt, alloc, NO_OTHER)?;
-        }
+    let mut seated = seated_of::<L>(alloc, blank, setup, 16)?;
+    let got = seated.answer_to(rt, alloc, Admit(&HALF))?;
+    followed(rt, alloc, seated, &[checked(rt, got)])
+}
+
+/// The calls on a hub that answered an admission so.
+fn checked(rt: &impl Abort, got: Answer) -> &'static [Step] {
+    if got == Admitted(1) {
+        return &[];
     }
-    Ok(seated.ended(rt))
+    same(rt, got, SpecBack(Refusal::Core(Core::NoMemory), 2, 4));
+    NO_OTHER
 }
 
 /// It holds whichever growths are refused.
@@ -209,16 +92,20 @@ fn an_admission_without_memory_leaves_the_hub(rt: HostRuntime) -> Result<(), Fai
 #[test]
 fn a_book_admits_a_stream(rt: HostRuntime) -> Result<(), Fail> {
     let alloc = rt.alloc();
+    let (second, third) = (stream_spec_of(alloc, &HALF)?, stream_spec_of(alloc, &HALF)?);
     let mut book = book_of(alloc, &[HALF])?;
-    let spec = stream_spec_of(alloc, &HALF)?;
-    same(&rt, book.admit_refusal(&spec), None);
-    match book.admit(alloc, spec) {
-        Ok(number) => same(&rt, (number, book.latest()), (1, Some(ADMITTED))),
-        Err((refusal, _)) => return Err(refusal.into()),
-    }
-    same(&rt, book.room(), 13);
+    second_admitted(&rt, alloc, &mut book, second);
     follow(&rt, alloc, &mut book, ASKED_AGAIN)?;
-    third_refused(&rt, alloc, &mut book)
+    third_refused(&rt, alloc, &mut book, third);
+    Ok(())
+}
+
+/// Half of the worker is left.
+fn second_admitted(rt: &impl Abort, alloc: Global, book: &mut Book, spec: StreamSpec) {
+    same(rt, book.admit_refusal(&spec), None);
+    let answer = told(book.admit(alloc, spec));
+    same(rt, (answer, book.latest()), (Admitted(1), Some(ADMITTED)));
+    same(rt, book.room(), 13);
 }
 
 /// The entry of the second stream.
@@ -228,87 +115,56 @@ const ADMITTED: Entry = Entry {
 };
 
 /// Two halves leave nothing of the worker.
-fn third_refused(rt: &impl Abort, alloc: Global, book: &mut Book) -> Result<(), Fail> {
+fn third_refused(rt: &impl Abort, alloc: Global, book: &mut Book, spec: StreamSpec) {
     let overload = Refusal::Core(Core::Overload);
-    let spec = stream_spec_of(alloc, &HALF)?;
     same(rt, book.admit_refusal(&spec), Some(overload));
-    match book.admit(alloc, spec) {
-        Ok(_) => assert!(rt; false, "a third stream"),
-        Err((refusal, spec)) => same(rt, (refusal, spec.queue()), (overload, 2)),
+    let answer = told(book.admit(alloc, spec));
+    same(rt, answer, SpecBack(overload, 2, 4));
+}
+
+/// What a book answers to an admission.
+fn told(answer: Result<u32, (Refusal, StreamSpec)>) -> Answer {
+    match answer {
+        Ok(number) => Admitted(number),
+        Err((refusal, spec)) => SpecBack(refusal, spec.queue(), spec.outbox()),
     }
-    Ok(())
 }
 
 /// What is wrong with these comes before a full journal.
-const WRONG: &[(Served<'static>, Core)] = &[
-    (Served { queue: 0, ..PLAIN }, Core::BadLimits),
+const WRONG: &[Step] = &[
     (
-        Served {
+        Admit(&Served { queue: 0, ..PLAIN }),
+        SpecBack(Refusal::Core(Core::BadLimits), 0, 4),
+    ),
+    (
+        Admit(&Served {
             queue: 0,
             account: (5, 4),
             ..PLAIN
-        },
-        Core::BadLimits,
+        }),
+        SpecBack(Refusal::Core(Core::BadLimits), 0, 4),
     ),
     (
-        Served {
+        Admit(&Served {
             account: (5, 4),
             ..PLAIN
-        },
-        Core::BadBandwidth,
+        }),
+        SpecBack(Refusal::Core(Core::BadBandwidth), 16, 4),
     ),
     (
-        Served {
+        Admit(&Served {
             account: (1, 1),
             ..PLAIN
-        },
-        Core::Overload,
+        }),
+        SpecBack(Refusal::Core(Core::Overload), 16, 4),
     ),
 ];
 
-fn all_refused<L: Epoch, R: Wait + Abort>(
-    rt: &R,
-    alloc: Global,
-    seated: &mut Seated<L>,
-) -> Result<(), Fail> {
-    for wrong in WRONG {
-        let (served, refusal) = *wrong;
-        let got = seated.admit(rt, alloc, &served)?;
-        same(rt, got, Some(Refusal::Core(refusal)));
-    }
-    Ok(())
-}
-
-/// What a hub leaves whose journal has a place for one entry beside the close, and so none for a stream.
-fn filled<L: Epoch, R: Wait + Abort>(
-    rt: &R,
-    alloc: Global,
-    blank: Blank,
-    setup: Setup,
-) -> Result<Ended, Fail>
-    requires name { blank.name ≡ L.name }
-    requires parts { blank.parts ≡ L.parts }
-    requires enough { blank.parts ≡ 80 }
-    requires opening { opened_schedule setup ≡ L.opening }
-{
-    let mut seated = seated_after::<L, _>(rt, alloc, blank, setup, TWELVE_FRAMES)?;
-    all_refused(rt, alloc, &mut seated)?;
-    seated.follow(rt, alloc, TWO_MORE)?;
-    all_refused(rt, alloc, &mut seated)?;
-    same(
-        rt,
-        seated.admit(rt, alloc, &PLAIN)?,
-        Some(Refusal::HistoryFull),
-    );
-    same(rt, seated.close(rt, 0), Ok(()));
-    Ok(seated.ended(rt))
-}
-
+/// The journal has a place for one entry beside the close, and so none for a stream.
 #[test]
 fn a_full_journal_is_told_last(rt: HostRuntime) -> Result<(), Fail> {
-    let alloc = rt.alloc();
-    let setup = setup_of(alloc, 1, &[PLAIN])?;
-    let ended = filled::<Brand, _>(&rt, alloc, Blank::new(80), setup)?;
+    let parts = &[TWELVE_FRAMES, WRONG, TWO_MORE, WRONG, NO_PLACE];
+    let ended = ended_after(&rt, rt.alloc(), 1, &[PLAIN], parts)?;
     same(&rt, (ended.journal().len(), ended.account(1)), (15, None));
     Ok(())
 }
@@ -317,10 +173,9 @@ fn a_full_journal_is_told_last(rt: HostRuntime) -> Result<(), Fail> {
 #[test]
 fn a_hub_admits_a_stream_in_each_epoch(rt: HostRuntime) -> Result<(), Fail> {
     let alloc = rt.alloc();
-    let setup = setup_of(alloc, 1, &[HALF])?;
-    let ended = first_epoch::<Brand, _>(&rt, alloc, Blank::new(80), setup)?;
+    let ended = ended_after(&rt, alloc, 1, &[HALF], &[FIRST_CALLS])?;
     same(&rt, ended.journal().len(), 7);
-    let ended = next_epoch::<Brand, _>(&rt, alloc, Blank::new(80), ended)?;
+    let (ended, _) = again_after(&rt, alloc, ended, &[NEXT_CALLS])?;
     same(&rt, ended.journal().len(), 8);
     let states = (
         state_of(ended.account(1), ended.counts(1)),
@@ -334,6 +189,11 @@ fn a_hub_admits_a_stream_in_each_epoch(rt: HostRuntime) -> Result<(), Fail> {
 
 const TWO_MORE: &[Step] = &[(Offer(0, 12), Accepted(12)), (Offer(0, 13), Accepted(13))];
 
+const NO_PLACE: &[Step] = &[
+    (Admit(&PLAIN), SpecBack(Refusal::HistoryFull, 16, 4)),
+    (Close(0), Closed),
+];
+
 /// All that the first stream gets is collected.
 const COLLECTED: &[Step] = &[
     (Offer(0, 0x00), Accepted(0)),
@@ -342,12 +202,46 @@ const COLLECTED: &[Step] = &[
     (Collect(0), Given(Some(0x00), Some(0xFF))),
 ];
 
+/// The first stream is collected at once, but has the deadline 4.
+const HELD: &[Step] = &[
+    NO_HALF,
+    (
+        OfferAt(1, 3, 0x10),
+        AcceptedAt(
+            0,
+            Some(Moments {
+                first: 3,
+                latest: 3,
+            }),
+        ),
+    ),
+    NO_HALF,
+    (
+        OfferAt(1, 4, 0x10),
+        AcceptedAt(
+            1,
+            Some(Moments {
+                first: 3,
+                latest: 4,
+            }),
+        ),
+    ),
+    (Admit(&HALF), Admitted(2)),
+];
+
 /// The new seat offers and collects a frame.
 const LATER_CALLS: &[Step] = &[
     (Offer(2, 7), Accepted(0)),
     (Work(0, 1), Worked((1, 0, 1), Settled::Finished(0))),
     (Work(0, 1), Worked((2, 0, 1), Settled::Finished(0))),
     (Collect(2), Given(Some(7), Some(248))),
+];
+
+/// The only stream is closed, and another one is admitted.
+const DRAINED: &[Step] = &[
+    (Close(0), Closed),
+    (WaitAndWork(0, 1), Refused(Refusal::Core(Core::Drained))),
+    (Admit(&HALF), Admitted(1)),
 ];
 
 const ASKED_AGAIN: &[Step] = &[
@@ -360,6 +254,8 @@ const NO_OTHER: &[Step] = &[(Work(0, 0), Refused(Refusal::Core(Core::NoneReady))
 
 /// The admission is the first entry.
 const FIRST_CALLS: &[Step] = &[
+    (Admit(&HALF), Admitted(1)),
+    NO_HALF,
     (Offer(1, 5), Accepted(0)),
     (Offer(1, 6), Accepted(1)),
     (Work(0, 1), Worked((1, 0, 1), Settled::Finished(0))),
@@ -369,6 +265,8 @@ const FIRST_CALLS: &[Step] = &[
 
 /// What is left of stream 1 goes on, beside stream 2.
 const NEXT_CALLS: &[Step] = &[
+    (Admit(&HALF), Admitted(2)),
+    NO_HALF,
     (Offer(2, 7), Accepted(0)),
     (Work(0, 1), Worked((2, 0, 1), Settled::Finished(0))),
     (Work(0, 1), Worked((1, 1, 1), Settled::Finished(1))),

@@ -1,18 +1,22 @@
 //! One frame from its offer to its collection, with the refusals on its way.
-use super::steps::{AFTER_CLOSE, Answer, FIRST_FRAME, FIRST_IMAGE, book_after, follow};
+use super::steps::Answer::Refused;
+use super::steps::Call::OfferAt;
+use super::steps::{AFTER_CLOSE, Answer, FIRST_FRAME, FIRST_IMAGE, Step, book_after, follow};
 use super::{
-    Core, PLAIN, book_of, collected, frame_of, offered, same, same_list, settled, state_of,
-    stepped, told, worked,
+    Core, PLAIN, book_of, collected, frame_of, same, same_list, settled, state_of, stepped, told,
+    worked,
 };
+use frame_view::Frame;
 use serve_hub::Act::{Closed, Collected, Leased, Offered, Settled};
 use serve_hub::Seat::{Stream, Worker};
 use serve_hub::{Book, Entry, Refusal, Settled as Done};
 use std::alloc::Global;
 use std::process::Abort;
+use std::sync::Arc;
 use std::test::Fail;
 
 /// The journal of one frame.
-const JOURNAL: [Entry; 5] = [
+const JOURNAL: &[Entry] = &[
     Entry {
         seat: Stream(0),
         act: Offered(None, 0),
@@ -69,7 +73,7 @@ pub(super) fn after_one_frame(rt: &impl Abort, alloc: Global) -> Result<Book, Fa
 #[test]
 fn a_frame_goes_through(rt: HostRuntime) -> Result<(), Fail> {
     let book = after_one_frame(&rt, rt.alloc())?;
-    same_list(&rt, book.journal(), &JOURNAL);
+    same_list(&rt, book.journal(), JOURNAL);
     same(&rt, book.latest(), JOURNAL.last().copied());
     let cost = (book.bands(0), book.units(0), book.units(1));
     same(&rt, cost, (1, Some(1), None));
@@ -85,33 +89,42 @@ fn an_entry_tells_the_tick(rt: HostRuntime) -> Result<(), Fail> {
     let alloc = rt.alloc();
     let frame = frame_of(alloc, &[0x00])?;
     let mut book = book_of(alloc, &[PLAIN])?;
-    match book.offer(alloc, 0, 7, frame) {
+    let want = left_by(&rt, book.offer(alloc, 0, 7, frame));
+    same(&rt, (book.desk().clock(), book.latest()), want);
+    Ok(())
+}
+
+/// The clock and the latest entry behind the first offer, at moment 7, which may want memory.
+fn left_by(rt: &impl Abort, answer: Result<u64, (Refusal, Arc<Frame>)>) -> (u64, Option<Entry>) {
+    match answer {
         Ok(number) => {
-            same(&rt, (number, book.desk().clock()), (0, 7));
+            same(rt, number, 0);
             let entry = Entry {
                 seat: Stream(0),
                 act: Offered(Some(7), 0),
             };
-            same(&rt, book.latest(), Some(entry));
+            (7, Some(entry))
         }
-        Err((refusal, _)) => same(&rt, refusal, Refusal::Core(Core::NoMemory)),
+        Err((refusal, _)) => {
+            same(rt, refusal, Refusal::Core(Core::NoMemory));
+            (0, None)
+        }
     }
-    Ok(())
 }
 
 /// A refused offer leaves the clock.
 #[test]
 fn a_refused_offer_leaves_the_clock(rt: HostRuntime) -> Result<(), Fail> {
-    let mut book = book_of(rt.alloc(), &[PLAIN])?;
-    offers_in_vain(&rt, rt.alloc(), &mut book)
+    let book = book_after(&rt, rt.alloc(), &[PLAIN], IN_VAIN)?;
+    same(&rt, (book.desk().clock(), book.latest()), (0, None));
+    Ok(())
 }
 
 /// Offers to a stream that isn't there, and behind the end of the clock.
-fn offers_in_vain(rt: &impl Abort, alloc: Global, book: &mut Book) -> Result<(), Fail> {
-    let nowhere = offered(alloc, book, 1, 9, &[0x5A])?;
-    same(rt, nowhere, Answer::Refused(Refusal::Core(Core::NoStream)));
-    let late = offered(alloc, book, 0, (1 << 60) + 1, &[0x5A])?;
-    same(rt, late, Answer::Refused(Refusal::Core(Core::ClockEnd)));
-    same(rt, (book.desk().clock(), book.latest()), (0, None));
-    Ok(())
-}
+const IN_VAIN: &[Step] = &[
+    (OfferAt(1, 9, 0x5A), Refused(Refusal::Core(Core::NoStream))),
+    (
+        OfferAt(0, (1 << 60) + 1, 0x5A),
+        Refused(Refusal::Core(Core::ClockEnd)),
+    ),
+];

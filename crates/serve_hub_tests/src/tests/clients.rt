@@ -19,7 +19,7 @@ pub(super) struct Client<L: Epoch> {
     first: u32,
     frames: Vec<Arc<Frame>>,
     /// Whether it collects what comes soon before it offers a frame.
-    pub(super) is_soon: bool,
+    is_soon: bool,
     pub(super) delivered: u64,
     pub(super) most: usize,
     pub(super) outcome: Result<(), Refusal>,
@@ -33,35 +33,47 @@ fn sample_of(first: u32, n: u64) -> u8 {
     (n.wrapping_mul(32).wrapping_add(first as u64) % 256) as u8
 }
 
-/// The frames that begin with this sample.
-pub(super) fn frames_of(alloc: Global, first: u32) -> Result<Vec<Arc<Frame>>, Fail> {
-    let mut frames = Vec::new(alloc);
-    for n in 0..PERIOD {
-        frames.push(frame_of(alloc, &[sample_of(first, n)])?)?;
+/// The frames of a stream, which begin with this sample.
+#[derive(Drop)]
+pub(super) struct Frames {
+    first: u32,
+    frames: Vec<Arc<Frame>>,
+}
+
+impl Frames {
+    pub(super) fn new(alloc: Global, first: u32) -> Result<Frames, Fail> {
+        let mut frames = Vec::new(alloc);
+        for n in 0..PERIOD {
+            frames.push(frame_of(alloc, &[sample_of(first, n)])?)?;
+        }
+        Ok(Frames { first, frames })
     }
-    Ok(frames)
+
+    /// Those of so many streams, each of which begins with its number.
+    pub(super) fn of_streams(alloc: Global, streams: u32) -> Result<Vec<Frames>, Fail> {
+        let mut all = Vec::new(alloc);
+        for s in 0..streams {
+            all.push(Frames::new(alloc, s)?)?;
+        }
+        Ok(all)
+    }
 }
 
 impl<L: Epoch> Client<L> {
-    pub(super) fn new(alloc: Global, seat: StreamSeat<L>) -> Result<Client<L>, Fail> {
-        let first = seat.number();
-        let frames = frames_of(alloc, first)?;
-        Ok(Client::over(alloc, seat, first, frames))
-    }
-
-    /// A client whose frames are these, which begin with sample `first`.
-    pub(super) fn over(
+    /// A client that offers these frames.
+    pub(super) fn new(
         alloc: Global,
         seat: StreamSeat<L>,
-        first: u32,
-        frames: Vec<Arc<Frame>>,
+        frames: Frames,
+        is_soon: bool,
     ) -> Client<L> {
+        let Frames { first, frames } = frames;
         Client {
             seat,
             alloc,
             first,
             frames,
-            is_soon: false,
+            is_soon,
             delivered: 0,
             most: 0,
             outcome: Ok(()),

@@ -1,12 +1,11 @@
 //! Hubs that go on in further epochs.
 ghost use Rattle.std.specs.Prelude.{◌≡◌};
 
-use super::hubs::ended_after;
-use super::seated::Seated;
-use super::steps::Answer::{Given, Refused, Worked};
-use super::steps::Call::{Collect, Work};
-use super::steps::{FIFTEEN_FRAMES, Step};
-use super::{Core, PLAIN, same, setup_of, state_of};
+use super::seated::{Seated, again_after, ended_after, followed};
+use super::steps::Answer::{Full, Given, Refused, Worked};
+use super::steps::Call::{Collect, IsFull, Work};
+use super::steps::{CLOSED, FIFTEEN_FRAMES, Step};
+use super::{Core, PLAIN, same, state_of};
 use serve_hub::{Ended, Epoch, Hub, HubError, Refusal, Settled};
 use std::alloc::Global;
 use std::marker::Brand;
@@ -14,33 +13,6 @@ use std::process::Abort;
 use std::sync::Wait;
 use std::sync::ledger::Blank;
 use std::test::Fail;
-
-/// What the next epoch of a hub leaves after these calls, for at most 16 entries, and how many entries the
-/// one before it had.
-fn next_epoch<L: Epoch, R: Wait + Abort>(
-    rt: &R,
-    alloc: Global,
-    blank: Blank,
-    ended: Ended,
-    steps: &[Step],
-) -> Result<(Ended, usize), Fail>
-    requires name { blank.name ≡ L.name }
-    requires parts { blank.parts ≡ L.parts }
-    requires enough { blank.parts ≡ 80 }
-    requires opening { ended.book.desk ≡ L.opening }
-{
-    match Hub::<L>::reopen(alloc, blank, ended, 16) {
-        Err(refused) => Err(refused.refusal.into()),
-        Ok(reopened) => {
-            let entries = reopened.journal.len();
-            let mut seated = Seated::again(reopened);
-            same(rt, seated.hub.is_full(rt), false);
-            seated.follow(rt, alloc, steps)?;
-            same(rt, seated.hub.is_full(rt), true);
-            Ok((seated.ended(rt), entries))
-        }
-    }
-}
 
 /// The end of another epoch, or for want of memory that of the last one.
 fn next_or_last<L: Epoch, R: Wait + Abort>(
@@ -60,9 +32,8 @@ fn next_or_last<L: Epoch, R: Wait + Abort>(
             Ok((refused.ended, false))
         }
         Ok(reopened) => {
-            let mut seated = Seated::again(reopened);
-            seated.follow(rt, alloc, FIRST_IMAGES)?;
-            Ok((seated.ended(rt), true))
+            let ended = followed(rt, alloc, Seated::again(reopened), &[FIRST_IMAGES])?;
+            Ok((ended, true))
         }
     }
 }
@@ -84,25 +55,42 @@ fn too_short<L: Epoch, R: Abort>(rt: &R, alloc: Global, blank: Blank, ended: End
     }
 }
 
+/// What a hub leaves whose journal fifteen frames filled.
+fn fifteen_frames<R: Wait + Abort>(rt: &R, alloc: Global) -> Result<Ended, Fail> {
+    ended_after(rt, alloc, 1, &[PLAIN], &[FIFTEEN_FRAMES, CLOSED])
+}
+
 /// Fifteen frames fill a journal, and five images of them the next one.
 #[test]
 fn three_epochs_give_fifteen_images(rt: HostRuntime) -> Result<(), Fail> {
     let alloc = rt.alloc();
-    let setup = setup_of(alloc, 1, &[PLAIN])?;
-    let ended = ended_after::<Brand, _>(&rt, alloc, Blank::new(80), setup, FIFTEEN_FRAMES)?;
-    let mut ended = too_short::<Brand, _>(&rt, alloc, Blank::new(80), ended);
-    let mut before = 16;
-    for steps in [FIRST_IMAGES, NEXT_IMAGES, LAST_IMAGES] {
-        let (next, entries) = next_epoch::<Brand, _>(&rt, alloc, Blank::new(80), ended, steps)?;
-        same(&rt, (entries, next.journal().len()), (before, 15));
-        same(&rt, (next.limit(), next.is_full()), (16, true));
-        same(&rt, (next.bands(0), next.units(0)), (5, Some(5)));
-        before = 15;
-        ended = next;
-    }
+    let ended = fifteen_frames(&rt, alloc)?;
+    let ended = too_short::<Brand, _>(&rt, alloc, Blank::new(80), ended);
+    let ended = five_images(&rt, alloc, ended, FIRST_IMAGES, 16)?;
+    let ended = five_images(&rt, alloc, ended, NEXT_IMAGES, 15)?;
+    let ended = five_images(&rt, alloc, ended, LAST_IMAGES, 15)?;
     same(&rt, left(&ended), (15, Some([1, 64, 15, 15, 15, 15])));
     Ok(())
 }
+
+/// What an epoch of these calls leaves, which fill its journal. The one before it had so many entries.
+fn five_images<R: Wait + Abort>(
+    rt: &R,
+    alloc: Global,
+    ended: Ended,
+    steps: &[Step],
+    before: usize,
+) -> Result<Ended, Fail> {
+    let (next, entries) = again_after(rt, alloc, ended, &[HAS_ROOM, steps, HAS_NONE])?;
+    same(rt, (entries, next.journal().len()), (before, 15));
+    same(rt, (next.limit(), next.is_full()), (16, true));
+    same(rt, (next.bands(0), next.units(0)), (5, Some(5)));
+    Ok(next)
+}
+
+const HAS_ROOM: &[Step] = &[(IsFull, Full(false))];
+
+const HAS_NONE: &[Step] = &[(IsFull, Full(true))];
 
 /// How many entries an end has, and where its first stream is.
 fn left(ended: &Ended) -> (usize, Option<[u64; 6]>) {
@@ -114,22 +102,28 @@ fn left(ended: &Ended) -> (usize, Option<[u64; 6]>) {
 #[test]
 fn a_hub_opens_again_after_a_want_of_memory(rt: HostRuntime) -> Result<(), Fail> {
     let alloc = rt.alloc();
-    let setup = setup_of(alloc, 1, &[PLAIN])?;
-    let mut ended = ended_after::<Brand, _>(&rt, alloc, Blank::new(80), setup, FIFTEEN_FRAMES)?;
-    let mut is_open = false;
-    for _ in 0..2 {
-        if !is_open {
-            same(&rt, left(&ended), (16, Some([1, 4, 15, 0, 0, 0])));
-            let (next, opened) = next_or_last::<Brand, _>(&rt, alloc, Blank::new(80), ended)?;
-            ended = next;
-            is_open = opened;
-        }
-    }
-    if !is_open {
-        return Err("was the memory refused twice?".into());
-    }
+    let ended = fifteen_frames(&rt, alloc)?;
+    let ended = opened_in_two(&rt, alloc, ended)?;
     same(&rt, left(&ended), (15, Some([1, 24, 15, 5, 5, 5])));
     Ok(())
+}
+
+/// The end of an epoch that opens at the second call where the first is refused.
+fn opened_in_two<R: Wait + Abort>(rt: &R, alloc: Global, ended: Ended) -> Result<Ended, Fail> {
+    let (ended, is_open) = tried(rt, alloc, ended)?;
+    if is_open {
+        return Ok(ended);
+    }
+    match tried(rt, alloc, ended)? {
+        (ended, true) => Ok(ended),
+        _ => Err("was the memory refused twice?".into()),
+    }
+}
+
+/// The end of another epoch, or for want of memory that of the last one, which is as it was.
+fn tried<R: Wait + Abort>(rt: &R, alloc: Global, ended: Ended) -> Result<(Ended, bool), Fail> {
+    same(rt, left(&ended), (16, Some([1, 4, 15, 0, 0, 0])));
+    next_or_last::<Brand, R>(rt, alloc, Blank::new(80), ended)
 }
 
 /// The sixth lease lacks the entry of its settlement.

@@ -1,9 +1,13 @@
 //! Journals up to their last entry.
 use super::steps::{Answer, FIFTEEN_FRAMES, SEVEN_LEASES, TWELVE_FRAMES, book_after};
-use super::{Core, PLAIN, collected, frame_of, same, settled, setup_of, state_of, stepped};
+use super::{
+    Core, PLAIN, collected, frame_of, same, same_at, settled, setup_of, state_of, stepped,
+};
+use frame_view::Frame;
 use serve_hub::{Book, HubError, Refusal, Settled};
 use std::alloc::Global;
 use std::process::Abort;
+use std::sync::Arc;
 use std::test::Fail;
 
 #[test]
@@ -19,10 +23,9 @@ fn offers_fill_the_journal(rt: HostRuntime) -> Result<(), Fail> {
 fn a_limit_has_limits(rt: HostRuntime) -> Result<(), Fail> {
     let alloc = rt.alloc();
     for limit in [0, 15, (1 << 20) + 1] {
-        match Book::new(alloc, setup_of(alloc, 1, &[PLAIN])?, limit) {
-            Ok(_) => assert!(rt; false, "limit {limit}"),
-            Err(e) => same(&rt, e, HubError::BadLimit),
-        }
+        let setup = setup_of(alloc, 1, &[PLAIN])?;
+        let refused = Book::new(alloc, setup, limit).err();
+        same_at(&rt, refused, Some(HubError::BadLimit), limit);
     }
     Ok(())
 }
@@ -40,19 +43,17 @@ fn leases_without_a_band_fill_the_journal(rt: HostRuntime) -> Result<(), Fail> {
 /// The entries of the settlement and the close are kept for them.
 #[test]
 fn a_lease_is_out_while_the_journal_fills(rt: HostRuntime) -> Result<(), Fail> {
+    let frame = frame_of(rt.alloc(), &[0x0C])?;
     let mut book = book_after(&rt, rt.alloc(), &[PLAIN], TWELVE_FRAMES)?;
-    fill_beside_a_lease(&rt, rt.alloc(), &mut book)
+    fill_beside_a_lease(&rt, rt.alloc(), &mut book, frame);
+    Ok(())
 }
 
 /// Leases the first of twelve frames, and offers the thirteenth before its settlement. Where the memory for
 /// that is refused, the journal has a place left.
-fn fill_beside_a_lease(rt: &impl Abort, alloc: Global, book: &mut Book) -> Result<(), Fail> {
-    let frame = frame_of(alloc, &[0x0C])?;
+fn fill_beside_a_lease(rt: &impl Abort, alloc: Global, book: &mut Book, frame: Arc<Frame>) {
     let lease = book.lease(0).expect(rt, "a lease");
-    match book.offer(alloc, 0, 0, frame) {
-        Ok(number) => same(rt, number, 12),
-        Err((refusal, _)) => same(rt, refusal, Refusal::Core(Core::NoMemory)),
-    }
+    offered_or_not(rt, book.offer(alloc, 0, 0, frame));
     let last = book.offer_job_refusal(0, 0);
     let empty = Answer::Refused(Refusal::Core(Core::Empty));
     same(rt, collected(book, 0), empty);
@@ -61,7 +62,14 @@ fn fill_beside_a_lease(rt: &impl Abort, alloc: Global, book: &mut Book) -> Resul
     if last == Some(Refusal::HistoryFull) {
         ends_full(rt, book);
     }
-    Ok(())
+}
+
+/// The thirteenth frame was accepted, or its memory was refused.
+fn offered_or_not(rt: &impl Abort, answer: Result<u64, (Refusal, Arc<Frame>)>) {
+    match answer {
+        Ok(number) => same(rt, number, 12),
+        Err((refusal, _)) => same(rt, refusal, Refusal::Core(Core::NoMemory)),
+    }
 }
 
 /// A full journal whose one image can't be collected.

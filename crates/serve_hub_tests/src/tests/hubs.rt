@@ -2,40 +2,22 @@
 ghost use Rattle.std.specs.Prelude.{◌≡◌};
 ghost use Rattle.serve_core.specs.Schedule.{opened_schedule};
 
-use super::seated::{Seated, seated_after};
-use super::steps::{Answer, Call, FIFTEEN_FRAMES, SEVEN_LEASES, Step, TWELVE_FRAMES};
+use super::seated::{Seated, ended_after, followed, seated_after};
+use super::steps::{Answer, CLOSED, Call, FIFTEEN_FRAMES, SEVEN_LEASES, Step, TWELVE_FRAMES};
 use super::{Core, PLAIN, frame_of, same, setup_of, state_of, stepped, told};
+use frame_view::Frame;
 use serve_core::Setup;
 use serve_hub::{Ended, Epoch, Hub, HubError, OfferRefused, Refusal, Settled};
 use std::alloc::Global;
 use std::marker::Brand;
 use std::process::Abort;
-use std::sync::Wait;
 use std::sync::ledger::Blank;
+use std::sync::{Arc, Wait};
 use std::test::Fail;
-
-/// The end of a hub of one worker and one stream, which is closed after these calls.
-pub(super) fn ended_after<L: Epoch, R: Wait + Abort>(
-    rt: &R,
-    alloc: Global,
-    blank: Blank,
-    setup: Setup,
-    steps: &[Step],
-) -> Result<Ended, Fail>
-    requires name { blank.name ≡ L.name }
-    requires parts { blank.parts ≡ L.parts }
-    requires enough { blank.parts ≡ 80 }
-    requires opening { opened_schedule setup ≡ L.opening }
-{
-    let mut seated = seated_after::<L, R>(rt, alloc, blank, setup, steps)?;
-    same(rt, seated.close(rt, 0), Ok(()));
-    Ok(seated.ended(rt))
-}
 
 #[test]
 fn offers_fill_the_journal(rt: HostRuntime) -> Result<(), Fail> {
-    let setup = setup_of(rt.alloc(), 1, &[PLAIN])?;
-    let ended = ended_after::<Brand, _>(&rt, rt.alloc(), Blank::new(80), setup, FIFTEEN_FRAMES)?;
+    let ended = ended_after(&rt, rt.alloc(), 1, &[PLAIN], &[FIFTEEN_FRAMES, CLOSED])?;
     same(&rt, ended.journal().len(), 16);
     same(&rt, (ended.limit(), ended.is_full()), (16, true));
     Ok(())
@@ -44,26 +26,24 @@ fn offers_fill_the_journal(rt: HostRuntime) -> Result<(), Fail> {
 #[test]
 fn a_limit_has_limits(rt: HostRuntime) -> Result<(), Fail> {
     let setup = setup_of(rt.alloc(), 1, &[PLAIN])?;
-    short::<Brand, _>(&rt, rt.alloc(), Blank::new(80), setup)
+    let refused = short::<Brand>(rt.alloc(), Blank::new(80), setup);
+    same(&rt, refused, Some(HubError::BadLimit));
+    Ok(())
 }
 
-fn short<L: Epoch, R: Abort>(rt: &R, alloc: Global, blank: Blank, setup: Setup) -> Result<(), Fail>
+/// Why there is no hub for 15 entries.
+fn short<L: Epoch>(alloc: Global, blank: Blank, setup: Setup) -> Option<HubError>
     requires name { blank.name ≡ L.name }
     requires parts { blank.parts ≡ L.parts }
     requires enough { blank.parts ≡ 80 }
     requires opening { opened_schedule setup ≡ L.opening }
 {
-    match Hub::<L>::new(alloc, blank, setup, 15) {
-        Ok(_) => assert!(rt; false, "a limit of 15"),
-        Err(e) => same(rt, e, HubError::BadLimit),
-    }
-    Ok(())
+    Hub::<L>::new(alloc, blank, setup, 15).err()
 }
 
 #[test]
 fn leases_without_a_band_fill_the_journal(rt: HostRuntime) -> Result<(), Fail> {
-    let setup = setup_of(rt.alloc(), 1, &[PLAIN])?;
-    let ended = ended_after::<Brand, _>(&rt, rt.alloc(), Blank::new(80), setup, SEVEN_LEASES)?;
+    let ended = ended_after(&rt, rt.alloc(), 1, &[PLAIN], &[SEVEN_LEASES, CLOSED])?;
     same(&rt, ended.journal().len(), 16);
     let state = state_of(ended.account(0), ended.counts(0));
     same(&rt, state, Some([1, 4, 1, 0, 0, 0]));
@@ -74,8 +54,10 @@ fn leases_without_a_band_fill_the_journal(rt: HostRuntime) -> Result<(), Fail> {
 /// The entries of the settlement and the close are kept for them.
 #[test]
 fn a_lease_is_out_while_the_journal_fills(rt: HostRuntime) -> Result<(), Fail> {
-    let setup = setup_of(rt.alloc(), 1, &[PLAIN])?;
-    let ended = full_with_a_lease::<Brand, _>(&rt, rt.alloc(), Blank::new(80), setup)?;
+    let alloc = rt.alloc();
+    let frames = (frame_of(alloc, &[0x0C])?, frame_of(alloc, &[0x5A])?);
+    let setup = setup_of(alloc, 1, &[PLAIN])?;
+    let ended = full_with_a_lease::<Brand, _>(&rt, alloc, Blank::new(80), setup, frames)?;
     same(&rt, ended.journal().len(), 16);
     let state = state_of(ended.account(0), ended.counts(0));
     same(&rt, state, Some([1, 8, 13, 1, 0, 1]));
@@ -88,6 +70,7 @@ fn full_with_a_lease<L: Epoch, R: Wait + Abort>(
     alloc: Global,
     blank: Blank,
     setup: Setup,
+    frames: (Arc<Frame>, Arc<Frame>),
 ) -> Result<Ended, Fail>
     requires name { blank.name ≡ L.name }
     requires parts { blank.parts ≡ L.parts }
@@ -95,8 +78,8 @@ fn full_with_a_lease<L: Epoch, R: Wait + Abort>(
     requires opening { opened_schedule setup ≡ L.opening }
 {
     let mut seated = seated_after::<L, R>(rt, alloc, blank, setup, TWELVE_FRAMES)?;
-    fill_beside_a_lease(rt, alloc, &mut seated)?;
-    Ok(seated.ended(rt))
+    fill_beside_a_lease(rt, alloc, &mut seated, frames);
+    followed(rt, alloc, seated, &[BEHIND_THE_LEASE])
 }
 
 /// Leases the first of twelve frames, and offers the thirteenth and one more before its settlement.
@@ -104,8 +87,9 @@ fn fill_beside_a_lease<L: Epoch, R: Wait + Abort>(
     rt: &R,
     alloc: Global,
     seated: &mut Seated<L>,
-) -> Result<(), Fail> {
-    let (next, last) = (frame_of(alloc, &[0x0C])?, frame_of(alloc, &[0x5A])?);
+    frames: (Arc<Frame>, Arc<Frame>),
+) {
+    let (next, last) = frames;
     let lease = seated.try_lease(rt, 0).expect(rt, "a lease");
     same(rt, told(&lease), (0, 0, 1));
     let next = number_of(seated.offer(rt, alloc, 0, next));
@@ -116,7 +100,6 @@ fn fill_beside_a_lease<L: Epoch, R: Wait + Abort>(
     same(rt, seated.collected(rt, 0), empty);
     let done = seated.settled(rt, 0, stepped(lease, 1));
     same(rt, done, Ok(Settled::Finished(0)));
-    seated.follow(rt, alloc, BEHIND_THE_LEASE)
 }
 
 /// Nothing but the close is left.

@@ -1,9 +1,11 @@
 //! Jobs that were made outside, and frames that are offered in the memory of images.
-ghost use Rattle.std.specs.Prelude.{◌≡◌, IfOk, None};
+ghost use Rattle.std.specs.Prelude.{◌≡◌, IfOk, IsTrue, None};
+ghost use Rattle.std.specs.Arc.{arc_value};
+ghost use Rattle.lease.specs.Job.{JobValue};
 ghost use Rattle.serve_core.specs.Desk.{IsFreshFor};
-ghost use Rattle.serve_core.specs.Schedule.{opened_schedule};
+ghost use Rattle.serve_core.specs.Streams.{IsFresh};
 
-use super::seated::{Seated, seated_after};
+use super::seated::{Seated, ended_after};
 use super::steps::Answer::{Accepted, Closed, Given, Refused, Returned, Worked};
 use super::steps::Call::{Close, Collect, Offer, OfferOver, Work};
 use super::steps::{Answer, Step, follow};
@@ -11,11 +13,9 @@ use super::{Core, LINE, PLAIN, came_back, frame_of, same, setup_of};
 use frame_view::Frame;
 use lease::{Job, JobSpec, is_same_spec};
 use serve_core::Setup;
-use serve_hub::{Book, Ended, Epoch, Refusal, Settled};
+use serve_hub::{Book, Epoch, OverRefused, Refusal, Settled};
 use std::alloc::Global;
-use std::marker::Brand;
 use std::process::Abort;
-use std::sync::ledger::Blank;
 use std::sync::{Arc, Wait};
 use std::test::Fail;
 use y4m_header::check_frame_line;
@@ -47,73 +47,66 @@ const OVER_IMAGES: &[Step] = &[
     ),
 ];
 
-/// The job of a frame for stream `s`, whose chain this has to be.
-fn job_for(
-    alloc: Global,
-    book: &Book,
-    s: u32,
-    spec: &Arc<JobSpec>,
-    samples: &[u8],
-) -> Result<Job, Fail>
-    ensures fresh { IfOk result (λ job. IsFreshFor book.now.desk s job) }
+/// The job of a frame.
+fn job_for(alloc: Global, spec: &Arc<JobSpec>, samples: &[u8]) -> Result<Job, Fail>
+    ensures fresh { IfOk result (λ job. IsFresh (arc_value spec.now) job) }
     ensures waiting { IfOk result (λ job. job.scratch ≡ None) }
 {
-    let Some(there) = book.spec(s) else {
-        return Err("no stream".into());
-    };
-    if !is_same_spec(there, spec) {
-        return Err("another chain".into());
-    }
-    Ok(Job::new(alloc, spec.clone()?, frame_of(alloc, samples)?)?)
+    let frame = frame_of(alloc, samples)?;
+    Ok(Job::new(alloc, spec.clone()?, frame)?)
 }
 
 /// The same, in the memory of an image whose samples are 0.
-fn job_over_zeros(
-    alloc: Global,
-    book: &Book,
-    s: u32,
-    spec: &Arc<JobSpec>,
-    samples: &[u8],
-) -> Result<Job, Fail>
-    ensures fresh { IfOk result (λ job. IsFreshFor book.now.desk s job) }
+fn job_over_zeros(alloc: Global, spec: &Arc<JobSpec>, samples: &[u8]) -> Result<Job, Fail>
+    ensures fresh { IfOk result (λ job. IsFresh (arc_value spec.now) job) }
     ensures waiting { IfOk result (λ job. job.scratch ≡ None) }
 {
-    let Some(there) = book.spec(s) else {
-        return Err("no stream".into());
-    };
-    if !is_same_spec(there, spec) {
-        return Err("another chain".into());
-    }
     check_frame_line(LINE)?;
+    let frame = frame_of(alloc, samples)?;
     let image = Frame::blank(alloc, spec.chain().out_geometry(), LINE)?;
-    match Job::over(alloc, spec.clone()?, frame_of(alloc, samples)?, image) {
+    match Job::over(alloc, spec.clone()?, frame, image) {
         Ok(job) => Ok(job),
         Err(_) => Err("no job".into()),
     }
 }
 
-/// Offers a job of a frame for the first stream.
-fn offered_job(
-    alloc: Global,
-    book: &mut Book,
-    spec: &Arc<JobSpec>,
-    samples: &[u8],
-) -> Result<Answer, Fail> {
-    let job = job_for(alloc, book, 0, spec, samples)?;
-    answer_to_job(book, job, samples)
+/// Whether this is the chain of the first stream.
+fn is_first_spec(book: &Book, spec: &JobSpec) -> bool
+    ensures { IsTrue result → (job : JobValue) → IsFresh spec.now job → IsFreshFor book.now.desk 0 job }
+{
+    book.spec(0).is_some_and(|there| is_same_spec(there, spec))
 }
 
-/// Offers a job, whose frame comes back where it is refused.
-fn answer_to_job(book: &mut Book, job: Job, samples: &[u8]) -> Result<Answer, Fail>
-    requires fresh { IsFreshFor book.old.desk 0 job }
+/// What a refused job comes back as: its frame, and the memory of its image.
+type Back = (Refusal, (Arc<Frame>, Frame));
+
+/// Offers a job for the first stream.
+fn offered_job(rt: &impl Abort, book: &mut Book, spec: &JobSpec, job: Job) -> Result<u64, Back>
+    requires fresh { IsFresh spec.now job }
     requires waiting { job.scratch ≡ None }
 {
+    if !is_first_spec(book, spec) {
+        panic!(rt; "another chain");
+    }
     match book.offer_job(0, 0, job) {
+        Ok(number) => Ok(number),
+        Err((refusal, job)) => Err((refusal, job.undo())),
+    }
+}
+
+/// The answer of an offer whose frame came back where it was refused.
+fn frame_answer(answer: Result<u64, Back>, samples: &[u8]) -> Result<Answer, Fail> {
+    match answer {
         Ok(number) => Ok(Accepted(number)),
-        Err((refusal, job)) => {
-            let (frame, _image) = job.undo();
-            came_back(refusal, &frame, samples)
-        }
+        Err((refusal, (frame, _image))) => came_back(refusal, &frame, samples),
+    }
+}
+
+/// The answer of an offer whose frame came back with the image where it was refused.
+fn both_answer(answer: Result<u64, Back>, samples: &[u8]) -> Result<Answer, Fail> {
+    match answer {
+        Ok(number) => Ok(Accepted(number)),
+        Err((refusal, (frame, image))) => both_back(refusal, &frame, &image, samples),
     }
 }
 
@@ -122,8 +115,15 @@ fn a_job_is_made_outside(rt: HostRuntime) -> Result<(), Fail> {
     let alloc = rt.alloc();
     let setup = setup_of(alloc, 1, &[PLAIN])?;
     let spec = first_spec(&setup)?;
-    let mut book = Book::new(alloc, setup, 16)?;
-    serve_jobs(&rt, alloc, &mut book, &spec)
+    let jobs = (
+        job_for(alloc, &spec, &[0x01])?,
+        job_for(alloc, &spec, &[0x5A])?,
+    );
+    let answers = serve_jobs(&rt, alloc, setup, &spec, jobs, COLLECTED)?;
+    same(&rt, frame_answer(answers.0, &[0x01])?, Accepted(0));
+    let closed = Refused(Refusal::Core(Core::Closed));
+    same(&rt, frame_answer(answers.1, &[0x5A])?, closed);
+    Ok(())
 }
 
 /// The chain of the first stream.
@@ -132,36 +132,42 @@ fn first_spec(setup: &Setup) -> Result<Arc<JobSpec>, Fail> {
     Ok(stream.job().clone()?)
 }
 
-/// A job is offered, and another one behind the close.
+/// What a book answers to a job, and to another one behind these calls.
 fn serve_jobs(
     rt: &impl Abort,
     alloc: Global,
-    book: &mut Book,
-    spec: &Arc<JobSpec>,
-) -> Result<(), Fail> {
-    let offered = offered_job(alloc, book, spec, &[0x01])?;
-    same(rt, offered, Accepted(0));
-    follow(rt, alloc, book, COLLECTED)?;
-    let refused = offered_job(alloc, book, spec, &[0x5A])?;
-    same(rt, refused, Refused(Refusal::Core(Core::Closed)));
-    Ok(())
+    setup: Setup,
+    spec: &JobSpec,
+    jobs: (Job, Job),
+    steps: &[Step],
+) -> Result<(Result<u64, Back>, Result<u64, Back>), Fail>
+    requires first { IsFresh spec.now jobs.0 }
+    requires second { IsFresh spec.now jobs.1 }
+    requires first_waiting { jobs.0.scratch ≡ None }
+    requires second_waiting { jobs.1.scratch ≡ None }
+{
+    let (first, second) = jobs;
+    let mut book = Book::new(alloc, setup, 16)?;
+    let first = offered_job(rt, &mut book, spec, first);
+    follow(rt, alloc, &mut book, steps)?;
+    let second = offered_job(rt, &mut book, spec, second);
+    Ok((first, second))
 }
 
-/// Offers a job in the memory of an image of zeros, and answers with both where it is refused.
-fn offered_over(
-    alloc: Global,
-    book: &mut Book,
-    spec: &Arc<JobSpec>,
-    samples: &[u8],
-) -> Result<Answer, Fail> {
-    let job = job_over_zeros(alloc, book, 0, spec, samples)?;
-    match book.offer_job(0, 0, job) {
-        Ok(number) => Ok(Accepted(number)),
-        Err((refusal, job)) => {
-            let (frame, image) = job.undo();
-            both_back(refusal, &frame, &image, samples)
-        }
-    }
+#[test]
+fn an_image_lends_a_book_its_memory(rt: HostRuntime) -> Result<(), Fail> {
+    let alloc = rt.alloc();
+    let setup = setup_of(alloc, 1, &[PLAIN])?;
+    let spec = first_spec(&setup)?;
+    let jobs = (
+        job_over_zeros(alloc, &spec, &[0x5A])?,
+        job_over_zeros(alloc, &spec, &[0x01])?,
+    );
+    let answers = serve_jobs(&rt, alloc, setup, &spec, jobs, OTHER_COLLECTED)?;
+    same(&rt, both_answer(answers.0, &[0x5A])?, Accepted(0));
+    let want = Returned(Refusal::Core(Core::Closed), Some(0x00));
+    same(&rt, both_answer(answers.1, &[0x01])?, want);
+    Ok(())
 }
 
 /// The answer of an offer whose frame came back with the image.
@@ -177,31 +183,6 @@ fn both_back(
     Ok(Returned(refusal, image.data().first().copied()))
 }
 
-#[test]
-fn an_image_lends_a_book_its_memory(rt: HostRuntime) -> Result<(), Fail> {
-    let alloc = rt.alloc();
-    let setup = setup_of(alloc, 1, &[PLAIN])?;
-    let spec = first_spec(&setup)?;
-    let mut book = Book::new(alloc, setup, 16)?;
-    serve_jobs_over(&rt, alloc, &mut book, &spec)
-}
-
-/// A job over an image is offered, and another one behind the close.
-fn serve_jobs_over(
-    rt: &impl Abort,
-    alloc: Global,
-    book: &mut Book,
-    spec: &Arc<JobSpec>,
-) -> Result<(), Fail> {
-    let offered = offered_over(alloc, book, spec, &[0x5A])?;
-    same(rt, offered, Accepted(0));
-    follow(rt, alloc, book, OTHER_COLLECTED)?;
-    let refused = offered_over(alloc, book, spec, &[0x01])?;
-    let want = Returned(Refusal::Core(Core::Closed), Some(0x00));
-    same(rt, refused, want);
-    Ok(())
-}
-
 /// Collects an image of stream `s` of a hub, and offers a frame in its memory.
 pub(super) fn hub_offered_over<L: Epoch>(
     rt: &impl Wait,
@@ -210,14 +191,34 @@ pub(super) fn hub_offered_over<L: Epoch>(
     s: u32,
     samples: &[u8],
 ) -> Result<Answer, Fail> {
-    let Seated { hub, streams, .. } = seated;
-    let seat = streams.get_mut(s as usize).ok_or("no seat")?;
     let frame = frame_of(alloc, samples)?;
-    let pair = match hub.try_collect(rt, seat) {
-        Ok(pair) => pair,
-        Err(refused) => return Ok(Refused(refused.refusal)),
+    match over_image(rt, alloc, seated, s, frame) {
+        Ok(answer) => over_answer(answer, samples),
+        Err(refusal) => Ok(Refused(refusal)),
+    }
+}
+
+/// Why there is no image, or the answer of the offer.
+fn over_image<L: Epoch>(
+    rt: &impl Wait,
+    alloc: Global,
+    seated: &mut Seated<L>,
+    s: u32,
+    frame: Arc<Frame>,
+) -> Result<Result<u64, OverRefused>, Refusal> {
+    let Seated { hub, streams, .. } = seated;
+    let Some(seat) = streams.get_mut(s as usize) else {
+        return Err(Refusal::Core(Core::NoStream));
     };
-    match hub.offer_over(rt, alloc, seat, 0, frame, pair.image) {
+    match hub.try_collect(rt, seat) {
+        Ok(pair) => Ok(hub.offer_over(rt, alloc, seat, 0, frame, pair.image)),
+        Err(refused) => Err(refused.refusal),
+    }
+}
+
+/// The answer of an offer over an image, which came back with the frame where it was refused.
+fn over_answer(answer: Result<u64, OverRefused>, samples: &[u8]) -> Result<Answer, Fail> {
+    match answer {
         Ok(number) => Ok(Accepted(number)),
         Err(refused) => {
             let (frame, image) = refused.back.ok_or("nothing came back")?;
@@ -228,23 +229,7 @@ pub(super) fn hub_offered_over<L: Epoch>(
 
 #[test]
 fn an_image_lends_a_hub_its_memory(rt: HostRuntime) -> Result<(), Fail> {
-    let setup = setup_of(rt.alloc(), 1, &[PLAIN])?;
-    let ended = over::<Brand, _>(&rt, rt.alloc(), Blank::new(80), setup)?;
+    let ended = ended_after(&rt, rt.alloc(), 1, &[PLAIN], &[OVER_IMAGES])?;
     same(&rt, ended.journal().len(), 9);
     Ok(())
-}
-
-fn over<L: Epoch, R: Wait + Abort>(
-    rt: &R,
-    alloc: Global,
-    blank: Blank,
-    setup: Setup,
-) -> Result<Ended, Fail>
-    requires name { blank.name ≡ L.name }
-    requires parts { blank.parts ≡ L.parts }
-    requires enough { blank.parts ≡ 80 }
-    requires opening { opened_schedule setup ≡ L.opening }
-{
-    let seated = seated_after::<L, R>(rt, alloc, blank, setup, OVER_IMAGES)?;
-    Ok(seated.ended(rt))
 }

@@ -74,28 +74,34 @@ fn strayed(rt: &impl Abort, alloc: Global, book: &mut Book) -> Result<(), Fail> 
 #[test]
 fn a_worker_settles_its_own_lease(rt: HostRuntime) -> Result<(), Fail> {
     let alloc = rt.alloc();
-    let mut book = Book::new(alloc, setup_of(alloc, 2, &[TALL, TALL])?, 16)?;
-    two_work(&rt, alloc, &mut book)
+    let setup = setup_of(alloc, 2, &[TALL, TALL])?;
+    let mut book = Book::new(alloc, setup, 16)?;
+    follow(&rt, alloc, &mut book, TWO_TALL_FRAMES)?;
+    two_work(&rt, &mut book);
+    Ok(())
 }
 
 /// Both workers lease. The second can't settle the first one's lease.
-fn two_work(rt: &impl Abort, alloc: Global, book: &mut Book) -> Result<(), Fail> {
-    follow(rt, alloc, book, TWO_TALL_FRAMES)?;
+fn two_work(rt: &impl Abort, book: &mut Book) {
     let first = book.lease(0).expect(rt, "a lease");
     let second = book.lease(1).expect(rt, "a lease");
-    let first = match book.settle(1, first) {
-        Ok(_) => panic!(rt; "another worker's lease was settled"),
-        Err((refusal, first)) => {
-            same(rt, refusal, Refusal::StrayLease);
-            first
-        }
-    };
+    let first = came_back(rt, book.settle(1, first));
     let done = settled(book, 0, stepped(first, 1));
     same(rt, done, Ok(Settled::Returned));
     let done = settled(book, 1, stepped(second, 2));
     same(rt, done, Ok(Settled::Finished(0)));
     same(rt, (book.bands(0), book.bands(1)), (1, 2));
-    Ok(())
+}
+
+/// The lease that another worker has.
+fn came_back(rt: &impl Abort, answer: Result<Settled, (Refusal, Lease)>) -> Lease {
+    match answer {
+        Ok(_) => panic!(rt; "another worker's lease was settled"),
+        Err((refusal, lease)) => {
+            same(rt, refusal, Refusal::StrayLease);
+            lease
+        }
+    }
 }
 
 /// A worker without a lease has nothing to settle.
@@ -112,12 +118,16 @@ fn a_lease_of_another_book_comes_back(rt: HostRuntime) -> Result<(), Fail> {
 /// Two books can't tell each other's leases where stream, number, grant, first band and chain are the same.
 #[test]
 fn equal_leases_are_settled_crosswise(rt: HostRuntime) -> Result<(), Fail> {
-    let alloc = rt.alloc();
-    let dark = [(Call::Offer(0, 0x00), Answer::Accepted(0))];
-    let mut one = book_after(&rt, alloc, &[PLAIN], &dark)?;
-    let light = [(Call::Offer(0, 0x01), Answer::Accepted(0))];
-    let mut other = book_after(&rt, alloc, &[PLAIN], &light)?;
-    exchange(&rt, &mut one, &mut other);
+    let dark = &[(Call::Offer(0, 0x00), Answer::Accepted(0))];
+    let mut one = book_after(&rt, rt.alloc(), &[PLAIN], dark)?;
+    across(&rt, rt.alloc(), &mut one)
+}
+
+/// The book that has the other frame.
+fn across(rt: &impl Abort, alloc: Global, one: &mut Book) -> Result<(), Fail> {
+    let light = &[(Call::Offer(0, 0x01), Answer::Accepted(0))];
+    let mut other = book_after(rt, alloc, &[PLAIN], light)?;
+    exchange(rt, one, &mut other);
     Ok(())
 }
 
@@ -132,6 +142,15 @@ fn exchange(rt: &impl Abort, one: &mut Book, other: &mut Book) {
     same(rt, collected(one, 0), image);
 }
 
+/// A frame of one band.
+const ONE_BAND: &[Step] = &[
+    (Call::Offer(0, 0x5A), Answer::Accepted(0)),
+    (
+        Call::Work(0, 1),
+        Answer::Worked((0, 0, 1), Settled::Finished(0)),
+    ),
+];
+
 /// A band of a blur costs its radius more.
 #[test]
 fn units_are_what_bands_cost(rt: HostRuntime) -> Result<(), Fail> {
@@ -139,14 +158,7 @@ fn units_are_what_bands_cost(rt: HostRuntime) -> Result<(), Fail> {
         ops: "blur:8",
         ..PLAIN
     };
-    let steps = [
-        (Call::Offer(0, 0x5A), Answer::Accepted(0)),
-        (
-            Call::Work(0, 1),
-            Answer::Worked((0, 0, 1), Settled::Finished(0)),
-        ),
-    ];
-    let book = book_after(&rt, rt.alloc(), &[blurred], &steps)?;
+    let book = book_after(&rt, rt.alloc(), &[blurred], ONE_BAND)?;
     same(&rt, (book.bands(0), book.units(0)), (1, Some(9)));
     let state = state_of(book.desk().account(0), book.desk().counts(0));
     same(&rt, state, Some([1, 40, 1, 1, 0, 9]));

@@ -3,17 +3,17 @@ ghost use Rattle.std.specs.Prelude.{◌≡◌};
 ghost use Rattle.serve_core.specs.Schedule.{opened_schedule};
 ghost use Rattle.std.specs.Thread.{IsSend, IsSync};
 
-use super::clients::{Client, frames_of};
-use super::threads::{clients_of, work_all};
+use super::clients::{Client, Frames};
+use super::seated::{Seated, seated_of};
+use super::threads::work_all;
 use super::{PLAIN, same, setup_of, stream_spec_of};
-use frame_view::Frame;
 use serve_core::{Setup, StreamSpec};
-use serve_hub::{Epoch, Hub, StreamSeat, WorkSeat};
+use serve_hub::{Ended, Epoch, Hub, StreamSeat, WorkSeat};
 use std::alloc::Global;
 use std::marker::Brand;
 use std::process::Abort;
+use std::sync::Wait;
 use std::sync::ledger::Blank;
-use std::sync::{Arc, Wait};
 use std::test::Fail;
 use std::thread;
 use std::thread::Threads;
@@ -24,11 +24,27 @@ const FRAMES: u64 = 4;
 /// The first sample of each stream that is admitted.
 const FIRST: u32 = 8;
 
-/// What a stream is admitted with, and its frames.
+/// How many streams there are at first.
+const STREAMS: u32 = 8;
+
+/// The frames of a stream, and what another one is admitted with, and its frames.
 #[derive(Drop)]
 struct Entrant {
+    frames: Frames,
     spec: StreamSpec,
-    frames: Vec<Arc<Frame>>,
+    second: Frames,
+}
+
+fn entrants_of(alloc: Global) -> Result<Vec<Entrant>, Fail> {
+    let mut entrants = Vec::new(alloc);
+    for s in 0..STREAMS {
+        entrants.push(Entrant {
+            frames: Frames::new(alloc, s)?,
+            spec: stream_spec_of(alloc, &PLAIN)?,
+            second: Frames::new(alloc, FIRST)?,
+        })?;
+    }
+    Ok(entrants)
 }
 
 /// A client, and one whose stream it admits.
@@ -36,7 +52,7 @@ struct Entrant {
 struct Pair<L: Epoch> {
     alloc: Global,
     first: Client<L>,
-    entrant: Option<Entrant>,
+    entrant: Option<(StreamSpec, Frames)>,
     second: Option<Client<L>>,
 }
 
@@ -54,26 +70,41 @@ impl<L: Epoch> Pair<L> {
     }
 
     fn admitted<R: Wait>(&mut self, rt: &R, hub: &Hub<L>) -> Option<Client<L>> {
-        let Entrant { spec, frames } = self.entrant.take()?;
+        let (spec, frames) = self.entrant.take()?;
         let seat = hub.admit(rt, self.alloc, spec).ok()?;
-        Some(Client::over(self.alloc, seat, FIRST, frames))
+        Some(Client::new(self.alloc, seat, frames, false))
     }
 }
 
-fn pairs_of<L: Epoch>(alloc: Global, seats: Vec<StreamSeat<L>>) -> Result<Vec<Pair<L>>, Fail> {
+fn pairs_of<L: Epoch>(
+    rt: &impl Abort,
+    alloc: Global,
+    seats: Vec<StreamSeat<L>>,
+    entrants: Vec<Entrant>,
+) -> Vec<Pair<L>> {
     let mut pairs = Vec::new(alloc);
-    for first in clients_of(alloc, seats)? {
-        pairs.push(Pair {
-            alloc,
-            first,
-            entrant: Some(Entrant {
-                spec: stream_spec_of(alloc, &PLAIN)?,
-                frames: frames_of(alloc, FIRST)?,
-            }),
-            second: None,
-        })?;
+    let mut entrants = entrants.into_iter();
+    for seat in seats {
+        let pair = pair_of(alloc, seat, entrants.next().expect(rt, "an entrant"));
+        pairs
+            .push(pair)
+            .expect(rt, "was the memory of a pair refused?");
     }
-    Ok(pairs)
+    pairs
+}
+
+fn pair_of<L: Epoch>(alloc: Global, seat: StreamSeat<L>, entrant: Entrant) -> Pair<L> {
+    let Entrant {
+        frames,
+        spec,
+        second,
+    } = entrant;
+    Pair {
+        alloc,
+        first: Client::new(alloc, seat, frames, false),
+        entrant: Some((spec, second)),
+        second: None,
+    }
 }
 
 /// A thread for each pair, or one for some where others are refused.
@@ -94,12 +125,12 @@ fn serve_pairs<L: Epoch + Send + Sync, R: Threads + Wait + Sync>(
 }
 
 /// The workers work in a thread of their own while the pairs are served.
-fn run<L: Epoch + Send + Sync, R: Threads + Wait + Sync>(
+fn run<L: Epoch + Send + Sync, R: Threads + Wait + Abort + Sync>(
     rt: &R,
     hub: &Hub<L>,
     workers: Vec<WorkSeat<L>>,
     pairs: Vec<Pair<L>>,
-) -> Result<(Vec<WorkSeat<L>>, Vec<Pair<L>>), Fail> {
+) -> (Vec<WorkSeat<L>>, Vec<Pair<L>>) {
     thread::scope(
         thread::scope_env(),
         rt,
@@ -109,30 +140,28 @@ fn run<L: Epoch + Send + Sync, R: Threads + Wait + Sync>(
             match scope.spawn(move || work_all(rt, hub, workers, u64::MAX)) {
                 Ok(working) => {
                     let pairs = serve_pairs(rt, hub, pairs, FRAMES);
-                    Ok((working.join(rt), pairs))
+                    (working.join(rt), pairs)
                 }
-                Err(_) => Err("was a thread or its memory refused?".into()),
+                Err(_) => panic!(rt; "was a thread or its memory refused?"),
             }
         },
     )
 }
 
 /// The seats of clients who got all their images.
-fn seats_of<L: Epoch>(
-    rt: &impl Abort,
-    alloc: Global,
-    pairs: Vec<Pair<L>>,
-) -> Result<Vec<StreamSeat<L>>, Fail> {
+fn seats_of<L: Epoch>(rt: &impl Abort, alloc: Global, pairs: Vec<Pair<L>>) -> Vec<StreamSeat<L>> {
     let mut seats = Vec::new(alloc);
     for pair in pairs {
         let Pair { first, second, .. } = pair;
-        same(rt, (first.outcome, first.delivered), (Ok(()), FRAMES));
-        seats.push(first.seat)?;
-        let second = second.ok_or("was the memory of a stream refused?")?;
-        same(rt, (second.outcome, second.delivered), (Ok(()), FRAMES));
-        seats.push(second.seat)?;
+        let second = second.expect(rt, "was the memory of a stream refused?");
+        for client in [first, second] {
+            same(rt, (client.outcome, client.delivered), (Ok(()), FRAMES));
+            seats
+                .push(client.seat)
+                .expect(rt, "was the memory of a seat refused?");
+        }
     }
-    Ok(seats)
+    seats
 }
 
 /// Each frame is four calls, and each stream is closed. Half of the streams are admitted.
@@ -141,28 +170,44 @@ fn session<L: Epoch + Send + Sync, R: Threads + Wait + Abort + Sync>(
     alloc: Global,
     blank: Blank,
     setup: Setup,
-) -> Result<(), Fail>
+    entrants: Vec<Entrant>,
+) -> Result<Ended, Fail>
     requires name { blank.name ≡ L.name }
     requires parts { blank.parts ≡ L.parts }
     requires enough { blank.parts ≡ 80 }
     requires opening { opened_schedule setup ≡ L.opening }
 {
-    let (hub, seats, workers) = Hub::<L>::new(alloc, blank, setup, 300)?;
-    let pairs = pairs_of(alloc, seats)?;
-    let (workers, pairs) = run(rt, &hub, workers, pairs)?;
-    let seats = seats_of(rt, alloc, pairs)?;
-    match hub.finish(seats, workers) {
-        Ok(ended) => {
-            same(rt, ended.journal().len(), 16 * 17 + 8);
-            Ok(())
-        }
-        Err(mismatch) => Err(mismatch.fault.into()),
+    let seated = seated_of::<L>(alloc, blank, setup, 300)?;
+    Ok(served(rt, alloc, seated, entrants).ended(rt))
+}
+
+fn served<L: Epoch + Send + Sync, R: Threads + Wait + Abort + Sync>(
+    rt: &R,
+    alloc: Global,
+    seated: Seated<L>,
+    entrants: Vec<Entrant>,
+) -> Seated<L> {
+    let Seated {
+        hub,
+        streams,
+        workers,
+    } = seated;
+    let pairs = pairs_of(rt, alloc, streams, entrants);
+    let (workers, pairs) = run(rt, &hub, workers, pairs);
+    let streams = seats_of(rt, alloc, pairs);
+    Seated {
+        hub,
+        streams,
+        workers,
     }
 }
 
 #[test]
 fn eight_threads_admit_a_stream_each(rt: HostRuntime) -> Result<(), Fail> {
     let alloc = rt.alloc();
-    let setup = setup_of(alloc, 4, &[PLAIN; 8])?;
-    session::<Brand, _>(&rt, alloc, Blank::new(80), setup)
+    let setup = setup_of(alloc, 4, &[PLAIN; STREAMS as usize])?;
+    let entrants = entrants_of(alloc)?;
+    let ended = session::<Brand, _>(&rt, alloc, Blank::new(80), setup, entrants)?;
+    same(&rt, ended.journal().len(), 16 * 17 + 8);
+    Ok(())
 }

@@ -4,15 +4,18 @@ ghost use Rattle.serve_core.specs.Schedule.{opened_schedule};
 
 use super::jobs::hub_offered_over;
 use super::steps::{Answer, Call, Step, closed};
-use super::{Core, Served, came_back, frame_of, same, stepped, stream_spec_of, told};
+use super::{
+    Core, Served, came_back, frame_of, same, same_at, setup_of, stepped, stream_spec_of, told,
+};
 use frame_view::Frame;
 use lease::Lease;
 use serve_core::{Collected, Setup};
 use serve_hub::{
-    CollectRefused, Ended, Epoch, Hub, LeaseRefused, Mismatch, OfferRefused, Refusal, Reopened,
-    Settled, StreamSeat, WorkSeat,
+    AdmitRefused, CollectRefused, Ended, Epoch, Hub, LeaseRefused, Mismatch, Moments, OfferRefused,
+    Refusal, Reopened, Settled, StreamSeat, WorkSeat,
 };
 use std::alloc::Global;
+use std::marker::Brand;
 use std::process::Abort;
 use std::sync::ledger::Blank;
 use std::sync::{Arc, Wait};
@@ -30,14 +33,19 @@ pub(super) struct Seated<L: Epoch> {
     pub(super) workers: Vec<WorkSeat<L>>,
 }
 
-/// A hub of this setup, for at most 16 entries.
-fn seated_of<L: Epoch>(alloc: Global, blank: Blank, setup: Setup) -> Result<Seated<L>, Fail>
+/// A hub of this setup, for so many entries.
+pub(super) fn seated_of<L: Epoch>(
+    alloc: Global,
+    blank: Blank,
+    setup: Setup,
+    limit: usize,
+) -> Result<Seated<L>, Fail>
     requires name { blank.name ≡ L.name }
     requires parts { blank.parts ≡ L.parts }
     requires enough { blank.parts ≡ 80 }
     requires opening { opened_schedule setup ≡ L.opening }
 {
-    let (hub, streams, workers) = Hub::<L>::new(alloc, blank, setup, 16)?;
+    let (hub, streams, workers) = Hub::<L>::new(alloc, blank, setup, limit)?;
     Ok(Seated {
         hub,
         streams,
@@ -58,9 +66,96 @@ pub(super) fn seated_after<L: Epoch, R: Wait + Abort>(
     requires enough { blank.parts ≡ 80 }
     requires opening { opened_schedule setup ≡ L.opening }
 {
-    let mut seated = seated_of::<L>(alloc, blank, setup)?;
+    let mut seated = seated_of::<L>(alloc, blank, setup, 16)?;
     seated.follow(rt, alloc, steps)?;
     Ok(seated)
+}
+
+/// What a hub leaves after these calls.
+pub(super) fn followed<L: Epoch, R: Wait + Abort>(
+    rt: &R,
+    alloc: Global,
+    seated: Seated<L>,
+    parts: &[&[Step]],
+) -> Result<Ended, Fail> {
+    let mut seated = seated;
+    seated.follow_all(rt, alloc, parts)?;
+    Ok(seated.ended(rt))
+}
+
+fn first_after<L: Epoch, R: Wait + Abort>(
+    rt: &R,
+    alloc: Global,
+    blank: Blank,
+    setup: Setup,
+    parts: &[&[Step]],
+) -> Result<Ended, Fail>
+    requires name { blank.name ≡ L.name }
+    requires parts { blank.parts ≡ L.parts }
+    requires enough { blank.parts ≡ 80 }
+    requires opening { opened_schedule setup ≡ L.opening }
+{
+    let seated = seated_of::<L>(alloc, blank, setup, 16)?;
+    followed(rt, alloc, seated, parts)
+}
+
+/// What a hub of so many workers leaves after these calls, for at most 16 entries.
+pub(super) fn ended_after<R: Wait + Abort>(
+    rt: &R,
+    alloc: Global,
+    workers: u64,
+    streams: &[Served<'_>],
+    parts: &[&[Step]],
+) -> Result<Ended, Fail> {
+    let setup = setup_of(alloc, workers, streams)?;
+    first_after::<Brand, R>(rt, alloc, Blank::new(80), setup, parts)
+}
+
+/// The next epoch of a hub.
+pub(super) fn reopened_of<L: Epoch>(
+    alloc: Global,
+    blank: Blank,
+    ended: Ended,
+    limit: usize,
+) -> Result<Reopened<L>, Fail>
+    requires name { blank.name ≡ L.name }
+    requires parts { blank.parts ≡ L.parts }
+    requires enough { blank.parts ≡ 80 }
+    requires opening { ended.book.desk ≡ L.opening }
+{
+    match Hub::<L>::reopen(alloc, blank, ended, limit) {
+        Ok(reopened) => Ok(reopened),
+        Err(refused) => Err(refused.refusal.into()),
+    }
+}
+
+fn next_after<L: Epoch, R: Wait + Abort>(
+    rt: &R,
+    alloc: Global,
+    blank: Blank,
+    ended: Ended,
+    parts: &[&[Step]],
+) -> Result<(Ended, usize), Fail>
+    requires name { blank.name ≡ L.name }
+    requires parts { blank.parts ≡ L.parts }
+    requires enough { blank.parts ≡ 80 }
+    requires opening { ended.book.desk ≡ L.opening }
+{
+    let reopened = reopened_of::<L>(alloc, blank, ended, 16)?;
+    let entries = reopened.journal.len();
+    let ended = followed(rt, alloc, Seated::again(reopened), parts)?;
+    Ok((ended, entries))
+}
+
+/// What the next epoch of a hub leaves after these calls, for at most 16 entries, and how many entries the
+/// one before it had.
+pub(super) fn again_after<R: Wait + Abort>(
+    rt: &R,
+    alloc: Global,
+    ended: Ended,
+    parts: &[&[Step]],
+) -> Result<(Ended, usize), Fail> {
+    next_after::<Brand, R>(rt, alloc, Blank::new(80), ended, parts)
 }
 
 impl<L: Epoch> Seated<L> {
@@ -89,21 +184,43 @@ impl<L: Epoch> Seated<L> {
         for step in steps {
             let (call, want) = *step;
             let got = self.answer_to(rt, alloc, call)?;
-            same(rt, (call, got), (call, want));
+            same_at(rt, got, want, call);
+        }
+        Ok(())
+    }
+
+    /// Calls the hub in turn, part by part.
+    fn follow_all<R: Wait + Abort>(
+        &mut self,
+        rt: &R,
+        alloc: Global,
+        parts: &[&[Step]],
+    ) -> Result<(), Fail> {
+        for part in parts {
+            self.follow(rt, alloc, part)?;
         }
         Ok(())
     }
 
     /// What the hub answers to a call.
-    fn answer_to(&mut self, rt: &impl Wait, alloc: Global, call: Call) -> Result<Answer, Fail> {
+    pub(super) fn answer_to<R: Wait + Abort>(
+        &mut self,
+        rt: &R,
+        alloc: Global,
+        call: Call,
+    ) -> Result<Answer, Fail> {
         match call {
             Call::Offer(s, sample) => self.offered(rt, alloc, s, &[sample]),
+            Call::OfferAt(s, at, sample) => self.offered_at(rt, alloc, s, at, sample),
             Call::OfferTall(s) => self.offered(rt, alloc, s, &[1, 2, 3, 4]),
             Call::OfferOver(s, sample) => hub_offered_over(rt, alloc, self, s, &[sample]),
+            Call::Admit(served) => self.admitted(rt, alloc, served),
             Call::Work(w, bands) => Ok(self.worked(rt, w, bands)),
+            Call::WaitAndWork(w, bands) => Ok(self.waited_and_worked(rt, w, bands)),
             Call::Collect(s) => Ok(given(self.try_collect(rt, s))),
             Call::CollectSoon(s) => Ok(given(self.collect_soon(rt, s))),
             Call::Close(s) => Ok(closed(self.close(rt, s))),
+            Call::IsFull => Ok(Answer::Full(self.hub.is_full(rt))),
         }
     }
 
@@ -115,9 +232,20 @@ impl<L: Epoch> Seated<L> {
         s: u32,
         frame: Arc<Frame>,
     ) -> Result<u64, OfferRefused> {
+        self.offer_at(rt, alloc, s, 0, frame)
+    }
+
+    fn offer_at(
+        &mut self,
+        rt: &impl Wait,
+        alloc: Global,
+        s: u32,
+        at: u64,
+        frame: Arc<Frame>,
+    ) -> Result<u64, OfferRefused> {
         let Seated { hub, streams, .. } = self;
         match streams.get_mut(s as usize) {
-            Some(seat) => hub.offer(rt, alloc, seat, 0, frame),
+            Some(seat) => hub.offer(rt, alloc, seat, at, frame),
             None => Err(OfferRefused {
                 refusal: NO_STREAM,
                 frame: Some(frame),
@@ -134,28 +262,55 @@ impl<L: Epoch> Seated<L> {
         samples: &[u8],
     ) -> Result<Answer, Fail> {
         let frame = frame_of(alloc, samples)?;
-        match self.offer(rt, alloc, s, frame) {
-            Ok(number) => Ok(Answer::Accepted(number)),
-            Err(refused) => {
-                let frame = refused.frame.ok_or("no frame")?;
-                came_back(refused.refusal, &frame, samples)
-            }
-        }
+        let answer = self.offer(rt, alloc, s, frame);
+        offer_answer(answer, samples)
     }
 
-    /// Admits a stream, whose seat comes behind the others.
-    pub(super) fn admit(
+    /// Offers a frame of this sample at a moment, and tells the seat's moments.
+    fn offered_at(
         &mut self,
         rt: &impl Wait,
         alloc: Global,
+        s: u32,
+        at: u64,
+        sample: u8,
+    ) -> Result<Answer, Fail> {
+        let frame = frame_of(alloc, &[sample])?;
+        let answer = self.offer_at(rt, alloc, s, at, frame);
+        let moments = self.moments(s);
+        Ok(with_moments(offer_answer(answer, &[sample])?, moments))
+    }
+
+    fn moments(&self, s: u32) -> Option<Moments> {
+        self.streams.get(s as usize)?.moments()
+    }
+
+    /// Admits a stream.
+    fn admitted<R: Wait + Abort>(
+        &mut self,
+        rt: &R,
+        alloc: Global,
         served: &Served<'_>,
-    ) -> Result<Option<Refusal>, Fail> {
-        match self.hub.admit(rt, alloc, stream_spec_of(alloc, served)?) {
+    ) -> Result<Answer, Fail> {
+        let spec = stream_spec_of(alloc, served)?;
+        let answer = self.hub.admit(rt, alloc, spec);
+        Ok(self.taken(rt, answer))
+    }
+
+    /// The seat of a stream that was admitted comes behind the others. Its admission is its one call.
+    fn taken(&mut self, rt: &impl Abort, answer: Result<StreamSeat<L>, AdmitRefused>) -> Answer {
+        match answer {
             Ok(seat) => {
-                self.streams.push(seat)?;
-                Ok(None)
+                let number = seat.number();
+                same(rt, seat.calls().len(), 1);
+                self.streams
+                    .push(seat)
+                    .expect(rt, "was the memory of a place refused?");
+                Answer::Admitted(number)
             }
-            Err(refused) => Ok(Some(refused.refusal)),
+            Err(AdmitRefused { refusal, spec }) => {
+                Answer::SpecBack(refusal, spec.queue(), spec.outbox())
+            }
         }
     }
 
@@ -253,10 +408,21 @@ impl<L: Epoch> Seated<L> {
 
     /// A lease that is settled after this many bands.
     pub(super) fn worked(&mut self, rt: &impl Wait, w: u32, bands: u32) -> Answer {
-        let lease = match self.try_lease(rt, w) {
-            Ok(lease) => lease,
-            Err(refusal) => return Answer::Refused(refusal),
-        };
+        match self.try_lease(rt, w) {
+            Ok(lease) => self.worked_off(rt, w, lease, bands),
+            Err(refusal) => Answer::Refused(refusal),
+        }
+    }
+
+    /// The same, of a lease that the worker waits for.
+    fn waited_and_worked<R: Wait>(&mut self, rt: &R, w: u32, bands: u32) -> Answer {
+        match self.lease(rt, w) {
+            Ok(lease) => self.worked_off(rt, w, lease, bands),
+            Err(refusal) => Answer::Refused(refusal),
+        }
+    }
+
+    fn worked_off(&mut self, rt: &impl Wait, w: u32, lease: Lease, bands: u32) -> Answer {
         let lent = told(&lease);
         match self.settled(rt, w, stepped(lease, bands)) {
             Ok(done) => Answer::Worked(lent, done),
@@ -279,6 +445,25 @@ impl<L: Epoch> Seated<L> {
             Ok(ended) => ended,
             Err(mismatch) => panic!(rt; "not ended for {:?}", mismatch.fault),
         }
+    }
+}
+
+/// The answer of an offer, whose frame came back where it was refused.
+fn offer_answer(answer: Result<u64, OfferRefused>, samples: &[u8]) -> Result<Answer, Fail> {
+    match answer {
+        Ok(number) => Ok(Answer::Accepted(number)),
+        Err(refused) => {
+            let frame = refused.frame.ok_or("no frame")?;
+            came_back(refused.refusal, &frame, samples)
+        }
+    }
+}
+
+/// The answer of an offer, with the seat's moments where it was accepted.
+fn with_moments(answer: Answer, moments: Option<Moments>) -> Answer {
+    match answer {
+        Answer::Accepted(number) => Answer::AcceptedAt(number, moments),
+        answer => answer,
     }
 }
 

@@ -4,10 +4,10 @@ ghost use Rattle.serve_core.specs.Schedule.{opened_schedule};
 
 use super::leases::{TALL, TALL_FRAME, strays};
 use super::seated::{Seated, seated_after};
-use super::steps::{Answer, Call};
-use super::{Core, PLAIN, same, setup_of, stepped, told};
-use lease::Lease;
-use serve_core::Setup;
+use super::steps::{Answer, Call, Step};
+use super::{Core, PLAIN, Served, job_spec_of, same, setup_of, stepped, told};
+use lease::{JobSpec, Lease, is_same_spec};
+use serve_core::{Collected, Setup};
 use serve_hub::{Came, CollectRefused, Ended, Epoch, Fault, Refusal, Settled};
 use std::alloc::Global;
 use std::marker::Brand;
@@ -16,16 +16,29 @@ use std::sync::Wait;
 use std::sync::ledger::Blank;
 use std::test::Fail;
 
-/// The lease comes back, since it isn't the one that the worker got.
+/// The lease comes back, with what it told before.
 fn came_back<L: Epoch, R: Wait + Abort>(
     rt: &R,
     seated: &mut Seated<L>,
     w: u32,
     lease: Lease,
+    refusal: Refusal,
 ) -> Lease {
-    match seated.settle(rt, w, lease) {
-        Err((refusal, Some(lease))) => {
-            same(rt, refusal, Refusal::StrayLease);
+    let lent = told(&lease);
+    let lease = refused(rt, seated.settle(rt, w, lease), refusal);
+    same(rt, told(&lease), lent);
+    lease
+}
+
+/// The lease that came back with this refusal.
+fn refused(
+    rt: &impl Abort,
+    answer: Result<Settled, (Refusal, Option<Lease>)>,
+    refusal: Refusal,
+) -> Lease {
+    match answer {
+        Err((got, Some(lease))) => {
+            same(rt, got, refusal);
             lease
         }
         Err((_, None)) => panic!(rt; "a stray lease was kept"),
@@ -48,45 +61,87 @@ fn not_ended<L: Epoch, R: Abort>(rt: &R, seated: Seated<L>, fault: Fault) -> Sea
     }
 }
 
+/// The frames of two streams.
+const TWO_FRAMES: &[Step] = &[
+    (Call::Offer(0, 0x00), Answer::Accepted(0)),
+    (Call::Offer(1, 0x00), Answer::Accepted(0)),
+];
+
+const DARK: &[Step] = &[(Call::Offer(0, 0x00), Answer::Accepted(0))];
+
+const LIGHT: &[Step] = &[(Call::Offer(0, 0x01), Answer::Accepted(0))];
+
+/// A stream with another chain.
+const FLIPPED: Served<'static> = Served {
+    ops: "hflip",
+    ..PLAIN
+};
+
 #[test]
 fn seats_come_early(rt: HostRuntime) -> Result<(), Fail> {
     let alloc = rt.alloc();
     let setup = setup_of(alloc, 2, &[PLAIN, PLAIN])?;
-    let strange = setup_of(alloc, 1, &[PLAIN])?;
-    early::<Brand, Brand, _>(&rt, alloc, Blank::new(80), Blank::new(80), setup, strange)
+    let strange = setup_of(alloc, 1, &[FLIPPED])?;
+    let spec = job_spec_of(alloc, &FLIPPED)?;
+    let ended = early::<Brand, _>(&rt, alloc, Blank::new(80), setup, strange, &spec)?;
+    same(&rt, ended.journal().len(), 6);
+    Ok(())
 }
 
-fn early<L: Epoch, M: Epoch, R: Wait + Abort>(
+fn early<L: Epoch, R: Wait + Abort>(
     rt: &R,
     alloc: Global,
     blank: Blank,
-    other: Blank,
     setup: Setup,
     strange: Setup,
-) -> Result<(), Fail>
+    spec: &JobSpec,
+) -> Result<Ended, Fail>
     requires name { blank.name ≡ L.name }
     requires parts { blank.parts ≡ L.parts }
     requires enough { blank.parts ≡ 80 }
-    requires other_name { other.name ≡ M.name }
-    requires other_parts { other.parts ≡ M.parts }
-    requires other_enough { other.parts ≡ 80 }
     requires opening { opened_schedule setup ≡ L.opening }
-    requires other_opening { opened_schedule strange ≡ M.opening }
 {
-    let frame = [(Call::Offer(0, 0x00), Answer::Accepted(0))];
-    let mut stranger = seated_after::<M, R>(rt, alloc, other, strange, &frame)?;
-    let frames = [
-        (Call::Offer(0, 0x00), Answer::Accepted(0)),
-        (Call::Offer(1, 0x00), Answer::Accepted(0)),
-    ];
-    let seated = seated_after::<L, R>(rt, alloc, blank, setup, &frames)?;
+    let seated = seated_after::<L, R>(rt, alloc, blank, setup, TWO_FRAMES)?;
     let mut seated = settled_in_time(rt, seated);
-    let lease = stranger.try_lease(rt, 0).expect(rt, "a lease");
-    let refused = seated.settled(rt, 0, lease);
-    same(rt, refused, Err(Refusal::Core(Core::NoLease)));
-    let ended = with_all_seats(rt, seated);
-    same(rt, ended.journal().len(), 6);
+    refuses_another(rt, alloc, &mut seated, strange, spec)?;
+    Ok(with_all_seats(rt, seated))
+}
+
+/// The lease of another hub, over this chain, comes back to a worker that has none.
+fn refuses_another<L: Epoch, R: Wait + Abort>(
+    rt: &R,
+    alloc: Global,
+    seated: &mut Seated<L>,
+    strange: Setup,
+    spec: &JobSpec,
+) -> Result<(), Fail> {
+    let lease = lease_of_another::<Brand, R>(rt, alloc, Blank::new(80), strange)?;
+    let lease = came_back(rt, seated, 0, lease, Refusal::Core(Core::NoLease));
+    same(rt, told(&lease), (0, 0, 1));
+    same(rt, lease.source().data(), [0x00].as_slice());
+    same(
+        rt,
+        (is_same_spec(lease.spec(), spec), lease.used()),
+        (true, 0),
+    );
+    let _job = lease.into_job();
     Ok(())
+}
+
+/// The lease of a hub of one frame, which it never gets back.
+fn lease_of_another<L: Epoch, R: Wait + Abort>(
+    rt: &R,
+    alloc: Global,
+    blank: Blank,
+    setup: Setup,
+) -> Result<Lease, Fail>
+    requires name { blank.name ≡ L.name }
+    requires parts { blank.parts ≡ L.parts }
+    requires enough { blank.parts ≡ 80 }
+    requires opening { opened_schedule setup ≡ L.opening }
+{
+    let mut seated = seated_after::<L, R>(rt, alloc, blank, setup, DARK)?;
+    Ok(seated.try_lease(rt, 0).expect(rt, "a lease"))
 }
 
 /// The end of a hub, which can't be ended while a seat is missing.
@@ -106,7 +161,7 @@ fn settled_in_time<L: Epoch, R: Wait + Abort>(rt: &R, seated: Seated<L>) -> Seat
     let first = seated.lease(rt, 0).expect(rt, "a lease");
     let second = seated.try_lease(rt, 1).expect(rt, "a lease");
     same(rt, (told(&first), told(&second)), ((0, 0, 1), (1, 0, 1)));
-    let first = came_back(rt, &mut seated, 1, first);
+    let first = came_back(rt, &mut seated, 1, first, Refusal::StrayLease);
     let mut seated = not_ended(rt, seated, Fault::LeaseOut);
     same(rt, seated.settled(rt, 0, first), Ok(Settled::Returned));
     same(rt, seated.settled(rt, 1, second), Ok(Settled::Returned));
@@ -143,8 +198,8 @@ fn settle_strays<L: Epoch, R: Wait + Abort>(
     let (smaller, later) = strays(alloc)?;
     let lease = seated.try_lease(rt, 0).expect(rt, "a lease");
     same(rt, told(&lease), (0, 0, 2));
-    let smaller = came_back(rt, seated, 0, smaller);
-    let later = came_back(rt, seated, 0, later);
+    let smaller = came_back(rt, seated, 0, smaller, Refusal::StrayLease);
+    let later = came_back(rt, seated, 0, later, Refusal::StrayLease);
     let _jobs = (smaller.into_job(), later.into_job());
     let done = seated.settled(rt, 0, stepped(lease, 2));
     same(rt, done, Ok(Settled::Finished(0)));
@@ -156,36 +211,57 @@ fn settle_strays<L: Epoch, R: Wait + Abort>(
 fn equal_leases_are_settled_crosswise(rt: HostRuntime) -> Result<(), Fail> {
     let alloc = rt.alloc();
     let (setup, twin) = (setup_of(alloc, 1, &[PLAIN])?, setup_of(alloc, 1, &[PLAIN])?);
-    crosswise::<Brand, Brand, _>(&rt, alloc, Blank::new(80), Blank::new(80), setup, twin)
+    let ended = crosswise::<Brand, _>(&rt, alloc, Blank::new(80), setup, twin)?;
+    same(&rt, ended.journal().len(), 4);
+    Ok(())
 }
 
-fn crosswise<L: Epoch, M: Epoch, R: Wait + Abort>(
+fn crosswise<L: Epoch, R: Wait + Abort>(
     rt: &R,
     alloc: Global,
     blank: Blank,
-    other: Blank,
     setup: Setup,
     twin: Setup,
-) -> Result<(), Fail>
+) -> Result<Ended, Fail>
     requires name { blank.name ≡ L.name }
     requires parts { blank.parts ≡ L.parts }
     requires enough { blank.parts ≡ 80 }
-    requires other_name { other.name ≡ M.name }
-    requires other_parts { other.parts ≡ M.parts }
-    requires other_enough { other.parts ≡ 80 }
     requires opening { opened_schedule setup ≡ L.opening }
-    requires other_opening { opened_schedule twin ≡ M.opening }
 {
-    let dark = [(Call::Offer(0, 0x00), Answer::Accepted(0))];
-    let mut one = seated_after::<L, R>(rt, alloc, blank, setup, &dark)?;
-    let light = [(Call::Offer(0, 0x01), Answer::Accepted(0))];
-    let mut two = seated_after::<M, R>(rt, alloc, other, twin, &light)?;
-    exchange(rt, &mut one, &mut two);
+    let mut one = seated_after::<L, R>(rt, alloc, blank, setup, DARK)?;
+    other_across(rt, alloc, &mut one, twin)?;
     same(rt, torn(rt, &mut one), Some(0xFE));
-    same(rt, torn(rt, &mut two), Some(0xFF));
-    let (one, two) = (one.ended(rt), two.ended(rt));
-    same(rt, (one.journal().len(), two.journal().len()), (4, 4));
+    Ok(one.ended(rt))
+}
+
+/// The hub that has the other frame.
+fn other_across<L: Epoch, R: Wait + Abort>(
+    rt: &R,
+    alloc: Global,
+    one: &mut Seated<L>,
+    twin: Setup,
+) -> Result<(), Fail> {
+    let ended = across::<L, Brand, R>(rt, alloc, one, Blank::new(80), twin)?;
+    same(rt, ended.journal().len(), 4);
     Ok(())
+}
+
+fn across<L: Epoch, M: Epoch, R: Wait + Abort>(
+    rt: &R,
+    alloc: Global,
+    one: &mut Seated<L>,
+    blank: Blank,
+    setup: Setup,
+) -> Result<Ended, Fail>
+    requires name { blank.name ≡ M.name }
+    requires parts { blank.parts ≡ M.parts }
+    requires enough { blank.parts ≡ 80 }
+    requires opening { opened_schedule setup ≡ M.opening }
+{
+    let mut two = seated_after::<M, R>(rt, alloc, blank, setup, LIGHT)?;
+    exchange(rt, one, &mut two);
+    same(rt, torn(rt, &mut two), Some(0xFF));
+    Ok(two.ended(rt))
 }
 
 /// The worker of each hub settles the other's lease.
@@ -199,16 +275,16 @@ fn exchange<L: Epoch, M: Epoch, R: Wait + Abort>(rt: &R, one: &mut Seated<L>, tw
 
 /// The first sample of an image of another frame than the oldest that the seat keeps, which it gives up.
 fn torn<L: Epoch, R: Wait + Abort>(rt: &R, seated: &mut Seated<L>) -> Option<u8> {
-    match seated.try_collect(rt, 0) {
-        Ok(_) => panic!(rt; "not torn"),
-        Err(refused) => {
-            let CollectRefused { refusal, pair } = refused;
-            same(rt, refusal, Refusal::Torn(Came::Source));
-            for seat in &seated.streams {
-                same(rt, seat.kept(), 0);
-            }
-            let pair = pair.expect(rt, "an image");
-            pair.image.data().first().copied()
-        }
+    let sample = torn_sample(rt, seated.try_collect(rt, 0));
+    for seat in &seated.streams {
+        same(rt, seat.kept(), 0);
     }
+    sample
+}
+
+fn torn_sample(rt: &impl Abort, answer: Result<Collected, CollectRefused>) -> Option<u8> {
+    let CollectRefused { refusal, pair } = answer.expect_err(rt, "not torn");
+    same(rt, refusal, Refusal::Torn(Came::Source));
+    let pair = pair.expect(rt, "an image");
+    pair.image.data().first().copied()
 }

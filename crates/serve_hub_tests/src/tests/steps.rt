@@ -1,29 +1,37 @@
 //! Calls on a book or a hub, with the answers that were worked out by hand.
 use self::Answer::{Accepted, Given, Refused, Worked};
 use self::Call::{Close, Collect, Offer, Work};
-use super::{Core, Served, book_of, collected, offered, same, worked};
-use serve_hub::{Book, Refusal, Settled};
+use super::{Core, Served, book_of, collected, offered, same_at, worked};
+use serve_hub::{Book, Moments, Refusal, Settled};
 use std::alloc::Global;
 use std::process::Abort;
 use std::test::Fail;
 
-/// A call of a stream or a worker, by its number, at moment 0.
-#[derive(Clone, Copy, Debug, PartialEq)]
+/// A call of a stream or a worker, by its number, at moment 0 if no other is told.
+#[derive(Clone, Copy, Debug)]
 pub(super) enum Call {
     /// The stream offers a frame of this sample.
     Offer(u32, u8),
+    /// The stream offers a frame of this sample at this moment.
+    OfferAt(u32, u64, u8),
     /// The stream offers a frame of the samples 1 to 4.
     OfferTall(u32),
     /// The stream of a hub collects an image, and offers a frame of this sample in its memory.
     OfferOver(u32, u8),
     /// The worker leases, does so many bands, and settles.
     Work(u32, u32),
+    /// The worker of a hub does the same, but waits for the lease.
+    WaitAndWork(u32, u32),
     /// The stream collects an image.
     Collect(u32),
     /// The stream of a hub collects an image that comes soon.
     CollectSoon(u32),
     /// The stream is closed.
     Close(u32),
+    /// A hub admits a stream.
+    Admit(&'static Served<'static>),
+    /// A hub tells whether its journal is full.
+    IsFull,
 }
 
 /// What a call answers.
@@ -31,6 +39,8 @@ pub(super) enum Call {
 pub(super) enum Answer {
     /// The frame has this number.
     Accepted(u64),
+    /// The same of a hub, and the seat had these moments then.
+    AcceptedAt(u64, Option<Moments>),
     /// What the lease told, and what became of its frame.
     Worked((u32, u64, u32), Settled),
     /// The first sample of the source and of the image.
@@ -41,6 +51,12 @@ pub(super) enum Answer {
     Refused(Refusal),
     /// The offer was refused, and the frame came back with an image of this one sample.
     Returned(Refusal, Option<u8>),
+    /// The stream has this number.
+    Admitted(u32),
+    /// The stream was refused, and its spec came back with this queue and this outbox.
+    SpecBack(Refusal, u64, u64),
+    /// Whether the journal is full.
+    Full(bool),
 }
 
 /// A call, and the answer that is wanted.
@@ -59,6 +75,9 @@ pub(super) const FIRST_IMAGE: &[Step] = &[
     (Work(0, 0), Refused(Refusal::Core(Core::NoneReady))),
     (Collect(0), Refused(Refusal::Core(Core::Empty))),
 ];
+
+/// The end of the first stream.
+pub(super) const CLOSED: &[Step] = &[(Close(0), Answer::Closed)];
 
 /// What is answered once the stream is closed and its images are collected.
 pub(super) const AFTER_CLOSE: &[Step] = &[
@@ -139,7 +158,7 @@ pub(super) fn follow(
     for step in steps {
         let (call, want) = *step;
         let got = answer_to(alloc, book, call)?;
-        same(rt, (call, got), (call, want));
+        same_at(rt, got, want, call);
     }
     Ok(())
 }
@@ -148,12 +167,12 @@ pub(super) fn follow(
 fn answer_to(alloc: Global, book: &mut Book, call: Call) -> Result<Answer, Fail> {
     match call {
         Offer(s, sample) => offered(alloc, book, s, 0, &[sample]),
+        Call::OfferAt(s, at, sample) => offered(alloc, book, s, at, &[sample]),
         Call::OfferTall(s) => offered(alloc, book, s, 0, &[1, 2, 3, 4]),
-        Call::OfferOver(..) => Err("a book takes no image".into()),
-        Call::CollectSoon(_) => Err("a book doesn't wait".into()),
         Work(w, bands) => Ok(worked(book, w, bands)),
         Collect(s) => Ok(collected(book, s)),
         Close(s) => Ok(closed(book.close(s))),
+        _ => Err("only a hub is called so".into()),
     }
 }
 

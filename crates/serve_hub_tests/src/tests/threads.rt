@@ -3,10 +3,11 @@ ghost use Rattle.std.specs.Prelude.{◌≡◌};
 ghost use Rattle.serve_core.specs.Schedule.{opened_schedule};
 ghost use Rattle.std.specs.Thread.{IsSend, IsSync};
 
-use super::clients::Client;
-use super::{PLAIN, Served, same, setup_of, stepped};
+use super::clients::{Client, Frames};
+use super::seated::{Seated, reopened_of, seated_of};
+use super::{PLAIN, Served, same, same_at, setup_of, stepped};
 use serve_core::Setup;
-use serve_hub::{Ended, Epoch, Hub, LeaseRefused, Refusal, Reopened, StreamSeat, WorkSeat};
+use serve_hub::{Ended, Epoch, Hub, LeaseRefused, Refusal, StreamSeat, WorkSeat};
 use std::alloc::Global;
 use std::marker::Brand;
 use std::process::Abort;
@@ -16,14 +17,25 @@ use std::test::Fail;
 use std::thread;
 use std::thread::Threads;
 
-/// How many streams and workers there are, how many frames each stream has, and after how many settlements
-/// the first worker stops.
+/// What threads do with a hub.
 #[derive(Clone, Copy)]
 pub(super) struct Plan {
-    pub(super) streams: usize,
+    pub(super) streams: u32,
     pub(super) workers: u64,
+    /// How many frames each stream has.
     pub(super) frames: u64,
+    /// After how many settlements the first worker stops.
     pub(super) stop: u64,
+    /// The most entries of the journal.
+    pub(super) limit: usize,
+    /// Whether clients collect what comes soon before they offer a frame.
+    pub(super) is_soon: bool,
+    /// The most frames that a stream may have under way.
+    pub(super) most: usize,
+    /// How each client is to end: whether all went well or the journal was full, and then how many images came
+    /// if that is known.
+    pub(super) outcome: Result<(), Refusal>,
+    pub(super) delivered: Option<u64>,
 }
 
 /// A sixteenth of a worker.
@@ -33,35 +45,40 @@ const LIGHT: Served<'static> = Served {
 };
 
 impl Plan {
-    pub(super) fn setup(self, alloc: Global) -> Result<Setup, Fail> {
-        setup_of(alloc, self.workers, &vec![in alloc; LIGHT; self.streams]?)
+    /// All frames are served, and the journal doesn't fill.
+    pub(super) fn whole(streams: u32, workers: u64, frames: u64) -> Plan {
+        Plan {
+            streams,
+            workers,
+            frames,
+            stop: u64::MAX,
+            limit: 10_000,
+            is_soon: false,
+            most: usize::MAX,
+            outcome: Ok(()),
+            delivered: Some(frames),
+        }
+    }
+
+    fn setup(self, alloc: Global) -> Result<Setup, Fail> {
+        setup_of(
+            alloc,
+            self.workers,
+            &vec![in alloc; LIGHT; self.streams as usize]?,
+        )
     }
 }
 
 /// As many frames as a client offers before it collects: it passes also where no thread is granted.
 #[test]
 fn two_streams_and_two_workers(rt: HostRuntime) -> Result<(), Fail> {
-    let plan = Plan {
-        streams: 2,
-        workers: 2,
-        frames: 4,
-        stop: u64::MAX,
-    };
-    let setup = plan.setup(rt.alloc())?;
-    session::<Brand, _>(&rt, rt.alloc(), Blank::new(80), setup, plan)
+    serve_whole(&rt, rt.alloc(), Plan::whole(2, 2, 4))
 }
 
 /// 2,000 frames.
 #[test]
 fn sixteen_streams_and_eight_workers(rt: HostRuntime) -> Result<(), Fail> {
-    let plan = Plan {
-        streams: 16,
-        workers: 8,
-        frames: 125,
-        stop: u64::MAX,
-    };
-    let setup = plan.setup(rt.alloc())?;
-    session::<Brand, _>(&rt, rt.alloc(), Blank::new(80), setup, plan)
+    serve_whole(&rt, rt.alloc(), Plan::whole(16, 8, 125))
 }
 
 /// 2,000 frames each time. The other workers do what the first leaves.
@@ -69,13 +86,10 @@ fn sixteen_streams_and_eight_workers(rt: HostRuntime) -> Result<(), Fail> {
 fn a_worker_stops_early(rt: HostRuntime) -> Result<(), Fail> {
     for stop in 0..21 {
         let plan = Plan {
-            streams: 16,
-            workers: 8,
-            frames: 125,
             stop,
+            ..Plan::whole(16, 8, 125)
         };
-        let setup = plan.setup(rt.alloc())?;
-        session::<Brand, _>(&rt, rt.alloc(), Blank::new(80), setup, plan)?;
+        serve_whole(&rt, rt.alloc(), plan)?;
     }
     Ok(())
 }
@@ -83,15 +97,23 @@ fn a_worker_stops_early(rt: HostRuntime) -> Result<(), Fail> {
 /// No worker leases in the first epoch, whose journal is full of offers and closes. The second serves them.
 #[test]
 fn sixteen_streams_go_on_in_another_epoch(rt: HostRuntime) -> Result<(), Fail> {
+    let alloc = rt.alloc();
     let plan = Plan {
-        streams: 16,
-        workers: 1,
-        frames: 4,
-        stop: u64::MAX,
+        limit: 80,
+        delivered: Some(0),
+        ..Plan::whole(16, 1, 4)
     };
-    let setup = plan.setup(rt.alloc())?;
-    let ended = offered_all::<Brand, _>(&rt, rt.alloc(), Blank::new(80), setup, plan)?;
-    go_on::<Brand, _>(&rt, rt.alloc(), Blank::new(80), ended, plan)
+    let setup = plan.setup(alloc)?;
+    let frames = Frames::of_streams(alloc, 16)?;
+    let ended = offered_all::<Brand, _>(&rt, alloc, Blank::new(80), setup, frames, plan)?;
+    let frames = Frames::of_streams(alloc, 16)?;
+    let plan = Plan {
+        limit: 192,
+        ..Plan::whole(16, 1, 4)
+    };
+    let ended = go_on::<Brand, _>(&rt, alloc, Blank::new(80), ended, frames, plan)?;
+    same(&rt, (ended.journal().len(), ended.bands(0)), (192, 64));
+    Ok(())
 }
 
 /// An epoch in which all frames are offered, and nobody waits for an image.
@@ -100,6 +122,7 @@ fn offered_all<L: Epoch + Send + Sync, R: Threads + Wait + Abort + Sync>(
     alloc: Global,
     blank: Blank,
     setup: Setup,
+    frames: Vec<Frames>,
     plan: Plan,
 ) -> Result<Ended, Fail>
     requires name { blank.name ≡ L.name }
@@ -107,13 +130,20 @@ fn offered_all<L: Epoch + Send + Sync, R: Threads + Wait + Abort + Sync>(
     requires enough { blank.parts ≡ 80 }
     requires opening { opened_schedule setup ≡ L.opening }
 {
-    let (hub, seats, workers) = Hub::<L>::new(alloc, blank, setup, 80)?;
-    let clients = feed_each(rt, &hub, clients_of(alloc, seats)?, plan.frames);
-    let seats = seats_of(rt, alloc, clients, (Ok(()), 0))?;
-    match hub.finish(seats, workers) {
-        Ok(ended) => Ok(ended),
-        Err(mismatch) => Err(mismatch.fault.into()),
+    let Seated {
+        hub,
+        streams,
+        workers,
+    } = seated_of::<L>(alloc, blank, setup, plan.limit)?;
+    let clients = clients_of(rt, alloc, streams, frames, plan);
+    let clients = feed_each(rt, &hub, clients, plan.frames);
+    let streams = seats_of(rt, alloc, clients, plan);
+    Ok(Seated {
+        hub,
+        streams,
+        workers,
     }
+    .ended(rt))
 }
 
 /// The next epoch, in which each frame is leased, settled and collected.
@@ -122,112 +152,138 @@ fn go_on<L: Epoch + Send + Sync, R: Threads + Wait + Abort + Sync>(
     alloc: Global,
     blank: Blank,
     ended: Ended,
+    frames: Vec<Frames>,
     plan: Plan,
-) -> Result<(), Fail>
+) -> Result<Ended, Fail>
     requires name { blank.name ≡ L.name }
     requires parts { blank.parts ≡ L.parts }
     requires enough { blank.parts ≡ 80 }
     requires opening { ended.book.desk ≡ L.opening }
 {
-    let Reopened {
-        hub,
-        streams,
-        workers,
-        journal,
-    } = match Hub::<L>::reopen(alloc, blank, ended, 192) {
-        Ok(reopened) => reopened,
-        Err(refused) => return Err(refused.refusal.into()),
-    };
-    same(rt, journal.len(), 80);
-    let (seats, workers) = served(rt, alloc, &hub, streams, workers, plan)?;
-    match hub.finish(seats, workers) {
-        Ok(ended) => {
-            same(rt, (ended.journal().len(), ended.bands(0)), (192, 64));
-            Ok(())
-        }
-        Err(mismatch) => Err(mismatch.fault.into()),
-    }
+    let reopened = reopened_of::<L>(alloc, blank, ended, plan.limit)?;
+    same(rt, reopened.journal.len(), 80);
+    let seated = served(rt, alloc, Seated::again(reopened), frames, plan);
+    Ok(seated.ended(rt))
 }
 
-/// Serves the frames of all streams by threads, and ends.
+/// Serves the frames of all streams by threads, and compares the end.
+pub(super) fn serve_whole<R: Threads + Wait + Abort + Sync>(
+    rt: &R,
+    alloc: Global,
+    plan: Plan,
+) -> Result<(), Fail> {
+    let ended = serve(rt, alloc, plan)?;
+    check(rt, &ended, plan);
+    Ok(())
+}
+
+/// The end of a hub whose streams were served by threads.
+pub(super) fn serve<R: Threads + Wait + Abort + Sync>(
+    rt: &R,
+    alloc: Global,
+    plan: Plan,
+) -> Result<Ended, Fail> {
+    let setup = plan.setup(alloc)?;
+    let frames = Frames::of_streams(alloc, plan.streams)?;
+    session::<Brand, R>(rt, alloc, Blank::new(80), setup, frames, plan)
+}
+
 fn session<L: Epoch + Send + Sync, R: Threads + Wait + Abort + Sync>(
     rt: &R,
     alloc: Global,
     blank: Blank,
     setup: Setup,
+    frames: Vec<Frames>,
     plan: Plan,
-) -> Result<(), Fail>
+) -> Result<Ended, Fail>
     requires name { blank.name ≡ L.name }
     requires parts { blank.parts ≡ L.parts }
     requires enough { blank.parts ≡ 80 }
     requires opening { opened_schedule setup ≡ L.opening }
 {
-    let (hub, seats, workers) = Hub::<L>::new(alloc, blank, setup, 10_000)?;
-    let (seats, workers) = served(rt, alloc, &hub, seats, workers, plan)?;
-    match hub.finish(seats, workers) {
-        Ok(ended) => {
-            check(rt, &ended, plan);
-            Ok(())
-        }
-        Err(mismatch) => Err(mismatch.fault.into()),
-    }
+    let seated = seated_of::<L>(alloc, blank, setup, plan.limit)?;
+    let seated = served(rt, alloc, seated, frames, plan);
+    same(rt, seated.hub.is_full(rt), plan.outcome.is_err());
+    Ok(seated.ended(rt))
 }
 
-/// The seats, once all frames are served.
+/// Serves the frames of all streams by threads.
 fn served<L: Epoch + Send + Sync, R: Threads + Wait + Abort + Sync>(
     rt: &R,
     alloc: Global,
-    hub: &Hub<L>,
-    seats: Vec<StreamSeat<L>>,
-    workers: Vec<WorkSeat<L>>,
+    seated: Seated<L>,
+    frames: Vec<Frames>,
     plan: Plan,
-) -> Result<(Vec<StreamSeat<L>>, Vec<WorkSeat<L>>), Fail> {
-    let clients = clients_of(alloc, seats)?;
-    let (workers, clients) = run(rt, hub, workers, clients, plan)?;
-    let seats = seats_of(rt, alloc, clients, (Ok(()), plan.frames))?;
-    Ok((seats, workers))
+) -> Seated<L> {
+    let Seated {
+        hub,
+        streams,
+        workers,
+    } = seated;
+    let clients = clients_of(rt, alloc, streams, frames, plan);
+    let (workers, clients) = run(rt, &hub, workers, clients, plan);
+    let streams = seats_of(rt, alloc, clients, plan);
+    Seated {
+        hub,
+        streams,
+        workers,
+    }
 }
 
-pub(super) fn clients_of<L: Epoch>(
+/// A client for each seat, with the frames of its stream.
+fn clients_of<L: Epoch>(
+    rt: &impl Abort,
     alloc: Global,
     seats: Vec<StreamSeat<L>>,
-) -> Result<Vec<Client<L>>, Fail> {
+    frames: Vec<Frames>,
+    plan: Plan,
+) -> Vec<Client<L>> {
     let mut clients = Vec::new(alloc);
+    let mut frames = frames.into_iter();
     for seat in seats {
-        clients.push(Client::new(alloc, seat)?)?;
+        let frames = frames.next().expect(rt, "frames");
+        let client = Client::new(alloc, seat, frames, plan.is_soon);
+        clients
+            .push(client)
+            .expect(rt, "was the memory of a client refused?");
     }
-    Ok(clients)
+    clients
 }
 
-/// The seats of clients who ended so, with so many images each.
-pub(super) fn seats_of<L: Epoch>(
+/// The seats of clients who ended as planned.
+fn seats_of<L: Epoch>(
     rt: &impl Abort,
     alloc: Global,
     clients: Vec<Client<L>>,
-    want: (Result<(), Refusal>, u64),
-) -> Result<Vec<StreamSeat<L>>, Fail> {
+    plan: Plan,
+) -> Vec<StreamSeat<L>> {
     let mut seats = Vec::new(alloc);
     for client in clients {
+        let delivered = plan.delivered.unwrap_or(client.delivered);
+        let want = (plan.outcome, delivered);
         same(rt, (client.outcome, client.delivered), want);
-        seats.push(client.seat)?;
+        same_at(rt, client.most <= plan.most, true, client.most);
+        seats
+            .push(client.seat)
+            .expect(rt, "was the memory of a seat refused?");
     }
-    Ok(seats)
+    seats
 }
 
 /// What the end of a session tells: each frame is four calls, and one band.
-pub(super) fn check(rt: &impl Abort, ended: &Ended, plan: Plan) {
-    let streams = plan.streams as u64;
+fn check(rt: &impl Abort, ended: &Ended, plan: Plan) {
+    let streams = u64::from(plan.streams);
     let calls = streams.saturating_mul(plan.frames.saturating_mul(4).saturating_add(1));
     same(rt, ended.journal().len() as u64, calls);
-    for s in 0..plan.streams.min(64) {
-        let counts = ended.counts(s as u32).expect(rt, "counts");
+    for s in 0..plan.streams {
+        let counts = ended.counts(s).expect(rt, "counts");
         same(
             rt,
             (counts.accepted, counts.collected, counts.charged),
             (plan.frames, plan.frames, plan.frames),
         );
     }
-    assert!(rt; ended.bands(0) <= plan.stop);
+    same_at(rt, ended.bands(0) <= plan.stop, true, ended.bands(0));
     same(
         rt,
         bands(rt, ended, plan.workers),
@@ -248,13 +304,13 @@ fn bands(rt: &impl Abort, ended: &Ended, workers: u64) -> u64 {
 
 /// The workers work in a thread of their own while the clients are served. Where it isn't granted, all that
 /// the clients can offer is worked before they collect.
-pub(super) fn run<L: Epoch + Send + Sync, R: Threads + Wait + Sync>(
+fn run<L: Epoch + Send + Sync, R: Threads + Wait + Abort + Sync>(
     rt: &R,
     hub: &Hub<L>,
     workers: Vec<WorkSeat<L>>,
     clients: Vec<Client<L>>,
     plan: Plan,
-) -> Result<(Vec<WorkSeat<L>>, Vec<Client<L>>), Fail> {
+) -> (Vec<WorkSeat<L>>, Vec<Client<L>>) {
     let (count, stop) = (plan.frames, plan.stop);
     thread::scope(
         thread::scope_env(),
@@ -265,22 +321,28 @@ pub(super) fn run<L: Epoch + Send + Sync, R: Threads + Wait + Sync>(
             match scope.spawn(move || work_all(rt, hub, workers, stop)) {
                 Ok(working) => {
                     let clients = serve_all(rt, hub, clients, count);
-                    Ok((working.join(rt), clients))
+                    (working.join(rt), clients)
                 }
-                Err(_) if count > 4 => Err("was a thread or its memory refused?".into()),
                 Err(refused) => {
                     let mut clients = clients;
                     feed_all(rt, hub, &mut clients, count);
                     let workers = (refused.value)();
                     drain_all(rt, hub, &mut clients);
-                    Ok((workers, clients))
+                    (workers, clients)
                 }
             }
         },
     )
 }
 
-fn feed_all<L: Epoch, R: Wait>(rt: &R, hub: &Hub<L>, clients: &mut Vec<Client<L>>, count: u64) {
+/// Offers all frames before a worker is there, which are no more than a client offers before it collects.
+fn feed_all<L: Epoch, R: Wait + Abort>(
+    rt: &R,
+    hub: &Hub<L>,
+    clients: &mut Vec<Client<L>>,
+    count: u64,
+) {
+    same_at(rt, count <= 4, true, "was a thread or its memory refused?");
     for client in clients {
         client.feed(rt, hub, count);
     }

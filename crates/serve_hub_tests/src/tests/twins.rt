@@ -3,8 +3,8 @@ ghost use Rattle.std.specs.Prelude.{◌≡◌};
 ghost use Rattle.serve_core.specs.Schedule.{opened_schedule};
 
 use super::calls::after_one_frame;
-use super::seated::{Seated, seated_after};
-use super::steps::{AFTER_CLOSE, Answer, FIRST_FRAME, FIRST_IMAGE};
+use super::seated::{Seated, followed, seated_after};
+use super::steps::{AFTER_CLOSE, Answer, CLOSED, FIRST_FRAME, FIRST_IMAGE};
 use super::{Core, PLAIN, same, same_list, setup_of, stepped, told};
 use serve_core::Setup;
 use serve_hub::{Ended, Epoch, Refusal, Settled};
@@ -15,7 +15,7 @@ use std::sync::Wait;
 use std::sync::ledger::Blank;
 use std::test::Fail;
 
-/// The end of a hub after one frame.
+/// The end of a hub after one frame, which answers as a book does in [`after_one_frame`].
 fn ended_after_one_frame<L: Epoch, R: Wait + Abort>(
     rt: &R,
     alloc: Global,
@@ -28,20 +28,8 @@ fn ended_after_one_frame<L: Epoch, R: Wait + Abort>(
     requires opening { opened_schedule setup ≡ L.opening }
 {
     let mut hub = seated_after::<L, R>(rt, alloc, blank, setup, FIRST_FRAME)?;
-    goes_on(rt, alloc, &mut hub)?;
-    Ok(hub.ended(rt))
-}
-
-/// From the lease of the one frame on, as a book answers in [`after_one_frame`].
-fn goes_on<L: Epoch, R: Wait + Abort>(
-    rt: &R,
-    alloc: Global,
-    hub: &mut Seated<L>,
-) -> Result<(), Fail> {
-    works(rt, hub);
-    hub.follow(rt, alloc, FIRST_IMAGE)?;
-    same(rt, hub.close(rt, 0), Ok(()));
-    hub.follow(rt, alloc, AFTER_CLOSE)
+    works(rt, &mut hub);
+    followed(rt, alloc, hub, &[FIRST_IMAGE, CLOSED, AFTER_CLOSE])
 }
 
 /// Leases, is refused a second lease and an image, and settles.

@@ -6,9 +6,3 @@ ghosts-crosswise-L-Ledger g a = record { name = a.blank.name; parts = a.blank.pa
 
 abbrev pub ghosts-crosswise-L-Epoch : goal.ghosts-crosswise-L-Epoch
 ghosts-crosswise-L-Epoch g a = record { opening = opened_schedule a.setup }
-
-abbrev pub ghosts-crosswise-M-Ledger : goal.ghosts-crosswise-M-Ledger
-ghosts-crosswise-M-Ledger g a = record { name = a.other.name; parts = a.other.parts }
-
-abbrev pub ghosts-crosswise-M-Epoch : goal.ghosts-crosswise-M-Epoch
-ghosts-crosswise-M-Epoch g a = record { opening = opened_schedule a.twin }

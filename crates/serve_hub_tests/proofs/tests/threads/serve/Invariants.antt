@@ -1,5 +1,5 @@
 use Rattle.serve_core.specs.Schedule.{opened_schedule}
-use Rattle.serve_hub_tests.proofs.tests.soon.three_clients_share_two_workers.Given as goal
+use Rattle.serve_hub_tests.proofs.tests.threads.serve.Given as goal
 
 abbrev pub ghosts-session-L-Ledger : goal.ghosts-session-L-Ledger
 ghosts-session-L-Ledger g a = record { name = a.blank.name; parts = a.blank.parts }
