@@ -52,6 +52,15 @@ impl Pool {
         self.streams += 1;
     }
 
+    /// A pool of so many streams from now on, none of which is ready.
+    pub fn reset(&mut self, streams: u32)
+        requires { (1 ≤ streams) × (streams ≤ MOST_STREAMS) }
+        ensures { self.new ≡ replicate streams None }
+    {
+        clear(&mut self.nodes);
+        self.streams = streams;
+    }
+
     /// Tells the pool that stream `s` is ready with this deadline, or isn't ready.
     pub fn set_ready(&mut self, s: u32, deadline: Option<u64>, compares: &mut Compares)
         requires { s < length self.old }
@@ -70,6 +79,13 @@ impl Pool {
     {
         self.nodes[1].map(|ready| ready.stream())
     }
+}
+
+/// Lets no node hold a stream.
+fn clear(nodes: &mut [Node; NODES])
+    ensures { nodes.new ≡ replicate NODES None }
+{
+    *nodes = [None; NODES];
 }
 
 /// Puts a node in the place of a leaf, and lets each node above it be the lesser of its two again.

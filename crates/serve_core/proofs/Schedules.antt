@@ -5,3 +5,4 @@ pub mod Holdings
 pub mod Handing
 pub mod Lifts
 pub mod Opened
+pub mod Retiring

@@ -6,3 +6,6 @@ pub mod Sizes
 pub mod Endings
 pub mod Headlines
 pub mod Runs
+pub mod PickedStates
+pub mod PickedSteps
+pub mod Alone

@@ -18,6 +18,7 @@ pub mod Frames
 pub mod Streams
 pub mod StreamInside
 pub mod Schedule
+pub mod Retired
 pub mod ScheduleInside
 pub mod Seen
 pub mod MachineInside

@@ -5,11 +5,13 @@ ghost use Rattle.std.specs.Prelude.{MatchOption};
 ghost use Rattle.std.specs.Arc.{arc_value};
 ghost use Rattle.std.specs.Option.{option_map};
 ghost use Rattle.serve_core.specs.declared.refusal.Refusal.TheVariants as refusals;
-ghost use Rattle.serve_core.specs.Bare.{Blank};
+ghost use Rattle.serve_core.specs.Bare.{Blank, measures_any, is_any_image};
 ghost use Rattle.serve_core.specs.Desk as rules;
 ghost use Rattle.serve_core.specs.Desk.{IsOfferAnswer, LeadsDesk, desk_state, one};
 ghost use Rattle.serve_core.specs.Events as events;
 ghost use Rattle.serve_core.specs.Leads.{opening_state};
+ghost use Rattle.serve_core.specs.Reached.{IsReached};
+ghost use Rattle.serve_core.specs.Retired.{AreFree, new_number, retired_schedule, staying, stays};
 ghost use Rattle.serve_core.specs.Streams.{HasPlace, IsFresh, IsOver};
 ghost use Rattle.serve_core.specs.Schedule as schedules;
 ghost use Rattle.serve_core.specs.Schedule.{HasLease, HasStream, account_of, counts_of, with_stream_at};
@@ -23,6 +25,7 @@ use crate::schedule::Schedule;
 use crate::setup::Setup;
 use crate::spec::StreamSpec;
 use cbs_account::limits::LAST_MOMENT;
+use edf_pool::limits::MOST_STREAMS;
 use frame_view::Frame;
 use lease::{Job, JobSpec, Lease};
 use std::alloc::{AllocError, Global};
@@ -221,6 +224,35 @@ impl Desk {
             Ok(s) => Ok(s),
             Err(newcomer) => Err((Refusal::NoMemory, newcomer)),
         }
+    }
+
+    /// Whether stream `s` is there and isn't released: then [`Desk::retire`] would leave it.
+    pub fn stays(&self, s: u32) -> bool
+        ensures { result ≡ stays self.now s }
+    {
+        self.schedule.stays(s)
+    }
+
+    /// How many of the first `s` streams aren't released. If stream `s` isn't, that would be its number after
+    /// [`Desk::retire`].
+    pub fn new_number(&self, s: u32) -> u32
+        requires { s ≤ length self.now.streams }
+        ensures { result ≡ new_number self.now s }
+    {
+        self.schedule.new_number(s)
+    }
+
+    /// Takes the released streams out, where no worker holds a lease and a stream isn't released. Those that
+    /// stay are numbered anew, in their order; they keep all that they have.
+    pub fn retire(&mut self)
+        requires free { AreFree self.old.workers }
+        requires few { length self.old.streams ≤ MOST_STREAMS }
+        requires some { 1 ≤ length (staying self.old) }
+        ensures desk { self.new ≡ retired_schedule self.old }
+        ensures reached { IsReached measures_any is_any_image (desk_state self.old)
+            → IsReached measures_any is_any_image (desk_state self.new) }
+    {
+        self.schedule.retire();
     }
 
     /// What [`Desk::lease`] would refuse worker `w` for.

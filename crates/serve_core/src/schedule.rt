@@ -1,6 +1,6 @@
 //! The streams, what each worker holds, and the pool of the streams that are ready.
 ghost use Rattle.std.specs.Prelude.{◌≡◌, ◌≢◌, ◌≤◌, ◌<◌, ◌^◌, ◌↔◌, Bool, Some, None, length, slice_get};
-ghost use Rattle.std.specs.Prelude.{slice_set, IsTrue, IsFalse, IsSome, IsSomeAnd, MatchOption, IfOk, IfErr};
+ghost use Rattle.std.specs.Prelude.{filter, not, replicate, vec_len, slice_set, IsTrue, IsFalse, IsSome, IsSomeAnd, MatchOption, IfOk, IfErr};
 ghost use Rattle.std.specs.Prelude.{IfSome, IfNone, OnOk, option_copied};
 ghost use Rattle.std.specs.Arc.{arc_value};
 ghost use Rattle.cbs_account.specs.Admission.{Fits};
@@ -10,6 +10,8 @@ ghost use Rattle.serve_core.specs.AtOnce.{with_used};
 ghost use Rattle.serve_core.specs.Desk.{SomeReady};
 ghost use Rattle.serve_core.specs.Streams.{HasPlace, IsFresh, GainsImage};
 ghost use Rattle.serve_core.specs.Schedule as rules;
+ghost use Rattle.serve_core.specs.Released.{is_released};
+ghost use Rattle.serve_core.specs.Retired.{new_number, retired_schedule, staying, stays};
 ghost use Rattle.serve_core.specs.Rules.{arrival_refusal};
 ghost use Rattle.serve_core.specs.Schedule.{HasLease, HasStream, with_held, with_stream_at};
 ghost use Rattle.serve_core.specs.Setup.{steps};
@@ -210,6 +212,41 @@ impl Schedule {
         }
     }
 
+    /// Whether stream `s` is there and isn't released.
+    pub(crate) fn stays(&self, s: u32) -> bool
+        ensures { result ≡ stays self.now s }
+    {
+        match self.streams.get(s as usize) {
+            None => false,
+            Some(stream) => !stream.is_released(self.clock),
+        }
+    }
+
+    /// How many of the first `s` streams aren't released.
+    pub(crate) fn new_number(&self, s: u32) -> u32
+        requires { s ≤ length self.now.streams }
+        ensures { result ≡ new_number self.now s }
+    {
+        let mut count = 0;
+        for t in 0..s {
+            if !self.streams[t as usize].is_released(self.clock) {
+                count += 1;
+            }
+        }
+        count
+    }
+
+    /// Takes the released streams out. The others are numbered anew, in their order.
+    pub(crate) fn retire(&mut self)
+        requires few { length self.old.streams ≤ MOST_STREAMS }
+        requires some { 1 ≤ length (staying self.old) }
+        ensures { self.new ≡ retired_schedule self.old }
+    {
+        drop_released(&mut self.streams, self.clock);
+        self.pool.reset(self.streams.len() as u32);
+        show_all(&mut self.pool, &self.streams);
+    }
+
     /// Why worker `w` gets no lease, if it gets none.
     pub(crate) fn lease_refusal(&self, w: u32) -> Option<Refusal>
         ensures some { IfSome result (λ e. rules.RefusesLease self.now w e) }
@@ -385,4 +422,24 @@ fn show(pool: &mut Pool, s: u32, stream: &Stream)
     ensures { pool.new ≡ slice_set pool.old s (ready_deadline stream.now.state) }
 {
     pool.set_ready(s, stream.ready_deadline(), &mut Compares::new());
+}
+
+/// Drops the streams that are released at a moment.
+fn drop_released(streams: &mut Vec<Stream>, moment: u64)
+    ensures streams { streams.new.items
+        ≡ filter (λ stream. not (is_released moment stream.state)) streams.old.items }
+    ensures fewer { vec_len streams.new ≤ vec_len streams.old }
+{
+    streams.retain(|stream| !stream.is_released(moment));
+}
+
+/// Tells a pool of these streams, none of which is ready in it, which of them are.
+fn show_all(pool: &mut Pool, streams: &[Stream])
+    requires pool { pool.old ≡ replicate (length streams.now) None }
+    requires few { length streams.now ≤ MOST_STREAMS }
+    ensures { pool.new ≡ rules.ready_deadlines streams.now }
+{
+    for s in 0..streams.len() {
+        show(pool, s as u32, &streams[s]);
+    }
 }

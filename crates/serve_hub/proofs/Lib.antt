@@ -20,3 +20,4 @@ pub mod Sharing
 pub mod Moving
 pub mod Freeing
 pub mod Admitting
+pub mod Retiring

@@ -1,12 +1,12 @@
 -- What is left of a hub whose seats are all back.
 use Rattle.std.specs.Prelude.{ℕ, ◌+◌, ◌*◌, ◌≡◌, ◌≢◌, ◌≤◌, ◌<◌, ◌⊎◌, ◌==◌, Bool, true, false, List, [], ◌∷◌}
-use Rattle.std.specs.Prelude.{⊤, All, filter, length, map, reverse, slice_get, sum_by, IsSomeAnd, Option}
+use Rattle.std.specs.Prelude.{⊤, All, filter, length, map, reverse, sum_by, IsSomeAnd, Option}
 use Rattle.std.specs.Prelude.{Some}
 use Rattle.std.specs.List.{Any}
-use Rattle.serve_core.specs.declared.held.Held.{Held}
 use Rattle.serve_core.specs.Bare.{Blank, measures_any, is_any_image}
 use Rattle.serve_core.specs.Desk.{desk_state}
 use Rattle.serve_core.specs.Reached.{IsReached, LeadsOver}
+pub use Rattle.serve_core.specs.Retired.{AreFree}
 use Rattle.serve_core.specs.Schedule.{HasStream, ScheduleValue}
 use Rattle.serve_core.specs.Setup.{StreamSpec, cost}
 use Rattle.serve_core.specs.States.{State}
@@ -104,10 +104,6 @@ pub record IsHistory (opening : ScheduleValue) (b : BookValue) : Type 0 where
 pub record EndedValue : Type 0 where
   pub book : BookValue
   pub streams : List StreamRest
-
--- no worker holds a lease
-abbrev pub AreFree : List (Option Held) → Type 0
-AreFree workers = (w : ℕ) (held : Held) → slice_get workers w ≢ Some (Some held)
 
 -- a hub can open from what is left of it
 pub record IsEnded (e : EndedValue) : Type 0 where

@@ -5,3 +5,4 @@ pub mod Answers
 pub mod Seats
 pub mod Calls
 pub mod Ends
+pub mod Retired

@@ -1,9 +1,14 @@
 //! A desk with the journal of what it accepted.
 ghost use Rattle.std.specs.Prelude.{◌≡◌, ◌<◌, ◌≤◌, ◌^◌, ◌↔◌, [], IfOk, IfSome, IsErrOf, IsTrue};
 ghost use Rattle.std.specs.Prelude.{length, option_copied, reverse, slice_get};
-ghost use Rattle.std.specs.Vec.{vec_capacity};
+ghost use Rattle.std.specs.Vec.{vec_capacity, vec_len};
 ghost use Rattle.std.specs.Option.{option_map};
+ghost use Rattle.serve_core.specs.Bare.{measures_any, is_any_image};
+ghost use Rattle.serve_core.specs.Desk.{desk_state};
+ghost use Rattle.serve_core.specs.Reached.{IsReached};
+ghost use Rattle.serve_core.specs.Retired.{retired_schedule, staying};
 ghost use Rattle.serve_core.specs.Schedule.{opened_schedule};
+ghost use Rattle.serve_core.specs.Sound.{Sound};
 ghost use Rattle.serve_hub.specs.Books.{IsBook, IsLimit, book_transcript, opened_book, opening_of, reserved};
 ghost use Rattle.serve_hub.specs.Books as rules;
 ghost use Rattle.serve_hub.specs.Ends.{AreFree};
@@ -92,18 +97,35 @@ impl Book {
             desk,
             journal: past,
             taken,
-            mut units,
+            units,
             ..
         } = self;
-        units.fill(0);
-        let book = Book {
-            opening: Snapshot::of(&desk),
-            desk,
-            journal,
+        let book = opened_over(desk, journal, limit, taken - past.len(), units);
+        (book, past)
+    }
+
+    /// A book of the desk without its released streams, with this journal, which is empty, and what was
+    /// accepted until then, the oldest first.
+    pub(crate) fn retired(self, journal: Vec<Entry>) -> (Book, Vec<Entry>)
+        requires empty { journal.items ≡ [] }
+        requires capacity { self.limit ≤ vec_capacity journal }
+        requires free { AreFree self.desk.workers }
+        requires some { 1 ≤ length (staying self.desk) }
+        requires reached { IsReached measures_any is_any_image (desk_state self.desk) }
+        ensures book { result.0 ≡ opened_book (retired_schedule self.desk) self.limit }
+        ensures reached { IsReached measures_any is_any_image (desk_state result.0.desk) }
+        ensures past { reverse result.1.items ≡ self.past }
+    {
+        let Book {
+            mut desk,
+            journal: past,
             limit,
-            taken: taken - past.len(),
+            taken,
             units,
-        };
+            ..
+        } = self;
+        desk.retire();
+        let book = opened_over(desk, journal, limit, taken - past.len(), units);
         (book, past)
     }
 
@@ -192,6 +214,34 @@ impl Book {
             sum += bands_in(w, entry);
         }
         sum
+    }
+}
+
+/// A book over this desk with this journal, which is empty, and places for the units of its workers.
+fn opened_over(
+    desk: Desk,
+    journal: Vec<Entry>,
+    limit: usize,
+    taken: usize,
+    mut units: Vec<u64>,
+) -> Book
+    requires sound { Sound (desk_state desk) }
+    requires empty { journal.items ≡ [] }
+    requires capacity { limit ≤ vec_capacity journal }
+    requires most { limit ≤ MOST_ENTRIES }
+    requires fits { reserved desk ≤ limit }
+    requires taken { taken ≡ reserved desk }
+    requires units { vec_len units ≡ length desk.workers }
+    ensures { result ≡ opened_book desk limit }
+{
+    units.fill(0);
+    Book {
+        opening: Snapshot::of(&desk),
+        desk,
+        journal,
+        limit,
+        taken,
+        units,
     }
 }
 

@@ -1,14 +1,17 @@
 //! What is left of a hub.
-ghost use Rattle.std.specs.Prelude.{◌≡◌, ◌<◌, ◌≤◌, ◌↔◌, [], IfSome, IsTrue, length, reverse, slice_get};
+ghost use Rattle.std.specs.Prelude.{◌≡◌, ◌<◌, ◌≤◌, ◌↔◌, [], IfErr, IfOk, IfSome, IsTrue, length, reverse};
+ghost use Rattle.std.specs.Prelude.{filter, slice_get};
 ghost use Rattle.std.specs.Option.{option_map};
 ghost use Rattle.std.specs.Vec.{vec_capacity};
 ghost use Rattle.serve_core.specs.Bare.{measures_any, is_any_image};
 ghost use Rattle.serve_core.specs.Desk.{desk_state};
 ghost use Rattle.serve_core.specs.Reached.{IsReached};
+ghost use Rattle.serve_core.specs.Retired.{staying, stays};
 ghost use Rattle.serve_core.specs.Schedule.{account_of, counts_of};
 ghost use Rattle.serve_hub.specs.Books.{IsBook, IsLimit, book_transcript, opened_book, opening_of, room};
 ghost use Rattle.serve_hub.specs.Ends.{AreFree, IsOpening};
 ghost use Rattle.serve_hub.specs.Journal.{bands_of, units_from};
+ghost use Rattle.serve_hub.specs.Retired.{rests_kept, retired_end};
 
 use crate::book::Book;
 use crate::entry::Entry;
@@ -19,7 +22,8 @@ use crate::unlocked::Unlocked;
 use crate::work_seat::WorkSeat;
 use cbs_account::limits::MOST_WORKERS;
 use edf_pool::limits::MOST_STREAMS;
-use serve_core::Counts;
+use serve_core::{Counts, Desk};
+use std::alloc::Global;
 use std::marker::Model;
 
 /// The journal of a hub whose seats are all back, with what the streams and the workers had, and the frames
@@ -83,6 +87,59 @@ impl Ended {
         (book, streams, past)
     }
 
+    /// Takes the released streams out, with the journal, so that the next epoch opens with the others alone.
+    /// These are numbered anew, in their order, as their seats will be; nothing else of them changes. It is
+    /// refused, and all stays as it is, where no stream would stay, where the seats weren't those of the
+    /// streams, one each, or where the memory for an empty journal is refused.
+    pub fn retire(self, alloc: Global) -> Result<Retired, Ended>
+        ensures ended { IfOk result (λ r. r.ended ≡ retired_end self) }
+        ensures journal { IfOk result (λ r. reverse r.journal.items ≡ self.book.past) }
+        ensures back { IfErr result (λ ended. ended ≡ self) }
+    {
+        if !self.can_retire() {
+            return Err(self);
+        }
+        match Vec::with_capacity(alloc, self.book.limit()) {
+            Ok(journal) => Ok(self.retired(journal)),
+            Err(_) => Err(self),
+        }
+    }
+
+    /// Whether stream `s` is there and isn't released: then [`Ended::retire`] leaves it.
+    pub fn stays(&self, s: u32) -> bool
+        ensures { result ≡ stays self.now.book.desk s }
+    {
+        self.book.desk().stays(s)
+    }
+
+    /// Whether a stream stays, and each that does has its seat's part here.
+    fn can_retire(&self) -> bool
+        ensures some { IsTrue result → 1 ≤ length (staying self.now.book.desk) }
+        ensures each_stream { IsTrue result → length (rests_kept self.now.book.desk self.now.streams)
+            ≡ length (staying self.now.book.desk) }
+    {
+        let desk = self.book.desk();
+        let staying = desk.new_number(self.streams.len() as u32);
+        staying >= 1 && count_staying(desk, &self.streams) == staying as usize
+    }
+
+    /// What is left without the released streams, with this journal, which is empty.
+    fn retired(self, journal: Vec<Entry>) -> Retired
+        requires empty { journal.items ≡ [] }
+        requires capacity { self.book.limit ≤ vec_capacity journal }
+        requires some { 1 ≤ length (staying self.book.desk) }
+        requires each_stream { length (rests_kept self.book.desk self.streams)
+            ≡ length (staying self.book.desk) }
+        ensures ended { result.ended ≡ retired_end self }
+        ensures journal { reverse result.journal.items ≡ self.book.past }
+    {
+        let Ended { book, mut streams } = self;
+        keep_staying(book.desk(), &mut streams);
+        let (book, journal) = book.retired(journal);
+        let ended = Ended::new(book, streams);
+        Retired { ended, journal }
+    }
+
     /// What was accepted, the oldest first.
     pub fn journal(&self) -> &[Entry]
         ensures past { reverse result.now ≡ self.now.book.past }
@@ -142,6 +199,45 @@ impl Ended {
             n ≡ units_from (opening_of self.now.book) w (book_transcript self.now.book)) }
     {
         self.book.units(w)
+    }
+}
+
+/// What is left of a hub without its released streams, and the journal of the epoch that ended, the oldest
+/// entry first.
+#[derive(Drop)]
+pub struct Retired {
+    pub ended: Ended,
+    pub journal: Vec<Entry>,
+}
+
+/// How many seats' parts are of streams that stay.
+fn count_staying(desk: &Desk, rests: &[SeatRest]) -> usize
+    ensures { result ≡ length (rests_kept desk.now rests.now) }
+{
+    let mut count = 0;
+    for rest in rests {
+        if desk.stays(rest.number) {
+            count += 1;
+        }
+    }
+    count
+}
+
+/// Drops the seats' parts of the streams that don't stay.
+fn drop_released(desk: &Desk, rests: &mut Vec<SeatRest>)
+    ensures { rests.new.items ≡ filter (λ rest. stays desk.now rest.number) rests.old.items }
+{
+    rests.retain(|rest| desk.stays(rest.number));
+}
+
+/// Keeps the seats' parts of the streams that stay, under their new numbers.
+fn keep_staying(desk: &Desk, rests: &mut Vec<SeatRest>)
+    ensures { rests.new.items ≡ rests_kept desk.now rests.old.items }
+{
+    drop_released(desk, rests);
+    for i in 0..rests.len() {
+        let number = desk.new_number(rests[i].number);
+        rests[i].renumber(number);
     }
 }
 

@@ -25,7 +25,7 @@ pub mod unlocked;
 pub mod work_seat;
 
 pub use book::Book;
-pub use ended::{Ended, Fault, Mismatch};
+pub use ended::{Ended, Fault, Mismatch, Retired};
 pub use entry::{Act, Entry, Seat, Settled};
 pub use epoch::Epoch;
 pub use error::HubError;

@@ -72,4 +72,11 @@ impl SeatRest {
             kept: VecDeque::with_capacity(alloc, places as usize)?,
         })
     }
+
+    /// Gives it another number.
+    pub(crate) fn renumber(&mut self, number: u32)
+        ensures { self.new ≡ record self.old { number = number } }
+    {
+        self.number = number;
+    }
 }

@@ -2,6 +2,7 @@
 ghost use Rattle.serve_core.specs.Bare.{measures_any, is_any_image};
 ghost use Rattle.serve_core.specs.Frames.{measures, is_image};
 ghost use Rattle.serve_core.specs.Laws.{FitsFromLaw, FitsLaw, ReleasedLaw};
+ghost use Rattle.serve_core.specs.Retired.{NumberLaw, RetireLaw, RetiredLaw};
 
 /// After each legal transcript the shares of the streams that aren't released are at most the whole of the
 /// workers.
@@ -20,4 +21,15 @@ pub fn fits_from_law()
 pub fn released_law()
     ensures of_frames { ReleasedLaw measures is_image }
     ensures bare { ReleasedLaw measures_any is_any_image }
+{}
+
+/// Where no worker holds a lease after a legal transcript, and a stream isn't released, there is a legal
+/// transcript of a setup of the streams alone that aren't: it leads to the same state without the others, to each
+/// of these streams the very same happened, and it gave the same images. So what is reached is reached without
+/// the released streams; and a stream that stays is found under its new number.
+pub fn retire_law()
+    ensures of_frames { RetiredLaw measures is_image }
+    ensures bare { RetiredLaw measures_any is_any_image }
+    ensures reached { RetireLaw measures_any is_any_image }
+    ensures numbers { NumberLaw }
 {}

@@ -1,17 +1,20 @@
-use Rattle.std.proofs.Common.{ℕ, ◌≡◌, ◌≤◌, length, replicate, refl, sym, ◌∙◌, ap, subst, arith}
+use Rattle.std.proofs.Common.{◌≤◌, sym, subst, arith}
 use Rattle.std.proofs.lemmas.List.{length-reverse}
 use Rattle.serve_hub.specs.Books.{BookValue, reserved}
-use Rattle.serve_hub.proofs.Opened.{kept_over}
 use Rattle.serve_hub.proofs.book.Book.reopened.Goals as goal
 
-pub invariant_of-book : goal.invariant_of-book
-invariant_of-book c =
+pub opened_over-book-requires-clause-sound : goal.opened_over-book-requires-clause-sound
+opened_over-book-requires-clause-sound c = c.self.invariant.is_book.sound
+
+pub opened_over-book-requires-clause-fits : goal.opened_over-book-requires-clause-fits
+opened_over-book-requires-clause-fits c =
+    subst (λ (b : BookValue). reserved b.desk ≤ c.args.limit) (sym c.self.view_is) c.requires.fits
+
+pub opened_over-book-requires-clause-taken : goal.opened_over-book-requires-clause-taken
+opened_over-book-requires-clause-taken c =
     let a = c.self.inside in
-    let is = c.self.invariant in
-    let fits : reserved a.desk ≤ c.args.limit =
-    subst (λ (b : BookValue). reserved b.desk ≤ c.args.limit) (sym c.self.view_is) c.requires.fits in
-    let units : c.fill.new.self.items ≡ replicate (length a.desk.workers) 0 =
-    c.fill.ensures.items (λ y e. e)
-    ∙ ap (λ (n : ℕ). replicate n 0) (omega (arith, is.is_book.workers, a.units.ok.0)) in
-    kept_over _ a.desk is.is_book.sound fits c.requires.most c.of.ensures refl c.requires.empty units
-    (omega (arith, is.counted, c.len.ensures, length-reverse a.journal.items, a.journal.ok.0)) c.requires.capacity
+    omega (arith, c.self.invariant.counted, c.len.ensures, length-reverse a.journal.items, a.journal.ok.0)
+
+pub opened_over-book-requires-clause-units : goal.opened_over-book-requires-clause-units
+opened_over-book-requires-clause-units c =
+    omega (arith, c.self.invariant.is_book.workers, c.self.inside.units.ok.0)
