@@ -100,6 +100,14 @@ impl Desk {
         self.schedule.stream(s).map(|stream| stream.spec())
     }
 
+    /// What stream `s` is served with.
+    pub fn stream_spec(&self, s: u32) -> Option<&StreamSpec>
+        ensures { option_copied result
+            ≡ option_map (λ stream. stream.state.spec) (slice_get self.now.streams s) }
+    {
+        self.schedule.stream(s).map(|stream| stream.made_for())
+    }
+
     /// What [`Desk::offer`] would refuse this frame for, want of memory aside.
     pub fn offer_refusal(&self, s: u32, at: u64, frame: &Frame) -> Option<Refusal>
         ensures answer { IsOfferAnswer self.now s at frame.now.geometry result }

@@ -1,5 +1,5 @@
 //! What a stream is served with.
-ghost use Rattle.std.specs.Prelude.{◌≡◌, ◌<◌, ◌↔◌, IsTrue};
+ghost use Rattle.std.specs.Prelude.{◌≡◌, ◌<◌, ◌↔◌, IfOk, IsTrue};
 ghost use Rattle.std.specs.Arc.{arc_value};
 ghost use Rattle.serve_core.specs.Setup as rules;
 ghost use Rattle.serve_core.specs.Grants.{cost_of_band};
@@ -8,6 +8,7 @@ ghost use Rattle.serve_core.specs.Setup.{IsWithinLimits, costs, steps};
 use filters::MOST_COST;
 use frame_view::Geometry;
 use lease::JobSpec;
+use std::alloc::AllocError;
 use std::marker::Model;
 use std::sync::Arc;
 use stream_queue::limits::MOST_PLACES;
@@ -77,6 +78,21 @@ impl StreamSpec {
             outbox,
             frames,
         }
+    }
+
+    /// The same once more, with another handle on the chain.
+    pub fn try_clone(&self) -> Result<StreamSpec, AllocError>
+        ensures { IfOk result (λ spec. spec ≡ self.now) }
+    {
+        Ok(StreamSpec {
+            geometry: self.geometry,
+            job: Arc::try_clone(&self.job)?,
+            maximum: self.maximum,
+            period: self.period,
+            queue: self.queue,
+            outbox: self.outbox,
+            frames: self.frames,
+        })
     }
 
     /// What is done to each frame.

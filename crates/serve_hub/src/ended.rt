@@ -1,6 +1,6 @@
 //! What is left of a hub.
 ghost use Rattle.std.specs.Prelude.{◌≡◌, ◌<◌, ◌≤◌, ◌↔◌, [], IfErr, IfOk, IfSome, IsTrue, length, reverse};
-ghost use Rattle.std.specs.Prelude.{filter, slice_get};
+ghost use Rattle.std.specs.Prelude.{filter, option_copied, slice_get};
 ghost use Rattle.std.specs.Option.{option_map};
 ghost use Rattle.std.specs.Vec.{vec_capacity};
 ghost use Rattle.serve_core.specs.Bare.{measures_any, is_any_image};
@@ -22,7 +22,7 @@ use crate::unlocked::Unlocked;
 use crate::work_seat::WorkSeat;
 use cbs_account::limits::MOST_WORKERS;
 use edf_pool::limits::MOST_STREAMS;
-use serve_core::{Counts, Desk};
+use serve_core::{Counts, Desk, StreamSpec};
 use std::alloc::Global;
 use std::marker::Model;
 
@@ -183,6 +183,15 @@ impl Ended {
             ≡ option_map (λ stream. counts_of stream.state) (slice_get self.now.book.desk.streams s) }
     {
         self.book.desk().counts(s)
+    }
+
+    /// What stream `s` is served with. With the streams of the opening and these of the admitted ones, the
+    /// journal can be replayed.
+    pub fn spec(&self, s: u32) -> Option<&StreamSpec>
+        ensures { option_copied result
+            ≡ option_map (λ stream. stream.state.spec) (slice_get self.now.book.desk.streams s) }
+    {
+        self.book.desk().stream_spec(s)
     }
 
     /// How many bands worker `w` settled.

@@ -9,6 +9,7 @@ mod hubs;
 mod jobs;
 mod leases;
 mod newcomers;
+mod replayed;
 mod retired;
 mod seated;
 mod seats;
