@@ -129,11 +129,18 @@ impl Lease {
         self.stream
     }
 
-    /// The job's number in its stream.
-    pub fn number(&self) -> u64
+    /// The job's number in its stream, which `replay` writes as SEQ.
+    pub fn seq(&self) -> u64
         ensures { result ≡ self.now.number }
     {
         self.number
+    }
+
+    /// The same: a frame is told by its number everywhere else.
+    pub fn number(&self) -> u64
+        ensures { result ≡ self.now.number }
+    {
+        self.seq()
     }
 
     /// The frame that the job filters.
