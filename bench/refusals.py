@@ -114,8 +114,8 @@ class Session(Case):
         if not all(images.startswith(front) for front in wrote):
             return "what was written is no front of the images"
         lines = ended.out.splitlines()
-        if ended.refused and (self.names_words(ended) or ended.answer() == (1, b"", b"y4mserve: session NoMemory\n")):
-            return None
+        if self.names_words(ended) or ended.answer() == (1, b"", b"y4mserve: session NoMemory\n"):
+            return None if ended.refused and wrote == [b"", b""] else "a session that wants memory wrote"
         told = [self.LINE.fullmatch(line) for line in lines[:-1]]
         if not ended.refused or ended.status != 1 or ended.errors or len(told) != 2 or None in told:
             return f"status {ended.status}, {ended.out!r}, {ended.errors[-200:]!r}"

@@ -48,6 +48,15 @@ held_length value [] streams = omega arith
 held_length value (seat ∷ seats) [] = omega arith
 held_length value (seat ∷ seats) (stream ∷ streams) = omega (arith, held_length value seats streams)
 
+-- the streams that have seats, where all have
+pub streams_held : {S : Type 0} (value : S → StreamValue) (seats : List StreamSeatValue) (streams : List S)
+    → length (held_with value seats streams) ≡ length streams → map (λ held. held.stream) (held_with value seats streams) ≡ map value streams
+streams_held value [] [] e = refl
+streams_held value [] (stream ∷ streams) e = absurd (omega (arith, e))
+streams_held value (seat ∷ seats) [] e = refl
+streams_held value (seat ∷ seats) (stream ∷ streams) e =
+    ap (λ (these : List StreamValue). value stream ∷ these) (streams_held value seats streams (omega (arith, e)))
+
 -- how a session begins
 
 module _ {W : Type 0} (contents : W → Option (List ℕ)) (failures : W → ℕ) (limit : ℕ) where
@@ -84,7 +93,7 @@ module _ {W : Type 0} (contents : W → Option (List ℕ)) (failures : W → ℕ
   all_sized first (spec ∷ specs) [] p = absurd p
   all_sized first (spec ∷ specs) (input ∷ inputs) p = (p.0.header, all_sized (suc first) specs inputs p.1)
 
-  all_starts : (first : ℕ) (specs : List StreamSpec) (inputs : List (ReaderState × W)) → AreInputs specs inputs
+  pub all_starts : (first : ℕ) (specs : List StreamSpec) (inputs : List (ReaderState × W)) → AreInputs specs inputs
       → length (starts_of contents failures (opened_streams limit first specs) inputs) ≡ length specs
   all_starts first [] [] p = refl
   all_starts first [] (input ∷ inputs) p = absurd p

@@ -1,5 +1,5 @@
 -- What the streams of a session come to, turn by turn.
-use Rattle.std.specs.Prelude.{All, IfSome, IsErrAnd, MatchOption, drop, take, unwrap_or, ⊤, Bool, filter, reverse}
+use Rattle.std.specs.Prelude.{All, IfSome, IsErrAnd, MatchOption, drop, take, unwrap_or, ⊤, Bool, true, false, filter, reverse}
 use Rattle.std.specs.List.{AllByRecursion, AllZip}
 use Rattle.std.proofs.Common.{append_assoc, ◌≡◌, ◌≢◌, IfErr, ℕ, suc, ◌<◌, List, [], ◌∷◌, ◌++◌, length, get_or}
 use Rattle.std.proofs.Common.{map, Option, Some, None, append-nil, take_all, Result, Ok, Err, inl, inr, ◌⊎◌}
@@ -22,13 +22,16 @@ use Rattle.serve_hub.specs.Journal.{AreEntries, transcript_of}
 use Rattle.serve_hub.specs.Seats.{StreamSeatValue}
 use Rattle.serve_work.specs.declared.session.Served.{Served}
 use Rattle.serve_work.specs.declared.session.SessionFault.{SessionFault}
-use Rattle.serve_work.specs.declared.session.SessionFault.TheVariants.{BadLimit, NoMemory}
+use Rattle.serve_work.specs.declared.session.SessionFault.TheVariants.{BadLimit, Mismatch, NoMemory}
+use Rattle.serve_work.specs.declared.session.unended.Unended.{Unended}
+use Rattle.serve_work.specs.declared.session.unended.Unended.TheVariants as unended
 use Rattle.serve_work.specs.declared.session.turn.Stream.{Stream}
 use Rattle.serve_work.specs.Clients.{AreAtMoments, ClientOutcome, ClientStart}
 use Rattle.serve_work.specs.Intervals.{HasNoCalls, IsSizedStart}
 use Rattle.serve_work.specs.Rests.{Begun, IsRestOf, RestValue, Unbegun, reader_in}
 use Rattle.serve_work.specs.Sessions.{AllTimed, AreInputs, AreTimed, acts_in, outcome_of}
 use Rattle.serve_work.specs.SessionInside.{AllBegin, AllGoOn, AllLeave, AllRun, AllStand, AreOver, AreUnread}
+use Rattle.serve_work.specs.SessionInside.{GivesBack, IsUnended, fault_of, unread}
 use Rattle.serve_work.specs.SessionInside.{ClientLeft, GoesOn, HeldValue, IsReady, Over, Runs, Stands}
 use Rattle.serve_work.specs.SessionInside.{StandsAt, StreamValue, Waiting, held_at, held_with, stream_of}
 use Rattle.serve_work.proofs.Tallying.{KeepsMoments-same}
@@ -308,6 +311,35 @@ has_held turn held e none = subst (λ (o : Option HeldValue). MatchOption o ⊥ 
 pub no_memory : (e : SessionFault) → e ≡ NoMemory → e ≢ BadLimit
 no_memory e p is = let both : NoMemory ≡ BadLimit = sym p ∙ is in absurd (cc)
 
+pub mismatch : (e : SessionFault) → e ≡ Mismatch → e ≢ BadLimit
+mismatch e p is = let both : Mismatch ≡ BadLimit = sym p ∙ is in absurd (cc)
+
+pub all_unended : {T E : Type 0} (P Q : E → Type 0) (r : Result T E) → ((e : E) → P e → Q e) → IfErr r P → IfErr r Q
+all_unended P Q (Ok t) on p = tt
+all_unended P Q (Err e) on p = on e p
+
+-- the fault of an epoch that came to no end
+module _ {R W : Type 0} (left : R → Option (List ℕ)) (read_failures : R → ℕ) (after : W → Option (List ℕ)) (failures : W → ℕ)
+    (is_flushed : W → Bool) (helds : List HeldValue) where
+  pub unended_limit : (is_first : Bool) (e : Unended R W) → IsUnended left read_failures after failures is_flushed is_first helds e
+      → fault_of e ≢ BadLimit
+  unended_limit is_first (unended.Unopened fault inputs) p = absurd p
+  unended_limit is_first (unended.Unbegun back) p = no_memory NoMemory refl
+  unended_limit is_first unended.Mismatch p = mismatch Mismatch refl
+
+  pub later_mismatch : (e : Unended R W) → IsUnended left read_failures after failures is_flushed false helds e → fault_of e ≡ Mismatch
+  later_mismatch (unended.Unopened fault inputs) p = absurd p
+  later_mismatch (unended.Unbegun back) p = let no : false ≡ true = p.0 in absurd (cc)
+  later_mismatch unended.Mismatch p = refl
+
+  pub still_unread : (inputs : List (ReaderState × W)) (e : Unended R W)
+      → map (λ held. held.stream) helds ≡ map (unread after failures) inputs
+      → IsUnended left read_failures after failures is_flushed true helds e
+      → GivesBack left read_failures after failures is_flushed inputs e
+  still_unread inputs (unended.Unopened fault back) same p = absurd p
+  still_unread inputs (unended.Unbegun back) same p = p.1 ∙ same
+  still_unread inputs unended.Mismatch same p = tt
+
 pub fault_stays : {T : Type 0} (r : Result T SessionFault) (e : SessionFault) → IsErrAnd r (λ told. told ≡ e) → e ≢ BadLimit
     → IfErr r (λ told. told ≢ BadLimit)
 fault_stays (Ok t) e p other = absurd p
@@ -400,6 +432,14 @@ told_one left read_failures after failures is_flushed all items later served ser
   each = subst (AreOver left read_failures after failures is_flushed (t.done ++ stream ∷ [])) (sym more)
       (over_more left read_failures after failures is_flushed t.done served stream s t.each one);
 }
+
+-- one more was made
+pub made_more : {A B C : Type 0} (f : A → C) (h : B → C) (xs xs' : List A) (x : A) (ys ys' : List B) (y : B) (all : List C)
+    → map f xs ++ map h ys ≡ all → ys ≡ y ∷ ys' → xs' ≡ xs ++ x ∷ [] → f x ≡ h y → map f xs' ++ map h ys' ≡ all
+made_more f h xs xs' x ys ys' y all told i more same =
+    ap (λ z. map f z ++ map h ys') more ∙ ap (λ z. z ++ map h ys') (map_more f xs x)
+    ∙ append_assoc (map f xs) (f x ∷ []) (map h ys') ∙ ap (λ z. map f xs ++ z ∷ map h ys') same
+    ∙ ap (λ z. map f xs ++ map h z) (sym i) ∙ told
 
 -- where nothing is left, all were made
 pub all_made : {A B : Type 0} (f : A → B) (xs all : List B) (items : List A) → length items ≡ 0 → xs ++ map f items ≡ all → xs ≡ all

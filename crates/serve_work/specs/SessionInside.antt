@@ -1,6 +1,6 @@
 -- What contracts inside the crate say of the streams of a session, from epoch to epoch.
 use Rattle.std.specs.Prelude.{ℕ, ◌≡◌, ◌<◌, ⊤, All, Bool, true, false, IsFalse, List, [], ◌∷◌, ◌++◌, Option}
-use Rattle.std.specs.Prelude.{Some, IfSome, IsSomeAnd, map, slice_index_or}
+use Rattle.std.specs.Prelude.{Some, IfSome, IsSomeAnd, IsTrue, map, slice_index_or}
 use Rattle.std.specs.List.{AllByRecursion, AllZip}
 use Rattle.y4m_stream.specs.declared.reader.Phase.TheVariants.{Open}
 use Rattle.y4m_stream.specs.Reader.{IsOfHeader, ReaderState}
@@ -9,6 +9,10 @@ use Rattle.serve_hub.specs.declared.entry.Act.{Act}
 use Rattle.serve_hub.specs.declared.entry.Entry.{Entry}
 use Rattle.serve_hub.specs.Seats.{StreamSeatValue}
 use Rattle.serve_work.specs.declared.session.Served.{Served}
+use Rattle.serve_work.specs.declared.session.SessionFault.{SessionFault}
+use Rattle.serve_work.specs.declared.session.SessionFault.TheVariants as faults
+use Rattle.serve_work.specs.declared.session.unended.Unended.{Unended}
+use Rattle.serve_work.specs.declared.session.unended.Unended.TheVariants as unended
 use Rattle.serve_work.specs.declared.session.turn.Stream.{Stream}
 use Rattle.serve_work.specs.declared.session.turn.Stream.TheVariants as streams
 use Rattle.serve_work.specs.declared.stop.Stop.{Stop}
@@ -51,6 +55,12 @@ kept_stop (streams.Over served) = Some served.stop
 abbrev pub AreAllowed : (Gives : ℕ → Type 0) → List (Option Stop) → Type 0
 AreAllowed Gives stops = AllByRecursion (λ stop. IfSome stop (AllowsStop Gives)) stops
 
+-- the fault that a session tells where an epoch came to no end
+abbrev pub fault_of : {R W : Type 0} → Unended R W → SessionFault
+fault_of (unended.Unopened fault inputs) = fault
+fault_of (unended.Unbegun streams) = faults.NoMemory
+fault_of unended.Mismatch = faults.Mismatch
+
 -- a stream with its seat of this epoch
 pub record HeldValue : Type 0 where
   pub seat : StreamSeatValue
@@ -65,10 +75,31 @@ held_with value (seat ∷ seats) (stream ∷ streams) =
     held_at seat (value stream) ∷ held_with value seats streams
 held_with value seats streams = []
 
+-- why an epoch of these streams came to no end: all threads are needed in the first alone, and where one is
+-- refused the streams come back as they were
+abbrev pub IsUnended : {R W : Type 0} (left : R → Option (List ℕ)) (read_failures : R → ℕ)
+    (after : W → Option (List ℕ)) (failures : W → ℕ) (is_flushed : W → Bool) → (is_first : Bool)
+    → List HeldValue → Unended R W → Type 0
+IsUnended left read_failures after failures is_flushed is_first helds (unended.Unopened fault inputs) = ⊥
+IsUnended left read_failures after failures is_flushed is_first helds (unended.Unbegun back) =
+    IsTrue is_first
+    × (map (stream_of left read_failures after failures is_flushed) back.items ≡ map (λ held. held.stream) helds)
+IsUnended left read_failures after failures is_flushed is_first helds unended.Mismatch = ⊤
+
 -- nothing was done of the stream of this input
 abbrev pub unread : {W : Type 0} (contents : W → Option (List ℕ)) (failures : W → ℕ) → ReaderState × W
     → StreamValue
 unread contents failures input = Waiting (Unbegun input.0 (contents input.1) (failures input.1))
+
+-- what comes back where a session's first epoch came to no end: its inputs as they were, or their streams with
+-- nothing done of them
+abbrev pub GivesBack : {R W : Type 0} (left : R → Option (List ℕ)) (read_failures : R → ℕ)
+    (after : W → Option (List ℕ)) (failures : W → ℕ) (is_flushed : W → Bool) → List (ReaderState × W)
+    → Unended R W → Type 0
+GivesBack left read_failures after failures is_flushed inputs (unended.Unopened fault back) = back.items ≡ inputs
+GivesBack left read_failures after failures is_flushed inputs (unended.Unbegun back) =
+    map (stream_of left read_failures after failures is_flushed) back.items ≡ map (unread after failures) inputs
+GivesBack left read_failures after failures is_flushed inputs unended.Mismatch = ⊤
 
 abbrev pub AreUnread : {W : Type 0} → List (ReaderState × W) → Type 0
 AreUnread inputs = AllByRecursion (λ input. input.0.phase ≡ Open) inputs

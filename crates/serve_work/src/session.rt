@@ -11,6 +11,7 @@ mod places;
 mod room;
 mod threads;
 pub(crate) mod turn;
+mod unended;
 
 use crate::gate::{Clock, Gate};
 use crate::stop::Stop;
@@ -114,9 +115,12 @@ pub fn serve_session<
     ensures bad_limit { IsErrOf result SessionFault.BadLimit ↔ ¬ IsLimit (length setup.streams) limit }
 {
     let blank = Blank::new(MOST_SEATS);
-    let opened = first::<Brand, R, W, G, K, T>(
+    let opened = match first::<Brand, R, W, G, K, T>(
         rt, alloc, blank, setup, inputs, limit, gate, clock,
-    )?;
+    ) {
+        Ok(opened) => opened,
+        Err(unended) => return Err(unended.fault()),
+    };
     let ended = go_on(rt, alloc, opened, gate, clock)?;
     Ok(report(ended))
 }

@@ -1,12 +1,13 @@
 //! The epochs of a session, each with a journal of its own.
-ghost use Rattle.std.specs.Prelude.{◌≡◌, ◌≢◌, ◌<◌, ◌↔◌, true, List, [], IfErr, IfOk, IsErrOf, IsFalse, IsTrue};
-ghost use Rattle.std.specs.Prelude.{OnOk, length, map};
+ghost use Rattle.std.specs.Prelude.{◌≡◌, ◌<◌, ◌↔◌, true, List, [], IfErr, IfOk, IsFalse, IsTrue, OnOk};
+ghost use Rattle.std.specs.Prelude.{length, map};
 ghost use Rattle.serve_core.specs.Schedule.{opened_schedule};
 ghost use Rattle.serve_hub.specs.Books.{IsLimit, room};
 ghost use Rattle.serve_hub.specs.declared.entry.Entry.{Entry};
 ghost use Rattle.serve_work.specs.Intervals.{Beginning, CanBegin, IsBetween, IsLater, beginning_of};
 ghost use Rattle.serve_work.specs.Sessions.{AreInputs};
-ghost use Rattle.serve_work.specs.SessionInside.{AreAllOver, AreAllowed, kept_stop};
+ghost use Rattle.serve_work.specs.SessionInside.{AreAllOver, AreAllowed, IsUnended, GivesBack, fault_of};
+ghost use Rattle.serve_work.specs.SessionInside.{held_with, kept_stop, stream_of};
 
 use super::SessionFault;
 use super::interval::Interval;
@@ -15,14 +16,15 @@ use super::places::Places;
 use super::room::{Room, slotted, unslotted};
 use super::threads::run_threads;
 use super::turn::{Stream, seated};
+use super::unended::Unended;
 use crate::gate::{Clock, Gate};
 use serve_core::Setup;
 use serve_hub::limits::MOST_SEATS;
 use serve_hub::{Ended, Epoch};
 use std::alloc::Global;
 use std::marker::Brand;
-use std::sync::Wait;
 use std::sync::ledger::Blank;
+use std::sync::{Mutex, Wait};
 use std::thread::Threads;
 use y4m_stream::{Sink, Source, StreamReader};
 
@@ -63,7 +65,7 @@ fn epoch<
     is_first: bool,
     gate: &G,
     clock: &K,
-) -> Result<Interval<R, W>, SessionFault>
+) -> Result<Interval<R, W>, Unended<R, W>>
     requires at { (b : Beginning) × (journal : List Entry)
         × CanBegin R.remaining R.failures W.contents W.failures W.is_flushed b journal L.opening opening }
     ensures between { (b : Beginning) (journal : List Entry)
@@ -72,7 +74,9 @@ fn epoch<
         (K.gives clock.now) b true journal) }
     ensures stops { AreAllowed (K.gives clock.now) (map kept_stop opening.streams.items)
         → IfOk result (λ now. AreAllowed (K.gives clock.now) (map kept_stop now.streams.items)) }
-    ensures fault { IfErr result (λ e. e ≢ SessionFault.BadLimit) }
+    ensures unended { IfErr result (IsUnended R.remaining R.failures W.contents W.failures W.is_flushed
+        is_first (held_with (stream_of R.remaining R.failures W.contents W.failures W.is_flushed)
+        opening.opened.1.items opening.streams.items)) }
 {
     let Opening {
         opened,
@@ -90,12 +94,21 @@ fn epoch<
     let workers = work_seats.len();
     let turns = seated(turns, seats, streams);
     slotted(&mut slots, work_seats);
-    let turns = run_threads(rt, alloc, &hub, &slots, turns, is_first, gate, clock)?;
+    let start = Mutex::new(false);
+    let turns = match run_threads(
+        rt, alloc, &hub, &slots, &start, turns, is_first, gate, clock,
+    ) {
+        Ok(turns) => turns,
+        Err(turns) => {
+            places.fill(turns);
+            return Err(Unended::Unbegun(places.streams));
+        }
+    };
     unslotted(slots, &mut back);
     places.fill(turns);
     let Places { seats, streams } = places;
     let Ok(ended) = hub.finish(seats, back) else {
-        return Err(SessionFault::Mismatch);
+        return Err(Unended::Mismatch);
     };
     let goes_on = another_comes(&ended, &streams);
     Ok(Interval {
@@ -107,7 +120,8 @@ fn epoch<
     })
 }
 
-/// The first epoch of a session. All that it needs is taken before a frame is offered.
+/// The first epoch of a session. All that it needs is taken before a frame is read. Where some of it is
+/// refused, the inputs come back as they were, or the streams with nothing done of them.
 pub(super) fn first<
     L: Epoch + Send + Sync,
     R: Source + Drop + Send,
@@ -124,7 +138,7 @@ pub(super) fn first<
     limit: usize,
     gate: &G,
     clock: &K,
-) -> Result<Interval<R, W>, SessionFault>
+) -> Result<Interval<R, W>, Unended<R, W>>
     requires name { blank.name ≡ L.name }
     requires parts { blank.parts ≡ L.parts }
     requires enough { blank.parts ≡ MOST_SEATS }
@@ -134,7 +148,10 @@ pub(super) fn first<
         (K.gives clock.now) (beginning_of W.contents W.failures setup limit inputs.items) true []) }
     ensures stops { IfOk result (λ now. AreAllowed (K.gives clock.now) (map kept_stop now.streams.items)) }
     ensures limit { OnOk result (IsLimit (length setup.streams) limit) }
-    ensures bad_limit { IsErrOf result SessionFault.BadLimit ↔ ¬ IsLimit (length setup.streams) limit }
+    ensures bad_limit { IfErr result (λ e.
+        (fault_of e ≡ SessionFault.BadLimit) ↔ ¬ IsLimit (length setup.streams) limit) }
+    ensures unread { IfErr result
+        (GivesBack R.remaining R.failures W.contents W.failures W.is_flushed inputs.items) }
 {
     let opening = opened::<L, R, W>(alloc, blank, setup, inputs, limit)?;
     epoch(rt, alloc, opening, true, gate, clock)
@@ -168,11 +185,14 @@ fn later<
         (K.gives clock.now) b true journal) }
     ensures stops { AreAllowed (K.gives clock.now) (map kept_stop interval.streams.items)
         → IfOk result (λ now. AreAllowed (K.gives clock.now) (map kept_stop now.streams.items)) }
-    ensures fault { IfErr result (λ e. e ≢ SessionFault.BadLimit) }
+    ensures fault { IfErr result (λ e. e ≡ SessionFault.Mismatch) }
 {
     match reopened::<L, R, W>(alloc, blank, interval) {
         Err(interval) => Ok(interval),
-        Ok(opening) => epoch(rt, alloc, opening, false, gate, clock),
+        Ok(opening) => match epoch(rt, alloc, opening, false, gate, clock) {
+            Ok(interval) => Ok(interval),
+            Err(unended) => Err(unended.fault()),
+        },
     }
 }
 
@@ -198,7 +218,7 @@ pub(super) fn go_on<
         (K.gives clock.now) b interval.goes_on journal) }
     ensures stops { AreAllowed (K.gives clock.now) (map kept_stop interval.streams.items)
         → IfOk result (λ now. AreAllowed (K.gives clock.now) (map kept_stop now.streams.items)) }
-    ensures fault { IfErr result (λ e. e ≢ SessionFault.BadLimit) }
+    ensures fault { IfErr result (λ e. e ≡ SessionFault.Mismatch) }
 {
     let mut interval = interval;
     for _ in rt.forever() {

@@ -1,15 +1,18 @@
 //! What an epoch begins with.
-ghost use Rattle.std.specs.Prelude.{◌≡◌, ◌↔◌, List, [], IfErr, IfOk, IsErrOf, IsFalse, OnOk, length, map};
+ghost use Rattle.std.specs.Prelude.{◌≡◌, ◌≤◌, ◌↔◌, List, [], IfErr, IfOk, IsErrOf, IsFalse, OnOk, length};
+ghost use Rattle.std.specs.Prelude.{map, vec_capacity};
 ghost use Rattle.serve_core.specs.Schedule.{opened_schedule};
 ghost use Rattle.serve_hub.specs.Books.{IsLimit};
 ghost use Rattle.serve_hub.specs.declared.entry.Entry.{Entry};
-ghost use Rattle.serve_work.specs.Intervals.{Beginning, CanBegin, IsBetween, beginning_of};
+ghost use Rattle.serve_hub.specs.Seats.{hub_of, opened_streams};
+ghost use Rattle.serve_work.specs.Intervals.{Beginning, CanBegin, IsBetween, IsRoomFor, beginning_of};
 ghost use Rattle.serve_work.specs.Sessions.{AreInputs};
-ghost use Rattle.serve_work.specs.SessionInside.{stream_of, unread};
+ghost use Rattle.serve_work.specs.SessionInside.{GivesBack, fault_of, stream_of, unread};
 
 use super::interval::Interval;
 use super::room::Room;
 use super::turn::{Stream, waiting};
+use super::unended::Unended;
 use super::{Served, SessionFault};
 use serve_core::Setup;
 use serve_hub::limits::MOST_SEATS;
@@ -27,14 +30,44 @@ pub(super) struct Opening<L: Epoch, R: Source, W: Sink> {
     pub(super) served: Vec<Served<R, W>>,
 }
 
-/// Opens the first epoch of a session.
+/// The hub of a session's first epoch, and the lists of so many streams.
+type Lists<L, R, W> = (Opened<L>, Room<L, R, W>, Vec<Served<R, W>>);
+
+/// Takes the memory of a session's first epoch, but for the streams.
+fn lists<L: Epoch, R: Source + Drop, W: Sink + Drop>(
+    alloc: Global,
+    blank: Blank,
+    setup: Setup,
+    streams: usize,
+    limit: usize,
+) -> Result<Lists<L, R, W>, SessionFault>
+    requires name { blank.name ≡ L.name }
+    requires parts { blank.parts ≡ L.parts }
+    requires enough { blank.parts ≡ MOST_SEATS }
+    requires opening { opened_schedule setup ≡ L.opening }
+    ensures hub { IfOk result (λ made.
+        made.0.0 ≡ hub_of (length setup.streams) setup.workers limit) }
+    ensures seats { IfOk result (λ made. made.0.1.items ≡ opened_streams limit 0 setup.streams) }
+    ensures room { IfOk result (λ made. IsRoomFor streams made.1) }
+    ensures untold { IfOk result (λ made. made.2.items ≡ []) }
+    ensures places { IfOk result (λ made. streams ≤ vec_capacity made.2) }
+    ensures limit { OnOk result (IsLimit (length setup.streams) limit) }
+    ensures bad_limit { IsErrOf result SessionFault.BadLimit ↔ ¬ IsLimit (length setup.streams) limit }
+{
+    let opened = Hub::<L>::new(alloc, blank, setup, limit)?;
+    let served = Vec::with_capacity(alloc, streams)?;
+    let room = Room::<L, R, W>::new(alloc, streams, opened.2.len())?;
+    Ok((opened, room, served))
+}
+
+/// Opens the first epoch of a session, or gives the inputs back.
 pub(super) fn opened<L: Epoch, R: Source + Drop, W: Sink + Drop>(
     alloc: Global,
     blank: Blank,
     setup: Setup,
     inputs: Vec<(StreamReader<R>, W)>,
     limit: usize,
-) -> Result<Opening<L, R, W>, SessionFault>
+) -> Result<Opening<L, R, W>, Unended<R, W>>
     requires name { blank.name ≡ L.name }
     requires parts { blank.parts ≡ L.parts }
     requires enough { blank.parts ≡ MOST_SEATS }
@@ -46,19 +79,24 @@ pub(super) fn opened<L: Epoch, R: Source + Drop, W: Sink + Drop>(
         map (stream_of R.remaining R.failures W.contents W.failures W.is_flushed) opening.streams.items
         ≡ map (unread W.contents W.failures) inputs.items) }
     ensures limit { OnOk result (IsLimit (length setup.streams) limit) }
-    ensures bad_limit { IsErrOf result SessionFault.BadLimit ↔ ¬ IsLimit (length setup.streams) limit }
+    ensures bad_limit { IfErr result (λ e.
+        (fault_of e ≡ SessionFault.BadLimit) ↔ ¬ IsLimit (length setup.streams) limit) }
+    ensures back { IfErr result
+        (GivesBack R.remaining R.failures W.contents W.failures W.is_flushed inputs.items) }
 {
-    let opened = Hub::<L>::new(alloc, blank, setup, limit)?;
-    let streams = waiting(alloc, inputs)?;
-    let count = streams.len();
-    let served = Vec::with_capacity(alloc, count)?;
-    let room = Room::<L, R, W>::new(alloc, count, opened.2.len())?;
-    Ok(Opening {
-        opened,
-        room,
-        streams,
-        served,
-    })
+    let (opened, room, served) = match lists(alloc, blank, setup, inputs.len(), limit) {
+        Ok(lists) => lists,
+        Err(fault) => return Err(Unended::Unopened(fault, inputs)),
+    };
+    match waiting(alloc, inputs) {
+        Err(inputs) => Err(Unended::Unopened(SessionFault::NoMemory, inputs)),
+        Ok(streams) => Ok(Opening {
+            opened,
+            room,
+            streams,
+            served,
+        }),
+    }
 }
 
 /// Opens the next epoch of a session, whose journal has the limit of the last one's. Where none can be

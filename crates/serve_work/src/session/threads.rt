@@ -1,9 +1,8 @@
 //! The threads of an epoch: one for each worker, and one for each client where it is granted.
-ghost use Rattle.std.specs.Prelude.{◌≡◌, IfErr, IfOk, vec_len};
+ghost use Rattle.std.specs.Prelude.{◌≡◌, IfErr, IfOk, IsErr, IsTrue, vec_len};
 ghost use Rattle.std.specs.Thread.{IsSend, IsSync};
 ghost use Rattle.serve_work.specs.SessionInside.{AllRun, Runs};
 
-use super::SessionFault;
 use super::room::Slot;
 use super::turn::Turn;
 use crate::gate::{Clock, Gate};
@@ -11,7 +10,7 @@ use crate::workers::work;
 use edf_pool::limits::MOST_STREAMS;
 use serve_hub::{Epoch, Hub};
 use std::alloc::Global;
-use std::sync::Wait;
+use std::sync::{Mutex, Wait};
 use std::thread;
 use std::thread::Threads;
 use y4m_stream::{Sink, Source};
@@ -60,24 +59,21 @@ fn run_beside<
     turns
 }
 
-/// Closes each stream. No frame of it was offered.
-fn close_all<L: Epoch, R: Source + Drop, W: Sink + Drop, T: Wait>(
-    rt: &T,
-    hub: &Hub<L>,
-    turns: Vec<Turn<L, R, W>>,
-) {
-    for turn in turns {
-        turn.close(rt, hub);
-    }
-}
+/// Whether the workers begin. It is locked until each was asked for.
+pub(super) type Start = Mutex<bool>;
 
-/// A worker takes its seat from its slot, and leaves it there at its end.
+/// A worker takes its seat from its slot, and leaves it there at its end, where the workers begin.
 fn work_in<L: Epoch, G: Gate + Sync, T: Threads + Wait>(
     rt: &T,
     hub: &Hub<L>,
     slot: &Slot<L>,
+    start: &Start,
     gate: &G,
 ) {
+    let begins = *start.lock(rt);
+    if !begins {
+        return;
+    }
     let seat = slot.lock(rt).take();
     if let Some(seat) = seat {
         let (seat, _) = work(rt, hub, seat, gate);
@@ -88,8 +84,8 @@ fn work_in<L: Epoch, G: Gate + Sync, T: Threads + Wait>(
 /// Starts the workers, runs the clients, and waits until the workers are back. Where no worker started, no
 /// client runs.
 ///
-/// The seat of a worker whose thread is refused stays in its slot. Where all are needed, all streams are
-/// closed then, and those workers that run end by that.
+/// The seat of a worker whose thread is refused stays in its slot. Where all are needed, none begins then, and
+/// the streams come back as they were.
 pub(super) fn run_threads<
     L: Epoch + Send + Sync,
     R: Source + Drop + Send,
@@ -102,38 +98,48 @@ pub(super) fn run_threads<
     alloc: Global,
     hub: &Hub<L>,
     slots: &[Slot<L>],
+    start: &Start,
     turns: Vec<Turn<L, R, W>>,
     needs_all: bool,
     gate: &G,
     clock: &K,
-) -> Result<Vec<Turn<L, R, W>>, SessionFault>
+) -> Result<Vec<Turn<L, R, W>>, Vec<Turn<L, R, W>>>
     ensures count { IfOk result (λ after. vec_len after ≡ vec_len turns) }
     ensures run { IfOk result (λ after. AllRun (K.gives clock.now) turns.items after.items) }
-    ensures refused { IfErr result (λ e. e ≡ SessionFault.NoMemory) }
+    ensures needed { IsErr result → IsTrue needs_all }
+    ensures back { IfErr result (λ back. back.items ≡ turns.items) }
+    ensures all_back { IfErr result (λ back. vec_len back ≡ vec_len turns) }
 {
     thread::scope(
         thread::scope_env(),
         rt,
-        |scope| -> Result<Vec<Turn<L, R, W>>, SessionFault>
+        |scope| -> Result<Vec<Turn<L, R, W>>, Vec<Turn<L, R, W>>>
             requires { IsSync T.row × IsSync G.row × IsSync K.row × IsSync L.row × IsSend L.row
                 × IsSend R.row × IsSend W.row }
             ensures count { IfOk result (λ after. vec_len after ≡ vec_len turns) }
             ensures run { IfOk result (λ after. AllRun (K.gives clock.entry.now) turns.items after.items) }
-            ensures refused { IfErr result (λ e. e ≡ SessionFault.NoMemory) }
+            ensures needed { IsErr result → IsTrue needs_all }
+            ensures back { IfErr result (λ back. back.items ≡ turns.items) }
+            ensures all_back { IfErr result (λ back. vec_len back ≡ vec_len turns) }
         {
+            let mut begins = start.lock(rt);
             let mut any_works = false;
             let mut all_work = true;
             for slot in slots {
-                if scope.spawn(move || work_in(rt, hub, slot, gate)).is_ok() {
+                if scope
+                    .spawn(move || work_in(rt, hub, slot, start, gate))
+                    .is_ok()
+                {
                     any_works = true;
                 } else {
                     all_work = false;
                 }
             }
             if needs_all && !all_work {
-                close_all(rt, hub, turns);
-                return Err(SessionFault::NoMemory);
+                return Err(turns);
             }
+            *begins = true;
+            drop(begins);
             Ok(run_beside(rt, alloc, hub, turns, clock, any_works))
         },
     )

@@ -1,6 +1,6 @@
 //! The streams of a session: each waits for its client, which goes on with it in each epoch, until it is
 //! over.
-ghost use Rattle.std.specs.Prelude.{◌≡◌, ◌≤◌, List, [], IfOk, Option, Some, map, vec_capacity, vec_len};
+ghost use Rattle.std.specs.Prelude.{◌≡◌, ◌≤◌, List, [], IfErr, IfOk, Option, Some, map, vec_capacity, vec_len};
 ghost use Rattle.std.specs.List.{AllByRecursion};
 ghost use Rattle.serve_hub.specs.declared.entry.Act.{Act};
 ghost use Rattle.serve_hub.specs.Seats.{StreamSeatValue};
@@ -17,7 +17,7 @@ use crate::clients::{ClientEnd, ClientTurn, client};
 use crate::gate::Clock;
 use crate::rest::ClientRest;
 use serve_hub::{Epoch, Hub, StreamSeat};
-use std::alloc::{AllocError, Global};
+use std::alloc::Global;
 use std::marker::Model;
 use std::sync::Wait;
 use y4m_stream::{Sink, Source, StreamReader};
@@ -122,11 +122,6 @@ impl<L: Epoch, R: Source + Drop, W: Sink + Drop> Held<L, R, W> {
     {
         (self.seat, self.stream)
     }
-
-    fn close<T: Wait>(self, rt: &T, hub: &Hub<L>) {
-        let Held { mut seat, .. } = self;
-        let _ = hub.close(rt, &mut seat);
-    }
 }
 
 /// The seat of a client that is done, and what is told of its stream, before it is known what it was charged.
@@ -197,13 +192,6 @@ impl<L: Epoch, R: Source + Drop, W: Sink + Drop> Turn<L, R, W> {
         }
     }
 
-    /// Closes the stream, and gives it up.
-    pub(super) fn close<T: Wait>(self, rt: &T, hub: &Hub<L>) {
-        if let Some(held) = self.held {
-            held.close(rt, hub);
-        }
-    }
-
     /// The stream with its seat.
     pub(super) fn into_held(self) -> Option<Held<L, R, W>>
         ensures { result ≡ self }
@@ -212,19 +200,23 @@ impl<L: Epoch, R: Source + Drop, W: Sink + Drop> Turn<L, R, W> {
     }
 }
 
-/// The streams of these inputs, with nothing done of them.
+/// The streams of these inputs, with nothing done of them. Where there is no memory for their list, the inputs
+/// come back.
 pub(super) fn waiting<R: Source + Drop, W: Sink + Drop>(
     alloc: Global,
     inputs: Vec<(StreamReader<R>, W)>,
-) -> Result<Vec<Stream<R, W>>, AllocError>
+) -> Result<Vec<Stream<R, W>>, Vec<(StreamReader<R>, W)>>
     requires unread { AreUnread inputs.items }
-    ensures { IfOk result (λ streams.
+    ensures streams { IfOk result (λ streams.
         map (stream_of R.remaining R.failures W.contents W.failures W.is_flushed) streams.items
         ≡ map (unread W.contents W.failures) inputs.items) }
+    ensures back { IfErr result (λ back. back ≡ inputs) }
 {
-    let mut streams = Vec::with_capacity(alloc, inputs.len())?;
+    let Ok(mut streams) = Vec::with_capacity(alloc, inputs.len()) else {
+        return Err(inputs);
+    };
     for (reader, writer) in inputs {
-        streams.push(Stream::Waiting(ClientRest::new(reader, writer)))?;
+        streams.push_reserved(Stream::Waiting(ClientRest::new(reader, writer)));
     }
     Ok(streams)
 }

@@ -1,13 +1,15 @@
 //! Sessions that go on from epoch to epoch, since their journals are short.
-use super::many::{Hall, OneServed, Stream, WIDE, serve_all};
+use super::many::{Hall, OneServed, Stream, WIDE, serve_by};
+use super::sessions::Counting;
 use super::stops::{
     PLAIN_THREE, Session, TURNED_THREE, Told, WHOLE, WHOLE_TURNED, goes, was_served,
 };
-use super::{PLAIN, Plan};
+use super::{Open, PLAIN, Plan};
 use serve_work::{Cause, SessionFault, Stop};
 use std::alloc::Global;
 use std::process::Abort;
 use std::sync::Wait;
+use std::sync::atomic::{AtomicU64, Ordering};
 use std::test::Fail;
 use std::thread::Threads;
 use test_tools::streams::{HEADER, ONE, ONE_INVERTED, numbered};
@@ -182,7 +184,8 @@ fn faults_of_later_epochs_are_told(rt: HostRuntime) -> Result<(), Fail> {
 }
 
 /// Serves the two streams by so many workers over epochs of 16 entries. Where memory or a worker's thread is
-/// refused, that is told, and what was written is a front of the images.
+/// refused, that is told, and what was written is a front of the images. A session that tells it has asked for
+/// no moment.
 fn wants_memory_alone(
     rt: &(impl Abort + Threads + Wait + Sync),
     alloc: Global,
@@ -193,10 +196,13 @@ fn wants_memory_alone(
         limit: 16,
         ..WIDE
     };
-    let all = match serve_all(rt, alloc, &[PLAIN_THREE, TURNED_THREE], hall)? {
+    let clock = Counting(AtomicU64::new(0));
+    let streams = [PLAIN_THREE, TURNED_THREE];
+    let all = match serve_by(rt, alloc, &streams, hall, &Open, &clock)? {
         Ok(all) => all,
         Err(fault) => {
-            assert_eq!(rt; fault, SessionFault::NoMemory);
+            let asked = clock.0.load(Ordering::SeqCst);
+            assert_eq!(rt; (fault, asked), (SessionFault::NoMemory, 0));
             return Ok(());
         }
     };

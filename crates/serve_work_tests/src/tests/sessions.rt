@@ -85,7 +85,7 @@ impl Clock for Still {
 
 /// Each time that it is asked, the moment after the last one.
 #[derive(Drop)]
-struct Counting(AtomicU64);
+pub(super) struct Counting(pub(super) AtomicU64);
 
 impl Clock for Counting {
     ghost gives = { λ _ _. ⊤ };

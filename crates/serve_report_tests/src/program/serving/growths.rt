@@ -8,7 +8,7 @@ use std::process::Abort;
 use std::sync::Wait;
 use std::test::Fail;
 
-/// What may be said in place of a report.
+/// What may be said in place of a report, where nothing was written.
 const SAID: [&str; 2] = ["y4mserve: NoMemory\n", "y4mserve: session NoMemory\n"];
 
 /// How the line of a stream ends for want of memory.
@@ -105,6 +105,9 @@ fn a_refused_growth_is_told(rt: HostRuntime) -> Result<(), Fail> {
         reports(&rt, report, &outputs, status);
     } else {
         assert!(rt; SAID.contains(&said), "{said}");
+        for file in &outputs {
+            assert!(rt; file.text.lock(&rt).is_empty(), "{said}");
+        }
         assert_eq!(rt; (report, status), ("", 1));
     }
     Ok(())

@@ -5,25 +5,25 @@ use Rattle.serve_work.proofs.Intervals.{from_setup}
 use Rattle.serve_work.proofs.Journals.{no_epochs, no_more_epochs}
 use Rattle.serve_work.proofs.SessionCharges.{are_served}
 use Rattle.serve_work.proofs.SessionStops.{stops_told}
-use Rattle.serve_work.proofs.SessionTurns.{no_bad_limit, none_yet}
+use Rattle.serve_work.proofs.SessionTurns.{mismatch, no_bad_limit, none_yet}
 use Rattle.serve_work.proofs.session.serve_session.Goals as goal
 
 pub go_on-requires-clause-at : goal.go_on-requires-clause-at
 go_on-requires-clause-at g c κs within =
-    let first = c.in_ok-opened.ensures.between in
+    let first = c.in-Ok.ensures.between in
     (beginning_of g.W.Sink.contents g.W.Sink.failures c.args.setup c.args.limit c.args.inputs.items, first.more ++ [], first.between)
 
 pub report-requires : goal.report-requires
 report-requires g c =
     let b = beginning_of g.W.Sink.contents g.W.Sink.failures c.args.setup c.args.limit c.args.inputs.items in
-    let first = c.in_ok-opened.ensures.between in
+    let first = c.in-Ok.ensures.between in
     let last = c.in_ok-ended.ensures.between b (first.more ++ []) first.between in
     record { at = (b, last.more ++ (first.more ++ []), last.between) }
 
 pub returns-clause-streams : goal.returns-clause-streams
 returns-clause-streams g c =
     let b = beginning_of g.W.Sink.contents g.W.Sink.failures c.args.setup c.args.limit c.args.inputs.items in
-    let first = c.in_ok-opened.ensures.between in
+    let first = c.in-Ok.ensures.between in
     let last = c.in_ok-ended.ensures.between b (first.more ++ []) first.between in
     are_served _ _ b.starts _ (c.report.ensures.served b (last.more ++ (first.more ++ [])) last.between)
 
@@ -31,7 +31,7 @@ pub returns-clause-session : goal.returns-clause-session
 returns-clause-session g c =
     let gives = g.K.Clock.gives c.args.clock.now in
     let b = beginning_of g.W.Sink.contents g.W.Sink.failures c.args.setup c.args.limit c.args.inputs.items in
-    let first = c.in_ok-opened.ensures.between in
+    let first = c.in-Ok.ensures.between in
     let last = c.in_ok-ended.ensures.between b (first.more ++ []) first.between in
     let journal = last.more ++ (first.more ++ []) in
     record {
@@ -43,14 +43,14 @@ returns-clause-session g c =
       moments = last.moments (first.moments (none_yet gives b.schedule b.starts));
       stops = stops_told gives g.R.Source.remaining g.R.Source.failures g.W.Sink.contents g.W.Sink.failures g.W.Sink.is_flushed
           (map kept_stop c.in_ok-ended.ended.streams.items) c.report.result.items
-          (c.in_ok-ended.ensures.stops c.in_ok-opened.ensures.stops) c.report.ensures.stops;
+          (c.in_ok-ended.ensures.stops c.in-Ok.ensures.stops) c.report.ensures.stops;
     }
 
 pub returns-clause-bad_limit : goal.returns-clause-bad_limit
-returns-clause-bad_limit g c = (λ is limit. absurd (cc), λ not. absurd (not c.in_ok-opened.ensures.limit))
+returns-clause-bad_limit g c = (λ is limit. absurd (cc), λ not. absurd (not c.in-Ok.ensures.limit))
 
 pub returns-in_err-ended-clause-bad_limit : goal.returns-in_err-ended-clause-bad_limit
 returns-in_err-ended-clause-bad_limit g c = (
-  λ is limit. no_bad_limit _ _ c.from_residual-in_err-ended.ensures.1 c.in_err-ended.ensures.fault is,
-  λ not. absurd (not c.in_ok-opened.ensures.limit),
+  λ is limit. no_bad_limit _ _ c.from_residual.ensures.1 (mismatch _ c.in_err-ended.ensures.fault) is,
+  λ not. absurd (not c.in-Ok.ensures.limit),
 )

@@ -1,4 +1,5 @@
-use Rattle.std.proofs.Common.{◌≡◌, ◌++◌, length, map}
+use Rattle.std.proofs.Common.{◌≡◌, ◌+◌, ◌≤◌, ◌++◌, length, map}
+use Rattle.std.specs.Vec.{vec_capacity, vec_len}
 use Rattle.std.specs.Vec.Iter.{into_iter_items, into_iter_len}
 use Rattle.serve_work.specs.SessionInside.{AreUnread, stream_of, unread}
 use Rattle.serve_work.proofs.session.turn.waiting.Given as goal
@@ -12,4 +13,5 @@ invariant-loop-reader g l =
       told : map value l.streams.items ++ map of (into_iter_items l.reader-iterator) ≡ map of l.fn.inputs.items;
       unread : AreUnread (into_iter_items l.reader-iterator);
       left : length (into_iter_items l.reader-iterator) ≡ into_iter_len l.reader-iterator;
+      room : vec_len l.streams + into_iter_len l.reader-iterator ≤ vec_capacity l.streams;
     }

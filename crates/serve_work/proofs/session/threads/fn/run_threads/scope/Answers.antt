@@ -1,9 +1,9 @@
 use denote.Param.Send.{sendable}
 use Rattle.std.proofs.Crossing.{crosses}
 use Rattle.serve_hub.proofs.Sharing.{hub_sync}
-use Rattle.serve_work.proofs.Slots.{slot_sync}
+use Rattle.serve_work.proofs.Slots.{slot_sync, start_sync}
 use Rattle.serve_work.proofs.session.threads.fn.run_threads.scope.Goals as goal
 
 pub spawn-requires-send-F : goal.spawn-requires-send-F
 spawn-requires-send-F g c κs within =
-    search (sendable, crosses, hub_sync, slot_sync, c.requires) depth 20
+    search (sendable, crosses, hub_sync, slot_sync, start_sync, c.requires) depth 20

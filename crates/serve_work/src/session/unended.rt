@@ -1,0 +1,31 @@
+//! Why an epoch came to no end.
+ghost use Rattle.std.specs.Prelude.{◌≡◌};
+ghost use Rattle.serve_work.specs.SessionInside.{fault_of};
+
+use super::SessionFault;
+use super::turn::Stream;
+use y4m_stream::{Sink, Source, StreamReader};
+
+/// Why an epoch came to no end.
+#[derive(Drop)]
+pub(super) enum Unended<R: Source, W: Sink> {
+    /// The first one wasn't opened, and the inputs come back.
+    Unopened(SessionFault, Vec<(StreamReader<R>, W)>),
+    /// The thread of a worker was refused, where all are needed. None began, and the streams come back.
+    Unbegun(Vec<Stream<R, W>>),
+    /// The journal isn't what the seats and the hub tell.
+    Mismatch,
+}
+
+impl<R: Source + Drop, W: Sink + Drop> Unended<R, W> {
+    /// The fault that a session tells.
+    pub(super) fn fault(self) -> SessionFault
+        ensures { result ≡ fault_of self }
+    {
+        match self {
+            Unended::Unopened(fault, _) => fault,
+            Unended::Unbegun(_) => SessionFault::NoMemory,
+            Unended::Mismatch => SessionFault::Mismatch,
+        }
+    }
+}
