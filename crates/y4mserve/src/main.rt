@@ -4,12 +4,22 @@
 mod host_files;
 mod terminals;
 
+ghost use Rattle.std.specs.Prelude.{◌≡◌, ◌≤◌};
+
 use host_files::HostFiles;
 use serve_report::run_on;
 use std::alloc::AllocError;
 use std::io::{ErrorKind, Lock, Write};
 use std::process::ExitCode;
+use std::sync::Wait;
+use std::thread::{Builder, Threads};
+use std::time::Clock;
 use terminals::Terminals;
+
+/// The bytes of the stack of the thread that does the work, four times what its deepest calls take. It is
+/// reserved whole when the thread is made. The first thread's own grows by pages, and one that is refused
+/// would end the program by a signal.
+const WORK_STACK: usize = 1 << 20;
 
 /// The words behind the program's name; none where one of them is no text.
 fn own_words(rt: &HostRuntime) -> Result<Vec<String>, AllocError> {
@@ -21,23 +31,47 @@ fn own_words(rt: &HostRuntime) -> Result<Vec<String>, AllocError> {
     words.skip(1).collect(rt.alloc())
 }
 
-fn main(rt: HostRuntime) -> ExitCode {
+/// Does what the words ask for by the streams, files and terminals of the system, and answers the program's
+/// status.
+fn run<T: Threads + Wait + Clock + Copy + Drop + Send + Sync + 'static>(
+    rt: &T,
+    host: &HostRuntime,
+) -> u8
+    ensures { result ≤ 2 }
+{
     // `lock` of a standard stream holds no lock here, so that others may call it while this one lives.
-    let mut output = rt.stdout().lock();
-    let mut errors = rt.stderr().lock();
-    let Ok(words) = own_words(&rt) else {
-        let _ = errors.write_all(b"y4mserve: NoMemory\n");
-        return ExitCode::from(1);
+    let mut output = host.stdout().lock();
+    let mut errors = host.stderr().lock();
+    let Ok(words) = own_words(host) else {
+        return refuse(&mut errors);
     };
-    let status = run_on(
-        &rt,
-        rt.alloc(),
+    run_on(
+        rt,
+        host.alloc(),
         &words,
-        rt.stdin().lock(),
+        host.stdin().lock(),
         &mut output,
         &mut errors,
-        &HostFiles::new(&rt),
-        &Terminals::new(&rt),
-    );
+        &HostFiles::new(host),
+        &Terminals::new(host),
+    )
+}
+
+/// Tells that there was no memory to begin with, and answers the program's status.
+fn refuse<E: Write>(errors: &mut E) -> u8
+    ensures { result ≡ 1 }
+{
+    let _ = errors.write_all(b"y4mserve: NoMemory\n");
+    1
+}
+
+fn main(rt: HostRuntime) -> ExitCode {
+    let work = Builder::new()
+        .stack_size(WORK_STACK)
+        .spawn(&rt, move || run(&rt, &rt));
+    let status = match work {
+        Ok(work) => work.join(&rt),
+        Err(_) => refuse(&mut rt.stderr().lock()),
+    };
     ExitCode::from(status)
 }
