@@ -91,40 +91,52 @@ class Case:
         return False
 
 
+class Picture:
+    """A stream's header, a frame of it, its image by some operations, and how many units that costs."""
+
+    def __init__(self, header, frame, operations, image, cost):
+        self.header, self.frame, self.operations, self.image, self.cost = header, frame, operations, image, cost
+
+
+SMALL = Picture(HEADER, FRAME, "invert", NEGATIVE, 1)
+
+
 class Session(Case):
-    """A run of `serve` on two files: what was written of each is a front of its images, and all of them where it stops whole."""
+    """A run of `serve` on some files: what was written of each is a front of its images, and all of them where it stops whole."""
 
-    LINE = re.compile(rb"([ab]) accepted (\d+) delivered (\d+) charged (\d+) stop (whole|open|create|read .*|ops .*|refused NoMemory)")
+    LINE = re.compile(rb"(\w+) accepted (\d+) delivered (\d+) charged (\d+) stop (whole|open|create|read .*|ops .*|refused NoMemory)")
 
-    def __init__(self, folder, options, frames):
-        paths = {name: os.path.join(folder, f"{name}{frames}") for name in "ab"}
+    def __init__(self, folder, options, frames, names="ab", picture=SMALL):
+        paths = {name: os.path.join(folder, f"{name}{frames}") for name in names}
         for path in paths.values():
             with open(path, "wb") as file:
-                file.write(HEADER + frames * FRAME)
-        rows = [f"{name} accepted {frames} delivered {frames} charged {frames} stop whole\n" for name in paths]
-        super().__init__(["serve", *options, *(f"{name}:{path}:{path}.out:10:40:invert" for name, path in paths.items())],
-                         b"", 0, "".join([*rows, f"units {2 * frames}\n"]).encode(), b"")
-        self.name, self.outs = " ".join(["serve", *options]), [path + ".out" for path in paths.values()]
-        self.images = HEADER + frames * NEGATIVE
+                file.write(picture.header + frames * picture.frame)
+        units, period = frames * picture.cost, 20 * len(paths)
+        rows = [f"{name} accepted {frames} delivered {frames} charged {units} stop whole\n" for name in paths]
+        streams = [f"{name}:{path}:{path}.out:10:{period}:{picture.operations}" for name, path in paths.items()]
+        super().__init__(["serve", *options, *streams], b"", 0, "".join([*rows, f"units {len(paths) * units}\n"]).encode(), b"")
+        self.name = " ".join(["serve", *options]) + f", {len(paths)} streams"
+        self.names, self.outs, self.picture = [name.encode() for name in paths], [path + ".out" for path in paths.values()], picture
+        self.images = picture.header + frames * picture.image
 
     def fault(self, ended):
         wrote, images = [self.taken(path) for path in self.outs], self.images
         if ended.answer() == self.whole:
-            return None if wrote == [images, images] else "a stream that is told as whole isn't"
+            return None if wrote == [images] * len(wrote) else "a stream that is told as whole isn't"
         if not all(images.startswith(front) for front in wrote):
             return "what was written is no front of the images"
         lines = ended.out.splitlines()
         if self.names_words(ended) or ended.answer() == (1, b"", b"y4mserve: session NoMemory\n"):
             return None if ended.refused and wrote == [b"", b""] else "a session that wants memory wrote"
         told = [self.LINE.fullmatch(line) for line in lines[:-1]]
-        if not ended.refused or ended.status != 1 or ended.errors or len(told) != 2 or None in told:
+        if not ended.refused or ended.status != 1 or ended.errors or None in told or [line[1] for line in told] != self.names:
             return f"status {ended.status}, {ended.out!r}, {ended.errors[-200:]!r}"
         is_true = all(self.is_true(line, front) for line, front in zip(told, wrote))
         return None if is_true else f"{ended.out!r} isn't what was written"
 
     def is_true(self, line, front):
         """Whether so many images were written as are told, and all of a stream that is whole."""
-        images = HEADER + int(line[3]) * NEGATIVE
+        images = self.picture.header + int(line[3]) * self.picture.image
         return front == self.images if line[5] == b"whole" else front == images or (front, line[3]) == (b"", b"0")
 
     @staticmethod
