@@ -12,7 +12,7 @@ use filters::{Chain, parse_ops};
 use frame_view::{Frame, Geometry};
 use lease::JobSpec;
 use row_bands::BandHeight;
-use serve_core::{Event, Machine, Refusal, Reply, Setup, StreamSpec, run};
+use serve_core::{Counts, Event, Machine, Refusal, Reply, Setup, StreamSpec, run};
 use std::alloc::Global;
 use std::fmt::{Debug, Display};
 use std::process::Abort;
@@ -119,6 +119,14 @@ fn same_at<T: PartialEq + Debug + Drop, P: Display + Drop>(
     assert_eq!(rt; got, want, "at {place}");
 }
 
+/// Compares what calls gave with what is wanted where their memory was there, and where it was refused.
+fn same_either<T: PartialEq + Debug + Drop>(rt: &impl Abort, got: T, given: T, refused: T) {
+    assert!(rt;
+        got == given || got == refused,
+        "{got:?} is neither {given:?} nor {refused:?}"
+    );
+}
+
 fn geometry_of(size: Size) -> Geometry {
     let (width, height) = match size {
         Size::Dot => (1, 1),
@@ -204,8 +212,12 @@ fn content_of(reply: &Reply) -> Told<'_> {
 
 /// Budget, deadline, and how many frames were accepted, finished and collected, and what was charged.
 fn state_of(machine: &Machine, s: u32) -> Option<[u64; 6]> {
-    let (budget, deadline) = machine.account(s)?;
-    let counts = machine.counts(s)?;
+    state(machine.account(s), machine.counts(s))
+}
+
+fn state(account: Option<(u64, u64)>, counts: Option<Counts>) -> Option<[u64; 6]> {
+    let (budget, deadline) = account?;
+    let counts = counts?;
     Some([
         budget,
         deadline,
@@ -216,15 +228,20 @@ fn state_of(machine: &Machine, s: u32) -> Option<[u64; 6]> {
     ])
 }
 
-/// All replies to the events of a script that is run at once.
-fn replies_to(alloc: Global, plan: &Plan<'_>, script: &[Line<'_>]) -> Result<Vec<Reply>, Fail> {
+fn events_of(alloc: Global, script: &[Line<'_>]) -> Result<Vec<Event>, Fail> {
     let mut events = Vec::new(alloc);
     for line in script {
         if let Line::Asks(asked, _) = line {
             events.push(event_of(alloc, asked)?)?;
         }
     }
-    Ok(run(alloc, setup_of(alloc, plan)?, events)?)
+    Ok(events)
+}
+
+/// All replies to the events of a script that is run at once.
+fn replies_to(alloc: Global, plan: &Plan<'_>, script: &[Line<'_>]) -> Result<Vec<Reply>, Fail> {
+    let setup = setup_of(alloc, plan)?;
+    Ok(run(alloc, setup, events_of(alloc, script)?)?)
 }
 
 /// Whether the replies are those of a script.
@@ -254,8 +271,8 @@ fn steps(rt: &impl Abort, alloc: Global, plan: &Plan<'_>, script: &[Line<'_>]) -
     for (i, line) in script.iter().enumerate() {
         match line {
             Line::Asks(asked, wanted) => {
-                let reply = machine.step(alloc, event_of(alloc, asked)?);
-                same_at(rt, content_of(&reply), *wanted, i);
+                let event = event_of(alloc, asked)?;
+                answers(rt, alloc, &mut machine, event, *wanted, i);
             }
             Line::Stands(s, wanted) => {
                 same_at(rt, state_of(&machine, *s), Some(*wanted), i);
@@ -263,6 +280,18 @@ fn steps(rt: &impl Abort, alloc: Global, plan: &Plan<'_>, script: &[Line<'_>]) -
         }
     }
     Ok(())
+}
+
+fn answers(
+    rt: &impl Abort,
+    alloc: Global,
+    machine: &mut Machine,
+    event: Event,
+    wanted: Told<'_>,
+    i: usize,
+) {
+    let reply = machine.step(alloc, event);
+    same_at(rt, content_of(&reply), wanted, i);
 }
 
 /// Runs a script in both ways.

@@ -141,50 +141,40 @@ fn joined(desk: &mut Desk, newcomer: Newcomer) -> Result<u32, Refusal> {
     }
 }
 
-/// The spec that a desk gives back, since no half is left.
-fn given_back(
-    rt: &impl Abort,
-    alloc: Global,
-    desk: &mut Desk,
-    half: StreamSpec,
-) -> Option<StreamSpec> {
+/// A desk gives a spec back, since no half is left, and admits it once both streams are closed.
+fn admits_at_last(rt: &impl Abort, alloc: Global, desk: &mut Desk, half: StreamSpec) {
     same(rt, desk.admit_refusal(&half), Some(Refusal::Overload));
     match desk.admit(alloc, half) {
-        Ok(_) => None,
+        Ok(_) => same(rt, "a half was left", ""),
         Err((refusal, half)) => {
             same(rt, (refusal, desk.streams()), (Refusal::Overload, 2));
-            Some(half)
+            admits_behind_closed(rt, alloc, desk, half);
         }
     }
 }
 
-/// Two halves are left once both streams are closed.
-fn admits_two(
-    rt: &impl Abort,
-    alloc: Global,
-    desk: &mut Desk,
-    half: StreamSpec,
-    newcomer: Newcomer,
-) {
+fn admits_behind_closed(rt: &impl Abort, alloc: Global, desk: &mut Desk, half: StreamSpec) {
     let _closed = (desk.close(0), desk.close(1));
     same(rt, desk.admit_refusal(&half), None);
+    same(rt, entered(alloc, desk, half), Ok(2));
+}
+
+/// The other half is left for a newcomer.
+fn joins(rt: &impl Abort, desk: &mut Desk, newcomer: Newcomer) {
     same(rt, newcomer.spec().queue(), 4);
-    let admitted = (entered(alloc, desk, half), joined(desk, newcomer));
-    same(rt, admitted, (Ok(2), Ok(3)));
+    same(rt, joined(desk, newcomer), Ok(3));
     let accounts = (desk.account(3), desk.account(4));
     same(rt, (desk.streams(), accounts), (4, (Some((1, 0)), None)));
 }
 
-/// A first stream is closed, so that its share is left again.
 #[test]
 fn a_desk_admits_two_streams(rt: HostRuntime) -> Result<(), Fail> {
     let alloc = rt.alloc();
-    let (half, newcomer) = (spec_of(alloc, &HALF)?, newcomer_of(alloc, &HALF)?);
+    let half = spec_of(alloc, &HALF)?;
+    let newcomer = newcomer_of(alloc, &HALF)?;
     let mut desk = desk_of(alloc)?;
-    match given_back(&rt, alloc, &mut desk, half) {
-        Some(half) => admits_two(&rt, alloc, &mut desk, half, newcomer),
-        None => same(&rt, "a half was left", ""),
-    }
+    admits_at_last(&rt, alloc, &mut desk, half);
+    joins(&rt, &mut desk, newcomer);
     Ok(())
 }
 

@@ -3,13 +3,15 @@
 use super::Asked::{Arrive, Band, Close, Collect, Lease, Settle};
 use super::Line::{self, Asks};
 use super::Size::Dot;
-use super::Told::{Accepted, Closing, Finished, GivenBack, Image, Leased, Refused, Stepped};
+use super::Told::{
+    Accepted, Admitted, Closing, Finished, GivenBack, Image, Leased, Refused, SpecBack, Stepped,
+};
 use super::{
-    LINE, PLAIN, Plan, Served, are_told, content_of, frame_of, replies_to, same, setup_of, spec_of,
-    state_of,
+    LINE, PLAIN, Plan, Served, are_told, content_of, frame_of, replies_to, same, same_either,
+    setup_of, spec_of, state_of,
 };
 use frame_view::Frame;
-use serve_core::{Desk, Event, Machine, Newcomer, Refusal, Reply, StreamSpec};
+use serve_core::{Desk, Event, Machine, Newcomer, Refusal, StreamSpec};
 use std::alloc::Global;
 use std::process::Abort;
 use std::sync::Arc;
@@ -108,23 +110,23 @@ fn desk_of(alloc: Global) -> Result<Desk, Fail> {
     Ok(Desk::new(alloc, setup_of(alloc, &NARROW)?)?)
 }
 
-/// Moment 7 is that of an idle arrival.
+/// A frame arrives at moment 7, as an idle arrival, and a worker asks for it.
 fn arrives(rt: &impl Abort, alloc: Global, machine: &mut Machine, frame: Arc<Frame>) {
     let _ticked = machine.step(alloc, Event::Tick(7));
     let state = state_of(machine, 0);
-    match machine.step(alloc, Event::Arrive(0, frame)) {
-        Reply::Accepted(number) => {
-            let now = (number, state_of(machine, 0));
-            same(rt, now, (0, Some([1, 11, 1, 0, 0, 0])));
-        }
-        Reply::GivenBack(Refusal::NoMemory, frame) => {
-            same(rt, (frame.line(), frame.data()), (LINE, [0x5A].as_slice()));
-            same(rt, state_of(machine, 0), state);
-            let reply = machine.step(alloc, Event::Lease(0));
-            same(rt, content_of(&reply), Refused(Refusal::NoneReady));
-        }
-        _ => same(rt, "another answer", ""),
-    }
+    let reply = machine.step(alloc, Event::Arrive(0, frame));
+    let then = state_of(machine, 0);
+    let lease = machine.step(alloc, Event::Lease(0));
+    same_either(
+        rt,
+        (content_of(&reply), then, content_of(&lease)),
+        (Accepted(0), Some([1, 11, 1, 0, 0, 0]), Leased(0, 0, 1)),
+        (
+            GivenBack(Refusal::NoMemory, LINE, &[0x5A]),
+            state,
+            Refused(Refusal::NoneReady),
+        ),
+    );
     same(rt, machine.clock(), 7);
 }
 
@@ -140,16 +142,13 @@ fn a_frame_without_memory_leaves_the_machine(rt: HostRuntime) -> Result<(), Fail
 fn admits(rt: &impl Abort, alloc: Global, machine: &mut Machine, spec: StreamSpec) {
     let _ticked = machine.step(alloc, Event::Tick(7));
     let state = state_of(machine, 0);
-    match machine.step(alloc, Event::Admit(spec)) {
-        Reply::Admitted(s) => {
-            same(rt, (s, state_of(machine, 1)), (1, Some([2, 0, 0, 0, 0, 0])));
-        }
-        Reply::SpecBack(Refusal::NoMemory, spec) => {
-            same(rt, (spec.queue(), spec.outbox()), (4, 4));
-            same(rt, state_of(machine, 1), None);
-        }
-        _ => same(rt, "another answer", ""),
-    }
+    let reply = machine.step(alloc, Event::Admit(spec));
+    same_either(
+        rt,
+        (content_of(&reply), state_of(machine, 1)),
+        (Admitted(1), Some([2, 0, 0, 0, 0, 0])),
+        (SpecBack(Refusal::NoMemory, 4, 4), None),
+    );
     same(rt, (machine.clock(), state_of(machine, 0)), (7, state));
 }
 
@@ -161,21 +160,31 @@ fn a_stream_without_memory_leaves_the_machine(rt: HostRuntime) -> Result<(), Fai
     Ok(())
 }
 
+/// A refusal, with the queue and the outbox of the spec that comes back, and what the desk says of that spec.
+type Back = (Refusal, u64, u64, Option<Refusal>);
+
+/// What a desk makes of a spec.
+fn desk_answers(alloc: Global, desk: &mut Desk, spec: StreamSpec) -> Result<u32, Back> {
+    match desk.admit(alloc, spec) {
+        Ok(s) => Ok(s),
+        Err((refusal, spec)) => Err((
+            refusal,
+            spec.queue(),
+            spec.outbox(),
+            desk.admit_refusal(&spec),
+        )),
+    }
+}
+
 /// So it is at a desk.
 fn desk_admits(rt: &impl Abort, alloc: Global, desk: &mut Desk, spec: StreamSpec) {
-    match desk.admit(alloc, spec) {
-        Ok(s) => same(
-            rt,
-            (s, desk.streams(), desk.account(1)),
-            (1, 2, Some((2, 0))),
-        ),
-        Err((refusal, spec)) => {
-            let back = (refusal, spec.queue(), spec.outbox());
-            same(rt, back, (Refusal::NoMemory, 4, 4));
-            same(rt, (desk.streams(), desk.account(1)), (1, None));
-            same(rt, desk.admit_refusal(&spec), None);
-        }
-    }
+    let answer = desk_answers(alloc, desk, spec);
+    same_either(
+        rt,
+        (answer, desk.streams(), desk.account(1)),
+        (Ok(1), 2, Some((2, 0))),
+        (Err((Refusal::NoMemory, 4, 4, None)), 1, None),
+    );
     same(rt, (desk.clock(), desk.account(0)), (0, Some((1, 0))));
 }
 
@@ -187,36 +196,40 @@ fn a_stream_without_memory_leaves_the_desk(rt: HostRuntime) -> Result<(), Fail> 
     Ok(())
 }
 
+/// What a desk makes of a newcomer: its number, or why not, with the queue of its spec.
+fn newcomer_answers(desk: &mut Desk, newcomer: Newcomer) -> Result<u32, (Refusal, u64)> {
+    match desk.admit_newcomer(newcomer) {
+        Ok(s) => Ok(s),
+        Err((refusal, newcomer)) => Err((refusal, newcomer.spec().queue())),
+    }
+}
+
 /// The memory of a stream is there before the desk is asked, but for its place.
 fn newcomer_comes(rt: &impl Abort, desk: &mut Desk, newcomer: Newcomer) {
-    match desk.admit_newcomer(newcomer) {
-        Ok(s) => same(
-            rt,
-            (s, desk.streams(), desk.account(1)),
-            (1, 2, Some((2, 0))),
-        ),
-        Err((refusal, newcomer)) => {
-            same(
-                rt,
-                (refusal, newcomer.spec().queue()),
-                (Refusal::NoMemory, 4),
-            );
-            same(rt, (desk.streams(), desk.account(1)), (1, None));
-        }
-    }
+    let answer = newcomer_answers(desk, newcomer);
+    same_either(
+        rt,
+        (answer, desk.streams(), desk.account(1)),
+        (Ok(1), 2, Some((2, 0))),
+        (Err((Refusal::NoMemory, 4)), 1, None),
+    );
+}
+
+/// A newcomer comes to a desk of its own.
+fn newcomer_enters(rt: &impl Abort, alloc: Global, newcomer: Newcomer) -> Result<(), Fail> {
+    let mut desk = desk_of(alloc)?;
+    newcomer_comes(rt, &mut desk, newcomer);
+    Ok(())
 }
 
 #[test]
 fn a_newcomer_without_a_place_leaves_the_desk(rt: HostRuntime) -> Result<(), Fail> {
     match Newcomer::new(rt.alloc(), spec_of(rt.alloc(), &PLAIN)?) {
-        Ok(newcomer) => {
-            let mut desk = desk_of(rt.alloc())?;
-            newcomer_comes(&rt, &mut desk, newcomer);
-        }
+        Ok(newcomer) => newcomer_enters(&rt, rt.alloc(), newcomer),
         Err((refusal, spec)) => {
             let back = (refusal, spec.queue(), spec.outbox());
             same(&rt, back, (Refusal::NoMemory, 4, 4));
+            Ok(())
         }
     }
-    Ok(())
 }
