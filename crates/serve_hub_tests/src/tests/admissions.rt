@@ -2,15 +2,15 @@
 ghost use Rattle.std.specs.Prelude.{◌≡◌};
 ghost use Rattle.serve_core.specs.Schedule.{opened_schedule};
 
-use super::seated::{again_after, ended_after, followed, seated_of};
+use super::seated::{Left, again_after, ended_after, followed, left_after, left_by, seated_of};
 use super::steps::Answer::{
     Accepted, AcceptedAt, Admitted, Closed, Given, Refused, SpecBack, Worked,
 };
 use super::steps::Call::{Admit, Close, Collect, Offer, OfferAt, WaitAndWork, Work};
 use super::steps::{Answer, Step, TWELVE_FRAMES, follow};
-use super::{Core, PLAIN, Served, book_of, same, setup_of, state_of, stream_spec_of};
+use super::{Core, PLAIN, Served, book_of, same, setup_of, stream_spec_of};
 use serve_core::{Setup, StreamSpec};
-use serve_hub::{Act, Book, Ended, Entry, Epoch, Moments, Refusal, Seat, Settled};
+use serve_hub::{Act, Book, Entry, Epoch, Moments, Refusal, Seat, Settled};
 use std::alloc::Global;
 use std::marker::Brand;
 use std::process::Abort;
@@ -21,24 +21,21 @@ use std::test::Fail;
 /// Half of a worker.
 const HALF: Served<'static> = Served {
     account: (1, 2),
-    queue: 2,
+    queue: 4,
     ..PLAIN
 };
 
 /// Nothing is left of the worker for another half.
-const NO_HALF: Step = (Admit(&HALF), SpecBack(Refusal::Core(Core::Overload), 2, 4));
+const NO_HALF: Step = (Admit(&HALF), SpecBack(Refusal::Core(Core::Overload), 4, 4));
 
 /// The new stream's deadline is 6, that of the second 5 and then 7.
 #[test]
 fn a_share_is_held_up_to_the_deadline(rt: HostRuntime) -> Result<(), Fail> {
     let parts = &[COLLECTED, HELD, LATER_CALLS];
-    let ended = ended_after(&rt, rt.alloc(), 1, &[HALF, HALF], parts)?;
-    let states = (
-        state_of(ended.account(1), ended.counts(1)),
-        state_of(ended.account(2), ended.counts(2)),
-    );
+    let left = left_after(&rt, rt.alloc(), &[HALF, HALF], parts)?;
+    let states = (left.states[1], left.states[2]);
     let want = (Some([1, 7, 2, 1, 0, 1]), Some([1, 8, 1, 1, 1, 1]));
-    same(&rt, (ended.clock(), states), (4, want));
+    same(&rt, (left.clock, states), (4, want));
     Ok(())
 }
 
@@ -46,8 +43,8 @@ fn a_share_is_held_up_to_the_deadline(rt: HostRuntime) -> Result<(), Fail> {
 #[test]
 fn a_worker_asks_again_for_the_stream_that_came_later(rt: HostRuntime) -> Result<(), Fail> {
     let parts = &[DRAINED, ASKED_AGAIN];
-    let ended = ended_after(&rt, rt.alloc(), 1, &[HALF], parts)?;
-    same(&rt, ended.journal().len(), 6);
+    let left = left_after(&rt, rt.alloc(), &[HALF], parts)?;
+    same(&rt, left.entries, 6);
     Ok(())
 }
 
@@ -57,7 +54,7 @@ fn admitted_or_not<L: Epoch, R: Wait + Abort>(
     alloc: Global,
     blank: Blank,
     setup: Setup,
-) -> Result<Ended, Fail>
+) -> Result<Left, Fail>
     requires name { blank.name ≡ L.name }
     requires parts { blank.parts ≡ L.parts }
     requires enough { blank.parts ≡ 80 }
@@ -65,7 +62,7 @@ fn admitted_or_not<L: Epoch, R: Wait + Abort>(
 {
     let mut seated = seated_of::<L>(alloc, blank, setup, 16)?;
     let got = seated.answer_to(rt, alloc, Admit(&HALF))?;
-    followed(rt, alloc, seated, &[checked(rt, got)])
+    Ok(left_by(&followed(rt, alloc, seated, &[checked(rt, got)])?))
 }
 
 /// The calls on a hub that answered an admission so.
@@ -73,7 +70,7 @@ fn checked(rt: &impl Abort, got: Answer) -> &'static [Step] {
     if got == Admitted(1) {
         return &[];
     }
-    same(rt, got, SpecBack(Refusal::Core(Core::NoMemory), 2, 4));
+    same(rt, got, SpecBack(Refusal::Core(Core::NoMemory), 4, 4));
     NO_OTHER
 }
 
@@ -82,9 +79,8 @@ fn checked(rt: &impl Abort, got: Answer) -> &'static [Step] {
 fn an_admission_without_memory_leaves_the_hub(rt: HostRuntime) -> Result<(), Fail> {
     let alloc = rt.alloc();
     let setup = setup_of(alloc, 1, &[HALF])?;
-    let ended = admitted_or_not::<Brand, _>(&rt, alloc, Blank::new(80), setup)?;
-    let there = ended.account(1).is_some();
-    same(&rt, ended.journal().len(), usize::from(there));
+    let left = admitted_or_not::<Brand, _>(&rt, alloc, Blank::new(80), setup)?;
+    same(&rt, left.entries, usize::from(left.states[1].is_some()));
     Ok(())
 }
 
@@ -119,7 +115,7 @@ fn third_refused(rt: &impl Abort, alloc: Global, book: &mut Book, spec: StreamSp
     let overload = Refusal::Core(Core::Overload);
     same(rt, book.admit_refusal(&spec), Some(overload));
     let answer = told(book.admit(alloc, spec));
-    same(rt, answer, SpecBack(overload, 2, 4));
+    same(rt, answer, SpecBack(overload, 4, 4));
 }
 
 /// What a book answers to an admission.
@@ -164,8 +160,8 @@ const WRONG: &[Step] = &[
 #[test]
 fn a_full_journal_is_told_last(rt: HostRuntime) -> Result<(), Fail> {
     let parts = &[TWELVE_FRAMES, WRONG, TWO_MORE, WRONG, NO_PLACE];
-    let ended = ended_after(&rt, rt.alloc(), 1, &[PLAIN], parts)?;
-    same(&rt, (ended.journal().len(), ended.account(1)), (15, None));
+    let left = left_after(&rt, rt.alloc(), &[PLAIN], parts)?;
+    same(&rt, (left.entries, left.states[1]), (15, None));
     Ok(())
 }
 
@@ -173,17 +169,17 @@ fn a_full_journal_is_told_last(rt: HostRuntime) -> Result<(), Fail> {
 #[test]
 fn a_hub_admits_a_stream_in_each_epoch(rt: HostRuntime) -> Result<(), Fail> {
     let alloc = rt.alloc();
-    let ended = ended_after(&rt, alloc, 1, &[HALF], &[FIRST_CALLS])?;
+    let ended = ended_after(&rt, alloc, &[HALF], &[FIRST_CALLS])?;
     same(&rt, ended.journal().len(), 7);
     let (ended, _) = again_after(&rt, alloc, ended, &[NEXT_CALLS])?;
     same(&rt, ended.journal().len(), 8);
-    let states = (
-        state_of(ended.account(1), ended.counts(1)),
-        state_of(ended.account(2), ended.counts(2)),
-        state_of(ended.account(3), ended.counts(3)),
+    let left = left_by(&ended);
+    let want = (Some([1, 6, 2, 2, 2, 2]), Some([1, 4, 1, 1, 1, 1]));
+    same(
+        &rt,
+        ((left.states[1], left.states[2]), ended.account(3)),
+        (want, None),
     );
-    let want = (Some([1, 6, 2, 2, 2, 2]), Some([1, 4, 1, 1, 1, 1]), None);
-    same(&rt, states, want);
     Ok(())
 }
 

@@ -57,7 +57,7 @@ fn too_short<L: Epoch, R: Abort>(rt: &R, alloc: Global, blank: Blank, ended: End
 
 /// What a hub leaves whose journal fifteen frames filled.
 fn fifteen_frames<R: Wait + Abort>(rt: &R, alloc: Global) -> Result<Ended, Fail> {
-    ended_after(rt, alloc, 1, &[PLAIN], &[FIFTEEN_FRAMES, CLOSED])
+    ended_after(rt, alloc, &[PLAIN], &[FIFTEEN_FRAMES, CLOSED])
 }
 
 /// Fifteen frames fill a journal, and five images of them the next one.

@@ -2,12 +2,13 @@
 ghost use Rattle.std.specs.Prelude.{◌≡◌};
 ghost use Rattle.serve_core.specs.Schedule.{opened_schedule};
 
-use super::seated::{Seated, ended_after, followed, seated_after};
+use super::leases::{BLURRED, ONE_BAND};
+use super::seated::{Left, Seated, followed, left_after, left_by, seated_after};
 use super::steps::{Answer, CLOSED, Call, FIFTEEN_FRAMES, SEVEN_LEASES, Step, TWELVE_FRAMES};
-use super::{Core, PLAIN, frame_of, same, setup_of, state_of, stepped, told};
+use super::{Core, PLAIN, frame_of, same, setup_of, stepped, told};
 use frame_view::Frame;
 use serve_core::Setup;
-use serve_hub::{Ended, Epoch, Hub, HubError, OfferRefused, Refusal, Settled};
+use serve_hub::{Epoch, Hub, HubError, OfferRefused, Refusal, Settled};
 use std::alloc::Global;
 use std::marker::Brand;
 use std::process::Abort;
@@ -17,9 +18,9 @@ use std::test::Fail;
 
 #[test]
 fn offers_fill_the_journal(rt: HostRuntime) -> Result<(), Fail> {
-    let ended = ended_after(&rt, rt.alloc(), 1, &[PLAIN], &[FIFTEEN_FRAMES, CLOSED])?;
-    same(&rt, ended.journal().len(), 16);
-    same(&rt, (ended.limit(), ended.is_full()), (16, true));
+    let left = left_after(&rt, rt.alloc(), &[PLAIN], &[FIFTEEN_FRAMES, CLOSED])?;
+    same(&rt, left.entries, 16);
+    same(&rt, (left.limit, left.is_full), (16, true));
     Ok(())
 }
 
@@ -43,11 +44,19 @@ fn short<L: Epoch>(alloc: Global, blank: Blank, setup: Setup) -> Option<HubError
 
 #[test]
 fn leases_without_a_band_fill_the_journal(rt: HostRuntime) -> Result<(), Fail> {
-    let ended = ended_after(&rt, rt.alloc(), 1, &[PLAIN], &[SEVEN_LEASES, CLOSED])?;
-    same(&rt, ended.journal().len(), 16);
-    let state = state_of(ended.account(0), ended.counts(0));
-    same(&rt, state, Some([1, 4, 1, 0, 0, 0]));
-    same(&rt, (ended.bands(0), ended.units(0)), (0, Some(0)));
+    let left = left_after(&rt, rt.alloc(), &[PLAIN], &[SEVEN_LEASES, CLOSED])?;
+    same(&rt, left.entries, 16);
+    same(&rt, left.states[0], Some([1, 4, 1, 0, 0, 0]));
+    same(&rt, (left.bands, left.units), (0, Some(0)));
+    Ok(())
+}
+
+/// A band of a blur costs its radius more.
+#[test]
+fn units_are_what_bands_cost(rt: HostRuntime) -> Result<(), Fail> {
+    let left = left_after(&rt, rt.alloc(), &[BLURRED], &[ONE_BAND])?;
+    same(&rt, (left.bands, left.units), (1, Some(9)));
+    same(&rt, left.states[0], Some([1, 40, 1, 1, 0, 9]));
     Ok(())
 }
 
@@ -57,11 +66,10 @@ fn a_lease_is_out_while_the_journal_fills(rt: HostRuntime) -> Result<(), Fail> {
     let alloc = rt.alloc();
     let frames = (frame_of(alloc, &[0x0C])?, frame_of(alloc, &[0x5A])?);
     let setup = setup_of(alloc, 1, &[PLAIN])?;
-    let ended = full_with_a_lease::<Brand, _>(&rt, alloc, Blank::new(80), setup, frames)?;
-    same(&rt, ended.journal().len(), 16);
-    let state = state_of(ended.account(0), ended.counts(0));
-    same(&rt, state, Some([1, 8, 13, 1, 0, 1]));
-    same(&rt, (ended.bands(0), ended.units(0)), (1, Some(1)));
+    let left = full_with_a_lease::<Brand, _>(&rt, alloc, Blank::new(80), setup, frames)?;
+    same(&rt, left.entries, 16);
+    same(&rt, left.states[0], Some([1, 8, 13, 1, 0, 1]));
+    same(&rt, (left.bands, left.units), (1, Some(1)));
     Ok(())
 }
 
@@ -71,7 +79,7 @@ fn full_with_a_lease<L: Epoch, R: Wait + Abort>(
     blank: Blank,
     setup: Setup,
     frames: (Arc<Frame>, Arc<Frame>),
-) -> Result<Ended, Fail>
+) -> Result<Left, Fail>
     requires name { blank.name ≡ L.name }
     requires parts { blank.parts ≡ L.parts }
     requires enough { blank.parts ≡ 80 }
@@ -79,7 +87,7 @@ fn full_with_a_lease<L: Epoch, R: Wait + Abort>(
 {
     let mut seated = seated_after::<L, R>(rt, alloc, blank, setup, TWELVE_FRAMES)?;
     fill_beside_a_lease(rt, alloc, &mut seated, frames);
-    followed(rt, alloc, seated, &[BEHIND_THE_LEASE])
+    Ok(left_by(&followed(rt, alloc, seated, &[BEHIND_THE_LEASE])?))
 }
 
 /// Leases the first of twelve frames, and offers the thirteenth and one more before its settlement.

@@ -5,7 +5,7 @@ ghost use Rattle.lease.specs.Job.{JobValue};
 ghost use Rattle.serve_core.specs.Desk.{IsFreshFor};
 ghost use Rattle.serve_core.specs.Streams.{IsFresh};
 
-use super::seated::{Seated, ended_after};
+use super::seated::{Seated, left_after};
 use super::steps::Answer::{Accepted, Closed, Given, Refused, Returned, Worked};
 use super::steps::Call::{Close, Collect, Offer, OfferOver, Work};
 use super::steps::{Answer, Step, follow};
@@ -229,7 +229,7 @@ fn over_answer(answer: Result<u64, OverRefused>, samples: &[u8]) -> Result<Answe
 
 #[test]
 fn an_image_lends_a_hub_its_memory(rt: HostRuntime) -> Result<(), Fail> {
-    let ended = ended_after(&rt, rt.alloc(), 1, &[PLAIN], &[OVER_IMAGES])?;
-    same(&rt, ended.journal().len(), 9);
+    let left = left_after(&rt, rt.alloc(), &[PLAIN], &[OVER_IMAGES])?;
+    same(&rt, left.entries, 9);
     Ok(())
 }

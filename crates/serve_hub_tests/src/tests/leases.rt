@@ -142,8 +142,14 @@ fn exchange(rt: &impl Abort, one: &mut Book, other: &mut Book) {
     same(rt, collected(one, 0), image);
 }
 
+/// A stream whose chain is a blur.
+pub(super) const BLURRED: Served<'static> = Served {
+    ops: "blur:8",
+    ..PLAIN
+};
+
 /// A frame of one band.
-const ONE_BAND: &[Step] = &[
+pub(super) const ONE_BAND: &[Step] = &[
     (Call::Offer(0, 0x5A), Answer::Accepted(0)),
     (
         Call::Work(0, 1),
@@ -154,11 +160,7 @@ const ONE_BAND: &[Step] = &[
 /// A band of a blur costs its radius more.
 #[test]
 fn units_are_what_bands_cost(rt: HostRuntime) -> Result<(), Fail> {
-    let blurred = Served {
-        ops: "blur:8",
-        ..PLAIN
-    };
-    let book = book_after(&rt, rt.alloc(), &[blurred], ONE_BAND)?;
+    let book = book_after(&rt, rt.alloc(), &[BLURRED], ONE_BAND)?;
     same(&rt, (book.bands(0), book.units(0)), (1, Some(9)));
     let state = state_of(book.desk().account(0), book.desk().counts(0));
     same(&rt, state, Some([1, 40, 1, 1, 0, 9]));

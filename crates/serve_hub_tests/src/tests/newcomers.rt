@@ -21,6 +21,9 @@ use std::thread::Threads;
 /// How many frames each stream has.
 const FRAMES: u64 = 4;
 
+/// What is told where there is no memory for a seat's place.
+const NO_PLACE: &str = "was the memory of a seat refused?";
+
 /// The first sample of each stream that is admitted.
 const FIRST: u32 = 8;
 
@@ -154,12 +157,10 @@ fn seats_of<L: Epoch>(rt: &impl Abort, alloc: Global, pairs: Vec<Pair<L>>) -> Ve
     for pair in pairs {
         let Pair { first, second, .. } = pair;
         let second = second.expect(rt, "was the memory of a stream refused?");
-        for client in [first, second] {
-            same(rt, (client.outcome, client.delivered), (Ok(()), FRAMES));
-            seats
-                .push(client.seat)
-                .expect(rt, "was the memory of a seat refused?");
-        }
+        same(rt, (first.outcome, first.delivered), (Ok(()), FRAMES));
+        same(rt, (second.outcome, second.delivered), (Ok(()), FRAMES));
+        seats.push(first.seat).expect(rt, NO_PLACE);
+        seats.push(second.seat).expect(rt, NO_PLACE);
     }
     seats
 }

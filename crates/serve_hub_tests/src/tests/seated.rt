@@ -5,7 +5,8 @@ ghost use Rattle.serve_core.specs.Schedule.{opened_schedule};
 use super::jobs::hub_offered_over;
 use super::steps::{Answer, Call, Step, closed};
 use super::{
-    Core, Served, came_back, frame_of, same, same_at, setup_of, stepped, stream_spec_of, told,
+    Core, Served, came_back, frame_of, same, same_at, setup_of, state_of, stepped, stream_spec_of,
+    told,
 };
 use frame_view::Frame;
 use lease::Lease;
@@ -99,16 +100,56 @@ fn first_after<L: Epoch, R: Wait + Abort>(
     followed(rt, alloc, seated, parts)
 }
 
-/// What a hub of so many workers leaves after these calls, for at most 16 entries.
+/// What a hub of one worker leaves after these calls, for at most 16 entries.
 pub(super) fn ended_after<R: Wait + Abort>(
     rt: &R,
     alloc: Global,
-    workers: u64,
     streams: &[Served<'_>],
     parts: &[&[Step]],
 ) -> Result<Ended, Fail> {
-    let setup = setup_of(alloc, workers, streams)?;
+    let setup = setup_of(alloc, 1, streams)?;
     first_after::<Brand, R>(rt, alloc, Blank::new(80), setup, parts)
+}
+
+/// What is told of a hub's end.
+#[derive(Clone, Copy)]
+pub(super) struct Left {
+    pub(super) entries: usize,
+    pub(super) limit: usize,
+    pub(super) is_full: bool,
+    pub(super) clock: u64,
+    /// How many bands the first worker settled, and what they cost.
+    pub(super) bands: u64,
+    pub(super) units: Option<u64>,
+    /// What the first three streams stand at, as [`state_of`] tells it.
+    pub(super) states: [Option<[u64; 6]>; 3],
+}
+
+/// What is told of this end. Beside it a comparison is dear to prove, and beside this cheap.
+pub(super) fn left_by(ended: &Ended) -> Left {
+    Left {
+        entries: ended.journal().len(),
+        limit: ended.limit(),
+        is_full: ended.is_full(),
+        clock: ended.clock(),
+        bands: ended.bands(0),
+        units: ended.units(0),
+        states: [
+            state_of(ended.account(0), ended.counts(0)),
+            state_of(ended.account(1), ended.counts(1)),
+            state_of(ended.account(2), ended.counts(2)),
+        ],
+    }
+}
+
+/// What is told of the end of a hub of one worker after these calls, for at most 16 entries.
+pub(super) fn left_after<R: Wait + Abort>(
+    rt: &R,
+    alloc: Global,
+    streams: &[Served<'_>],
+    parts: &[&[Step]],
+) -> Result<Left, Fail> {
+    Ok(left_by(&ended_after(rt, alloc, streams, parts)?))
 }
 
 /// The next epoch of a hub.
@@ -214,7 +255,7 @@ impl<L: Epoch> Seated<L> {
             Call::OfferAt(s, at, sample) => self.offered_at(rt, alloc, s, at, sample),
             Call::OfferTall(s) => self.offered(rt, alloc, s, &[1, 2, 3, 4]),
             Call::OfferOver(s, sample) => hub_offered_over(rt, alloc, self, s, &[sample]),
-            Call::Admit(served) => self.admitted(rt, alloc, served),
+            Call::Admit(served) => self.admit(rt, alloc, served),
             Call::Work(w, bands) => Ok(self.worked(rt, w, bands)),
             Call::WaitAndWork(w, bands) => Ok(self.waited_and_worked(rt, w, bands)),
             Call::Collect(s) => Ok(given(self.try_collect(rt, s))),
@@ -286,7 +327,7 @@ impl<L: Epoch> Seated<L> {
     }
 
     /// Admits a stream.
-    fn admitted<R: Wait + Abort>(
+    pub(super) fn admit<R: Wait + Abort>(
         &mut self,
         rt: &R,
         alloc: Global,

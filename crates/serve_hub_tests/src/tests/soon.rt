@@ -1,5 +1,5 @@
 //! Images that clients wait for where they come soon, and journals that are full.
-use super::seated::ended_after;
+use super::seated::left_after;
 use super::steps::Answer::{Accepted, Closed, Full, Given, Refused, Worked};
 use super::steps::Call::{Close, CollectSoon, IsFull, Offer, Work};
 use super::steps::{Step, TWELVE_FRAMES};
@@ -13,8 +13,8 @@ const EMPTY: Refusal = Refusal::Core(Core::Empty);
 /// Nobody waits where there is an image, or no frame for one.
 #[test]
 fn an_image_that_is_there_is_given(rt: HostRuntime) -> Result<(), Fail> {
-    let ended = ended_after(&rt, rt.alloc(), 1, &[PLAIN], &[ONE_FRAME])?;
-    same(&rt, ended.journal().len(), 5);
+    let left = left_after(&rt, rt.alloc(), &[PLAIN], &[ONE_FRAME])?;
+    same(&rt, left.entries, 5);
     Ok(())
 }
 
@@ -31,9 +31,9 @@ const ONE_FRAME: &[Step] = &[
 /// Nobody waits where two streams have frames for one worker.
 #[test]
 fn two_streams_do_not_wait_for_one_worker(rt: HostRuntime) -> Result<(), Fail> {
-    let ended = ended_after(&rt, rt.alloc(), 1, &[PLAIN, PLAIN], &[TWO_STREAMS])?;
-    same(&rt, ended.journal().len(), 8);
-    same(&rt, ended.is_full(), false);
+    let left = left_after(&rt, rt.alloc(), &[PLAIN, PLAIN], &[TWO_STREAMS])?;
+    same(&rt, left.entries, 8);
+    same(&rt, left.is_full, false);
     Ok(())
 }
 
@@ -53,8 +53,8 @@ const TWO_STREAMS: &[Step] = &[
 #[test]
 fn fourteen_frames_fill_a_journal(rt: HostRuntime) -> Result<(), Fail> {
     let parts = &[TWELVE_FRAMES, THREE_MORE, NO_LEASE];
-    let ended = ended_after(&rt, rt.alloc(), 1, &[PLAIN], parts)?;
-    same(&rt, ended.journal().len(), 15);
+    let left = left_after(&rt, rt.alloc(), &[PLAIN], parts)?;
+    same(&rt, left.entries, 15);
     Ok(())
 }
 

@@ -32,8 +32,7 @@ pub(super) struct Plan {
     pub(super) is_soon: bool,
     /// The most frames that a stream may have under way.
     pub(super) most: usize,
-    /// How each client is to end: whether all went well or the journal was full, and then how many images came
-    /// if that is known.
+    /// How each client is to end, and how many images it is to have then, where that is known.
     pub(super) outcome: Result<(), Refusal>,
     pub(super) delivered: Option<u64>,
 }
