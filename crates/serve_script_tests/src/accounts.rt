@@ -1,3 +1,4 @@
+use crate::compare::{same, same_at};
 use serve_script::{ReplayFault, replay};
 use std::alloc::{AllocError, Global};
 use std::io::{ErrorKind, Read, Write};
@@ -39,7 +40,8 @@ fn expect_replay<R: Read + Drop>(
     whole: bool,
 ) {
     let (printed, outcome) = replay_into_memory(alloc, script);
-    assert_eq!(rt; (outcome, str::from_utf8(&printed)), (Ok(whole), Ok(lines)));
+    let told = (outcome, str::from_utf8(&printed));
+    same(rt, told, (Ok(whole), Ok(lines)));
 }
 
 /// Replays a script that is held in memory, and compares what it prints and answers.
@@ -55,7 +57,7 @@ pub fn expect_each(rt: &impl Abort, alloc: Global, cases: &[Case<'_>]) {
     for (script, lines, whole) in cases {
         let (printed, outcome) = replay_into_memory(alloc, script.as_bytes());
         let told = (*script, outcome, str::from_utf8(&printed));
-        assert_eq!(rt; told, (*script, Ok(*whole), Ok(*lines)));
+        same(rt, told, (*script, Ok(*whole), Ok(*lines)));
     }
 }
 
@@ -218,8 +220,8 @@ fn short_reads_make_no_difference(rt: HostRuntime) {
 fn a_failed_read_prints_nothing(rt: HostRuntime) {
     let input = Tape::torn(b"account 2 10\ncharge 1\n", ErrorKind::Interrupted);
     let (printed, outcome) = replay_into_memory(rt.alloc(), input);
-    assert_eq!(rt; outcome, Err(ReplayFault::Read));
-    assert!(rt; printed.is_empty());
+    same(&rt, outcome, Err(ReplayFault::Read));
+    same(&rt, printed.as_slice(), b"".as_slice());
 }
 
 /// Its report has three lines, of 20, 20 and 16 bytes.
@@ -229,7 +231,7 @@ const THREE_LINES: &[u8] = b"account 2 10\ncharge 1\nstart\n";
 fn cut_outputs_are_told(rt: &impl Abort, alloc: Global, failure: Option<ErrorKind>) {
     for room in 0..56 {
         let (_, outcome) = replay_into(alloc, THREE_LINES, Narrow::new(room, failure));
-        assert_eq!(rt; outcome, Err(ReplayFault::Write));
+        same_at(rt, outcome, Err(ReplayFault::Write), room);
     }
 }
 
@@ -247,9 +249,9 @@ fn each_byte_that_is_not_taken_is_told(rt: HostRuntime) {
 fn a_failed_flush_is_told(rt: HostRuntime) {
     let room = Narrow::new(56, Some(ErrorKind::StorageFull));
     let (_, outcome) = replay_into(rt.alloc(), THREE_LINES, room);
-    assert_eq!(rt; outcome, Ok(false));
+    same(&rt, outcome, Ok(false));
     let (_, outcome) = replay_into(rt.alloc(), THREE_LINES, Unflushed);
-    assert_eq!(rt; outcome, Err(ReplayFault::Write));
+    same(&rt, outcome, Err(ReplayFault::Write));
 }
 
 /// So many empty lines, and then one `account`.
@@ -260,36 +262,36 @@ fn after_empty_lines(alloc: Global, count: usize) -> Result<Vec<u8>, AllocError>
 }
 
 #[test]
-fn a_script_of_the_greatest_size_is_run(rt: HostRuntime) -> Result<(), Fail> {
+fn a_script_of_the_greatest_size_is_run(rt: HostRuntime) -> Result<(), AllocError> {
     let script = after_empty_lines(rt.alloc(), 1_048_576 - 12)?;
-    assert_eq!(rt; script.len(), 1_048_576);
+    same(&rt, script.len(), 1_048_576);
     expect_lines(&rt, rt.alloc(), &script, "budget 2 deadline 0\n", true);
     Ok(())
 }
 
 #[test]
-fn a_longer_script_is_too_long_and_is_not_read_on(rt: HostRuntime) -> Result<(), Fail> {
+fn a_longer_script_is_too_long_and_is_not_read_on(rt: HostRuntime) -> Result<(), AllocError> {
     let script = after_empty_lines(rt.alloc(), 1_048_577 - 12)?;
     expect_lines(&rt, rt.alloc(), &script, "line 0: TooLong\n", false);
     let longer = after_empty_lines(rt.alloc(), 1_100_000)?;
     let mut input = Tape::by_steps(&longer, 1);
     expect_replay(&rt, rt.alloc(), &mut input, "line 0: TooLong\n", false);
     let read = longer.len().checked_sub(input.left.len());
-    assert_eq!(rt; read, Some(1_048_577));
+    same(&rt, read, Some(1_048_577));
     Ok(())
 }
 
 #[test]
-fn a_long_script_of_great_charges_is_run_to_its_end(rt: HostRuntime) -> Result<(), Fail> {
+fn a_long_script_of_great_charges_is_run_to_its_end(rt: HostRuntime) -> Result<(), AllocError> {
     let mut script = String::from_str(rt.alloc(), "account 1048576 1048576\n")?;
     let charges = "charge 1099511627776\n".repeat(rt.alloc(), 49_931)?;
     script.push_str(charges.as_str())?;
-    assert_eq!(rt; script.len(), 1_048_575);
+    same(&rt, script.len(), 1_048_575);
     let (printed, outcome) = replay_into_memory(rt.alloc(), script.as_bytes());
-    assert_eq!(rt; outcome, Ok(true));
+    same(&rt, outcome, Ok(true));
     // Each charge of 2^40 units puts the deadline off by 2^40.
     let end = b"\nbudget 1048576 deadline 54899715086483456\n".as_slice();
-    assert!(rt; printed.as_slice().ends_with(end));
+    same(&rt, printed.as_slice().ends_with(end), true);
     Ok(())
 }
 
@@ -308,19 +310,19 @@ fn a_refused_growth_is_told_in_the_last_line(rt: HostRuntime) -> Result<(), Fail
         }
         _ => printed == "budget 2 deadline 0\nbudget 1 deadline 0\n" && outcome == Ok(true),
     };
-    assert!(rt; told);
+    same_at(&rt, told, true, printed);
     Ok(())
 }
 
 #[test]
-fn faults_have_their_words(rt: HostRuntime) -> Result<(), Fail> {
+fn faults_have_their_words(rt: HostRuntime) -> Result<(), AllocError> {
     for (fault, word) in [
         (ReplayFault::Read, "read"),
         (ReplayFault::Write, "write"),
         (ReplayFault::NoMemory, "NoMemory"),
     ] {
         let shown = format!(in rt.alloc(); "{fault}")?;
-        assert_eq!(rt; shown.as_str(), word);
+        same(&rt, shown.as_str(), word);
     }
     Ok(())
 }

@@ -1,7 +1,5 @@
 use crate::accounts::{Case, expect_each, expect_lines};
-use std::alloc::Global;
-use std::process::Abort;
-use std::test::Fail;
+use std::alloc::{AllocError, Global};
 
 const SCRIPTS: &[Case<'_>] = &[
     // A share is held up to the deadline, here 4, and a refused name stays free.
@@ -221,35 +219,43 @@ fn admissions_print_their_lines(rt: HostRuntime) {
 /// What stands behind the name of a stream of a 64th part of a worker.
 const SMALL: &str = "1 64 4 4 invert YUV4MPEG2 W1 H1 Cmono";
 
-/// Numbers 64 streams, so many of them before the start, and asks for another.
-fn expect_all_numbered(rt: &impl Abort, alloc: Global, first: usize) -> Result<(), Fail> {
+/// Numbers 64 streams, so many of them before the start, and asks for another: not even where a share is left, and
+/// whatever it asks for.
+fn numbers_all(alloc: Global, first: usize) -> Result<String, AllocError> {
     let mut script = String::new(alloc);
-    let mut lines = String::new(alloc);
     for number in 0..first {
-        script.push_str(format!(in alloc; "stream s{number} {SMALL}\n")?.as_str())?;
-        lines.push_str(format!(in alloc; "stream {number}\n")?.as_str())?;
+        writeln!(script, "stream s{number} {SMALL}")?;
     }
     script.push_str("start\n")?;
+    for number in first..64 {
+        writeln!(script, "admit s{number} {SMALL}")?;
+    }
+    writeln!(script, "admit z {SMALL}\nclose s0\nadmit z {SMALL}")?;
+    script.push_str("admit z 2 1 0 4 invert YUV4MPEG2 W1 H1 Cmono\nclose s63\n")?;
+    Ok(script)
+}
+
+/// What it prints.
+fn all_numbered(alloc: Global, first: usize) -> Result<String, AllocError> {
+    let mut lines = String::new(alloc);
+    for number in 0..first {
+        writeln!(lines, "stream {number}")?;
+    }
     lines.push_str("started\n")?;
     for number in first..64 {
-        script.push_str(format!(in alloc; "admit s{number} {SMALL}\n")?.as_str())?;
-        lines.push_str(format!(in alloc; "admitted {number}\n")?.as_str())?;
+        writeln!(lines, "admitted {number}")?;
     }
-    script.push_str(format!(in alloc; "admit z {SMALL}\nclose s0\n")?.as_str())?;
     lines.push_str("refused 20 TooManyStreams\nclosing\n")?;
-
-    // Not even where a share is left, and whatever it asks for.
-    script.push_str(format!(in alloc; "admit z {SMALL}\n")?.as_str())?;
-    script.push_str("admit z 2 1 0 4 invert YUV4MPEG2 W1 H1 Cmono\nclose s63\n")?;
     lines.push_str("refused 20 TooManyStreams\nrefused 20 TooManyStreams\nclosing\n")?;
-    expect_lines(rt, alloc, script.as_bytes(), lines.as_str(), true);
-    Ok(())
+    Ok(lines)
 }
 
 #[test]
-fn no_more_than_64_streams_are_numbered(rt: HostRuntime) -> Result<(), Fail> {
+fn no_more_than_64_streams_are_numbered(rt: HostRuntime) -> Result<(), AllocError> {
     for first in [64, 63, 1] {
-        expect_all_numbered(&rt, rt.alloc(), first)?;
+        let script = numbers_all(rt.alloc(), first)?;
+        let lines = all_numbered(rt.alloc(), first)?;
+        expect_lines(&rt, rt.alloc(), script.as_bytes(), lines.as_str(), true);
     }
     Ok(())
 }

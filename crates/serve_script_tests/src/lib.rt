@@ -6,6 +6,8 @@ mod accounts;
 #[cfg(test)]
 mod admissions;
 #[cfg(test)]
+mod compare;
+#[cfg(test)]
 mod lines;
 #[cfg(test)]
 mod prefixes;

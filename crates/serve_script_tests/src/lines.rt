@@ -1,24 +1,18 @@
+use crate::compare::same;
 use serve_core::{Counts, Refusal, Reply};
 use serve_script::{push_reply, push_state};
 use std::alloc::{AllocError, Global};
 use std::process::Abort;
-use std::test::Fail;
 
 /// Compares the line of a reply. A lease is of a stream `b`.
-fn expect_line(
-    rt: &impl Abort,
-    alloc: Global,
-    reply: &Reply,
-    line: &str,
-) -> Result<(), AllocError> {
+fn expect_line(rt: &impl Abort, alloc: Global, reply: &Reply, line: &str) {
     let mut printed = Vec::new(alloc);
-    push_reply(alloc, &mut printed, b"b".as_slice(), reply)?;
-    assert_eq!(rt; printed.as_slice(), line.as_bytes());
-    Ok(())
+    let pushed = push_reply(alloc, &mut printed, b"b".as_slice(), reply);
+    same(rt, (pushed, printed.as_slice()), (Ok(()), line.as_bytes()));
 }
 
 #[test]
-fn each_reply_has_its_line(rt: HostRuntime) -> Result<(), AllocError> {
+fn each_reply_has_its_line(rt: HostRuntime) {
     for (reply, line) in [
         (Reply::Accepted(0), "accepted 0\n"),
         (
@@ -32,9 +26,8 @@ fn each_reply_has_its_line(rt: HostRuntime) -> Result<(), AllocError> {
         (Reply::Closing, "closing\n"),
         (Reply::Admitted(63), "admitted 63\n"),
     ] {
-        expect_line(&rt, rt.alloc(), &reply, line)?;
+        expect_line(&rt, rt.alloc(), &reply, line);
     }
-    Ok(())
 }
 
 const REFUSALS: &[(Refusal, &str)] = &[
@@ -61,15 +54,14 @@ const REFUSALS: &[(Refusal, &str)] = &[
 ];
 
 #[test]
-fn each_refusal_has_its_number_and_its_word(rt: HostRuntime) -> Result<(), AllocError> {
+fn each_refusal_has_its_number_and_its_word(rt: HostRuntime) {
     for (refusal, line) in REFUSALS {
-        expect_line(&rt, rt.alloc(), &Reply::Refused(*refusal), line)?;
+        expect_line(&rt, rt.alloc(), &Reply::Refused(*refusal), line);
     }
-    Ok(())
 }
 
 #[test]
-fn a_state_has_its_account_and_its_counts(rt: HostRuntime) -> Result<(), Fail> {
+fn a_state_has_its_account_and_its_counts(rt: HostRuntime) -> Result<(), AllocError> {
     let mut printed = Vec::new(rt.alloc());
     let counts = Counts {
         accepted: 3,
@@ -79,6 +71,6 @@ fn a_state_has_its_account_and_its_counts(rt: HostRuntime) -> Result<(), Fail> {
     };
     push_state(&mut printed, (2, 10), counts)?;
     let line = "budget 2 deadline 10 accepted 3 finished 2 collected 1 charged 20\n";
-    assert_eq!(rt; printed.as_slice(), line.as_bytes());
+    same(&rt, printed.as_slice(), line.as_bytes());
     Ok(())
 }

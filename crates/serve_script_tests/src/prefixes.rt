@@ -1,7 +1,6 @@
 use crate::accounts::expect_lines;
-use std::alloc::Global;
+use std::alloc::{AllocError, Global};
 use std::process::Abort;
-use std::test::Fail;
 
 /// What a line prints.
 #[derive(Clone, Copy)]
@@ -38,7 +37,7 @@ fn expect_cuts(
     number: usize,
     line: &str,
     cuts: &[Cut<'_>],
-) -> Result<(), Fail> {
+) -> Result<(), AllocError> {
     for length in 0..line.len() {
         let (cut, _) = line.as_bytes().split_at(length);
         let mut script = Vec::from_slice(alloc, before)?;
@@ -61,7 +60,7 @@ fn expect_prefixes(
     alloc: Global,
     lines: &[(&str, &str)],
     cuts: &[Cut<'_>],
-) -> Result<(), Fail> {
+) -> Result<(), AllocError> {
     let mut script = Vec::new(alloc);
     let mut printed = String::new(alloc);
     for (place, (line, told)) in lines.iter().enumerate() {
@@ -189,7 +188,7 @@ const ACCOUNT_CUTS: &[Cut<'_>] = &[
 ];
 
 #[test]
-fn each_prefix_of_a_script_is_a_script(rt: HostRuntime) -> Result<(), Fail> {
+fn each_prefix_of_a_script_is_a_script(rt: HostRuntime) -> Result<(), AllocError> {
     expect_prefixes(&rt, rt.alloc(), SESSION, SESSION_CUTS)?;
     expect_prefixes(&rt, rt.alloc(), ACCOUNT, ACCOUNT_CUTS)
 }

@@ -1,4 +1,5 @@
 use crate::accounts::{Case, expect_each, expect_lines};
+use crate::compare::{same, same_at};
 use serve_script::{ReplayFault, replay};
 use std::alloc::{AllocError, Global};
 use std::process::Abort;
@@ -364,7 +365,7 @@ const ARRIVALS: &[(&str, usize, &str, bool)] = &[
 const TOO_MANY: &str = "stream 0\nstream 1\nstarted\nline 4: BadLine\n";
 
 #[test]
-fn many_samples_are_a_frame_of_their_stream_alone(rt: HostRuntime) -> Result<(), Fail> {
+fn many_samples_are_a_frame_of_their_stream_alone(rt: HostRuntime) -> Result<(), AllocError> {
     for (name, samples, lines, whole) in ARRIVALS {
         let script = arrival_of(rt.alloc(), name, *samples)?;
         expect_lines(&rt, rt.alloc(), &script, lines, *whole);
@@ -422,13 +423,13 @@ fn expect_said(rt: &impl Abort, alloc: Global, case: Case<'_>) -> Result<(), Fai
     let is_refused = printed.contains("refused 6 NoMemory\n");
     match printed.rsplit_once("line ") {
         Some((told, fault)) => {
-            assert_eq!(rt; outcome, Err(ReplayFault::NoMemory));
-            assert!(rt; fault.ends_with(": NoMemory\n"));
-            assert!(rt; is_refused || lines.starts_with(told));
+            same_at(rt, outcome, Err(ReplayFault::NoMemory), printed);
+            same_at(rt, fault.ends_with(": NoMemory\n"), true, printed);
+            same_at(rt, is_refused || lines.starts_with(told), true, printed);
         }
         None => {
-            assert_eq!(rt; outcome, Ok(true));
-            assert!(rt; is_refused || printed == lines);
+            same_at(rt, outcome, Ok(true), printed);
+            same_at(rt, is_refused || printed == lines, true, printed);
         }
     }
     Ok(())

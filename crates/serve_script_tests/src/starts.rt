@@ -1,7 +1,6 @@
 use crate::accounts::{Case, expect_each, expect_lines};
 use std::alloc::{AllocError, Global};
 use std::process::Abort;
-use std::test::Fail;
 
 const SCRIPTS: &[Case<'_>] = &[
     // Streams are admitted to their workers.
@@ -299,7 +298,9 @@ const SECOND: &[(&str, &str, &str, usize)] = &[
 ];
 
 #[test]
-fn a_streams_line_has_one_fault_and_is_read_from_its_front(rt: HostRuntime) -> Result<(), Fail> {
+fn a_streams_line_has_one_fault_and_is_read_from_its_front(
+    rt: HostRuntime,
+) -> Result<(), AllocError> {
     let alloc = rt.alloc();
     for (front, command, lines, line) in SECOND {
         for (numbers, words, word) in STREAM_LINES {
