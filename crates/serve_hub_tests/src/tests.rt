@@ -180,6 +180,16 @@ fn collected(book: &mut Book, s: u32) -> Answer {
     }
 }
 
+/// What is told of a book's end: how many entries it has, how many bands its first worker settled and what
+/// they cost, and what its first stream stands at.
+type Told = (usize, u64, Option<u64>, Option<[u64; 6]>);
+
+/// What is told of this book. Beside it a comparison is dear to prove, and beside this cheap.
+fn told_of(book: &Book) -> Told {
+    let state = state_of(book.desk().account(0), book.desk().counts(0));
+    (book.journal().len(), book.bands(0), book.units(0), state)
+}
+
 /// A lease that is settled after this many bands.
 fn worked(book: &mut Book, w: u32, bands: u32) -> Answer {
     let lease = match book.lease(w) {

@@ -2,7 +2,9 @@
 ghost use Rattle.std.specs.Prelude.{◌≡◌};
 ghost use Rattle.serve_core.specs.Schedule.{opened_schedule};
 
-use super::seated::{Left, again_after, ended_after, followed, left_after, left_by, seated_of};
+use super::seated::{
+    Left, again_after, ended_after, followed, left_after, left_by, left_of, seated_of,
+};
 use super::steps::Answer::{
     Accepted, AcceptedAt, Admitted, Closed, Given, Refused, SpecBack, Worked,
 };
@@ -10,7 +12,7 @@ use super::steps::Call::{Admit, Close, Collect, Offer, OfferAt, WaitAndWork, Wor
 use super::steps::{Answer, Step, TWELVE_FRAMES, follow};
 use super::{Core, PLAIN, Served, book_of, same, setup_of, stream_spec_of};
 use serve_core::{Setup, StreamSpec};
-use serve_hub::{Act, Book, Entry, Epoch, Moments, Refusal, Seat, Settled};
+use serve_hub::{Act, Book, Ended, Entry, Epoch, Moments, Refusal, Seat, Settled};
 use std::alloc::Global;
 use std::marker::Brand;
 use std::process::Abort;
@@ -62,7 +64,7 @@ fn admitted_or_not<L: Epoch, R: Wait + Abort>(
 {
     let mut seated = seated_of::<L>(alloc, blank, setup, 16)?;
     let got = seated.answer_to(rt, alloc, Admit(&HALF))?;
-    Ok(left_by(&followed(rt, alloc, seated, &[checked(rt, got)])?))
+    left_of(followed(rt, alloc, seated, &[checked(rt, got)]))
 }
 
 /// The calls on a hub that answered an admission so.
@@ -91,8 +93,18 @@ fn a_book_admits_a_stream(rt: HostRuntime) -> Result<(), Fail> {
     let (second, third) = (stream_spec_of(alloc, &HALF)?, stream_spec_of(alloc, &HALF)?);
     let mut book = book_of(alloc, &[HALF])?;
     second_admitted(&rt, alloc, &mut book, second);
-    follow(&rt, alloc, &mut book, ASKED_AGAIN)?;
-    third_refused(&rt, alloc, &mut book, third);
+    asked_again(&rt, alloc, &mut book, third)
+}
+
+/// The second stream has a frame, and a third one is refused.
+fn asked_again(
+    rt: &impl Abort,
+    alloc: Global,
+    book: &mut Book,
+    third: StreamSpec,
+) -> Result<(), Fail> {
+    follow(rt, alloc, book, ASKED_AGAIN)?;
+    third_refused(rt, alloc, book, third);
     Ok(())
 }
 
@@ -171,16 +183,18 @@ fn a_hub_admits_a_stream_in_each_epoch(rt: HostRuntime) -> Result<(), Fail> {
     let alloc = rt.alloc();
     let ended = ended_after(&rt, alloc, &[HALF], &[FIRST_CALLS])?;
     same(&rt, ended.journal().len(), 7);
-    let (ended, _) = again_after(&rt, alloc, ended, &[NEXT_CALLS])?;
-    same(&rt, ended.journal().len(), 8);
-    let left = left_by(&ended);
-    let want = (Some([1, 6, 2, 2, 2, 2]), Some([1, 4, 1, 1, 1, 1]));
-    same(
-        &rt,
-        ((left.states[1], left.states[2]), ended.account(3)),
-        (want, None),
-    );
+    let left = left_again(&rt, alloc, ended)?;
+    same(&rt, left.entries, 8);
+    let states = (left.states[1], left.states[2], left.states[3]);
+    let want = (Some([1, 6, 2, 2, 2, 2]), Some([1, 4, 1, 1, 1, 1]), None);
+    same(&rt, states, want);
     Ok(())
+}
+
+/// What is told of the end of the next epoch.
+fn left_again<R: Wait + Abort>(rt: &R, alloc: Global, ended: Ended) -> Result<Left, Fail> {
+    let (ended, _) = again_after(rt, alloc, ended, &[NEXT_CALLS])?;
+    Ok(left_by(&ended))
 }
 
 const TWO_MORE: &[Step] = &[(Offer(0, 12), Accepted(12)), (Offer(0, 13), Accepted(13))];

@@ -1,5 +1,7 @@
 //! Journals up to their last entry.
-use super::steps::{Answer, FIFTEEN_FRAMES, SEVEN_LEASES, TWELVE_FRAMES, book_after};
+use super::steps::{
+    Answer, CLOSED, FIFTEEN_FRAMES, SEVEN_LEASES, TWELVE_FRAMES, book_after, told_after,
+};
 use super::{
     Core, PLAIN, collected, frame_of, same, same_at, settled, setup_of, state_of, stepped,
 };
@@ -32,11 +34,8 @@ fn a_limit_has_limits(rt: HostRuntime) -> Result<(), Fail> {
 
 #[test]
 fn leases_without_a_band_fill_the_journal(rt: HostRuntime) -> Result<(), Fail> {
-    let mut book = book_after(&rt, rt.alloc(), &[PLAIN], SEVEN_LEASES)?;
-    same(&rt, (book.close(0), book.journal().len()), (Ok(()), 16));
-    let state = state_of(book.desk().account(0), book.desk().counts(0));
-    same(&rt, state, Some([1, 4, 1, 0, 0, 0]));
-    same(&rt, (book.bands(0), book.units(0)), (0, Some(0)));
+    let told = told_after(&rt, rt.alloc(), &[PLAIN], &[SEVEN_LEASES, CLOSED])?;
+    same(&rt, told, (16, 0, Some(0), Some([1, 4, 1, 0, 0, 0])));
     Ok(())
 }
 

@@ -3,7 +3,7 @@ ghost use Rattle.std.specs.Prelude.{◌≡◌};
 ghost use Rattle.serve_core.specs.Schedule.{opened_schedule};
 
 use super::leases::{BLURRED, ONE_BAND};
-use super::seated::{Left, Seated, followed, left_after, left_by, seated_after};
+use super::seated::{Left, Seated, followed, left_after, left_of, seated_after};
 use super::steps::{Answer, CLOSED, Call, FIFTEEN_FRAMES, SEVEN_LEASES, Step, TWELVE_FRAMES};
 use super::{Core, PLAIN, frame_of, same, setup_of, stepped, told};
 use frame_view::Frame;
@@ -87,7 +87,7 @@ fn full_with_a_lease<L: Epoch, R: Wait + Abort>(
 {
     let mut seated = seated_after::<L, R>(rt, alloc, blank, setup, TWELVE_FRAMES)?;
     fill_beside_a_lease(rt, alloc, &mut seated, frames);
-    Ok(left_by(&followed(rt, alloc, seated, &[BEHIND_THE_LEASE])?))
+    left_of(followed(rt, alloc, seated, &[BEHIND_THE_LEASE]))
 }
 
 /// Leases the first of twelve frames, and offers the thirteenth and one more before its settlement.

@@ -1,8 +1,7 @@
 //! Leases that come back to the wrong worker or book.
-use super::steps::{Answer, Call, Step, book_after, follow};
+use super::steps::{Answer, Call, Step, book_after, follow, told_after};
 use super::{
-    Core, PLAIN, Served, Size, book_of, collected, frame_of, same, settled, setup_of, state_of,
-    stepped, told,
+    Core, PLAIN, Served, Size, book_of, collected, frame_of, same, settled, setup_of, stepped, told,
 };
 use lease::{Job, Lease};
 use serve_hub::{Book, Refusal, Settled};
@@ -160,9 +159,7 @@ pub(super) const ONE_BAND: &[Step] = &[
 /// A band of a blur costs its radius more.
 #[test]
 fn units_are_what_bands_cost(rt: HostRuntime) -> Result<(), Fail> {
-    let book = book_after(&rt, rt.alloc(), &[BLURRED], ONE_BAND)?;
-    same(&rt, (book.bands(0), book.units(0)), (1, Some(9)));
-    let state = state_of(book.desk().account(0), book.desk().counts(0));
-    same(&rt, state, Some([1, 40, 1, 1, 0, 9]));
+    let told = told_after(&rt, rt.alloc(), &[BLURRED], &[ONE_BAND])?;
+    same(&rt, told, (3, 1, Some(9), Some([1, 40, 1, 1, 0, 9])));
     Ok(())
 }

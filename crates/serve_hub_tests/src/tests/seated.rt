@@ -121,8 +121,8 @@ pub(super) struct Left {
     /// How many bands the first worker settled, and what they cost.
     pub(super) bands: u64,
     pub(super) units: Option<u64>,
-    /// What the first three streams stand at, as [`state_of`] tells it.
-    pub(super) states: [Option<[u64; 6]>; 3],
+    /// What the first four streams stand at, as [`state_of`] tells it.
+    pub(super) states: [Option<[u64; 6]>; 4],
 }
 
 /// What is told of this end. Beside it a comparison is dear to prove, and beside this cheap.
@@ -138,8 +138,14 @@ pub(super) fn left_by(ended: &Ended) -> Left {
             state_of(ended.account(0), ended.counts(0)),
             state_of(ended.account(1), ended.counts(1)),
             state_of(ended.account(2), ended.counts(2)),
+            state_of(ended.account(3), ended.counts(3)),
         ],
     }
+}
+
+/// What is told of an end, if there is one.
+pub(super) fn left_of(ended: Result<Ended, Fail>) -> Result<Left, Fail> {
+    Ok(left_by(&ended?))
 }
 
 /// What is told of the end of a hub of one worker after these calls, for at most 16 entries.
@@ -149,7 +155,7 @@ pub(super) fn left_after<R: Wait + Abort>(
     streams: &[Served<'_>],
     parts: &[&[Step]],
 ) -> Result<Left, Fail> {
-    Ok(left_by(&ended_after(rt, alloc, streams, parts)?))
+    left_of(ended_after(rt, alloc, streams, parts))
 }
 
 /// The next epoch of a hub.

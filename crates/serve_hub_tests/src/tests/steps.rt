@@ -1,7 +1,7 @@
 //! Calls on a book or a hub, with the answers that were worked out by hand.
 use self::Answer::{Accepted, Given, Refused, Worked};
 use self::Call::{Close, Collect, Offer, Work};
-use super::{Core, Served, book_of, collected, offered, same_at, worked};
+use super::{Core, Served, Told, book_of, collected, offered, same_at, told_of, worked};
 use serve_hub::{Book, Moments, Refusal, Settled};
 use std::alloc::Global;
 use std::process::Abort;
@@ -146,6 +146,20 @@ pub(super) fn book_after(
     let mut book = book_of(alloc, streams)?;
     follow(rt, alloc, &mut book, steps)?;
     Ok(book)
+}
+
+/// What is told of a book of one worker after these calls.
+pub(super) fn told_after(
+    rt: &impl Abort,
+    alloc: Global,
+    streams: &[Served<'_>],
+    parts: &[&[Step]],
+) -> Result<Told, Fail> {
+    let mut book = book_of(alloc, streams)?;
+    for part in parts {
+        follow(rt, alloc, &mut book, part)?;
+    }
+    Ok(told_of(&book))
 }
 
 /// Calls a book in turn, and compares each answer.
