@@ -1,10 +1,9 @@
 //! Streams that one client serves: to their ends, and up to a fault.
-use super::{PLAIN, Plan, served};
+use super::{PLAIN, Plan, same_at, served};
 use serve_work::{Cause, Stop};
 use std::alloc::Global;
 use std::process::Abort;
 use std::sync::Wait;
-use std::test::Fail;
 use std::thread::Threads;
 use test_tools::streams::{CUT, HEADER, ONE_INVERTED, THREE, THREE_INVERTED, TWO, numbered};
 use y4m_stream::{ReadFault, WriteFault};
@@ -21,20 +20,11 @@ struct Case<'a> {
 }
 
 /// Serves a stream, and compares what it comes to.
-fn comes_to(
-    rt: &(impl Abort + Threads + Wait + Sync),
-    alloc: Global,
-    case: &Case<'_>,
-) -> Result<(), Fail> {
-    let told = served(rt, alloc, case.input, case.plan)?;
-    let name = case.name;
-    assert_eq!(rt;
-        (told.stop, told.accepted, told.delivered),
-        case.end,
-        "{name}"
-    );
-    assert_eq!(rt; told.written.as_slice(), case.written, "{name}");
-    Ok(())
+fn comes_to(rt: &(impl Abort + Threads + Wait + Sync), alloc: Global, case: &Case<'_>) {
+    let told = served(rt, alloc, case.input, case.plan);
+    let end = (told.stop, told.accepted, told.delivered);
+    same_at(rt, end, case.end, case.name);
+    same_at(rt, told.written.as_slice(), case.written, case.name);
 }
 
 const WHOLE: &[Case<'_>] = &[
@@ -65,25 +55,28 @@ const WHOLE: &[Case<'_>] = &[
 ];
 
 #[test]
-fn streams_are_served_to_their_ends(rt: HostRuntime) -> Result<(), Fail> {
+fn streams_are_served_to_their_ends(rt: HostRuntime) {
     for case in WHOLE {
-        comes_to(&rt, rt.alloc(), case)?;
+        comes_to(&rt, rt.alloc(), case);
     }
-    Ok(())
 }
 
 /// The first frame is offered at moment 5, each other one a moment later.
 #[test]
-fn each_frame_asks_the_clock_anew(rt: HostRuntime) -> Result<(), Fail> {
+fn each_frame_asks_the_clock_anew(rt: HostRuntime) {
     let plan = Plan { moment: 5, ..PLAIN };
-    let told = served(&rt, rt.alloc(), THREE, plan)?;
-    assert_eq!(rt; told.ticks.as_slice(), [5, 6, 7].as_slice());
-    Ok(())
+    let told = served(&rt, rt.alloc(), THREE, plan);
+    same_at(
+        &rt,
+        told.ticks.as_slice(),
+        [5, 6, 7].as_slice(),
+        "the moments",
+    );
 }
 
 #[test]
-fn twenty_frames_pass_a_queue_of_four(rt: HostRuntime) -> Result<(), Fail> {
-    let (input, images) = numbered(rt.alloc(), 20)?;
+fn twenty_frames_pass_a_queue_of_four(rt: HostRuntime) {
+    let (input, images) = numbered(rt.alloc(), 20).expect(&rt, "twenty frames");
     let case = Case {
         name: "twenty frames",
         input: &input,
@@ -91,7 +84,7 @@ fn twenty_frames_pass_a_queue_of_four(rt: HostRuntime) -> Result<(), Fail> {
         end: (Stop::Whole, 20, 20),
         written: &images,
     };
-    comes_to(&rt, rt.alloc(), &case)
+    comes_to(&rt, rt.alloc(), &case);
 }
 
 /// The two frames, and one more.
@@ -165,9 +158,8 @@ const FAULTS: &[Case<'_>] = &[
 ];
 
 #[test]
-fn clients_stop_at_a_fault(rt: HostRuntime) -> Result<(), Fail> {
+fn clients_stop_at_a_fault(rt: HostRuntime) {
     for case in FAULTS {
-        comes_to(&rt, rt.alloc(), case)?;
+        comes_to(&rt, rt.alloc(), case);
     }
-    Ok(())
 }

@@ -3,11 +3,10 @@
 ghost use Rattle.std.specs.Prelude.{⊤};
 
 use super::many::{AllServed, Hall, Stream, WIDE, serve_behind, serve_by};
-use super::{PLAIN, Plan};
+use super::{PLAIN, Plan, same_at};
 use serve_work::{Clock, Gate, Stop};
 use std::process::Abort;
 use std::sync::atomic::{AtomicU32, Ordering};
-use std::test::Fail;
 use std::thread;
 use test_tools::Parts;
 use test_tools::streams::{ONE, ONE_INVERTED};
@@ -85,54 +84,49 @@ impl Gate for Halves {
 }
 
 /// Each stream was served whole, its one frame being written so.
-fn each_gave(rt: &impl Abort, all: AllServed<'_>, streams: usize, image: &[u8]) {
-    assert_eq!(rt; all.len(), streams);
+fn each_gave(rt: &impl Abort, all: AllServed, streams: usize, image: &[u8]) {
+    same_at(rt, all.len(), streams, "how many streams");
     for served in all {
-        assert_eq!(rt; served.stop, Stop::Whole);
-        assert_eq!(rt; served.writer.into_inner().taken.as_slice(), image);
+        same_at(rt, served.stop, Stop::Whole, "why it stops");
+        same_at(rt, served.written.as_slice(), image, "what is written");
     }
 }
 
-#[test]
-fn three_clients_and_three_workers_go_on_at_once(rt: HostRuntime) -> Result<(), Fail> {
-    let stream = Stream {
-        input: ONE,
-        breaks: false,
-        plan: PLAIN,
-    };
-    let (workers, clients) = (Three::new(), Three::new());
-    let hall = Hall { workers: 3, ..WIDE };
-    let all = serve_by(&rt, rt.alloc(), &[stream; 3], hall, &workers, &clients)??;
-    each_gave(&rt, all, 3, ONE_INVERTED);
-    let met = [&workers, &clients].map(|three| three.met.load(Ordering::SeqCst));
-    assert_eq!(rt;
-        met,
-        [3, 3],
-        "nobody came: was a thread or its memory refused?"
-    );
-    Ok(())
-}
+/// Some that were to meet others didn't.
+const NOBODY_CAME: &str = "nobody came: was a thread or its memory refused?";
+
+/// A stream of one frame.
+const ONE_FRAME: Stream<'_> = Stream {
+    input: ONE,
+    breaks: false,
+    plan: PLAIN,
+};
+
+const THREE_OF_ONE: &[Stream<'_>] = &[ONE_FRAME; 3];
 
 #[test]
-fn two_threads_write_the_halves_of_a_band(rt: HostRuntime) -> Result<(), Fail> {
-    let stream = Stream {
-        input: b"YUV4MPEG2 W1 H4 Cmono\nFRAME\n\x01\x02\x03\x04",
-        breaks: false,
-        plan: Plan { band: 4, ..PLAIN },
-    };
+fn three_clients_and_three_workers_go_on_at_once(rt: HostRuntime) {
+    let (workers, clients) = (Three::new(), Three::new());
+    let hall = Hall { workers: 3, ..WIDE };
+    let all = serve_by(&rt, rt.alloc(), THREE_OF_ONE, hall, &workers, &clients);
+    each_gave(&rt, all.expect(&rt, "the session"), 3, ONE_INVERTED);
+    let met = [&workers, &clients].map(|three| three.met.load(Ordering::SeqCst));
+    same_at(&rt, met, [3, 3], NOBODY_CAME);
+}
+
+/// A stream of one frame of four rows, which are one band.
+const FOUR_ROWS: &[Stream<'_>] = &[Stream {
+    input: b"YUV4MPEG2 W1 H4 Cmono\nFRAME\n\x01\x02\x03\x04",
+    breaks: false,
+    plan: Plan { band: 4, ..PLAIN },
+}];
+
+#[test]
+fn two_threads_write_the_halves_of_a_band(rt: HostRuntime) {
     let gate = Halves(Parts::new());
     let hall = Hall { workers: 1, ..WIDE };
-    let all = serve_behind(&rt, rt.alloc(), &[stream], hall, &gate)??;
-    each_gave(
-        &rt,
-        all,
-        1,
-        b"YUV4MPEG2 W1 H4 Cmono\nFRAME\n\xfe\xfd\xfc\xfb",
-    );
-    assert_eq!(rt;
-        gate.0.met(),
-        2,
-        "nobody came: was a thread or its memory refused?"
-    );
-    Ok(())
+    let all = serve_behind(&rt, rt.alloc(), FOUR_ROWS, hall, &gate);
+    let image = b"YUV4MPEG2 W1 H4 Cmono\nFRAME\n\xfe\xfd\xfc\xfb";
+    each_gave(&rt, all.expect(&rt, "the session"), 1, image);
+    same_at(&rt, gate.0.met(), 2, NOBODY_CAME);
 }

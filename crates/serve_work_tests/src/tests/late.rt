@@ -1,16 +1,15 @@
 //! Inputs that come late: streams that wait for another one, or for their own images.
-ghost use Rattle.std.specs.Prelude.{IfOk};
-ghost use Rattle.serve_work.specs.Sessions.{IsInput};
+ghost use Rattle.serve_work.specs.Sessions.{AreInputs, IsInput};
 
-use super::{Open, PLAIN, Plan, Still, stream_of};
+use super::lists::{put, two_of};
+use super::{Open, PLAIN, Plan, Still, same_at, stream_of, writer_of};
 use serve_core::{Setup, StreamSpec};
 use serve_work::{Served, Stop, serve_session};
-use std::alloc::Global;
+use std::alloc::{AllocError, Global};
 use std::io::{self, ErrorKind, Read};
 use std::process::Abort;
 use std::sync::Wait;
 use std::sync::atomic::{AtomicU64, Ordering};
-use std::test::Fail;
 use std::thread::Threads;
 use test_tools::streams::{CUT, HEADER, ONE, ONE_INVERTED, THREE, THREE_INVERTED};
 use test_tools::{Room, Tape};
@@ -123,44 +122,55 @@ type Writer<'a> = Counted<'a, OverWrite<Room>>;
 
 type OneServed<'a> = Served<Late<'a, OverRead<Paced<'a>>>, Writer<'a>>;
 
-fn opened<'a>(alloc: Global, side: Side<'a>) -> Result<(StreamSpec, (Reader<'a>, Writer<'a>)), Fail>
-    ensures { IfOk result (λ made. IsInput made.0 made.1) }
+fn opened<'a>(
+    rt: &impl Abort,
+    alloc: Global,
+    side: Side<'a>,
+) -> (StreamSpec, (Reader<'a>, Writer<'a>))
+    ensures { IsInput result.0 result.1 }
 {
     let pace = side.pace;
     let tape = Tape::by_steps(side.input, pace.first);
-    let source = OverRead::new(Paced { tape, pace });
-    let reader = StreamReader::open(
-        alloc,
-        Late {
-            source,
-            pace,
-            reads: 0,
-            asked: AtomicU64::new(0),
-        },
-    )?;
-    let spec = stream_of(alloc, reader.header(), side.plan)?;
-    let sink = OverWrite::new(Room::new(alloc, side.plan.room)?);
+    let late = Late {
+        source: OverRead::new(Paced { tape, pace }),
+        pace,
+        reads: 0,
+        asked: AtomicU64::new(0),
+    };
+    let sink = writer_of(rt, alloc, side.plan.room);
     let written = side.written;
-    Ok((spec, (reader, Counted { sink, written })))
+    let reader = StreamReader::open(alloc, late).expect(rt, "no reader");
+    let spec = stream_of(rt, alloc, reader.header(), side.plan);
+    (spec, (reader, Counted { sink, written }))
+}
+
+/// Reads the headers of two streams.
+fn both_opened<'a>(
+    rt: &impl Abort,
+    alloc: Global,
+    first: Side<'a>,
+    second: Side<'a>,
+) -> (Vec<StreamSpec>, Vec<(Reader<'a>, Writer<'a>)>)
+    ensures { AreInputs result.0.items result.1.items }
+{
+    let (first, input) = opened(rt, alloc, first);
+    let (second, other) = opened(rt, alloc, second);
+    (
+        two_of(rt, alloc, first, second),
+        two_of(rt, alloc, input, other),
+    )
 }
 
 /// Serves two streams by two workers, with room for sixteen entries an epoch.
-fn served_beside<'a, T: Threads + Wait + Sync>(
+fn served_beside<'a, T: Abort + Threads + Wait + Sync>(
     rt: &T,
     alloc: Global,
     first: Side<'a>,
     second: Side<'a>,
-) -> Result<Vec<OneServed<'a>>, Fail> {
-    let (first, input) = opened(alloc, first)?;
-    let (second, other) = opened(alloc, second)?;
-    let mut specs = Vec::new(alloc);
-    specs.push(first)?;
-    specs.push(second)?;
-    let mut inputs = Vec::new(alloc);
-    inputs.push(input)?;
-    inputs.push(other)?;
-    let setup = Setup::new(2, 4, specs)?;
-    Ok(serve_session(rt, alloc, setup, inputs, 16, &Open, &Still(0))?)
+) -> Vec<OneServed<'a>> {
+    let (specs, inputs) = both_opened(rt, alloc, first, second);
+    let setup = Setup::new(2, 4, specs).expect(rt, "no setup");
+    serve_session(rt, alloc, setup, inputs, 16, &Open, &Still(0)).expect(rt, "the session")
 }
 
 /// What a stream came to: why it stopped, how many frames were accepted, delivered and charged, and what was
@@ -183,17 +193,17 @@ fn end_of(served: OneServed<'_>) -> Came {
 }
 
 /// What two streams come to that are served beside each other.
-fn both_came<'a, T: Threads + Wait + Sync>(
+fn both_came<'a, T: Abort + Threads + Wait + Sync>(
     rt: &T,
     alloc: Global,
     first: Side<'a>,
     second: Side<'a>,
-) -> Result<Vec<Came>, Fail> {
+) -> Vec<Came> {
     let mut all = Vec::new(alloc);
-    for served in served_beside(rt, alloc, first, second)? {
-        all.push(end_of(served))?;
+    for served in served_beside(rt, alloc, first, second) {
+        put(rt, &mut all, end_of(served));
     }
-    Ok(all)
+    all
 }
 
 /// What is told of a stream, as `Came` has it.
@@ -203,15 +213,14 @@ struct Told<'a> {
     written: &'a [u8],
 }
 
-fn came_to(rt: &impl Abort, came: Option<Came>, told: &Told<'_>) -> Result<(), Fail> {
-    let came = came.ok_or("no stream")?;
-    assert_eq!(rt; came.end, told.end);
-    assert_eq!(rt; came.written.as_slice(), told.written);
-    Ok(())
+fn came_to(rt: &impl Abort, came: Option<Came>, told: &Told<'_>, name: &str) {
+    let came = came.expect(rt, name);
+    same_at(rt, came.end, told.end, name);
+    same_at(rt, came.written.as_slice(), told.written, name);
 }
 
 /// Twenty frames of four samples each, and what they are inverted to, each behind the header line: 222 bytes.
-fn twenty(alloc: Global) -> Result<(Vec<u8>, Vec<u8>), Fail> {
+fn twenty(alloc: Global) -> Result<(Vec<u8>, Vec<u8>), AllocError> {
     let mut frames = HEADER.to_vec(alloc)?;
     let mut images = HEADER.to_vec(alloc)?;
     for n in 0..20u8 {
@@ -225,6 +234,7 @@ fn twenty(alloc: Global) -> Result<(Vec<u8>, Vec<u8>), Fail> {
 
 /// What a stream comes to that is silent, behind its first bytes, until all of another's images were written.
 struct Case<'a> {
+    name: &'a str,
     input: &'a [u8],
     first: usize,
     room: usize,
@@ -233,6 +243,7 @@ struct Case<'a> {
 
 const CASES: &[Case<'_>] = &[
     Case {
+        name: "three frames, behind the header",
         input: THREE,
         first: 22,
         room: 1 << 16,
@@ -242,6 +253,7 @@ const CASES: &[Case<'_>] = &[
         },
     },
     Case {
+        name: "three frames, behind the first",
         input: THREE,
         first: 32,
         room: 1 << 16,
@@ -250,8 +262,8 @@ const CASES: &[Case<'_>] = &[
             written: THREE_INVERTED,
         },
     },
-    // the fault of the first image is held until the input's end
     Case {
+        name: "the fault of the first image is held until the input's end",
         input: THREE,
         first: 32,
         room: 22,
@@ -260,8 +272,8 @@ const CASES: &[Case<'_>] = &[
             written: HEADER,
         },
     },
-    // and a fault of the input comes before it
     Case {
+        name: "a fault of the input comes before one that is held",
         input: CUT,
         first: 32,
         room: 22,
@@ -271,6 +283,7 @@ const CASES: &[Case<'_>] = &[
         },
     },
     Case {
+        name: "one frame, behind the header",
         input: ONE,
         first: 22,
         room: 1 << 16,
@@ -283,7 +296,7 @@ const CASES: &[Case<'_>] = &[
 
 /// What two streams come to, of which one is silent, behind its first bytes, until all images of the other
 /// were written.
-fn beside_silent<'a, T: Threads + Wait + Sync>(
+fn beside_silent<'a, T: Abort + Threads + Wait + Sync>(
     rt: &T,
     alloc: Global,
     frames: &'a [u8],
@@ -291,7 +304,7 @@ fn beside_silent<'a, T: Threads + Wait + Sync>(
     sizes: (usize, usize),
     written: &'a AtomicU64,
     other: &'a AtomicU64,
-) -> Result<Vec<Came>, Fail> {
+) -> Vec<Came> {
     let (first, room) = sizes;
     let talker = Side {
         input: frames,
@@ -319,30 +332,25 @@ fn beside_silent<'a, T: Threads + Wait + Sync>(
 }
 
 /// A silent stream holds up no other, whose images need a dozen epochs.
-fn comes_behind(
-    rt: &(impl Abort + Threads + Wait + Sync),
-    alloc: Global,
-    case: &Case<'_>,
-) -> Result<(), Fail> {
-    let (frames, images) = twenty(alloc)?;
+fn comes_behind(rt: &(impl Abort + Threads + Wait + Sync), alloc: Global, case: &Case<'_>) {
+    let (frames, images) = twenty(alloc).expect(rt, "twenty frames");
     let written = AtomicU64::new(0);
     let other = AtomicU64::new(0);
     let sizes = (case.first, case.room);
-    let mut all = beside_silent(rt, alloc, &frames, case.input, sizes, &written, &other)?;
-    came_to(rt, all.pop(), &case.told)?;
+    let mut all = beside_silent(rt, alloc, &frames, case.input, sizes, &written, &other);
+    came_to(rt, all.pop(), &case.told, case.name);
     let told = Told {
         end: (Stop::Whole, 20, 20, 20),
         written: &images,
     };
-    came_to(rt, all.pop(), &told)
+    came_to(rt, all.pop(), &told, "the other stream");
 }
 
 #[test]
-fn a_silent_stream_holds_up_no_other(rt: HostRuntime) -> Result<(), Fail> {
+fn a_silent_stream_holds_up_no_other(rt: HostRuntime) {
     for case in CASES {
-        comes_behind(&rt, rt.alloc(), case)?;
+        comes_behind(&rt, rt.alloc(), case);
     }
-    Ok(())
 }
 
 /// A stream of twenty frames, each of which comes once the image of the one before it is written.
@@ -362,14 +370,14 @@ fn live<'a>(frames: &'a [u8], ops: &'a str, written: &'a AtomicU64) -> Side<'a> 
 }
 
 /// What two such streams come to.
-fn both_live<'a, T: Threads + Wait + Sync>(
+fn both_live<'a, T: Abort + Threads + Wait + Sync>(
     rt: &T,
     alloc: Global,
     frames: &'a [u8],
     ops: &'a str,
     first: &'a AtomicU64,
     second: &'a AtomicU64,
-) -> Result<Vec<Came>, Fail> {
+) -> Vec<Came> {
     let first = live(frames, ops, first);
     let second = live(frames, ops, second);
     both_came(rt, alloc, first, second)
@@ -381,28 +389,26 @@ fn served_live(
     alloc: Global,
     ops: &str,
     images: Option<&[u8]>,
-) -> Result<(), Fail> {
-    let (frames, _) = twenty(alloc)?;
+) {
+    let (frames, _) = twenty(alloc).expect(rt, "twenty frames");
     let first = AtomicU64::new(0);
     let second = AtomicU64::new(0);
-    let all = both_live(rt, alloc, &frames, ops, &first, &second)?;
-    assert_eq!(rt; all.len(), 2);
+    let all = both_live(rt, alloc, &frames, ops, &first, &second);
+    same_at(rt, all.len(), 2, ops);
     for came in all {
         let (stop, accepted, delivered, _) = came.end;
-        assert_eq!(rt; (stop, accepted, delivered), (Stop::Whole, 20, 20), "{ops}");
-        assert_eq!(rt; came.written.len(), 222, "{ops}");
+        same_at(rt, (stop, accepted, delivered), (Stop::Whole, 20, 20), ops);
+        same_at(rt, came.written.len(), 222, ops);
         if let Some(images) = images {
-            assert_eq!(rt; came.written.as_slice(), images, "{ops}");
+            same_at(rt, came.written.as_slice(), images, ops);
         }
     }
-    Ok(())
 }
 
 /// Also where a blur takes long, so that a client would read ahead.
 #[test]
-fn an_image_leaves_before_the_next_frame_comes(rt: HostRuntime) -> Result<(), Fail> {
-    let alloc = rt.alloc();
-    let (_, images) = twenty(alloc)?;
-    served_live(&rt, alloc, "invert", Some(&images))?;
-    served_live(&rt, alloc, "blur:1+invert", None)
+fn an_image_leaves_before_the_next_frame_comes(rt: HostRuntime) {
+    let (_, images) = twenty(rt.alloc()).expect(&rt, "twenty frames");
+    served_live(&rt, rt.alloc(), "invert", Some(&images));
+    served_live(&rt, rt.alloc(), "blur:1+invert", None);
 }

@@ -1,10 +1,13 @@
 //! Sessions of several streams.
-use super::{Open, Plan, Still, stream_of};
-use serve_core::Setup;
-use serve_work::{Clock, Gate, Served, SessionFault, serve_session};
+ghost use Rattle.serve_work.specs.Sessions.{AreInputs, IsInput};
+
+use super::lists::put;
+use super::{Open, Plan, Still, stream_of, writer_of};
+use serve_core::{Setup, StreamSpec};
+use serve_work::{Clock, Gate, Served, SessionFault, Stop, serve_session};
 use std::alloc::Global;
+use std::process::Abort;
 use std::sync::Wait;
-use std::test::Fail;
 use std::thread::Threads;
 use test_tools::{Room, Tape};
 use y4m_stream::{OverRead, OverWrite, StreamReader};
@@ -17,11 +20,21 @@ pub(super) struct Stream<'a> {
     pub(super) plan: Plan<'a>,
 }
 
-/// What became of a stream.
-pub(super) type OneServed<'a> = Served<OverRead<Tape<'a>>, OverWrite<Room>>;
+/// Where a stream is read from, and written to.
+type Input<'a> = (StreamReader<OverRead<Tape<'a>>>, OverWrite<Room>);
+
+/// What became of a stream, and what was written of it.
+#[derive(Drop)]
+pub(super) struct OneServed {
+    pub(super) accepted: u64,
+    pub(super) delivered: u64,
+    pub(super) charged: u64,
+    pub(super) stop: Stop,
+    pub(super) written: Vec<u8>,
+}
 
 /// What became of the streams.
-pub(super) type AllServed<'a> = Vec<OneServed<'a>>;
+pub(super) type AllServed = Vec<OneServed>;
 
 /// How many workers there are, how many entries the journal may have, and the moment of all offers.
 #[derive(Clone, Copy)]
@@ -38,45 +51,91 @@ pub(super) const WIDE: Hall = Hall {
     moment: 0,
 };
 
-/// Serves these streams.
-pub(super) fn serve_all<'a, T: Threads + Wait + Sync>(
-    rt: &T,
+/// Reads the header of a stream.
+fn opened<'a>(rt: &impl Abort, alloc: Global, stream: &Stream<'a>) -> (StreamSpec, Input<'a>)
+    ensures { IsInput result.0 result.1 }
+{
+    let writer = writer_of(rt, alloc, stream.plan.room);
+    let tape = Tape::new(stream.input, stream.breaks);
+    let reader = StreamReader::open(alloc, OverRead::new(tape)).expect(rt, "no reader");
+    let spec = stream_of(rt, alloc, reader.header(), stream.plan);
+    (spec, (reader, writer))
+}
+
+/// Reads the headers of these streams.
+fn all_opened<'a>(
+    rt: &impl Abort,
     alloc: Global,
     streams: &[Stream<'a>],
+) -> (Vec<StreamSpec>, Vec<Input<'a>>)
+    ensures { AreInputs result.0.items result.1.items }
+{
+    let mut specs = Vec::new(alloc);
+    let mut inputs = Vec::new(alloc);
+    for stream in streams {
+        let (spec, input) = opened(rt, alloc, stream);
+        put(rt, &mut specs, spec);
+        put(rt, &mut inputs, input);
+    }
+    (specs, inputs)
+}
+
+fn one_served(served: Served<OverRead<Tape<'_>>, OverWrite<Room>>) -> OneServed {
+    OneServed {
+        accepted: served.accepted,
+        delivered: served.delivered,
+        charged: served.charged,
+        stop: served.stop,
+        written: served.writer.into_inner().taken,
+    }
+}
+
+/// What became of each stream. The places for that are taken before the session.
+fn each_served(
+    rt: &impl Abort,
+    places: AllServed,
+    all: Vec<Served<OverRead<Tape<'_>>, OverWrite<Room>>>,
+) -> AllServed {
+    let mut each = places;
+    for served in all {
+        put(rt, &mut each, one_served(served));
+    }
+    each
+}
+
+/// Serves these streams.
+pub(super) fn serve_all<T: Abort + Threads + Wait + Sync>(
+    rt: &T,
+    alloc: Global,
+    streams: &[Stream<'_>],
     hall: Hall,
-) -> Result<Result<AllServed<'a>, SessionFault>, Fail> {
+) -> Result<AllServed, SessionFault> {
     serve_behind(rt, alloc, streams, hall, &Open)
 }
 
 /// The same, behind this gate.
-pub(super) fn serve_behind<'a, G: Gate + Sync, T: Threads + Wait + Sync>(
+pub(super) fn serve_behind<G: Gate + Sync, T: Abort + Threads + Wait + Sync>(
     rt: &T,
     alloc: Global,
-    streams: &[Stream<'a>],
+    streams: &[Stream<'_>],
     hall: Hall,
     gate: &G,
-) -> Result<Result<AllServed<'a>, SessionFault>, Fail> {
+) -> Result<AllServed, SessionFault> {
     serve_by(rt, alloc, streams, hall, gate, &Still(hall.moment))
 }
 
 /// The same, by this clock.
-pub(super) fn serve_by<'a, G: Gate + Sync, K: Clock + Sync, T: Threads + Wait + Sync>(
+pub(super) fn serve_by<G: Gate + Sync, K: Clock + Sync, T: Abort + Threads + Wait + Sync>(
     rt: &T,
     alloc: Global,
-    streams: &[Stream<'a>],
+    streams: &[Stream<'_>],
     hall: Hall,
     gate: &G,
     clock: &K,
-) -> Result<Result<AllServed<'a>, SessionFault>, Fail> {
-    let mut specs = Vec::new(alloc);
-    let mut inputs = Vec::new(alloc);
-    for stream in streams {
-        let tape = Tape::new(stream.input, stream.breaks);
-        let reader = StreamReader::open(alloc, OverRead::new(tape))?;
-        let writer = OverWrite::new(Room::new(alloc, stream.plan.room)?);
-        specs.push(stream_of(alloc, reader.header(), stream.plan)?)?;
-        inputs.push((reader, writer))?;
-    }
-    let setup = Setup::new(hall.workers, 4, specs)?;
-    Ok(serve_session(rt, alloc, setup, inputs, hall.limit, gate, clock))
+) -> Result<AllServed, SessionFault> {
+    let (specs, inputs) = all_opened(rt, alloc, streams);
+    let setup = Setup::new(hall.workers, 4, specs).expect(rt, "no setup");
+    let places = Vec::with_capacity(alloc, streams.len()).expect(rt, "no places");
+    let all = serve_session(rt, alloc, setup, inputs, hall.limit, gate, clock)?;
+    Ok(each_served(rt, places, all))
 }

@@ -10,7 +10,6 @@ mod steps;
 use self::steps::{After, Case, LOUD, Step, follow};
 use super::PLAIN;
 use serve_work::Stop;
-use std::test::Fail;
 use test_tools::streams::{HEADER, THREE, THREE_INVERTED, numbered};
 use y4m_stream::{ReadFault, WriteFault};
 
@@ -149,11 +148,10 @@ const FEEDING: &[Case<'_>] = &[
 ];
 
 #[test]
-fn a_client_pauses_while_it_feeds_and_drains(rt: HostRuntime) -> Result<(), Fail> {
+fn a_client_pauses_while_it_feeds_and_drains(rt: HostRuntime) {
     for case in FEEDING {
-        follow(&rt, rt.alloc(), case)?;
+        follow(&rt, rt.alloc(), case);
     }
-    Ok(())
 }
 
 /// No image is written.
@@ -270,17 +268,16 @@ const HOLDING: &[Case<'_>] = &[
 ];
 
 #[test]
-fn a_client_pauses_while_it_holds_a_fault(rt: HostRuntime) -> Result<(), Fail> {
+fn a_client_pauses_while_it_holds_a_fault(rt: HostRuntime) {
     for case in HOLDING {
-        follow(&rt, rt.alloc(), case)?;
+        follow(&rt, rt.alloc(), case);
     }
-    Ok(())
 }
 
 /// The queue has places for four frames.
 #[test]
-fn a_client_pauses_where_its_queue_is_full(rt: HostRuntime) -> Result<(), Fail> {
-    let (seven, images) = numbered(rt.alloc(), 7)?;
+fn a_client_pauses_where_its_queue_is_full(rt: HostRuntime) {
+    let (seven, images) = numbered(rt.alloc(), 7).expect(&rt, "seven frames");
     let case = Case {
         name: "seven frames",
         input: &seven,
@@ -288,7 +285,7 @@ fn a_client_pauses_where_its_queue_is_full(rt: HostRuntime) -> Result<(), Fail> 
         written: &images,
         ..THREE_FRAMES
     };
-    follow(&rt, rt.alloc(), &case)
+    follow(&rt, rt.alloc(), &case);
 }
 
 const SEVEN_FRAMES: &[Step] = &[
@@ -320,15 +317,15 @@ const SEVEN_FRAMES: &[Step] = &[
 
 /// Frames are offered until four are unfinished, and then the fault is told.
 #[test]
-fn a_held_fault_is_told_where_the_queue_is_full(rt: HostRuntime) -> Result<(), Fail> {
-    let (seven, _) = numbered(rt.alloc(), 7)?;
+fn a_held_fault_is_told_where_the_queue_is_full(rt: HostRuntime) {
+    let (seven, _) = numbered(rt.alloc(), 7).expect(&rt, "seven frames");
     let case = Case {
         name: "seven frames",
         input: &seven,
         steps: FIVE_FRAMES,
         ..NO_IMAGES
     };
-    follow(&rt, rt.alloc(), &case)
+    follow(&rt, rt.alloc(), &case);
 }
 
 const FIVE_FRAMES: &[Step] = &[
@@ -391,9 +388,8 @@ const TORN: &[Case<'_>] = &[
 ];
 
 #[test]
-fn a_torn_image_is_held_as_a_fault(rt: HostRuntime) -> Result<(), Fail> {
+fn a_torn_image_is_held_as_a_fault(rt: HostRuntime) {
     for case in TORN {
-        follow(&rt, rt.alloc(), case)?;
+        follow(&rt, rt.alloc(), case);
     }
-    Ok(())
 }

@@ -1,11 +1,10 @@
 //! What the streams of a session come to, each by itself.
 use super::many::{AllServed, Hall, OneServed, Stream, WIDE, serve_all};
-use super::{PLAIN, Plan};
+use super::{PLAIN, Plan, same_at};
 use serve_work::{Cause, SessionFault, Stop};
-use std::alloc::Global;
+use std::alloc::{AllocError, Global};
 use std::process::Abort;
 use std::sync::Wait;
-use std::test::Fail;
 use std::thread::Threads;
 use test_tools::streams::{CUT, HEADER, ONE_INVERTED, THREE, THREE_INVERTED, TWO, WIDER};
 use y4m_stream::{ReadFault, WriteFault};
@@ -55,21 +54,20 @@ pub(super) const WHOLE_TURNED: Told<'_> = Told {
 };
 
 /// The stream was served so.
-pub(super) fn was_served(rt: &impl Abort, served: OneServed<'_>, told: &Told<'_>, name: &str) {
+pub(super) fn was_served(rt: &impl Abort, served: OneServed, told: &Told<'_>, name: &str) {
     let end = (
         served.stop,
         served.accepted,
         served.delivered,
         served.charged,
     );
-    assert_eq!(rt; end, told.end, "{name}");
-    let written = served.writer.into_inner().taken;
-    assert_eq!(rt; written.as_slice(), told.written, "{name}");
+    same_at(rt, end, told.end, name);
+    same_at(rt, served.written.as_slice(), told.written, name);
 }
 
 /// The streams were served so.
-fn were_served(rt: &impl Abort, all: AllServed<'_>, wanted: &[Told<'_>], name: &str) {
-    assert_eq!(rt; all.len(), wanted.len(), "{name}");
+fn were_served(rt: &impl Abort, all: AllServed, wanted: &[Told<'_>], name: &str) {
+    same_at(rt, all.len(), wanted.len(), name);
     for (served, told) in all.into_iter().zip(wanted) {
         was_served(rt, served, told, name);
     }
@@ -89,10 +87,9 @@ pub(super) fn goes(
     rt: &(impl Abort + Threads + Wait + Sync),
     alloc: Global,
     session: &Session<'_>,
-) -> Result<(), Fail> {
-    let all = serve_all(rt, alloc, session.streams, session.hall)??;
+) {
+    let all = serve_all(rt, alloc, session.streams, session.hall).expect(rt, session.name);
     were_served(rt, all, session.told, session.name);
-    Ok(())
 }
 
 const SESSIONS: &[Session<'_>] = &[
@@ -166,21 +163,25 @@ const SESSIONS: &[Session<'_>] = &[
 ];
 
 #[test]
-fn each_session_comes_to_what_is_told(rt: HostRuntime) -> Result<(), Fail> {
+fn each_session_comes_to_what_is_told(rt: HostRuntime) {
     for session in SESSIONS {
-        goes(&rt, rt.alloc(), session)?;
+        goes(&rt, rt.alloc(), session);
     }
-    Ok(())
+}
+
+/// Two frames, and a line of 1,025 bytes with its line feed.
+fn long_line(alloc: Global) -> Result<Vec<u8>, AllocError> {
+    let mut long = TWO.to_vec(alloc)?;
+    long.extend_from_slice(b"FRAME X")?;
+    long.extend_from_slice(&[b'a'; 1017])?;
+    long.extend_from_slice(b"\nabcd")?;
+    Ok(long)
 }
 
 /// A line that is no frame line is told behind the frames before it, while another stream goes on.
 #[test]
-fn a_line_that_is_no_frame_line_stops_its_own_stream(rt: HostRuntime) -> Result<(), Fail> {
-    let mut long = TWO.to_vec(rt.alloc())?;
-    long.extend_from_slice(b"FRAME X")?;
-    // 1,025 bytes with the line feed
-    long.extend_from_slice(&[b'a'; 1017])?;
-    long.extend_from_slice(b"\nabcd")?;
+fn a_line_that_is_no_frame_line_stops_its_own_stream(rt: HostRuntime) {
+    let long = long_line(rt.alloc()).expect(&rt, "a long line");
     let streams = [
         Stream {
             input: WIDER,
@@ -202,7 +203,7 @@ fn a_line_that_is_no_frame_line_stops_its_own_stream(rt: HostRuntime) -> Result<
         streams: &streams,
         told: NO_FRAME_LINES,
     };
-    goes(&rt, rt.alloc(), &session)
+    goes(&rt, rt.alloc(), &session);
 }
 
 const NO_FRAME_LINES: &[Told<'_>] = &[
@@ -230,15 +231,17 @@ const DEAR: Stream<'_> = Stream {
     ..PLAIN_THREE
 };
 
+const DEAR_STREAMS: &[Stream<'_>] = &[DEAR; 32];
+
 #[test]
-fn thirty_two_streams_and_sixteen_workers(rt: HostRuntime) -> Result<(), Fail> {
+fn thirty_two_streams_and_sixteen_workers(rt: HostRuntime) {
     let hall = Hall {
         workers: 16,
         limit: 10_000,
         moment: 1 << 60,
     };
-    let all = serve_all(&rt, rt.alloc(), &[DEAR; 32], hall)??;
-    assert_eq!(rt; all.len(), 32);
+    let all = serve_all(&rt, rt.alloc(), DEAR_STREAMS, hall).expect(&rt, "the session");
+    same_at(&rt, all.len(), 32, "how many streams");
     for served in all {
         let end = (
             served.stop,
@@ -246,19 +249,17 @@ fn thirty_two_streams_and_sixteen_workers(rt: HostRuntime) -> Result<(), Fail> {
             served.delivered,
             served.charged,
         );
-        assert_eq!(rt; end, (Stop::Whole, 3, 3, 9));
+        same_at(&rt, end, (Stop::Whole, 3, 3, 9), "a stream's end");
     }
-    Ok(())
 }
 
 /// A session whose workers are refused their threads ends too: `bench/threads` refuses them.
 #[test]
-fn a_session_without_threads_wants_memory(rt: HostRuntime) -> Result<(), Fail> {
-    match serve_all(&rt, rt.alloc(), &[PLAIN_THREE], WIDE)? {
+fn a_session_without_threads_wants_memory(rt: HostRuntime) {
+    match serve_all(&rt, rt.alloc(), &[PLAIN_THREE], WIDE) {
         Ok(all) => were_served(&rt, all, &[WHOLE], "with threads"),
-        Err(fault) => assert_eq!(rt; fault, SessionFault::NoMemory),
+        Err(fault) => same_at(&rt, fault, SessionFault::NoMemory, "without threads"),
     }
-    Ok(())
 }
 
 /// How many streams there are, how many entries there may be, and whether that is enough.
@@ -277,7 +278,7 @@ fn limited(
     alloc: Global,
     streams: usize,
     limit: usize,
-) -> Result<Result<(), SessionFault>, Fail> {
+) -> Result<(), SessionFault> {
     let empty = Stream {
         input: HEADER,
         ..PLAIN_THREE
@@ -287,15 +288,11 @@ fn limited(
         limit,
         ..WIDE
     };
-    let streams = vec![in alloc; empty; streams]?;
-    let all = match serve_all(rt, alloc, &streams, hall)? {
-        Ok(all) => all,
-        Err(fault) => return Ok(Err(fault)),
-    };
-    for served in all {
+    let streams = vec![in alloc; empty; streams].expect(rt, "the streams");
+    for served in serve_all(rt, alloc, &streams, hall)? {
         was_served(rt, served, &NO_FRAMES, "a limit");
     }
-    Ok(Ok(()))
+    Ok(())
 }
 
 const NO_FRAMES: Told<'_> = Told {
@@ -304,18 +301,14 @@ const NO_FRAMES: Told<'_> = Told {
 };
 
 #[test]
-fn a_journal_has_limits(rt: HostRuntime) -> Result<(), Fail> {
+fn a_journal_has_limits(rt: HostRuntime) {
     for (streams, limit, is_enough) in LIMITS {
         let wanted = if *is_enough {
             Ok(())
         } else {
             Err(SessionFault::BadLimit)
         };
-        assert_eq!(rt;
-            limited(&rt, rt.alloc(), *streams, *limit)?,
-            wanted,
-            "{limit}"
-        );
+        let came = limited(&rt, rt.alloc(), *streams, *limit);
+        same_at(&rt, came, wanted, *limit);
     }
-    Ok(())
 }

@@ -1,24 +1,27 @@
 //! A stream that goes on from epoch to epoch, by the calls of one thread.
-ghost use Rattle.std.specs.Prelude.{◌≡◌, [], ◌∷◌, IfOk};
+ghost use Rattle.std.specs.Prelude.{◌≡◌, [], ◌∷◌, map};
 ghost use Rattle.y4m_stream.specs.Reader.{IsOfHeader};
 ghost use Rattle.serve_core.specs.Schedule.{opened_schedule};
 ghost use Rattle.serve_core.specs.Setup as rules;
-ghost use Rattle.serve_hub.specs.Seats.{StreamSeatValue, left_by};
+ghost use Rattle.serve_hub.specs.Seats.{left_by, seat_over};
 ghost use Rattle.serve_work.specs.Rests.{IsRest, reader_in};
 
 use super::shy::{Bell, Framed, Shy};
-use crate::tests::{PLAIN, Still, stream_of};
+use crate::tests::lists::{both, one_of, sole, two_of};
+use crate::tests::sessions::{hub_of, setup_over};
+use crate::tests::{PLAIN, Still, same_at, stream_of, writer_of};
 use frame_view::{Frame, Geometry};
 use lease::{Job, Lease, Scratch};
 use serve_core::{Setup, StreamSpec};
-use serve_hub::{Ended, Epoch, Hub, LeaseRefused, Settled, StreamSeat, WorkSeat};
+use serve_hub::{
+    Ended, Epoch, Hub, LeaseRefused, OfferRefused, Refusal, Reopened, Settled, StreamSeat, WorkSeat,
+};
 use serve_work::{ClientRest, ClientTurn, Stop, client};
 use std::alloc::Global;
 use std::marker::{Brand, Model};
 use std::process::Abort;
 use std::sync::ledger::Blank;
 use std::sync::{Arc, Wait};
-use std::test::Fail;
 use test_tools::{Room, frame_of};
 use y4m_header::Header;
 use y4m_stream::reader::Phase;
@@ -112,136 +115,174 @@ impl<R: Source + Drop> Came<R> {
 
     /// It came to this.
     fn is_after(&self, rt: &impl Abort, after: After, name: &str) {
-        assert_eq!(rt; self.after(), after, "{name}");
+        same_at(rt, self.after(), after, name);
+    }
+
+    /// What was written where it ended.
+    fn written(self, rt: &impl Abort) -> Vec<u8> {
+        match self {
+            Came::Paused(_) => panic!(rt; "it didn't end"),
+            Came::Ended(_, _, _, written) => written,
+        }
     }
 }
 
 /// A stream of the same frames, of which many may be unfinished. Any other stream is leased first.
-fn other_of(alloc: Global, header: &Header) -> Result<StreamSpec, Fail> {
-    let stream = stream_of(alloc, header, PLAIN)?;
-    let spec = Arc::try_clone(stream.job())?;
-    Ok(StreamSpec::new(Geometry::of(header), spec, 1, 64, 64, 4, 1 << 24))
+fn other_of(rt: &impl Abort, alloc: Global, header: &Header) -> StreamSpec {
+    let stream = stream_of(rt, alloc, header, PLAIN);
+    let spec = Arc::try_clone(stream.job()).expect(rt, "no spec");
+    StreamSpec::new(Geometry::of(header), spec, 1, 64, 64, 4, 1 << 24)
 }
 
 /// A setup of one worker and two streams, whose frames are of this header.
-fn pair_of(alloc: Global, header: &Header) -> Result<Setup, Fail>
-    ensures { IfOk result (λ setup. (stream : rules.StreamSpec) × (other : rules.StreamSpec)
-        × (setup.streams ≡ stream ∷ other ∷ []) × IsOfHeader header.now stream.chain.geometry) }
+fn pair_of(rt: &impl Abort, alloc: Global, header: &Header) -> Setup
+    ensures { (stream : rules.StreamSpec) × (other : rules.StreamSpec)
+        × (result.streams ≡ stream ∷ other ∷ []) × IsOfHeader header.now stream.chain.geometry }
 {
-    let mut specs = Vec::new(alloc);
-    specs.push(stream_of(alloc, header, PLAIN)?)?;
-    specs.push(other_of(alloc, header)?)?;
-    Ok(Setup::new(1, 4, specs)?)
+    let stream = stream_of(rt, alloc, header, PLAIN);
+    let other = other_of(rt, alloc, header);
+    setup_over(rt, 1, two_of(rt, alloc, stream, other))
 }
 
 /// A frame that isn't in the stream.
-fn strange(alloc: Global, header: &Header) -> Result<Arc<Frame>, Fail> {
-    let frame = frame_of(alloc, Geometry::of(header), b"FRAME", b"mute")?;
-    Ok(Arc::new(alloc, frame)?)
+fn strange(rt: &impl Abort, alloc: Global, header: &Header) -> Arc<Frame> {
+    let frame = frame_of(alloc, Geometry::of(header), b"FRAME", b"mute").expect(rt, "no frame");
+    Arc::new(alloc, frame).expect(rt, "no frame")
 }
 
 /// The header of the streams.
-fn header_of(alloc: Global) -> Result<Header, Fail> {
-    Ok(Header::parse(alloc, b"YUV4MPEG2 W2 H2 Cmono")?)
+fn header_of(rt: &impl Abort, alloc: Global) -> Header {
+    Header::parse(alloc, b"YUV4MPEG2 W2 H2 Cmono").expect(rt, "no header")
 }
 
 /// A lease with this number and grant, over another frame.
-fn forged(alloc: Global, number: u64, grant: u32) -> Result<Lease, Fail> {
-    let header = header_of(alloc)?;
-    let stream = stream_of(alloc, &header, PLAIN)?;
-    let spec = Arc::try_clone(stream.job())?;
-    let scratch = Scratch::new(alloc, &spec)?;
-    let mut job = Job::new(alloc, spec, strange(alloc, &header)?)?;
+fn forged(rt: &impl Abort, alloc: Global, number: u64, grant: u32) -> Lease {
+    let header = header_of(rt, alloc);
+    let stream = stream_of(rt, alloc, &header, PLAIN);
+    let spec = Arc::try_clone(stream.job()).expect(rt, "no spec");
+    let scratch = Scratch::new(alloc, &spec).expect(rt, "no scratch");
+    let mut job = Job::new(alloc, spec, strange(rt, alloc, &header)).expect(rt, "no job");
     job.start(scratch);
-    if !(1..=job.steps()).contains(&grant) {
-        return Err("no grant".into());
-    }
-    Ok(Lease::new(job, 0, number, grant))
+    assert!(rt; (1..=job.steps()).contains(&grant), "a grant of {grant}");
+    Lease::new(job, 0, number, grant)
 }
 
 /// The lease, or a forged one in place of it.
-fn exchanged(alloc: Global, lease: Lease, is_forged: bool) -> Result<Lease, Fail> {
+fn exchanged(rt: &impl Abort, alloc: Global, lease: Lease, is_forged: bool) -> Lease {
     if !is_forged {
-        return Ok(lease);
+        return lease;
     }
     let (number, grant) = (lease.number(), lease.granted());
     let _job = lease.into_job();
-    forged(alloc, number, grant)
+    forged(rt, alloc, number, grant)
 }
 
-/// Finishes the oldest frame of the stream that is leased first.
-fn finish_one<L: Epoch>(
-    rt: &impl Wait,
-    alloc: Global,
-    hub: &Hub<L>,
-    worker: &mut WorkSeat<L>,
-    is_forged: bool,
-) -> Result<(), Fail> {
-    let lease = match hub.try_lease(rt, worker) {
-        Ok(lease) => lease,
-        Err(refusal) => return Err(refusal.into()),
-    };
-    let mut lease = exchanged(alloc, lease, is_forged)?;
-    for _ in 0..lease.granted() {
-        let _ = lease.step();
-    }
-    match hub.settle(rt, worker, lease) {
-        Ok(Settled::Finished(_)) => Ok(()),
-        Ok(_) => Err("it isn't finished".into()),
+/// Whether a settlement finished the frame, or why it was refused.
+fn is_finished(settled: Result<Settled, LeaseRefused>) -> Result<bool, Refusal> {
+    match settled {
+        Ok(Settled::Finished(_)) => Ok(true),
+        Ok(_) => Ok(false),
         Err(LeaseRefused { refusal, lease }) => {
             if let Some(lease) = lease {
                 let _job = lease.into_job();
             }
-            Err(refusal.into())
+            Err(refusal)
         }
+    }
+}
+
+/// Finishes the oldest frame of the stream that is leased first.
+fn finish_one<L: Epoch>(
+    rt: &(impl Abort + Wait),
+    alloc: Global,
+    hub: &Hub<L>,
+    worker: &mut WorkSeat<L>,
+    is_forged: bool,
+) {
+    let lease = hub.try_lease(rt, worker).expect(rt, "no lease");
+    let mut lease = exchanged(rt, alloc, lease, is_forged);
+    for _ in 0..lease.granted() {
+        let _ = lease.step();
+    }
+    let settled = is_finished(hub.settle(rt, worker, lease));
+    same_at(rt, settled, Ok(true), "a settlement");
+}
+
+/// Why a frame was refused, if it was.
+fn refusal_of(offered: Result<u64, OfferRefused>) -> Option<Refusal> {
+    match offered {
+        Ok(_) => None,
+        Err(refused) => Some(refused.refusal),
+    }
+}
+
+/// Offers so many frames to a stream.
+fn offer<L: Epoch>(
+    rt: &(impl Abort + Wait),
+    alloc: Global,
+    hub: &Hub<L>,
+    seat: &mut StreamSeat<L>,
+    count: u64,
+) {
+    let header = header_of(rt, alloc);
+    for n in 0..count {
+        let frame = strange(rt, alloc, &header);
+        same_at(
+            rt,
+            refusal_of(hub.offer(rt, alloc, seat, 0, frame)),
+            None,
+            n,
+        );
     }
 }
 
 /// Finishes frames of the stream, and offers frames to the other one.
 fn prepare<L: Epoch>(
-    rt: &impl Wait,
+    rt: &(impl Abort + Wait),
     alloc: Global,
     hub: &Hub<L>,
     worker: &mut WorkSeat<L>,
     other: &mut StreamSeat<L>,
     step: Step,
-) -> Result<(), Fail> {
+) {
     for n in 0..step.finished {
-        finish_one(rt, alloc, hub, worker, step.is_forged && n == 0)?;
+        finish_one(rt, alloc, hub, worker, step.is_forged && n == 0);
     }
-    let header = header_of(alloc)?;
-    for _ in 0..step.busy {
-        match hub.offer(rt, alloc, other, 0, strange(alloc, &header)?) {
-            Ok(_) => {}
-            Err(refused) => return Err(refused.refusal.into()),
-        }
+    offer(rt, alloc, hub, other, step.busy);
+}
+
+/// The end of a hub with these seats.
+fn finished<L: Epoch>(
+    rt: &impl Abort,
+    hub: Hub<L>,
+    streams: Vec<StreamSeat<L>>,
+    workers: Vec<WorkSeat<L>>,
+) -> Ended
+    ensures { result.streams ≡ map left_by streams.items }
+{
+    match hub.finish(streams, workers) {
+        Ok(ended) => ended,
+        Err(mismatch) => panic!(rt; "{:?}", mismatch.fault),
     }
-    Ok(())
 }
 
 /// The end of an epoch in which the client paused.
 fn end_epoch<L: Epoch>(
+    rt: &impl Abort,
     alloc: Global,
     hub: Hub<L>,
     seat: StreamSeat<L>,
     other: StreamSeat<L>,
     worker: WorkSeat<L>,
-) -> Result<Ended, Fail>
-    ensures { IfOk result (λ ended. ended.streams ≡ left_by seat ∷ left_by other ∷ []) }
+) -> Ended
+    ensures { result.streams ≡ left_by seat ∷ left_by other ∷ [] }
 {
-    let mut seats = Vec::new(alloc);
-    seats.push(seat)?;
-    seats.push(other)?;
-    let mut workers = Vec::new(alloc);
-    workers.push(worker)?;
-    match hub.finish(seats, workers) {
-        Ok(ended) => Ok(ended),
-        Err(mismatch) => Err(mismatch.fault.into()),
-    }
+    let seats = two_of(rt, alloc, seat, other);
+    finished(rt, hub, seats, one_of(rt, alloc, worker))
 }
 
 /// An epoch, in which the client has its turn.
-fn epoch<L: Epoch, R: Source + Drop, T: Wait>(
+fn epoch<L: Epoch, R: Source + Drop, T: Abort + Wait>(
     rt: &T,
     alloc: Global,
     hub: Hub<L>,
@@ -250,37 +291,26 @@ fn epoch<L: Epoch, R: Source + Drop, T: Wait>(
     worker: WorkSeat<L>,
     rest: ClientRest<R, OverWrite<Room>>,
     step: Step,
-) -> Result<Came<R>, Fail>
+) -> Came<R>
     requires header { IsOfHeader (reader_in rest).header seat.chain.geometry }
     requires rest { IsRest seat rest }
 {
     let (mut other, mut worker) = (other, worker);
-    prepare(rt, alloc, &hub, &mut worker, &mut other, step)?;
+    prepare(rt, alloc, &hub, &mut worker, &mut other, step);
     match client(rt, alloc, &hub, seat, rest, &Still(0)) {
         ClientTurn::Ended(end) => {
             let written = end.writer.into_inner().taken;
-            Ok(Came::Ended(end.stop, end.accepted, end.delivered, written))
+            Came::Ended(end.stop, end.accepted, end.delivered, written)
         }
         ClientTurn::Paused(seat, rest) => {
-            let ended = end_epoch(alloc, hub, seat, other, worker)?;
-            Ok(Came::Paused(Paused { ended, rest }))
+            let ended = end_epoch(rt, alloc, hub, seat, other, worker);
+            Came::Paused(Paused { ended, rest })
         }
     }
 }
 
-/// The seats of two streams.
-fn both<L: Epoch>(streams: Vec<StreamSeat<L>>) -> Result<(StreamSeat<L>, StreamSeat<L>), Fail>
-    ensures { (seat other : StreamSeatValue) → streams.items ≡ seat ∷ other ∷ []
-        → IfOk result (λ pair. (pair.0 ≡ seat) × (pair.1 ≡ other)) }
-{
-    let mut streams = streams;
-    let other = streams.pop().ok_or("no seat")?;
-    let seat = streams.pop().ok_or("no seat")?;
-    Ok((seat, other))
-}
-
 /// The first epoch of a stream.
-fn first_epoch<L: Epoch, R: Source + Drop, T: Wait>(
+fn first_epoch<L: Epoch, R: Source + Drop, T: Abort + Wait>(
     rt: &T,
     alloc: Global,
     blank: Blank,
@@ -288,7 +318,7 @@ fn first_epoch<L: Epoch, R: Source + Drop, T: Wait>(
     reader: StreamReader<R>,
     room: usize,
     step: Step,
-) -> Result<Came<R>, Fail>
+) -> Came<R>
     requires name { blank.name ≡ L.name }
     requires parts { blank.parts ≡ L.parts }
     requires enough { blank.parts ≡ 80 }
@@ -297,89 +327,111 @@ fn first_epoch<L: Epoch, R: Source + Drop, T: Wait>(
         × (setup.streams ≡ stream ∷ other ∷ []) × IsOfHeader reader.header stream.chain.geometry }
     requires open { reader.phase ≡ Phase.Open }
 {
-    let (hub, streams, mut workers) = Hub::<L>::new(alloc, blank, setup, 16)?;
-    let (seat, other) = both(streams)?;
-    let worker = workers.pop().ok_or("no worker")?;
-    let writer = OverWrite::new(Room::new(alloc, room)?);
-    let rest = ClientRest::new(reader, writer);
-    epoch(rt, alloc, hub, seat, other, worker, rest, step)
+    let rest = ClientRest::new(reader, writer_of(rt, alloc, room));
+    let (hub, streams, workers) = hub_of::<L>(rt, alloc, blank, setup, 16);
+    let (seat, other) = both(rt, streams);
+    epoch(rt, alloc, hub, seat, other, sole(rt, workers), rest, step)
+}
+
+/// The next epoch of a hub that ended, for at most 16 entries.
+fn reopened<L: Epoch>(rt: &impl Abort, alloc: Global, blank: Blank, ended: Ended) -> Reopened<L>
+    requires name { blank.name ≡ L.name }
+    requires parts { blank.parts ≡ L.parts }
+    requires enough { blank.parts ≡ 80 }
+    requires opening { ended.book.desk ≡ L.opening }
+    ensures { result.streams.items ≡ map (seat_over 16) ended.streams }
+{
+    match Hub::<L>::reopen(alloc, blank, ended, 16) {
+        Ok(next) => next,
+        Err(refused) => panic!(rt; "{:?}", refused.refusal),
+    }
 }
 
 /// The next epoch of a stream.
-fn next_epoch<L: Epoch, R: Source + Drop, T: Wait>(
+fn next_epoch<L: Epoch, R: Source + Drop, T: Abort + Wait>(
     rt: &T,
     alloc: Global,
     blank: Blank,
     paused: Paused<R>,
     step: Step,
-) -> Result<Came<R>, Fail>
+) -> Came<R>
     requires name { blank.name ≡ L.name }
     requires parts { blank.parts ≡ L.parts }
     requires enough { blank.parts ≡ 80 }
     requires opening { paused.0.book.desk ≡ L.opening }
 {
     let Paused { ended, rest } = paused;
-    match Hub::<L>::reopen(alloc, blank, ended, 16) {
-        Err(refused) => Err(refused.refusal.into()),
-        Ok(next) => {
-            let (seat, other) = both(next.streams)?;
-            let mut workers = next.workers;
-            let worker = workers.pop().ok_or("no worker")?;
-            epoch(rt, alloc, next.hub, seat, other, worker, rest, step)
-        }
-    }
+    let next = reopened::<L>(rt, alloc, blank, ended);
+    let (seat, other) = both(rt, next.streams);
+    epoch(
+        rt,
+        alloc,
+        next.hub,
+        seat,
+        other,
+        sole(rt, next.workers),
+        rest,
+        step,
+    )
 }
 
 /// The first epoch of the stream of this source.
-fn begin<R: Source + Drop, T: Wait>(
+fn begin<R: Source + Drop, T: Abort + Wait>(
     rt: &T,
     alloc: Global,
     source: R,
     room: usize,
     step: Step,
-) -> Result<Came<R>, Fail> {
-    let reader = StreamReader::open(alloc, source)?;
-    let setup = pair_of(alloc, reader.header())?;
+) -> Came<R> {
+    let reader = StreamReader::open(alloc, source).expect(rt, "no reader");
+    let setup = pair_of(rt, alloc, reader.header());
     first_epoch::<Brand, _, _>(rt, alloc, Blank::new(80), setup, reader, room, step)
 }
 
+/// The epoch after one in which the client paused.
+fn resume<R: Source + Drop, T: Abort + Wait>(
+    rt: &T,
+    alloc: Global,
+    came: Came<R>,
+    step: Step,
+) -> Came<R> {
+    match came {
+        Came::Paused(paused) => {
+            next_epoch::<Brand, _, _>(rt, alloc, Blank::new(80), paused, step)
+        }
+        Came::Ended(_, _, _, _) => panic!(rt; "it ended early"),
+    }
+}
+
 /// Goes on from epoch to epoch, and compares what each comes to. It tells what was written.
-fn go_on<R: Source + Drop, T: Wait + Abort>(
+fn go_on<R: Source + Drop, T: Abort + Wait>(
     rt: &T,
     alloc: Global,
     first: Came<R>,
     bell: &Bell,
     later: &[Step],
     name: &str,
-) -> Result<Vec<u8>, Fail> {
+) -> Vec<u8> {
     let mut came = first;
     for step in later {
-        let Came::Paused(paused) = came else {
-            return Err("it ended early".into());
-        };
         bell.ring(!step.is_silent);
-        came = next_epoch::<Brand, _, _>(rt, alloc, Blank::new(80), paused, *step)?;
+        came = resume(rt, alloc, came, *step);
         came.is_after(rt, step.after, name);
     }
-    match came {
-        Came::Paused(_) => Err("it didn't end".into()),
-        Came::Ended(_, _, _, written) => Ok(written),
-    }
+    came.written(rt)
 }
 
 /// Serves the stream of a case, epoch by epoch.
-pub(super) fn follow<T: Wait + Abort>(rt: &T, alloc: Global, case: &Case<'_>) -> Result<(), Fail> {
+pub(super) fn follow<T: Abort + Wait>(rt: &T, alloc: Global, case: &Case<'_>) {
     let bell = Bell::new();
     let source = Shy {
         source: Framed::over(case.input),
         bell: &bell,
     };
-    let first = case.steps.first().copied().ok_or("no epoch")?;
-    let later = case.steps.get(1..).ok_or("no epoch")?;
+    let (first, later) = case.steps.split_first().expect(rt, "no epoch");
     bell.ring(!first.is_silent);
-    let came = begin(rt, alloc, source, case.room, first)?;
+    let came = begin(rt, alloc, source, case.room, *first);
     came.is_after(rt, first.after, case.name);
-    let written = go_on(rt, alloc, came, &bell, later, case.name)?;
-    assert_eq!(rt; written.as_slice(), case.written, "{}", case.name);
-    Ok(())
+    let written = go_on(rt, alloc, came, &bell, later, case.name);
+    same_at(rt, written.as_slice(), case.written, case.name);
 }

@@ -2,8 +2,5 @@ use Rattle.std.proofs.Common.{refl}
 use Rattle.serve_work_tests.proofs.tests.sessions.setup_of.Goals as goal
 
 pub returns : goal.returns
-returns c = (
-  c.in_ok-stream_of.field-0,
-  rw (c.in_ok-new.ensures.setup, c.in_ok-push.ensures.items, c.new-specs.ensures.items) refl,
-  c.in_ok-stream_of.ensures,
-)
+returns g c =
+    (c.stream_of-stream.result, rw (c.setup_over.ensures, c.one_of.ensures) refl, c.stream_of-stream.ensures)

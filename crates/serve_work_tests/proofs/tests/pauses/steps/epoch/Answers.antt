@@ -7,7 +7,7 @@ invariant_of-result g c =
     let left = c.in-Paused.ensures.turn at.0 at.1 at.2 in (
       c.in-Paused.seat,
       c.prepare.new.other,
-      c.in_ok-ended-in-Paused.ensures,
+      c.end_epoch-ended.ensures,
       (at.0, at.1, left),
       header_stays at.0 at.1 at.1 c.args.seat c.in-Paused.seat c.args.rest c.in-Paused.rest at.2 left c.requires.header,
     )

@@ -9,10 +9,10 @@ pub epoch-requires : goal.epoch-requires
 epoch-requires g c =
     let two = c.requires.streams in
     let first : StreamSeatValue = seat_over 16 (opened_rest 0 two.0) in
-    let same = (c.in_ok-seat.ensures first (seat_over 16 (opened_rest 1 two.1))
-    (c.in_ok-hub.ensures.streams ∙ ap (opened_streams 16 0) two.2)).0 in
+    let same = (c.both-seat.ensures first (seat_over 16 (opened_rest 1 two.1))
+    (c.hub_of-hub.ensures ∙ ap (opened_streams 16 0) two.2)).0 in
     let fresh : IsNewSeat first = record { calls = refl; accepted = refl; kept = refl; is_open = refl } in
     let header = subst (λ (s : StreamSeatValue). IsOfHeader c.args.reader.header s.chain.geometry) (sym same) two.3 in
     let is_new = subst IsNewSeat (sym same) fresh in
-    let can = can_begin c.in_ok-seat.seat _ c.args.reader _ _ c.new-rest.ensures header is_new c.requires.open in
+    let can = can_begin c.both-seat.result.0 _ c.args.reader _ _ c.new-rest.ensures header is_new c.requires.open in
     record { header = can.header; rest = can.rest_of }

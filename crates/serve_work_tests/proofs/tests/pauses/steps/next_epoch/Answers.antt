@@ -6,7 +6,7 @@ use Rattle.serve_work_tests.proofs.tests.pauses.steps.next_epoch.Goals as goal
 pub epoch-requires : goal.epoch-requires
 epoch-requires g c =
     let at = c.paused.invariant in
-    let seats = c.in-Ok.ensures.streams ∙ ap (map (seat_over 16)) at.2 in
-    let same = c.in_ok-seat-in-Ok.ensures (seat_over 16 (left_by at.0)) (seat_over 16 (left_by at.1)) seats in
-    let can = can_go_on 16 at.0 c.in_ok-seat-in-Ok.seat c.paused.inside.rest same.0 at.3 at.4 in
+    let seats = c.reopened-next.ensures ∙ ap (map (seat_over 16)) at.2 in
+    let same = c.both-seat.ensures (seat_over 16 (left_by at.0)) (seat_over 16 (left_by at.1)) seats in
+    let can = can_go_on 16 at.0 c.both-seat.result.0 c.paused.inside.rest same.0 at.3 at.4 in
     record { header = can.header; rest = can.rest_of }

@@ -2,9 +2,9 @@ use Rattle.std.proofs.Common.{refl}
 use Rattle.serve_work_tests.proofs.tests.pauses.steps.pair_of.Goals as goal
 
 pub returns : goal.returns
-returns c = (
-  c.in_ok-stream_of.field-0,
-  c.in_ok-other_of.field-0,
-  rw (c.in_ok-new.ensures.setup, c.in_ok-push-2.ensures.items, c.in_ok-push.ensures.items, c.new-specs.ensures.items) refl,
-  c.in_ok-stream_of.ensures,
+returns g c = (
+  c.stream_of-stream.result,
+  c.other_of-other.result,
+  rw (c.setup_over.ensures, c.two_of.ensures) refl,
+  c.stream_of-stream.ensures,
 )

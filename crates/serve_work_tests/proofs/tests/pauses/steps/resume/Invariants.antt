@@ -1,4 +1,4 @@
-use Rattle.serve_work_tests.proofs.tests.pauses.steps.go_on.Given as goal
+use Rattle.serve_work_tests.proofs.tests.pauses.steps.resume.Given as goal
 
 abbrev pub ghosts-next_epoch-L-Ledger : goal.ghosts-next_epoch-L-Ledger
 ghosts-next_epoch-L-Ledger g a = record { name = a.blank.name; parts = a.blank.parts }
