@@ -83,6 +83,24 @@ impl Gate for Halves {
     }
 }
 
+/// Two different workers meet before their bands.
+#[derive(Drop)]
+struct Two(Parts);
+
+impl Gate for Two {
+    fn before_band(&self, worker: u32, _stream: u32, _number: u64) {
+        if worker < 2 {
+            self.0.meet(worker);
+        }
+    }
+
+    fn in_halves(&self, _samples: usize) -> bool {
+        false
+    }
+
+    fn in_half(&self, _worker: u32, _half: u32) {}
+}
+
 /// Each stream was served whole, its one frame being written so.
 fn each_gave(rt: &impl Abort, all: AllServed, streams: usize, image: &[u8]) {
     same_at(rt, all.len(), streams, "how many streams");
@@ -112,6 +130,22 @@ fn three_clients_and_three_workers_go_on_at_once(rt: HostRuntime) {
     each_gave(&rt, all.expect(&rt, "the session"), 3, ONE_INVERTED);
     let met = [&workers, &clients].map(|three| three.met.load(Ordering::SeqCst));
     same_at(&rt, met, [3, 3], NOBODY_CAME);
+}
+
+const TWO_OF_ONE: &[Stream<'_>] = &[ONE_FRAME; 2];
+
+/// Each of the two frames is one band: one worker does it while the other does that of the other stream.
+#[test]
+fn two_workers_have_each_a_stream(rt: HostRuntime) {
+    let gate = Two(Parts::new());
+    let all = serve_behind(&rt, rt.alloc(), TWO_OF_ONE, WIDE, &gate);
+    each_gave(&rt, all.expect(&rt, "the session"), 2, ONE_INVERTED);
+    same_at(
+        &rt,
+        (gate.0.met(), gate.0.begun()),
+        (2, (1, 1)),
+        NOBODY_CAME,
+    );
 }
 
 /// A stream of one frame of four rows, which are one band.
