@@ -220,7 +220,12 @@ fn wants_memory_alone(rt: &(impl Abort + Threads + Wait + Sync), alloc: Global, 
         Ok(all) => each_wants_memory_alone(rt, all),
         Err(fault) => {
             let asked = clock.0.load(Ordering::SeqCst);
-            same_at(rt, (fault, asked), (SessionFault::NoMemory, 0), "the session");
+            same_at(
+                rt,
+                (fault, asked),
+                (SessionFault::NoMemory, 0),
+                "the session",
+            );
         }
     }
 }

@@ -1,8 +1,8 @@
 //! A stream that is given up between epochs, behind a write that failed.
-ghost use Rattle.std.specs.Prelude.{IfOk};
 ghost use Rattle.serve_work.specs.Sessions.{IsInput};
 
-use super::{Open, PLAIN, Plan, Still, stream_of};
+use super::lists::two_of;
+use super::{Open, PLAIN, Still, same_at, stream_of, writer_of};
 use serve_core::{Setup, StreamSpec};
 use serve_work::{Served, SessionFault, Stop, serve_session};
 use std::alloc::Global;
@@ -105,59 +105,49 @@ type Writer<'a> = Counted<'a, OverWrite<Room>>;
 type OneServed<'a> = Served<Reader<'a>, Writer<'a>>;
 
 fn opened<'a>(
+    rt: &impl Abort,
     alloc: Global,
     side: Side<'a>,
-) -> Result<(StreamSpec, (StreamReader<Reader<'a>>, Writer<'a>)), Fail>
-    ensures { IfOk result (λ made. IsInput made.0 made.1) }
+) -> (StreamSpec, (StreamReader<Reader<'a>>, Writer<'a>))
+    ensures { IsInput result.0 result.1 }
 {
-    let reader = StreamReader::open(
-        alloc,
-        Silent {
-            source: OverRead::new(Tape::new(side.input, false)),
-            heard: side.heard,
-            least: side.least,
-            asked: AtomicU64::new(0),
-        },
-    )?;
-    let plan = Plan {
-        room: side.room,
-        ..PLAIN
+    let source = Silent {
+        source: OverRead::new(Tape::new(side.input, false)),
+        heard: side.heard,
+        least: side.least,
+        asked: AtomicU64::new(0),
     };
-    let spec = stream_of(alloc, reader.header(), plan)?;
-    let sink = OverWrite::new(Room::new(alloc, side.room)?);
+    let sink = writer_of(rt, alloc, side.room);
+    let reader = StreamReader::open(alloc, source).expect(rt, "no reader");
+    let spec = stream_of(rt, alloc, reader.header(), PLAIN);
     let counts = side.counts;
-    Ok((spec, (reader, Counted { sink, counts })))
+    (spec, (reader, Counted { sink, counts }))
 }
 
 /// Serves two streams by two workers, with room for sixteen entries an epoch.
-fn served_beside<'a, T: Threads + Wait + Sync>(
+fn served_beside<'a, T: Abort + Threads + Wait + Sync>(
     rt: &T,
     alloc: Global,
     first: Side<'a>,
     second: Side<'a>,
-) -> Result<Result<Vec<OneServed<'a>>, SessionFault>, Fail> {
-    let (first, input) = opened(alloc, first)?;
-    let (second, other) = opened(alloc, second)?;
-    let mut specs = Vec::new(alloc);
-    specs.push(first)?;
-    specs.push(second)?;
-    let mut inputs = Vec::new(alloc);
-    inputs.push(input)?;
-    inputs.push(other)?;
-    let setup = Setup::new(2, 4, specs)?;
-    Ok(serve_session(rt, alloc, setup, inputs, 16, &Open, &Still(0)))
+) -> Result<Vec<OneServed<'a>>, SessionFault> {
+    let (first, input) = opened(rt, alloc, first);
+    let (second, other) = opened(rt, alloc, second);
+    let specs = two_of(rt, alloc, first, second);
+    let inputs = two_of(rt, alloc, input, other);
+    let setup = Setup::new(2, 4, specs).expect(rt, "no setup");
+    serve_session(rt, alloc, setup, inputs, 16, &Open, &Still(0))
 }
 
 /// The one frame's image isn't taken behind the header line, and that is told.
-fn tells_its_fault(rt: &impl Abort, served: OneServed<'_>) -> Result<(), Fail> {
-    if served.stop != Stop::Write(WriteFault::Device(22)) {
-        return Err("the fault that was held isn't told".into());
-    }
+fn tells_its_fault(rt: &impl Abort, served: OneServed<'_>) {
+    let stop = served.stop;
+    let is_told = stop == Stop::Write(WriteFault::Device(22));
+    same_at(rt, (stop, is_told), (stop, true), "the fault that was held");
     let counts = (served.accepted, served.delivered, served.charged);
-    assert_eq!(rt; counts, (1, 0, 1));
+    same_at(rt, counts, (1, 0, 1), "what was done");
     let written = served.writer.sink.into_inner().taken;
-    assert_eq!(rt; written.as_slice(), HEADER);
-    Ok(())
+    same_at(rt, written.as_slice(), HEADER, "what was written");
 }
 
 /// A stream of one frame whose sink takes the header line alone, and whose end comes once another one's
@@ -184,10 +174,11 @@ fn a_held_fault_is_told_where_no_epoch_comes(rt: HostRuntime) -> Result<(), Fail
         room: 22,
         counts: &counts,
     };
-    let mut all = served_beside(&rt, alloc, talker, narrow)??;
+    let mut all = served_beside(&rt, alloc, talker, narrow)?;
     let served = all.pop().ok_or("no stream")?;
     if counts.failed.load(Ordering::SeqCst) == 0 {
         return Err("NoMemory before the image was written".into());
     }
-    tells_its_fault(&rt, served)
+    tells_its_fault(&rt, served);
+    Ok(())
 }
