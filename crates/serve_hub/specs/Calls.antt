@@ -1,10 +1,12 @@
 -- How the calls of a hub leave the seats, and which refusals a seat can be told.
-use Rattle.std.specs.Prelude.{ℕ, ◌+◌, ◌≡◌, ◌≢◌, ◌≤◌, ◌<◌, ◌↔◌, ◌⊎◌, ⊤, true, IsTrue, [], ◌∷◌}
+use Rattle.std.specs.Prelude.{ℕ, ◌+◌, ◌≡◌, ◌≢◌, ◌≤◌, ◌<◌, ◌↔◌, ◌⊎◌, ⊤, true, IsTrue, List, [], ◌∷◌}
 use Rattle.std.specs.Prelude.{◌++◌, drop, length, slice_get, Option, Some, MatchOption}
 use Rattle.std.specs.Arc.{arc_value}
 use Rattle.cbs_account.specs.declared.limits.TheConstants.{LAST_MOMENT}
 use Rattle.frame_view.specs.declared.frame.Frame.{Frame}
 use Rattle.frame_view.specs.declared.geometry.Geometry.{Geometry}
+use Rattle.filters.specs.declared.op.Op.{Op}
+use Rattle.filters.specs.Chain.{ChainValue}
 use Rattle.filters.specs.ChainImage.{FrameValue, IsChainImage, value_of}
 use Rattle.filters.specs.Steps.{steps_of}
 use Rattle.lease.specs.Lease.{LeaseValue}
@@ -16,6 +18,9 @@ use Rattle.serve_core.specs.Streams.{IsImageOf, source_in}
 use Rattle.serve_hub.specs.declared.entry.Act.TheVariants as acts
 use Rattle.serve_hub.specs.declared.entry.Settled as code
 use Rattle.serve_hub.specs.declared.entry.Settled.TheVariants as settled
+use Rattle.serve_hub.specs.declared.chain_part.ChainPart.{ChainPart}
+use Rattle.serve_hub.specs.declared.chain_part.ChainPart.TheVariants as parts
+use Rattle.serve_hub.specs.declared.refusal.Came.{Came}
 use Rattle.serve_hub.specs.declared.refusal.Came.TheVariants as came
 use Rattle.serve_hub.specs.declared.refusal.Refusal.{Refusal}
 use Rattle.serve_hub.specs.declared.refusal.Refusal.TheVariants.{Core, HistoryFull, StrayLease, Torn}
@@ -26,17 +31,40 @@ use Rattle.serve_hub.specs.declared.refused.OfferRefused.{OfferRefused}
 use Rattle.serve_hub.specs.declared.refused.OverRefused.{OverRefused}
 use Rattle.serve_hub.specs.Answers.{is_finished}
 use Rattle.serve_hub.specs.Journal.{tick_of}
-use Rattle.serve_hub.specs.Seats.{StreamSeatValue, WorkSeatValue, moments_with, no_calls, opened_rest}
+use Rattle.serve_hub.specs.Seats.{HasPlace, StreamSeatValue, WorkSeatValue, moments_with, no_calls}
+use Rattle.serve_hub.specs.Seats.{opened_rest}
 use Rattle.serve_hub.specs.Seats.{seat_over, with_call}
 
+-- a part of a chain that isn't one of these operations, or not that of this chain
+abbrev pub IsOtherOp : List Op → ChainPart → Type 0
+IsOtherOp ops (parts.Count n) = n ≢ length ops
+IsOtherOp ops (parts.Op k op) = slice_get ops k ≢ Some op
+IsOtherOp ops part = ⊥
+
+abbrev pub IsOtherPart : ChainValue → ChainPart → Type 0
+IsOtherPart chain (parts.Geometry geometry) = geometry ≢ chain.geometry
+IsOtherPart chain (parts.BandHeight height) = height ≢ chain.band_height
+IsOtherPart chain part = IsOtherOp chain.ops part
+
+-- what contradicts a seat that allows these refusals, at each of its calls
+abbrev pub Contradicts : StreamSeatValue → (core.Refusal → Type 0) → Came → Type 0
+Contradicts seat Allows (came.Refused e) = Allows e → ⊥
+Contradicts seat Allows (came.Limit limit) = limit ≢ seat.calls.limit
+Contradicts seat Allows (came.Chain part) = IsOtherPart seat.chain part
+Contradicts seat Allows c = ⊥
+
 -- a refusal as a seat is told it: one that the seat allows, or what contradicts the seat
-abbrev pub IsTold : (core.Refusal → Type 0) → Refusal → Type 0
-IsTold Allows (Core e) = Allows e
-IsTold Allows HistoryFull = ⊤
-IsTold Allows StrayLease = ⊥
-IsTold Allows (Torn (came.Refused e)) = Allows e → ⊥
-IsTold Allows (Torn came.Other) = ⊤
-IsTold Allows (Torn c) = ⊥
+abbrev pub IsTold : StreamSeatValue → (core.Refusal → Type 0) → Refusal → Type 0
+IsTold seat Allows (Core e) = Allows e
+IsTold seat Allows HistoryFull = ⊤
+IsTold seat Allows StrayLease = ⊥
+IsTold seat Allows (Torn c) = Contradicts seat Allows c
+
+-- a refusal of a book to a stream
+abbrev pub IsOfBook : Refusal → Type 0
+IsOfBook (Core e) = ⊤
+IsOfBook HistoryFull = ⊤
+IsOfBook e = ⊥
 
 -- which refusals a seat allows: of a frame of this geometry that is offered at a moment
 abbrev pub AllowsOffer : StreamSeatValue → (at : ℕ) → Geometry → core.Refusal → Type 0
@@ -48,6 +76,11 @@ AllowsOffer seat at geometry cores.Full = seat.queue ≤ length seat.kept
 AllowsOffer seat at geometry cores.NoMemory = geometry ≡ seat.chain.geometry
 AllowsOffer seat at geometry e = ⊥
 
+-- why a frame is refused; it is also where the book would accept it and the seat has no place for it
+abbrev pub IsOfferTold : StreamSeatValue → (at : ℕ) → Geometry → Refusal → Type 0
+IsOfferTold seat at geometry (Torn came.NoPlace) = HasPlace seat → ⊥
+IsOfferTold seat at geometry e = IsTold seat (AllowsOffer seat at geometry) e
+
 -- of a close
 abbrev pub AllowsClose : StreamSeatValue → core.Refusal → Type 0
 AllowsClose seat cores.AlreadyClosed = IsTrue seat.is_closed
@@ -58,6 +91,12 @@ abbrev pub AllowsCollect : StreamSeatValue → core.Refusal → Type 0
 AllowsCollect seat cores.Empty = ⊤
 AllowsCollect seat cores.Drained = IsTrue seat.is_closed × (seat.kept ≡ [])
 AllowsCollect seat e = ⊥
+
+abbrev pub IsCloseTold : StreamSeatValue → Refusal → Type 0
+IsCloseTold seat e = IsTold seat (AllowsClose seat) e
+
+abbrev pub IsCollectTold : StreamSeatValue → Refusal → Type 0
+IsCollectTold seat e = IsTold seat (AllowsCollect seat) e
 
 -- a spec that a stream may have
 abbrev pub IsSpec : StreamSpec → Type 0
@@ -115,7 +154,7 @@ AcceptsOther frame e old new = ⊥
 
 -- a refused frame comes back, and the seat stays as it was
 pub record ReturnsFrame (at : ℕ) (frame : Frame) (e : Refusal) (old new : StreamSeatValue) : Type 0 where
-  pub told : IsTold (AllowsOffer old at frame.geometry) e
+  pub told : IsOfferTold old at frame.geometry e
   pub seat : new ≡ old
 
 -- why an offer is refused. The frame doesn't come back where it was accepted after all
@@ -173,7 +212,7 @@ pub record GivesOther (pair : Collected) (e : CollectRefused) (old new : StreamS
 -- why a collection gives no image of the seat's oldest frame
 abbrev pub IsCollectRefused : CollectRefused → (old new : StreamSeatValue) → Type 0
 IsCollectRefused e old new =
-    MatchOption e.pair (IsTold (AllowsCollect old) e.refusal × (new ≡ after_refusal e.refusal old)) (λ pair.
+    MatchOption e.pair (IsCollectTold old e.refusal × (new ≡ after_refusal e.refusal old)) (λ pair.
     GivesOther pair e old new)
 
 -- the worker got this lease
@@ -182,14 +221,14 @@ Leases lease old new =
     new ≡ record old { calls = with_call (acts.Leased lease.stream lease.number lease.granted) old.calls }
 
 -- why a worker gets no lease at once, and why it gets none in the end
-abbrev pub IsLeaseRefusal : Refusal → Type 0
-IsLeaseRefusal (Core e) = (e ≡ cores.NoWorker) ⊎ (e ≡ cores.Busy) ⊎ (e ≡ cores.NoneReady)
-IsLeaseRefusal HistoryFull = ⊤
-IsLeaseRefusal (Torn came.Other) = ⊤
-IsLeaseRefusal e = ⊥
+abbrev pub IsLeaseRefusal : WorkSeatValue → Refusal → Type 0
+IsLeaseRefusal seat (Core e) = (e ≡ cores.NoWorker) ⊎ (e ≡ cores.Busy) ⊎ (e ≡ cores.NoneReady)
+IsLeaseRefusal seat HistoryFull = ⊤
+IsLeaseRefusal seat (Torn (came.Limit limit)) = limit ≢ seat.calls.limit
+IsLeaseRefusal seat e = ⊥
 
-abbrev pub IsEndOfLeases : Refusal → Type 0
-IsEndOfLeases e = (e ≡ Core cores.Drained) ⊎ IsLeaseRefusal e
+abbrev pub IsEndOfLeases : WorkSeatValue → Refusal → Type 0
+IsEndOfLeases seat e = (e ≡ Core cores.Drained) ⊎ IsLeaseRefusal seat e
 
 -- the worker gave this lease back, with this outcome
 abbrev pub Settles : LeaseValue → code.Settled → (old new : WorkSeatValue) → Type 0

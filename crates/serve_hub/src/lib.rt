@@ -7,6 +7,7 @@
 mod agree;
 pub mod book;
 mod calls;
+pub mod chain_part;
 pub mod ended;
 pub mod entry;
 pub mod epoch;
@@ -25,6 +26,7 @@ pub mod unlocked;
 pub mod work_seat;
 
 pub use book::Book;
+pub use chain_part::ChainPart;
 pub use ended::{Ended, Fault, Mismatch, Retired};
 pub use entry::{Act, Entry, Seat, Settled};
 pub use epoch::Epoch;

@@ -2,6 +2,7 @@
 ghost use Rattle.std.specs.Prelude.{◌≡◌};
 ghost use Rattle.serve_hub.specs.Answers as answers;
 
+use crate::chain_part::ChainPart;
 use thiserror::Error;
 
 /// What a book answered that contradicts a seat.
@@ -13,8 +14,14 @@ pub enum Came {
     Refused(serve_core::Refusal),
     /// The image was of another frame than the oldest that the seat keeps.
     Source,
-    /// The stream has another chain than the seat, or the journal another limit, or the book other streams
-    /// than those that have a seat, or more frames would be accepted than the seat has places for.
+    /// The journal has this limit, which isn't the seat's.
+    Limit(usize),
+    /// The stream's chain has this part, which the seat's doesn't have.
+    Chain(ChainPart),
+    /// The book would accept a frame for which the seat has no place.
+    NoPlace,
+    /// An admission found other streams in the book than those that have a seat, or another limit than it was
+    /// made for.
     Other,
 }
 

@@ -1,7 +1,10 @@
 //! The seat of a stream.
-ghost use Rattle.std.specs.Prelude.{◌≡◌, ◌+◌, ◌≤◌, length, slice_get, IsSomeAnd, IsTrue};
+ghost use Rattle.std.specs.Prelude.{ℕ, ◌≡◌, ◌+◌, ◌≤◌, length, slice_get, IfNone, IfSome, IsSomeAnd, IsTrue};
 ghost use Rattle.y4m_header.specs.declared.limits.TheConstants.{MOST_FRAMES};
+ghost use Rattle.frame_view.specs.declared.geometry.Geometry.{Geometry};
 ghost use Rattle.serve_core.specs.Schedule.{HasStream};
+ghost use Rattle.serve_hub.specs.declared.refusal.Refusal.TheVariants.{Torn};
+ghost use Rattle.serve_hub.specs.Calls.{IsCloseTold, IsCollectTold, IsOfferTold};
 ghost use Rattle.serve_hub.specs.Ends.{IsStreamOf};
 ghost use Rattle.serve_hub.specs.Seats.{collected_by, left_by, no_calls, seat_over, with_call};
 
@@ -10,9 +13,11 @@ mod offers;
 
 use crate::book::Book;
 use crate::calls::Calls;
+use crate::chain_part::other_part;
 use crate::entry::Act;
 use crate::epoch::Epoch;
 use crate::moments::Moments;
+use crate::refusal::Came;
 use crate::rest::SeatRest;
 use crate::shared::Shared;
 use frame_view::Frame;
@@ -236,15 +241,26 @@ impl<L: Epoch> StreamSeat<L> {
             && is_same_spec(spec, &self.spec)
     }
 
-    /// Whether the book has its stream, with its chain, and a journal of its limit.
-    fn is_of(&self, shared: &Shared<L>) -> bool
-        ensures limit { IsTrue result → self.now.calls.limit ≡ shared.now.book.limit }
-        ensures chain { IsTrue result → HasStream shared.now.book.desk self.now.number (λ stream.
-            stream.state.spec.chain ≡ self.now.chain) }
+    /// What contradicts the seat whatever it calls, if anything does: the book has no such stream, or another
+    /// chain for it, or a journal of another limit.
+    fn contradiction(&self, shared: &Shared<L>) -> Option<Came>
+        ensures limit { IfNone result (self.now.calls.limit ≡ shared.now.book.limit) }
+        ensures chain { IfNone result (HasStream shared.now.book.desk self.now.number (λ stream.
+            stream.state.spec.chain ≡ self.now.chain)) }
+        ensures offer { (at : ℕ) (geometry : Geometry)
+            → IfSome result (λ came. IsOfferTold self.now at geometry (Torn came)) }
+        ensures close { IfSome result (λ came. IsCloseTold self.now (Torn came)) }
+        ensures collect { IfSome result (λ came. IsCollectTold self.now (Torn came)) }
     {
-        match shared.book.spec(self.number) {
-            None => false,
-            Some(spec) => self.calls.limit == shared.limit && is_same_spec(spec, &self.spec),
+        let Some(spec) = shared.book.spec(self.number) else {
+            return Some(Came::Refused(serve_core::Refusal::NoStream));
+        };
+        if self.calls.limit != shared.limit {
+            return Some(Came::Limit(shared.limit));
+        }
+        match other_part(spec, &self.spec) {
+            Some(part) => Some(Came::Chain(part)),
+            None => None,
         }
     }
 }

@@ -74,10 +74,10 @@ impl<L: Epoch> WorkSeat<L> {
         ensures given { IfOk result (λ lease. Leases lease self.old self.new) }
         ensures unused { IfOk result (λ lease. lease.used ≡ 0) }
         ensures refused { OnErr result (self.new ≡ self.old) }
-        ensures refusals { IfErr result IsLeaseRefusal }
+        ensures refusals { IfErr result (IsLeaseRefusal self.old) }
     {
         if self.calls.limit != shared.limit {
-            return Err(Refusal::Torn(Came::Other));
+            return Err(Refusal::Torn(Came::Limit(shared.limit)));
         }
         let Shared { book, total, .. } = shared;
         let lease = book.lease(self.number)?;
@@ -100,7 +100,7 @@ impl<L: Epoch> WorkSeat<L> {
     {
         if self.calls.limit != shared.limit {
             return Err(LeaseRefused {
-                refusal: Refusal::Torn(Came::Other),
+                refusal: Refusal::Torn(Came::Limit(shared.limit)),
                 lease: Some(lease),
             });
         }

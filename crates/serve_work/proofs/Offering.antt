@@ -13,7 +13,7 @@ use Rattle.serve_core.specs.declared.refusal.Refusal as core
 use Rattle.serve_core.specs.declared.refusal.Refusal.TheVariants as cores
 use Rattle.serve_hub.specs.declared.refusal.Refusal.{Refusal}
 use Rattle.serve_hub.specs.declared.refusal.Refusal.TheVariants as hub
-use Rattle.serve_hub.specs.Calls.{Accepts, AllowsOffer, IsTold}
+use Rattle.serve_hub.specs.Calls.{Accepts, AllowsOffer, IsOfferTold}
 use Rattle.serve_hub.specs.Seats.{StreamSeatValue}
 use Rattle.serve_work.specs.declared.stop.Cause.TheVariants.{TooManyFrames}
 use Rattle.serve_work.specs.declared.feeding.Fed.{Fed}
@@ -71,7 +71,7 @@ offer_core cores.BadLimits frame at seat p not = absurd p
 offer_core cores.BadBandwidth frame at seat p not = absurd p
 offer_core cores.Overload frame at seat p not = absurd p
 
-pub offer_refused : (e : Refusal) (frame : Frame) (at : ℕ) (seat : StreamSeatValue) → IsTold (AllowsOffer seat at frame.geometry) e
+pub offer_refused : (e : Refusal) (frame : Frame) (at : ℕ) (seat : StreamSeatValue) → IsOfferTold seat at frame.geometry e
     → e ≢ hub.Core cores.Full → e ≢ hub.HistoryFull → IsOffered (offered.Stopped (stop_of e)) at frame seat seat
 offer_refused (hub.Core e) frame at seat p not other = offer_core e frame at seat p (λ is. not (ap hub.Core is))
 offer_refused hub.HistoryFull frame at seat p not other = absurd (other refl)

@@ -11,7 +11,7 @@ use Rattle.serve_hub.specs.declared.refusal.Refusal.{Refusal}
 use Rattle.serve_hub.specs.declared.refusal.Came.TheVariants as came
 use Rattle.serve_hub.specs.declared.refusal.Refusal.TheVariants as hub
 use Rattle.serve_hub.specs.declared.refused.CollectRefused.{CollectRefused}
-use Rattle.serve_hub.specs.Calls.{AllowsCollect, Collects, Gives, GivesOther, IsCollectRefused, IsTold, after_refusal}
+use Rattle.serve_hub.specs.Calls.{AllowsCollect, Collects, Gives, GivesOther, IsCollectRefused, IsCollectTold, after_refusal}
 use Rattle.serve_hub.specs.Seats.{CallsValue, StreamSeatValue}
 use Rattle.serve_work.specs.declared.stop.Halt.{Halt}
 use Rattle.serve_work.specs.declared.stop.Halt.TheVariants.{Full, Stopped}
@@ -63,7 +63,7 @@ refused_core cores.Drained old new writer p same = record {
   own = tt;
 }
 
-refused_as : (e : Refusal) (old new : StreamSeatValue) (writer : WriterState) → IsTold (AllowsCollect old) e
+refused_as : (e : Refusal) (old new : StreamSeatValue) (writer : WriterState) → IsCollectTold old e
     → new ≡ after_refusal e old → IsRefusedAs (halt_of e) old new writer
 refused_as (hub.Core e) old new writer p same = refused_core e old new writer p same
 refused_as hub.HistoryFull old new writer p same = record {
@@ -75,7 +75,7 @@ refused_as hub.StrayLease old new writer p same = absurd p
 refused_as (hub.Torn c) old new writer p same = nothing_torn old new writer
 
 refused_pair : (o : Option Collected) (e : CollectRefused) (old new : StreamSeatValue) (writer : WriterState)
-    → MatchOption o (IsTold (AllowsCollect old) e.refusal × (new ≡ after_refusal e.refusal old)) (λ pair. GivesOther pair e old new)
+    → MatchOption o (IsCollectTold old e.refusal × (new ≡ after_refusal e.refusal old)) (λ pair. GivesOther pair e old new)
     → IsRefusedAs (halt_of e.refusal) old new writer
 refused_pair None e old new writer m = refused_as e.refusal old new writer m.0 m.1
 refused_pair (Some pair) e old new writer m = rw m.other.2 (nothing_torn old new writer)
@@ -104,7 +104,7 @@ collected_pair : (pair : Collected) (old new : StreamSeatValue) → Collects pai
 collected_pair pair old new c = record { up = Collects-up pair old new c; tally = TalliesSeat-collect pair old new c }
 
 collected_none : (o : Option Collected) (e : CollectRefused) (old new : StreamSeatValue)
-    → MatchOption o (IsTold (AllowsCollect old) e.refusal × (new ≡ after_refusal e.refusal old)) (λ pair. GivesOther pair e old new)
+    → MatchOption o (IsCollectTold old e.refusal × (new ≡ after_refusal e.refusal old)) (λ pair. GivesOther pair e old new)
     → IsCollected old new
 collected_none None e old new m =
     let same = kept_alone e.refusal old new m.1 in
@@ -149,7 +149,7 @@ of_delivery (Stopped stop) old new writer r is_open =
 
 -- no image is there, and the seat stays as it was
 none_of : (o : Option Collected) (e : CollectRefused) (old new : StreamSeatValue) → e.refusal ≡ hub.Core cores.Empty
-    → MatchOption o (IsTold (AllowsCollect old) e.refusal × (new ≡ after_refusal e.refusal old)) (λ pair. GivesOther pair e old new)
+    → MatchOption o (IsCollectTold old e.refusal × (new ≡ after_refusal e.refusal old)) (λ pair. GivesOther pair e old new)
     → new ≡ old
 none_of None e old new is m = m.1 ∙ ap (λ (r : Refusal). after_refusal r old) is
 none_of (Some pair) e old new is m =

@@ -11,7 +11,7 @@ use Rattle.y4m_header.specs.declared.limits.TheConstants.{MOST_FRAMES}
 use Rattle.serve_hub.specs.declared.entry.Act.{Act}
 use Rattle.serve_hub.specs.declared.entry.Act.TheVariants as acts
 use Rattle.serve_hub.specs.declared.refusal.Refusal.{Refusal}
-use Rattle.serve_hub.specs.Calls.{AllowsClose, Closes, IsTold}
+use Rattle.serve_hub.specs.Calls.{Closes, IsCloseTold}
 use Rattle.serve_hub.specs.Seats.{StreamSeatValue}
 use Rattle.serve_work.specs.declared.stop.Cause.TheVariants.{TooManyFrames, ClockEnd, NoMemory}
 use Rattle.serve_work.specs.declared.stop.Halt.TheVariants.{Stopped}
@@ -91,12 +91,12 @@ abbrev pub MayClose : StreamSeatValue → StreamSeatValue → Type 0
 MayClose old new = new ≡ record old { calls = new.calls; is_closed = new.is_closed }
 
 pub may_close : {T : Type 0} (old new : StreamSeatValue) (result : Result T Refusal) → OnOk result (Closes old new)
-    → IfErr result (λ e. IsTold (AllowsClose old) e × (new ≡ old)) → MayClose old new
+    → IfErr result (λ e. IsCloseTold old e × (new ≡ old)) → MayClose old new
 may_close old new (Ok t) closed refused = rw closed refl
 may_close old new (Err e) closed refused = rw refused.1 refl
 
 pub close_tally : {T : Type 0} (old new : StreamSeatValue) (result : Result T Refusal) → OnOk result (Closes old new)
-    → IfErr result (λ e. IsTold (AllowsClose old) e × (new ≡ old)) → TalliesSeat old new
+    → IfErr result (λ e. IsCloseTold old e × (new ≡ old)) → TalliesSeat old new
 close_tally old new (Ok t) closed refused = rw closed (record {
   number = refl;
   chain = refl;
@@ -110,7 +110,7 @@ close_tally old new (Ok t) closed refused = rw closed (record {
 close_tally old new (Err e) closed refused = rw refused.1 (TalliesSeat-same old old refl refl refl refl refl refl)
 
 pub close_moments : {T : Type 0} (Gives : ℕ → Type 0) (old new : StreamSeatValue) (result : Result T Refusal)
-    → OnOk result (Closes old new) → IfErr result (λ e. IsTold (AllowsClose old) e × (new ≡ old)) → KeepsMoments Gives old new
+    → OnOk result (Closes old new) → IfErr result (λ e. IsCloseTold old e × (new ≡ old)) → KeepsMoments Gives old new
 close_moments Gives old new result closed refused = none_accepted Gives old new (close_tally old new result closed refused)
     (ap (λ (s : StreamSeatValue). s.accepted) (may_close old new result closed refused))
 

@@ -62,6 +62,9 @@ settled_other : (lease : LeaseValue) (e : Refusal) (old new : WorkSeatValue) →
 settled_other lease (Torn (came.Number n)) old new p = p.2
 settled_other lease (Torn (came.Refused e)) old new p = absurd p
 settled_other lease (Torn came.Source) old new p = absurd p
+settled_other lease (Torn (came.Limit limit)) old new p = absurd p
+settled_other lease (Torn (came.Chain part)) old new p = absurd p
+settled_other lease (Torn came.NoPlace) old new p = absurd p
 settled_other lease (Torn came.Other) old new p = absurd p
 settled_other lease (Core e) old new p = absurd p
 settled_other lease HistoryFull old new p = absurd p

@@ -122,8 +122,8 @@ ClientStopsAt (Refused cause) at = HasNext at.len at.rest at.left
 ClientStopsAt (Write fault) at = HasMoreOrEnds at
 ClientStopsAt Torn at = HasMoreOrEnds at ⊎ HasOtherNumber at.calls × IsReadAhead at.rest at.left
 
--- where a stream stands that is given up while it reads, or while images are left to write, or while a fault is
--- held: no frame behind those that were accepted need have been read
+-- where a stream stands that is given up while it reads, or while images are left to write, or while a fault
+-- is held: no frame behind those that were accepted need have been read
 abbrev pub GivesUpAt : Stop → ClientProgress → Type 0
 GivesUpAt (Refused NoMemory) at = HasEnded at ⊎ IsReadAhead at.rest at.left
 GivesUpAt (Write fault) at = IsReadAhead at.rest at.left
@@ -197,9 +197,9 @@ pub record IsWhole (start : ClientStart) (end : ClientOutcome) : Type 0 where
   pub no_failure : end.failures ≡ start.failures
   pub flushed : end.is_flushed ≡ true
 
--- what becomes of a stream: the frames that were taken off the front of its reader and accepted, why there are
--- no more, and what went out. Where nothing was written, or not all of the header line, no frame was read. The
--- seat is that of the last epoch, and its stream's seats made these calls in the epochs before
+-- what becomes of a stream: the frames that were taken off the front of its reader and accepted, why there
+-- are no more, and what went out. Where nothing was written, or not all of the header line, no frame was read.
+-- The seat is that of the last epoch, and its stream's seats made these calls in the epochs before
 pub record Ends (StopsAt : Stop → ClientProgress → Type 0) (start : ClientStart) (past : List Act)
     (seat : StreamSeatValue) (end : ClientOutcome) : Type 0 where
   pub frames : List FrameText

@@ -25,8 +25,8 @@ pub record ServesAll (input : Option (List ℕ)) (text : List ℕ) (frames : Lis
   pub is_served : IsServedText start.seat.chain start.reader.header.line frames served
   pub wrote : Appends start.before end.after served
 
--- a stream text of the frames that were accepted stands at the front of the input, and behind it why there are
--- no more; what went out is what they are served as, or a front of it
+-- a stream text of the frames that were accepted stands at the front of the input, and behind it why there
+-- are no more; what went out is what they are served as, or a front of it
 pub record ServesInput (StopsAt : Stop → ClientProgress → Type 0) (input : Option (List ℕ))
     (start : ClientStart) (past : List Act) (seat : StreamSeatValue) (end : ClientOutcome) : Type 0 where
   pub text : List ℕ
@@ -69,7 +69,7 @@ IsOfGivingUp Torn = ⊤
 IsOfGivingUp stop = ⊥
 
 -- where a fault lies in the bytes behind the frames that were accepted, a client tells it, unless it read
--- nothing, or an offer was answered with another number; and so is it told of a stream, unless that was given up
+-- nothing, or an offer was answered with another number; so it is told of a stream, unless that was given up
 abbrev pub InputFaultIsTold : Type 0
 InputFaultIsTold =
     (start : ClientStart) (past : List Act) (seat : StreamSeatValue) (end : ClientOutcome) (fault : ReadFault)

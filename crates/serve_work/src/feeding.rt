@@ -3,7 +3,7 @@ ghost use Rattle.std.specs.Prelude.{◌≡◌, ℕ, List, None, Ok, IfErr, IfOk,
 ghost use Rattle.std.specs.Arc.{arc_value};
 ghost use Rattle.serve_core.specs.Streams.{IsImageOf};
 ghost use Rattle.serve_hub.specs.declared.entry.Act.{Act};
-ghost use Rattle.serve_hub.specs.Calls.{AllowsOffer, IsTold};
+ghost use Rattle.serve_hub.specs.Calls.{IsOfferTold};
 ghost use Rattle.serve_hub.specs.Seats.{StreamSeatValue};
 ghost use Rattle.y4m_stream.specs.Reader.{IsOfHeader, MeetsEnd, ReaderState, TakesFrame, frame_text_of};
 ghost use Rattle.y4m_stream.specs.Writer.{IsWriterFor};
@@ -173,7 +173,7 @@ pub(crate) fn offer_once<L: Epoch, T: Wait>(
 /// What a frame comes to that was refused and came back, with the memory of an image if one was at hand.
 fn refused(refusal: Refusal, frame: Arc<Frame>, image: Option<Frame>) -> Offered
     ensures { (at : ℕ) (seat : StreamSeatValue)
-        → IsTold (AllowsOffer seat at (arc_value frame).geometry) refusal
+        → IsOfferTold seat at (arc_value frame).geometry refusal
         → IfSome image (IsImageOf seat.chain) → IsOffered result at (arc_value frame) seat seat }
 {
     match refusal {

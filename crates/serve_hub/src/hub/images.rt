@@ -2,7 +2,7 @@
 ghost use Rattle.std.specs.Prelude.{◌≡◌, ◌≢◌, IfErr, IfOk, IsFalse, OnOk};
 ghost use Rattle.serve_core.specs.declared.refusal.Refusal.TheVariants.{Empty};
 ghost use Rattle.serve_hub.specs.declared.refusal.Refusal.TheVariants.{Core, HistoryFull};
-ghost use Rattle.serve_hub.specs.Calls.{AllowsClose, Closes, Gives, IsCollectRefused, IsTold};
+ghost use Rattle.serve_hub.specs.Calls.{Closes, Gives, IsCloseTold, IsCollectRefused};
 
 use super::Hub;
 use crate::epoch::Epoch;
@@ -16,7 +16,7 @@ impl<L: Epoch> Hub<L> {
     /// The seat's stream accepts no more frames.
     pub fn close(&self, rt: &impl Wait, seat: &mut StreamSeat<L>) -> Result<(), Refusal>
         ensures closed { OnOk result (Closes seat.old seat.new) }
-        ensures refused { IfErr result (λ e. IsTold (AllowsClose seat.old) e × (seat.new ≡ seat.old)) }
+        ensures refused { IfErr result (λ e. IsCloseTold seat.old e × (seat.new ≡ seat.old)) }
         ensures reserved { IfErr result (λ e. e ≢ HistoryFull) }
     {
         let mut shared = self.shared.lock(rt);

@@ -22,7 +22,7 @@ impl<L: Epoch> Hub<L> {
         ensures given { IfOk result (λ lease. Leases lease seat.old seat.new) }
         ensures unused { IfOk result (λ lease. lease.used ≡ 0) }
         ensures refused { OnErr result (seat.new ≡ seat.old) }
-        ensures refusals { IfErr result IsLeaseRefusal }
+        ensures refusals { IfErr result (IsLeaseRefusal seat.old) }
     {
         let mut shared = self.shared.lock(rt);
         let answer = seat.lease(&mut shared);
@@ -39,7 +39,7 @@ impl<L: Epoch> Hub<L> {
         ensures unused { IfOk result (λ lease. lease.used ≡ 0) }
         ensures waited { IfErr result (λ e. e ≢ Core NoneReady) }
         ensures refused { OnErr result (seat.new ≡ seat.old) }
-        ensures refusals { IfErr result IsEndOfLeases }
+        ensures refusals { IfErr result (IsEndOfLeases seat.old) }
     {
         let mut shared = self.shared.lock(rt);
         for _ in rt.forever() {

@@ -5,8 +5,8 @@ ghost use Rattle.filters.specs.ChainImage.{value_of};
 ghost use Rattle.serve_core.specs.declared.refusal.Refusal.TheVariants.{ClockEnd};
 ghost use Rattle.serve_core.specs.Streams.{IsFresh, IsImageOf};
 ghost use Rattle.serve_hub.specs.declared.refusal.Refusal.TheVariants.{Core};
-ghost use Rattle.serve_hub.specs.Calls.{Accepts, AcceptsOther, AllowsOffer, IsTold};
-ghost use Rattle.serve_hub.specs.Calls.{IsOfferRefused, IsOverRefused, Notes};
+ghost use Rattle.serve_hub.specs.Calls.{Accepts, AcceptsOther, IsOfferRefused, IsOfferTold, IsOverRefused};
+ghost use Rattle.serve_hub.specs.Calls.{Notes};
 
 use super::Hub;
 use crate::epoch::Epoch;
@@ -132,7 +132,7 @@ impl<L: Epoch> Hub<L> {
         ensures refused { IfErr result (λ e. MatchOption e.1
             (AcceptsOther (value_of (arc_value kept)) e.0 seat.old seat.new)
             (λ back. (back ≡ job) × (seat.new ≡ seat.old)
-            × IsTold (AllowsOffer seat.old at (arc_value kept).geometry) e.0)) }
+            × IsOfferTold seat.old at (arc_value kept).geometry e.0)) }
     {
         let mut shared = self.shared.lock(rt);
         let answer = seat.offer(&mut shared, at, job, kept);
@@ -144,9 +144,9 @@ impl<L: Epoch> Hub<L> {
 
     /// What a frame is refused for whose job wasn't made.
     fn refusal(&self, rt: &impl Wait, seat: &StreamSeat<L>, at: u64, frame: &Frame) -> Refusal
-        ensures { IsTold (AllowsOffer seat.now at frame.now.geometry) result }
+        ensures { IsOfferTold seat.now at frame.now.geometry result }
     {
         let shared = self.shared.lock(rt);
-        seat.refusal(&shared, at, frame, Refusal::Core(CoreRefusal::NoMemory))
+        seat.refusal(&shared, at, frame)
     }
 }

@@ -5,8 +5,8 @@ ghost use Rattle.std.specs.Option.{option_map};
 ghost use Rattle.filters.specs.ChainImage.{value_of};
 ghost use Rattle.serve_core.specs.Streams.{source_in};
 ghost use Rattle.serve_hub.specs.declared.refusal.Refusal.TheVariants.{HistoryFull};
-ghost use Rattle.serve_hub.specs.Calls.{AllowsClose, AllowsCollect, Closes, Collects, IsOldest, IsOther};
-ghost use Rattle.serve_hub.specs.Calls.{IsTold, after_refusal, gives_up};
+ghost use Rattle.serve_hub.specs.Calls.{Closes, Collects, IsCloseTold, IsCollectTold, IsOfBook, IsOldest};
+ghost use Rattle.serve_hub.specs.Calls.{IsOther, after_refusal, gives_up};
 
 use super::StreamSeat;
 use crate::epoch::Epoch;
@@ -20,11 +20,11 @@ use std::sync::Arc;
 impl<L: Epoch> StreamSeat<L> {
     pub(crate) fn close(&mut self, shared: &mut Shared<L>) -> Result<(), Refusal>
         ensures closed { OnOk result (Closes self.old self.new) }
-        ensures refused { IfErr result (λ e. IsTold (AllowsClose self.old) e × (self.new ≡ self.old)) }
+        ensures refused { IfErr result (λ e. IsCloseTold self.old e × (self.new ≡ self.old)) }
         ensures reserved { IfErr result (λ e. e ≢ HistoryFull) }
     {
-        if !self.is_of(shared) {
-            return Err(Refusal::Torn(Came::Other));
+        if let Some(came) = self.contradiction(shared) {
+            return Err(Refusal::Torn(came));
         }
         let Shared { book, total, .. } = shared;
         match book.close(self.number) {
@@ -41,10 +41,10 @@ impl<L: Epoch> StreamSeat<L> {
     pub(crate) fn collect(&mut self, shared: &mut Shared<L>) -> Result<Collected, Refusal>
         ensures given { IfOk result (λ pair. Collects pair self.old self.new) }
         ensures kept { OnOk result (self.new.kept ≡ self.old.kept) }
-        ensures refused { IfErr result (λ e. IsTold (AllowsCollect self.old) e × (self.new ≡ self.old)) }
+        ensures refused { IfErr result (λ e. IsCollectTold self.old e × (self.new ≡ self.old)) }
     {
-        if !self.is_of(shared) {
-            return Err(Refusal::Torn(Came::Other));
+        if let Some(came) = self.contradiction(shared) {
+            return Err(Refusal::Torn(came));
         }
         let Shared { book, total, .. } = shared;
         let pair = match book.collect(self.number) {
@@ -109,24 +109,25 @@ impl<L: Epoch> StreamSeat<L> {
     }
 
     fn told_close(&self, refusal: Refusal) -> Refusal
-        ensures told { IsTold (AllowsClose self.now) result }
+        requires book { IsOfBook refusal }
+        requires reserved { refusal ≢ HistoryFull }
+        ensures told { IsCloseTold self.now result }
         ensures reserved { result ≢ HistoryFull }
     {
         match refusal {
-            Refusal::HistoryFull | Refusal::StrayLease | Refusal::Torn(_) => {
-                Refusal::Torn(Came::Other)
-            }
+            Refusal::HistoryFull | Refusal::StrayLease | Refusal::Torn(_) => unreachable!(),
             Refusal::Core(Core::AlreadyClosed) if self.is_closed => refusal,
             Refusal::Core(core) => Refusal::Torn(Came::Refused(core)),
         }
     }
 
     fn told_collect(&self, refusal: Refusal) -> Refusal
-        ensures { IsTold (AllowsCollect self.now) result }
+        requires book { IsOfBook refusal }
+        ensures { IsCollectTold self.now result }
     {
         match refusal {
             Refusal::HistoryFull | Refusal::Core(Core::Empty) => refusal,
-            Refusal::StrayLease | Refusal::Torn(_) => Refusal::Torn(Came::Other),
+            Refusal::StrayLease | Refusal::Torn(_) => unreachable!(),
             Refusal::Core(Core::Drained) if self.is_closed && self.kept.is_empty() => refusal,
             Refusal::Core(core) => Refusal::Torn(Came::Refused(core)),
         }

@@ -1,10 +1,10 @@
 //! Frames that a seat offers.
-ghost use Rattle.std.specs.Prelude.{◌≡◌, ◌↔◌, ◌<◌, IfErr, IfNone, IfOk, IsTrue, MatchOption, OnOk};
+ghost use Rattle.std.specs.Prelude.{◌≡◌, ◌↔◌, ◌<◌, IfErr, IfNone, IfOk, IfSome, IsTrue, MatchOption, OnOk};
 ghost use Rattle.std.specs.Arc.{arc_value};
 ghost use Rattle.filters.specs.ChainImage.{value_of};
 ghost use Rattle.serve_core.specs.Schedule.{HasStream};
 ghost use Rattle.serve_core.specs.Streams.{IsFresh, IsImageOf};
-ghost use Rattle.serve_hub.specs.Calls.{Accepts, AcceptsOther, AllowsOffer, IsTold, NotesFrom};
+ghost use Rattle.serve_hub.specs.Calls.{Accepts, AcceptsOther, AllowsOffer, IsOfBook, IsOfferTold, NotesFrom};
 ghost use Rattle.serve_hub.specs.Seats.{HasPlace, kept_more};
 
 use super::StreamSeat;
@@ -86,13 +86,16 @@ impl<L: Epoch> StreamSeat<L> {
         ensures refused { IfErr result (λ e. MatchOption e.1
             (AcceptsOther (value_of (arc_value frame)) e.0 self.old self.new)
             (λ back. (back ≡ job) × (self.new ≡ self.old)
-            × IsTold (AllowsOffer self.old at (arc_value frame).geometry) e.0)) }
+            × IsOfferTold self.old at (arc_value frame).geometry e.0)) }
     {
-        if !self.is_of(shared) {
-            return Err((Refusal::Torn(Came::Other), Some(job)));
+        if let Some(came) = self.contradiction(shared) {
+            return Err((Refusal::Torn(came), Some(job)));
         }
         if !self.has_place() {
-            let refusal = self.refusal(shared, at, &frame, Refusal::Torn(Came::Other));
+            let refusal = match self.refused_by(shared, at, &frame) {
+                Some(refusal) => refusal,
+                None => Refusal::Torn(Came::NoPlace),
+            };
             return Err((refusal, Some(job)));
         }
         self.enter(shared, at, job, frame)
@@ -120,7 +123,7 @@ impl<L: Epoch> StreamSeat<L> {
         ensures refused { IfErr result (λ e. MatchOption e.1
             (AcceptsOther (value_of (arc_value frame)) e.0 self.old self.new)
             (λ back. (back ≡ job) × (self.new ≡ self.old)
-            × IsTold (AllowsOffer self.old at (arc_value frame).geometry) e.0)) }
+            × IsOfferTold self.old at (arc_value frame).geometry e.0)) }
     {
         let Shared { book, total, .. } = shared;
         let number = match book.offer_job(self.number, at, job) {
@@ -157,31 +160,37 @@ impl<L: Epoch> StreamSeat<L> {
         next
     }
 
-    /// What the book refuses a frame for whose job wasn't made. Where it would accept it, the answer is
-    /// `unmade`.
-    pub(crate) fn refusal(
-        &self,
-        shared: &Shared<L>,
-        at: u64,
-        frame: &Frame,
-        unmade: Refusal,
-    ) -> Refusal
-        ensures { IsTold (AllowsOffer self.now at frame.now.geometry) result }
+    /// What a frame is refused for whose job wasn't made: where the book would accept it, for want of memory.
+    pub(crate) fn refusal(&self, shared: &Shared<L>, at: u64, frame: &Frame) -> Refusal
+        ensures { IsOfferTold self.now at frame.now.geometry result }
     {
-        if !self.is_of(shared) {
-            return Refusal::Torn(Came::Other);
+        match self.refused_by(shared, at, frame) {
+            Some(refusal) => refusal,
+            None => self.told_offer(at, frame, Refusal::Core(Core::NoMemory)),
         }
-        let refusal = shared.book.offer_refusal(self.number, at, frame);
-        self.told_offer(at, frame, refusal.unwrap_or(unmade))
+    }
+
+    /// What a frame is refused for, want of memory aside, if it is.
+    fn refused_by(&self, shared: &Shared<L>, at: u64, frame: &Frame) -> Option<Refusal>
+        ensures { IfSome result (IsOfferTold self.now at frame.now.geometry) }
+    {
+        if let Some(came) = self.contradiction(shared) {
+            return Some(Refusal::Torn(came));
+        }
+        match shared.book.offer_refusal(self.number, at, frame) {
+            Some(refusal) => Some(self.told_offer(at, frame, refusal)),
+            None => None,
+        }
     }
 
     /// A refusal of a frame as the seat is told it.
     fn told_offer(&self, at: u64, frame: &Frame, refusal: Refusal) -> Refusal
-        ensures { IsTold (AllowsOffer self.now at frame.now.geometry) result }
+        requires book { IsOfBook refusal }
+        ensures { IsOfferTold self.now at frame.now.geometry result }
     {
         match refusal {
             Refusal::HistoryFull => refusal,
-            Refusal::StrayLease | Refusal::Torn(_) => Refusal::Torn(Came::Other),
+            Refusal::StrayLease | Refusal::Torn(_) => unreachable!(),
             Refusal::Core(core) => {
                 if self.allows_offer(at, frame.geometry(), core) {
                     refusal

@@ -4,7 +4,7 @@ use Rattle.std.specs.declared.sync.Arc.{Arc}
 use Rattle.std.specs.Arc.{arc_value}
 use Rattle.frame_view.specs.declared.frame.Frame.{Frame}
 use Rattle.lease.specs.Job.{JobValue}
-use Rattle.serve_hub.specs.Calls.{AllowsOffer, IsTold}
+use Rattle.serve_hub.specs.Calls.{IsOfferTold}
 use Rattle.serve_hub.proofs.Refusing.{matched}
 use Rattle.serve_hub.proofs.hub.Hub.offer.Goals as goal
 
@@ -13,7 +13,7 @@ returns-in-Err-clause-refused g c =
     let same = ap (λ (f : Arc Frame Global). arc_value f) c.in-Err.ensures.back in (
       same,
       record {
-        told = subst (λ (f : Frame). IsTold (AllowsOffer c.args.seat.now c.args.at f.geometry) c.refusal.result)
+        told = subst (λ (f : Frame). IsOfferTold c.args.seat.now c.args.at f.geometry c.refusal.result)
             (c.deref.ensures ∙ same) c.refusal.ensures;
         seat = refl;
       },
@@ -25,7 +25,7 @@ returns-in-Err-default-Some-clause-refused g c =
     let back = matched _ _ e.field-0-1 e.job e.field-0-1-is e.ensures.refused in (
       c.undo-frame.ensures.source ∙ ap (λ (j : JobValue). j.source) back.0 ∙ c.in-Ok.ensures.source,
       record {
-        told = subst (λ (f : Frame). IsTold (AllowsOffer c.args.seat.now c.args.at f.geometry) e.refusal)
+        told = subst (λ (f : Frame). IsOfferTold c.args.seat.now c.args.at f.geometry e.refusal)
             c.in-Ok.ensures.kept back.2;
         seat = back.1;
       },

@@ -5,7 +5,7 @@ use Rattle.std.specs.Arc.{arc_value}
 use Rattle.frame_view.specs.declared.frame.Frame.{Frame}
 use Rattle.filters.specs.Chain.{ChainValue, format_of, last_format}
 use Rattle.lease.specs.Job.{JobValue}
-use Rattle.serve_hub.specs.Calls.{AllowsOffer, IsTold}
+use Rattle.serve_hub.specs.Calls.{IsOfferTold}
 use Rattle.serve_hub.proofs.Refusing.{matched}
 use Rattle.serve_hub.proofs.hub.Hub.offer_over.Goals as goal
 
@@ -15,7 +15,7 @@ returns-in-Err-clause-refused g c =
       same,
       c.in-Err.ensures.back.1,
       record {
-        told = subst (λ (f : Frame). IsTold (AllowsOffer c.args.seat.now c.args.at f.geometry) c.refusal.result)
+        told = subst (λ (f : Frame). IsOfferTold c.args.seat.now c.args.at f.geometry c.refusal.result)
             (c.deref.ensures ∙ same) c.refusal.ensures;
         seat = refl;
       },
@@ -30,7 +30,7 @@ returns-in-Err-default-Some-clause-refused g c =
           ∙ ap (λ (x : ChainValue). last_format x.ops (format_of x.geometry))
           (ap (λ (j : JobValue). j.chain) back.0 ∙ c.in-Ok.ensures.fresh.of_chain),
       record {
-        told = subst (λ (f : Frame). IsTold (AllowsOffer c.args.seat.now c.args.at f.geometry) e.refusal)
+        told = subst (λ (f : Frame). IsOfferTold c.args.seat.now c.args.at f.geometry e.refusal)
             c.in-Ok.ensures.kept back.2;
         seat = back.1;
       },

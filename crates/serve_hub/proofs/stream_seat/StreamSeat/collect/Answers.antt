@@ -25,7 +25,7 @@ returns-clause-given g c =
     } in
     let new : StreamSeatValue = record old { calls = c.count.new.self } in
     let mine = subst (λ (v : StreamSeatValue). HasStream c.args.shared.now.book.desk v.number (λ stream.
-    stream.state.spec.chain ≡ v.chain)) (sym c.self.view_is) (c.if-not-is_of.ensures.chain refl) in
+    stream.state.spec.chain ≡ v.chain)) (sym c.self.view_is) c.in_default.ensures.chain in
     let its = subst (λ (v : SharedValue). HasStream v.book.desk old.number (λ stream.
     stream.state.spec.chain ≡ old.chain)) (sym c.shared.view_is) mine in
     subst (λ (v : StreamSeatValue). Collects c.in-Ok.pair v new) c.self.view_is

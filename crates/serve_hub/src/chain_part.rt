@@ -1,0 +1,53 @@
+//! In what the chain of a stream differs from that of its seat.
+ghost use Rattle.std.specs.Prelude.{◌≡◌, IfNone, IfSome};
+ghost use Rattle.serve_hub.specs.Calls.{IsOtherOp, IsOtherPart};
+
+use filters::Op;
+use frame_view::Geometry;
+use lease::JobSpec;
+use row_bands::BandHeight;
+
+/// A part of a chain that another one doesn't have.
+#[derive(Clone, Copy, Debug, PartialEq, Eq)]
+pub enum ChainPart {
+    /// Its frames have this geometry.
+    Geometry(Geometry),
+    /// Its bands have this height.
+    BandHeight(BandHeight),
+    /// It has so many operations.
+    Count(usize),
+    /// Its operation with this number, from 0.
+    Op(usize, Op),
+}
+
+/// The first part of a chain that another one doesn't have, if they differ.
+pub(crate) fn other_part(found: &JobSpec, own: &JobSpec) -> Option<ChainPart>
+    ensures same { IfNone result (found.now ≡ own.now) }
+    ensures other { IfSome result (IsOtherPart own.now) }
+{
+    let geometry = found.chain().geometry();
+    if !own.fits(geometry) {
+        return Some(ChainPart::Geometry(geometry));
+    }
+    let height = found.chain().band_height();
+    if height != own.chain().band_height() {
+        return Some(ChainPart::BandHeight(height));
+    }
+    other_op(found.chain().ops(), own.chain().ops())
+}
+
+/// The same of their operations alone.
+fn other_op(found: &[Op], own: &[Op]) -> Option<ChainPart>
+    ensures same { IfNone result (found.now ≡ own.now) }
+    ensures other { IfSome result (IsOtherOp own.now) }
+{
+    if found.len() != own.len() {
+        return Some(ChainPart::Count(found.len()));
+    }
+    for i in 0..own.len() {
+        if found[i] != own[i] {
+            return Some(ChainPart::Op(i, found[i]));
+        }
+    }
+    None
+}
