@@ -10,8 +10,8 @@ use frame_view::Frame;
 use std::fmt::{Debug, Display};
 use std::process::Abort;
 
-/// Compares what a call gave with what is wanted. A call of this is no branch, and `assert_eq!` is one: beside a
-/// value of many parts that is dear to prove.
+/// Compares what a call gave with what is wanted. A call of this is no branch, and `assert_eq!` is one:
+/// beside a value of many parts that is dear to prove.
 fn same<T: PartialEq + Debug + Drop>(rt: &impl Abort, got: T, want: T) {
     assert_eq!(rt; got, want);
 }

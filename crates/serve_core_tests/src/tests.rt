@@ -103,8 +103,8 @@ enum Line<'a> {
     Stands(u32, [u64; 6]),
 }
 
-/// Compares what a call gave with what is wanted. Beside a machine a branch is dear to prove: a call of this is
-/// none, and `assert_eq!` is one.
+/// Compares what a call gave with what is wanted. Beside a machine a branch is dear to prove: a call of this
+/// is none, and `assert_eq!` is one.
 fn same<T: PartialEq + Debug + Drop>(rt: &impl Abort, got: T, want: T) {
     assert_eq!(rt; got, want);
 }

@@ -219,8 +219,8 @@ fn admissions_print_their_lines(rt: HostRuntime) {
 /// What stands behind the name of a stream of a 64th part of a worker.
 const SMALL: &str = "1 64 4 4 invert YUV4MPEG2 W1 H1 Cmono";
 
-/// Numbers 64 streams, so many of them before the start, and asks for another: not even where a share is left, and
-/// whatever it asks for.
+/// Numbers 64 streams, so many of them before the start, and asks for more. None is admitted, not even where
+/// a share is left, and whatever it asks for.
 fn numbers_all(alloc: Global, first: usize) -> Result<String, AllocError> {
     let mut script = String::new(alloc);
     for number in 0..first {
