@@ -2,7 +2,7 @@
 ghost use Rattle.std.specs.Prelude.{◌≡◌};
 ghost use Rattle.serve_core.specs.Schedule.{opened_schedule};
 
-use super::seated::{Seated, seated_after};
+use super::seated::seated_after;
 use super::steps::Answer::{Accepted, Worked};
 use super::steps::Call::{Offer, Work};
 use super::steps::{Step, follow};
@@ -35,21 +35,20 @@ const AFTER: Option<[u64; 6]> = Some([1, 16, 1, 1, 0, 1]);
 #[test]
 fn an_admission_is_replayed_from_its_end(rt: HostRuntime) -> Result<(), Fail> {
     let setup = setup_of(rt.alloc(), 1, &[PLAIN])?;
-    let seated = admitted::<Brand, _>(&rt, rt.alloc(), Blank::new(80), setup)?;
-    let ended = seated.ended(&rt);
+    let ended = admitted::<Brand, _>(&rt, rt.alloc(), Blank::new(80), setup)?;
     same(&rt, state_of(ended.account(1), ended.counts(1)), AFTER);
     let spec = spec_of(&rt, &ended)?;
     let mut book = book_of(rt.alloc(), &[PLAIN])?;
     replay(&rt, rt.alloc(), &mut book, spec)
 }
 
-/// A hub that admitted a stream, and finished a frame of it.
+/// What a hub leaves that admitted a stream, and finished a frame of it.
 fn admitted<L: Epoch, R: Wait + Abort>(
     rt: &R,
     alloc: Global,
     blank: Blank,
     setup: Setup,
-) -> Result<Seated<L>, Fail>
+) -> Result<Ended, Fail>
     requires name { blank.name ≡ L.name }
     requires parts { blank.parts ≡ L.parts }
     requires enough { blank.parts ≡ 80 }
@@ -58,7 +57,7 @@ fn admitted<L: Epoch, R: Wait + Abort>(
     let mut seated = seated_after::<L, R>(rt, alloc, blank, setup, &[])?;
     same(rt, seated.admit(rt, alloc, &LATE)?, None);
     seated.follow(rt, alloc, ONE_FRAME)?;
-    Ok(seated)
+    Ok(seated.ended(rt))
 }
 
 /// What the end tells of the admitted stream. There is no other behind it.

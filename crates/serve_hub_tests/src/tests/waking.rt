@@ -8,7 +8,7 @@ use super::seated::{Seated, seated_after};
 use super::{same, setup_of, stepped};
 use lease::Lease;
 use serve_core::Setup;
-use serve_hub::{Epoch, Hub, LeaseRefused, Refusal, Settled, StreamSeat, WorkSeat};
+use serve_hub::{Ended, Epoch, Hub, LeaseRefused, Refusal, Settled, StreamSeat, WorkSeat};
 use std::alloc::Global;
 use std::marker::Brand;
 use std::process::Abort;
@@ -27,73 +27,74 @@ const PAUSE: u64 = 5;
 /// How often a client looks for its image.
 const LOOKS: u32 = 1_000;
 
-/// What the first worker's settlement answered, and the first sample of the image that came in time.
-type Came = (Result<Settled, Refusal>, Option<u8>);
-
 /// A frame of two bands. Nobody offers or collects after it came back.
 #[test]
 fn a_frame_that_came_back_wakes_a_worker(rt: HostRuntime) -> Result<(), Fail> {
     for _ in 0..20 {
         let setup = setup_of(rt.alloc(), 2, &[TALL])?;
-        let seated = handed_over::<Brand, _>(&rt, rt.alloc(), Blank::new(80), setup)?;
-        let ended = seated.ended(&rt);
+        let ended = handed_over::<Brand, _>(&rt, rt.alloc(), Blank::new(80), setup)?;
         same(&rt, (ended.bands(0), ended.bands(1)), (0, 2));
     }
     Ok(())
 }
 
-/// The hub after the first worker has leased the frame and given it back, and the second one finished it.
+/// What a hub leaves whose first worker leased the frame and gave it back, and whose second one finished it.
 fn handed_over<L: Epoch + Send + Sync, R: Threads + Wait + Abort + Clock + Sync>(
     rt: &R,
     alloc: Global,
     blank: Blank,
     setup: Setup,
-) -> Result<Seated<L>, Fail>
+) -> Result<Ended, Fail>
     requires name { blank.name ≡ L.name }
     requires parts { blank.parts ≡ L.parts }
     requires enough { blank.parts ≡ 80 }
     requires opening { opened_schedule setup ≡ L.opening }
 {
-    let mut seated = seated_after::<L, R>(rt, alloc, blank, setup, TALL_FRAME)?;
-    let second = seated.workers.pop().expect(rt, "a seat");
-    let (second, came) = helped(rt, &mut seated, second);
-    same(rt, came, (Ok(Settled::Returned), Some(254)));
-    seated.workers.push(second?)?;
-    Ok(seated)
+    let Seated {
+        hub,
+        mut streams,
+        mut workers,
+    } = seated_after::<L, R>(rt, alloc, blank, setup, TALL_FRAME)?;
+    let stream = streams.pop().expect(rt, "a stream");
+    let second = workers.pop().expect(rt, "a worker");
+    let first = workers.pop().expect(rt, "a worker");
+    let (stream, first, second) = helped(rt, &hub, stream, first, second);
+    streams.push(stream).expect(rt, "a place");
+    workers.push(first).expect(rt, "a place");
+    workers.push(second).expect(rt, "a place");
+    let seated = Seated {
+        hub,
+        streams,
+        workers,
+    };
+    Ok(seated.ended(rt))
 }
 
 /// The first worker gives its lease back while the second one waits for one.
 fn helped<L: Epoch + Send + Sync, R: Threads + Wait + Abort + Clock + Sync>(
     rt: &R,
-    seated: &mut Seated<L>,
+    hub: &Hub<L>,
+    stream: StreamSeat<L>,
+    first: WorkSeat<L>,
     second: WorkSeat<L>,
-) -> (Result<WorkSeat<L>, Fail>, Came) {
-    let Seated {
-        hub,
-        streams,
-        workers,
-    } = seated;
-    let hub = &*hub;
-    let first = workers.first_mut().expect(rt, "a worker");
-    let stream = streams.first_mut().expect(rt, "a stream");
+) -> (StreamSeat<L>, WorkSeat<L>, WorkSeat<L>) {
     thread::scope(
         thread::scope_env(),
         rt,
         |scope|
             requires { IsSync R.row × IsSync L.row × IsSend L.row }
         {
-            let lease = hub.try_lease(rt, first);
+            let (mut stream, mut first) = (stream, first);
+            let lease = hub.try_lease(rt, &mut first);
             let working = scope.spawn(move || work(rt, hub, second));
             pause(rt);
-            let done = given_back(rt, hub, first, lease);
-            let came = image_in_time(rt, hub, stream);
-            let _closed = hub.close(rt, stream);
+            let done = given_back(rt, hub, &mut first, lease);
+            let came = image_in_time(rt, hub, &mut stream);
+            let _closed = hub.close(rt, &mut stream);
+            same(rt, (done, came), (Ok(Settled::Returned), Some(254)));
             match working {
-                Ok(working) => (Ok(working.join(rt)), (done, came)),
-                Err(_) => (
-                    Err("was a thread or its memory refused?".into()),
-                    (done, came),
-                ),
+                Ok(working) => (stream, first, working.join(rt)),
+                Err(_) => panic!(rt; "was a thread or its memory refused?"),
             }
         },
     )
