@@ -3,7 +3,7 @@ ghost use Rattle.std.specs.Prelude.{◌≡◌};
 ghost use Rattle.serve_core.specs.Schedule.{opened_schedule};
 
 use super::seated::seated_after;
-use super::steps::Answer::{Accepted, Worked};
+use super::steps::Answer::{Accepted, Admitted, Worked};
 use super::steps::Call::{Offer, Work};
 use super::steps::{Step, follow};
 use super::{PLAIN, Served, book_of, same, setup_of, state_of};
@@ -55,7 +55,7 @@ fn admitted<L: Epoch, R: Wait + Abort>(
     requires opening { opened_schedule setup ≡ L.opening }
 {
     let mut seated = seated_after::<L, R>(rt, alloc, blank, setup, &[])?;
-    same(rt, seated.admit(rt, alloc, &LATE)?, None);
+    same(rt, seated.admit(rt, alloc, &LATE)?, Admitted(1));
     seated.follow(rt, alloc, ONE_FRAME)?;
     Ok(seated.ended(rt))
 }

@@ -3,7 +3,7 @@ ghost use Rattle.std.specs.Prelude.{◌≡◌};
 ghost use Rattle.serve_core.specs.Schedule.{opened_schedule};
 
 use super::seated::{Seated, seated_after};
-use super::steps::Answer::{Accepted, Closed, Given, Worked};
+use super::steps::Answer::{Accepted, Admitted, Closed, Given, Worked};
 use super::steps::Call::{Close, Collect, Offer, Work};
 use super::steps::Step;
 use super::{PLAIN, frame_of, same, setup_of, state_of};
@@ -64,7 +64,7 @@ fn next_epoch<L: Epoch, R: Wait + Abort>(
         Err(refused) => Err(refused.refusal.into()),
         Ok(reopened) => {
             let mut seated = Seated::again(reopened);
-            same(rt, seated.admit(rt, alloc, &PLAIN)?, None);
+            same(rt, seated.admit(rt, alloc, &PLAIN)?, Admitted(2));
             seated.follow(rt, alloc, NEXT_CALLS)?;
             Ok(seated.ended(rt))
         }
