@@ -6,7 +6,7 @@ use Rattle.cbs_account.specs.declared.limits.TheConstants.{LAST_MOMENT}
 use Rattle.frame_view.specs.declared.frame.Frame.{Frame}
 use Rattle.frame_view.specs.declared.geometry.Geometry.{Geometry}
 use Rattle.filters.specs.declared.op.Op.{Op}
-use Rattle.filters.specs.Chain.{ChainValue}
+use Rattle.filters.specs.Chain.{ChainValue, Format, format_of}
 use Rattle.filters.specs.ChainImage.{FrameValue, IsChainImage, value_of}
 use Rattle.filters.specs.Steps.{steps_of}
 use Rattle.lease.specs.Lease.{LeaseValue}
@@ -42,8 +42,10 @@ IsOtherOp ops (parts.Op k op) = slice_get ops k ≢ Some op
 IsOtherOp ops part = ⊥
 
 abbrev pub IsOtherPart : ChainValue → ChainPart → Type 0
-IsOtherPart chain (parts.Geometry geometry) = geometry ≢ chain.geometry
-IsOtherPart chain (parts.BandHeight height) = height ≢ chain.band_height
+IsOtherPart chain (parts.Format width height chroma) =
+    let format : Format = record { width = width; height = height; chroma = chroma } in
+    format ≢ format_of chain.geometry
+IsOtherPart chain (parts.BandRows rows) = rows ≢ chain.band_height.rows
 IsOtherPart chain part = IsOtherOp chain.ops part
 
 -- what contradicts a seat that allows these refusals, at each of its calls

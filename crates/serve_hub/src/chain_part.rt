@@ -3,17 +3,16 @@ ghost use Rattle.std.specs.Prelude.{◌≡◌, IfNone, IfSome};
 ghost use Rattle.serve_hub.specs.Calls.{IsOtherOp, IsOtherPart};
 
 use filters::Op;
-use frame_view::Geometry;
 use lease::JobSpec;
-use row_bands::BandHeight;
+use y4m_header::Chroma;
 
 /// A part of a chain that another one doesn't have.
 #[derive(Clone, Copy, Debug, PartialEq, Eq)]
 pub enum ChainPart {
-    /// Its frames have this geometry.
-    Geometry(Geometry),
-    /// Its bands have this height.
-    BandHeight(BandHeight),
+    /// Its frames have this width, this height and this chroma form.
+    Format(u32, u32, Chroma),
+    /// Its bands have so many luma rows.
+    BandRows(usize),
     /// It has so many operations.
     Count(usize),
     /// Its operation with this number, from 0.
@@ -27,11 +26,11 @@ pub(crate) fn other_part(found: &JobSpec, own: &JobSpec) -> Option<ChainPart>
 {
     let geometry = found.chain().geometry();
     if !own.fits(geometry) {
-        return Some(ChainPart::Geometry(geometry));
+        return Some(ChainPart::Format(geometry.width, geometry.height, geometry.chroma));
     }
-    let height = found.chain().band_height();
-    if height != own.chain().band_height() {
-        return Some(ChainPart::BandHeight(height));
+    let rows = found.chain().band_height().rows();
+    if rows != own.chain().band_height().rows() {
+        return Some(ChainPart::BandRows(rows));
     }
     other_op(found.chain().ops(), own.chain().ops())
 }

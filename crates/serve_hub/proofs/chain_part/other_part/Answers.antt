@@ -1,7 +1,6 @@
-use Rattle.std.proofs.Common.{◌≡◌, Option, None, Some, IfNone, ap, refl, rules, sym, ◌∙◌}
+use Rattle.std.proofs.Common.{◌≡◌, ◌≢◌, Option, None, Some, IfNone, ap, refl, rules, sym, ◌∙◌}
 use Rattle.filters.specs.Chain.{ChainValue}
-use Rattle.row_bands.specs.declared.band_height.BandHeight.{BandHeight}
-use Rattle.frame_view.specs.declared.geometry.Geometry.{Geometry}
+use Rattle.filters.proofs.ChainGeometry.{same_geometry}
 use Rattle.row_bands.proofs.BandHeights.{same_height}
 use Rattle.serve_hub.proofs.chain_part.other_part.Goals as goal
 
@@ -18,3 +17,8 @@ returns-clause-same c =
     sym (c.geometry-geometry.ensures ∙ ap (λ (v : ChainValue). v.geometry) c.chain.ensures) ∙ c.if-not-fits.ensures.0 refl in
     let height : c.args.found.now.band_height ≡ c.args.own.now.band_height = same_height _ _ (search rules) in
     same_chain c.other_op.result c.args.found.now c.args.own.now geometry height (search rules)
+
+pub returns-then-not-fits-clause-other : goal.returns-then-not-fits-clause-other
+returns-then-not-fits-clause-other c =
+    let other : c.geometry-geometry.result ≢ c.args.own.now.geometry = search rules in
+    λ same. other (same_geometry _ _ same)
