@@ -236,7 +236,7 @@ const BOTH: &[Stream<'_>] = &[PLAIN_THREE, TURNED_THREE];
 const BOTH_WHOLE: &[Told<'_>] = &[WHOLE, WHOLE_TURNED];
 
 /// Each of the two is whole, or stopped for want of memory.
-fn each_wants_memory_alone(rt: &impl Abort, all: AllServed) {
+fn each_wants_memory_alone(rt: &impl Abort, all: AllServed<'_>) {
     for (served, whole) in all.into_iter().zip(BOTH_WHOLE) {
         if served.stop == Stop::Whole {
             was_served(rt, served, whole, "a whole stream");
@@ -247,20 +247,16 @@ fn each_wants_memory_alone(rt: &impl Abort, all: AllServed) {
 }
 
 /// The stream stopped for want of memory, and a front of the images was written.
-fn wants_memory(rt: &impl Abort, served: OneServed, images: &[u8]) {
+fn wants_memory(rt: &impl Abort, served: OneServed<'_>, images: &[u8]) {
     let stop = served.stop;
     let is_refused = matches!(
         stop,
         Stop::Refused(Cause::NoMemory) | Stop::Read(ReadFault::NoMemory)
     );
     same_at(rt, (stop, is_refused), (stop, true), "a stream that stops");
-    let front = images.get(..served.written.len());
-    same_at(
-        rt,
-        front,
-        Some(served.written.as_slice()),
-        "a stream that stops",
-    );
+    let written = served.writer.into_inner().taken;
+    let front = images.get(..written.len());
+    same_at(rt, front, Some(written.as_slice()), "a stream that stops");
 }
 
 /// It holds whichever growth is refused: `bench/growths` refuses each in turn.

@@ -102,11 +102,12 @@ impl Gate for Two {
 }
 
 /// Each stream was served whole, its one frame being written so.
-fn each_gave(rt: &impl Abort, all: AllServed, streams: usize, image: &[u8]) {
+fn each_gave(rt: &impl Abort, all: AllServed<'_>, streams: usize, image: &[u8]) {
     same_at(rt, all.len(), streams, "how many streams");
     for served in all {
         same_at(rt, served.stop, Stop::Whole, "why it stops");
-        same_at(rt, served.written.as_slice(), image, "what is written");
+        let written = served.writer.into_inner().taken;
+        same_at(rt, written.as_slice(), image, "what is written");
     }
 }
 

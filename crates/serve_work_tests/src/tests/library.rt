@@ -19,8 +19,9 @@ use y4m_stream::{OverRead, OverWrite, StreamReader};
 #[test]
 fn a_header_line_is_parsed(rt: HostRuntime) -> Result<(), Fail> {
     let header = Header::parse(rt.alloc(), b"YUV4MPEG2 W1920 H1080 F25:1 C422")?;
-    let told = (header.width(), header.height(), header.chroma());
-    assert_eq!(rt; told, (1920, 1080, Chroma::S422));
+    assert_eq!(rt; header.width(), 1920);
+    assert_eq!(rt; header.height(), 1080);
+    assert_eq!(rt; header.chroma(), Chroma::S422);
     let refused = Header::parse(rt.alloc(), b"YUV4MPEG2 W1920 C422").err();
     assert_eq!(rt; refused, Some(HeaderError::MissingSize));
     Ok(())
@@ -110,29 +111,36 @@ fn served<'a, T: Threads + Wait + Sync>(
 ) -> Result<All<'a>, Fail> {
     let (first, input) = opened(alloc, first, "invert")?;
     let (second, other) = opened(alloc, second, "hflip")?;
-    let setup = Setup::new(2, 4, vec![in alloc; first, second]?)?;
-    let inputs = vec![in alloc; input, other]?;
+    let mut specs = Vec::new(alloc);
+    specs.push(first)?;
+    specs.push(second)?;
+    let mut inputs = Vec::new(alloc);
+    inputs.push(input)?;
+    inputs.push(other)?;
+    let setup = Setup::new(2, 4, specs)?;
     Ok(serve_session(rt, alloc, setup, inputs, 1000, &AtOnce, &Still)?)
 }
 
 const FIRST: &[u8] = b"YUV4MPEG2 W2 H1 Cmono\nFRAME\n\x00\x0fFRAME\n\xf0\xff";
 
-const INVERTED: &[u8] = b"YUV4MPEG2 W2 H1 Cmono\nFRAME\n\xff\xf0FRAME\n\x0f\x00";
-
 const SECOND: &[u8] = b"YUV4MPEG2 W2 H1 Cmono\nFRAME\n\x01\x02";
-
-const MIRRORED: &[u8] = b"YUV4MPEG2 W2 H1 Cmono\nFRAME\n\x02\x01";
 
 #[test]
 fn two_streams_are_served(rt: HostRuntime) -> Result<(), Fail> {
     let mut ends = served(&rt, rt.alloc(), FIRST, SECOND)?;
-    let second = ends.pop().expect(&rt, "no second stream");
-    let first = ends.pop().expect(&rt, "no first stream");
-    let told = (first.stop, first.accepted, first.delivered);
-    assert_eq!(rt; told, (Stop::Whole, 2, 2));
+    let second = ends.pop().ok_or("no second stream")?;
+    let first = ends.pop().ok_or("no first stream")?;
+    assert_eq!(rt;
+        (first.stop, first.accepted, first.delivered),
+        (Stop::Whole, 2, 2)
+    );
     let inverted = first.writer.into_inner();
-    assert_eq!(rt; inverted.as_slice(), INVERTED);
     let mirrored = second.writer.into_inner();
-    assert_eq!(rt; mirrored.as_slice(), MIRRORED);
+    let wanted = b"YUV4MPEG2 W2 H1 Cmono\nFRAME\n\xff\xf0FRAME\n\x0f\x00".as_slice();
+    assert_eq!(rt; inverted.as_slice(), wanted);
+    assert_eq!(rt;
+        mirrored.as_slice(),
+        b"YUV4MPEG2 W2 H1 Cmono\nFRAME\n\x02\x01".as_slice()
+    );
     Ok(())
 }

@@ -4,7 +4,7 @@ ghost use Rattle.serve_work.specs.Sessions.{AreInputs, IsInput};
 use super::lists::put;
 use super::{Open, Plan, Still, stream_of, writer_of};
 use serve_core::{Setup, StreamSpec};
-use serve_work::{Clock, Gate, Served, SessionFault, Stop, serve_session};
+use serve_work::{Clock, Gate, Served, SessionFault, serve_session};
 use std::alloc::Global;
 use std::process::Abort;
 use std::sync::Wait;
@@ -23,18 +23,11 @@ pub(super) struct Stream<'a> {
 /// Where a stream is read from, and written to.
 type Input<'a> = (StreamReader<OverRead<Tape<'a>>>, OverWrite<Room>);
 
-/// What became of a stream, and what was written of it.
-#[derive(Drop)]
-pub(super) struct OneServed {
-    pub(super) accepted: u64,
-    pub(super) delivered: u64,
-    pub(super) charged: u64,
-    pub(super) stop: Stop,
-    pub(super) written: Vec<u8>,
-}
+/// What became of a stream.
+pub(super) type OneServed<'a> = Served<OverRead<Tape<'a>>, OverWrite<Room>>;
 
 /// What became of the streams.
-pub(super) type AllServed = Vec<OneServed>;
+pub(super) type AllServed<'a> = Vec<OneServed<'a>>;
 
 /// How many workers there are, how many entries the journal may have, and the moment of all offers.
 #[derive(Clone, Copy)]
@@ -80,62 +73,37 @@ fn all_opened<'a>(
     (specs, inputs)
 }
 
-fn one_served(served: Served<OverRead<Tape<'_>>, OverWrite<Room>>) -> OneServed {
-    OneServed {
-        accepted: served.accepted,
-        delivered: served.delivered,
-        charged: served.charged,
-        stop: served.stop,
-        written: served.writer.into_inner().taken,
-    }
-}
-
-/// What became of each stream. The places for that are taken before the session.
-fn each_served(
-    rt: &impl Abort,
-    places: AllServed,
-    all: Vec<Served<OverRead<Tape<'_>>, OverWrite<Room>>>,
-) -> AllServed {
-    let mut each = places;
-    for served in all {
-        put(rt, &mut each, one_served(served));
-    }
-    each
-}
-
 /// Serves these streams.
-pub(super) fn serve_all<T: Abort + Threads + Wait + Sync>(
+pub(super) fn serve_all<'a, T: Abort + Threads + Wait + Sync>(
     rt: &T,
     alloc: Global,
-    streams: &[Stream<'_>],
+    streams: &[Stream<'a>],
     hall: Hall,
-) -> Result<AllServed, SessionFault> {
+) -> Result<AllServed<'a>, SessionFault> {
     serve_behind(rt, alloc, streams, hall, &Open)
 }
 
 /// The same, behind this gate.
-pub(super) fn serve_behind<G: Gate + Sync, T: Abort + Threads + Wait + Sync>(
+pub(super) fn serve_behind<'a, G: Gate + Sync, T: Abort + Threads + Wait + Sync>(
     rt: &T,
     alloc: Global,
-    streams: &[Stream<'_>],
+    streams: &[Stream<'a>],
     hall: Hall,
     gate: &G,
-) -> Result<AllServed, SessionFault> {
+) -> Result<AllServed<'a>, SessionFault> {
     serve_by(rt, alloc, streams, hall, gate, &Still(hall.moment))
 }
 
 /// The same, by this clock.
-pub(super) fn serve_by<G: Gate + Sync, K: Clock + Sync, T: Abort + Threads + Wait + Sync>(
+pub(super) fn serve_by<'a, G: Gate + Sync, K: Clock + Sync, T: Abort + Threads + Wait + Sync>(
     rt: &T,
     alloc: Global,
-    streams: &[Stream<'_>],
+    streams: &[Stream<'a>],
     hall: Hall,
     gate: &G,
     clock: &K,
-) -> Result<AllServed, SessionFault> {
+) -> Result<AllServed<'a>, SessionFault> {
     let (specs, inputs) = all_opened(rt, alloc, streams);
     let setup = Setup::new(hall.workers, 4, specs).expect(rt, "no setup");
-    let places = Vec::with_capacity(alloc, streams.len()).expect(rt, "no places");
-    let all = serve_session(rt, alloc, setup, inputs, hall.limit, gate, clock)?;
-    Ok(each_served(rt, places, all))
+    serve_session(rt, alloc, setup, inputs, hall.limit, gate, clock)
 }

@@ -54,7 +54,7 @@ pub(super) const WHOLE_TURNED: Told<'_> = Told {
 };
 
 /// The stream was served so.
-pub(super) fn was_served(rt: &impl Abort, served: OneServed, told: &Told<'_>, name: &str) {
+pub(super) fn was_served(rt: &impl Abort, served: OneServed<'_>, told: &Told<'_>, name: &str) {
     let end = (
         served.stop,
         served.accepted,
@@ -62,11 +62,12 @@ pub(super) fn was_served(rt: &impl Abort, served: OneServed, told: &Told<'_>, na
         served.charged,
     );
     same_at(rt, end, told.end, name);
-    same_at(rt, served.written.as_slice(), told.written, name);
+    let written = served.writer.into_inner().taken;
+    same_at(rt, written.as_slice(), told.written, name);
 }
 
 /// The streams were served so.
-fn were_served(rt: &impl Abort, all: AllServed, wanted: &[Told<'_>], name: &str) {
+fn were_served(rt: &impl Abort, all: AllServed<'_>, wanted: &[Told<'_>], name: &str) {
     same_at(rt, all.len(), wanted.len(), name);
     for (served, told) in all.into_iter().zip(wanted) {
         was_served(rt, served, told, name);
