@@ -5,6 +5,8 @@
 #[cfg(test)]
 mod clock;
 #[cfg(test)]
+mod compare;
+#[cfg(test)]
 mod lookout;
 #[cfg(test)]
 mod program;

@@ -1,11 +1,11 @@
 //! A reader that is asked whether a read would wait.
+use crate::compare::same_at;
 use serve_report::Lookout;
 use serve_report::inlet::{Inflow, Inlet, inflow_of};
 use std::alloc::Global;
 use std::io::{self, ErrorKind, Read};
 use std::process::Abort;
 use std::sync::{Arc, Condvar, Mutex, Wait};
-use std::test::Fail;
 use std::thread::{self, Threads};
 use std::time::Clock;
 use test_tools::Tape;
@@ -51,24 +51,20 @@ impl<T: Wait + Drop> Read for Behind<T> {
 }
 
 /// A door that is shut, and a reader behind it. The test's thread is the other one that holds the door.
-fn shut<T: Wait + Copy + Drop>(rt: &T, alloc: Global) -> Result<(Arc<Door>, Behind<T>), Fail> {
-    let door = Arc::new(
-        alloc,
-        Door {
-            is_open: Mutex::new(false),
-            changed: Condvar::new(),
-        },
-    )?;
-    let theirs = Arc::try_clone(&door)?;
+fn shut<T: Abort + Wait + Copy + Drop>(rt: &T, alloc: Global) -> (Arc<Door>, Behind<T>) {
+    let shut = Door {
+        is_open: Mutex::new(false),
+        changed: Condvar::new(),
+    };
+    let door = Arc::new(alloc, shut).expect(rt, "no door");
+    let theirs = Arc::try_clone(&door).expect(rt, "no door");
     let tape = Tape::new(TEXT, false);
-    Ok((
-        door,
-        Behind {
-            rt: *rt,
-            door: theirs,
-            tape,
-        },
-    ))
+    let behind = Behind {
+        rt: *rt,
+        door: theirs,
+        tape,
+    };
+    (door, behind)
 }
 
 /// Where no thread can be had, the reader comes back, and there is nothing to try.
@@ -80,109 +76,157 @@ where
     Lookout::start(rt, alloc, reader).ok()
 }
 
-/// Reads by pieces of so many bytes, asking before each read or not, and compares what comes up to the end or
-/// the failure, which stays.
-fn reads<T>(
-    rt: &T,
-    alloc: Global,
-    tape: Tape<'static>,
-    piece: usize,
-    asks: bool,
-) -> Result<(), Fail>
+/// The lookout is ready, where it is asked.
+fn is_asked<R, T>(rt: &T, lookout: &Lookout<R, T>, asks: bool)
 where
+    R: Read + Drop + Send + 'static,
     T: Abort + Threads + Wait + Clock + Copy + Drop + Send + 'static,
 {
-    let failure = tape.failure;
-    let Some(mut lookout) = started(rt, alloc, tape) else {
-        return Ok(());
-    };
+    let is_ready = !asks || lookout.is_ready(PATIENCE);
+    same_at(rt, is_ready, true, "before a read");
+}
+
+/// Reads the text by pieces of so many bytes, asking before each read or not.
+fn text_by<R, T>(
+    rt: &T,
+    alloc: Global,
+    lookout: &mut Lookout<R, T>,
+    piece: usize,
+    asks: bool,
+) -> Vec<u8>
+where
+    R: Read + Drop + Send + 'static,
+    T: Abort + Threads + Wait + Clock + Copy + Drop + Send + 'static,
+{
     let mut text = Vec::new(alloc);
     let mut buf = [0; 16];
     for _ in 0..TEXT.len() {
-        if asks {
-            assert!(rt; lookout.is_ready(PATIENCE));
-        }
+        is_asked(rt, lookout, asks);
         let most = piece.min(buf.len());
-        let taken = lookout.read(&mut buf[..most]).ok().ok_or("a read failed")?;
-        text.extend_from_slice(&buf[..taken])?;
+        let taken = lookout
+            .read(&mut buf[..most])
+            .ok()
+            .expect(rt, "a read failed");
+        text.extend_from_slice(&buf[..taken]).expect(rt, "the text");
         if text.len() == TEXT.len() {
             break;
         }
     }
-    let is_whole = text.as_slice() == TEXT;
-    assert!(rt; is_whole, "{piece} {asks}");
-    for _ in 0..2 {
-        assert!(rt; !asks || lookout.is_ready(PATIENCE));
-        assert_eq!(rt; lookout.read(&mut []).ok(), Some(0));
-        match lookout.read(&mut buf) {
-            Ok(taken) => assert_eq!(rt; (taken, failure), (0, None), "{piece} {asks}"),
-            Err(error) => assert_eq!(rt; Some(error.kind()), failure, "{piece} {asks}"),
-        }
+    text
+}
+
+/// How many bytes a read takes, or how it fails.
+fn read_by<R, T>(lookout: &mut Lookout<R, T>, buf: &mut [u8]) -> Result<usize, ErrorKind>
+where
+    R: Read + Drop + Send + 'static,
+    T: Threads + Wait + Clock + Copy + Drop + Send + 'static,
+{
+    match lookout.read(buf) {
+        Ok(taken) => Ok(taken),
+        Err(error) => Err(error.kind()),
     }
-    Ok(())
+}
+
+/// Reads by pieces of so many bytes, asking before each read or not, and compares what comes up to the end or
+/// the failure, which stays.
+fn reads<T>(rt: &T, alloc: Global, tape: Tape<'static>, piece: usize, asks: bool)
+where
+    T: Abort + Threads + Wait + Clock + Copy + Drop + Send + 'static,
+{
+    let end = match tape.failure {
+        Some(kind) => Err(kind),
+        None => Ok(0),
+    };
+    let Some(mut lookout) = started(rt, alloc, tape) else {
+        return;
+    };
+    let text = text_by(rt, alloc, &mut lookout, piece, asks);
+    same_at(rt, text.as_slice(), TEXT, piece);
+    let mut buf = [0; 16];
+    for _ in 0..2 {
+        is_asked(rt, &lookout, asks);
+        same_at(rt, read_by(&mut lookout, &mut []), Ok(0), piece);
+        same_at(rt, read_by(&mut lookout, &mut buf), end, piece);
+    }
+}
+
+/// Reads each tape by pieces of so many bytes.
+fn reads_each<T>(rt: &T, alloc: Global, piece: usize, asks: bool)
+where
+    T: Abort + Threads + Wait + Clock + Copy + Drop + Send + 'static,
+{
+    reads(rt, alloc, Tape::new(TEXT, false), piece, asks);
+    reads(rt, alloc, Tape::by_steps(TEXT, 2), piece, asks);
+    reads(rt, alloc, Tape::new(TEXT, true), piece, asks);
+    let torn = Tape::torn(TEXT, ErrorKind::Interrupted);
+    reads(rt, alloc, torn, piece, asks);
 }
 
 #[test]
-fn what_is_read_ahead_is_read_once_and_in_order(rt: HostRuntime) -> Result<(), Fail> {
+fn what_is_read_ahead_is_read_once_and_in_order(rt: HostRuntime) {
     for piece in [1, 2, 4, 16] {
         for asks in [false, true] {
-            reads(&rt, rt.alloc(), Tape::new(TEXT, false), piece, asks)?;
-            reads(&rt, rt.alloc(), Tape::by_steps(TEXT, 2), piece, asks)?;
-            reads(&rt, rt.alloc(), Tape::new(TEXT, true), piece, asks)?;
-            let torn = Tape::torn(TEXT, ErrorKind::Interrupted);
-            reads(&rt, rt.alloc(), torn, piece, asks)?;
+            reads_each(&rt, rt.alloc(), piece, asks);
         }
     }
-    Ok(())
+}
+
+/// The lookout answers so, however long it may wait.
+fn answers<R, T>(rt: &T, lookout: &Lookout<R, T>, milliseconds: &[u64], is_ready: bool)
+where
+    R: Read + Drop + Send + 'static,
+    T: Abort + Threads + Wait + Clock + Copy + Drop + Send + 'static,
+{
+    for most in milliseconds {
+        same_at(rt, lookout.is_ready(*most), is_ready, *most);
+    }
 }
 
 #[test]
-fn a_read_that_waits_is_told_of(rt: HostRuntime) -> Result<(), Fail> {
-    let (door, reader) = shut(&rt, rt.alloc())?;
+fn a_read_that_waits_is_told_of(rt: HostRuntime) {
+    let (door, reader) = shut(&rt, rt.alloc());
     let Some(mut lookout) = started(&rt, rt.alloc(), reader) else {
-        return Ok(());
+        return;
     };
-    for milliseconds in [0, 1, 20] {
-        assert!(rt; !lookout.is_ready(milliseconds));
-    }
+    answers(&rt, &lookout, &[0, 1, 20], false);
     door.open(&rt);
-    for _ in 0..2 {
-        assert!(rt; lookout.is_ready(PATIENCE));
-    }
+    answers(&rt, &lookout, &[PATIENCE, PATIENCE], true);
     let mut buf = [0; 16];
-    assert_eq!(rt; lookout.read(&mut buf).ok(), Some(TEXT.len()));
-    assert_eq!(rt; &buf[..TEXT.len()], TEXT);
-    Ok(())
+    same_at(
+        &rt,
+        lookout.read(&mut buf).ok(),
+        Some(TEXT.len()),
+        "the bytes",
+    );
+    same_at(&rt, &buf[..TEXT.len()], TEXT, "the text");
 }
 
 #[test]
-fn a_read_waits_for_the_one_that_was_begun(rt: HostRuntime) -> Result<(), Fail> {
-    let (door, reader) = shut(&rt, rt.alloc())?;
+fn a_read_waits_for_the_one_that_was_begun(rt: HostRuntime) {
+    let (door, reader) = shut(&rt, rt.alloc());
     let Some(mut lookout) = started(&rt, rt.alloc(), reader) else {
-        return Ok(());
+        return;
     };
-    assert!(rt; !lookout.is_ready(20));
+    same_at(&rt, lookout.is_ready(20), false, "behind the door");
     let read = || {
         let mut buf = [0; 16];
         (lookout.read(&mut buf).ok(), buf)
     };
     // Where no thread is granted, the door is opened first.
     let ((taken, buf), _) = thread::join(&rt, read, || door.open(&rt));
-    assert_eq!(rt; taken, Some(TEXT.len()));
-    assert_eq!(rt; &buf[..TEXT.len()], TEXT);
-    Ok(())
+    same_at(&rt, taken, Some(TEXT.len()), "the bytes");
+    same_at(&rt, &buf[..TEXT.len()], TEXT, "the text");
 }
 
 #[test]
-fn a_client_may_go_while_its_looker_reads(rt: HostRuntime) -> Result<(), Fail> {
-    let (door, reader) = shut(&rt, rt.alloc())?;
+fn a_client_may_go_while_its_looker_reads(rt: HostRuntime) {
+    let (door, reader) = shut(&rt, rt.alloc());
     let Some(lookout) = started(&rt, rt.alloc(), reader) else {
-        return Ok(());
+        return;
     };
-    assert!(rt; !lookout.is_ready(20));
+    same_at(&rt, lookout.is_ready(20), false, "behind the door");
     drop(lookout);
     door.open(&rt);
-    Ok(())
 }
 
 /// What is looked out at an input with, which waits or doesn't.
@@ -198,19 +242,37 @@ where
     inflow_of(rt, alloc, inlet)
 }
 
+/// How it is looked out at an input.
+fn kind_of<R: Read, S: Read + Drop, T: Wait + Drop>(input: &Inflow<R, S, T>) -> &'static str {
+    match input {
+        Inflow::Prompt(_) => "prompt",
+        Inflow::Slow(_) => "slow",
+        Inflow::Watched(_) => "watched",
+    }
+}
+
+/// It is looked out so at an input that waits or doesn't, which gives the text.
+fn gives_text<T>(rt: &T, alloc: Global, waits: bool, kind: &str)
+where
+    T: Abort + Threads + Wait + Clock + Copy + Drop + Send + 'static,
+{
+    let mut input = inflow(rt, alloc, waits);
+    same_at(
+        rt,
+        kind_of(&input),
+        kind,
+        "was a thread or its memory refused?",
+    );
+    let mut buf = [0; 16];
+    same_at(rt, input.read(&mut buf).ok(), Some(TEXT.len()), "the bytes");
+    same_at(rt, &buf[..TEXT.len()], TEXT, "the text");
+}
+
 #[test]
-fn an_input_that_may_wait_gets_a_looker(rt: HostRuntime) -> Result<(), Fail> {
+fn an_input_that_may_wait_gets_a_looker(rt: HostRuntime) {
     if started(&rt, rt.alloc(), Tape::new(TEXT, false)).is_none() {
-        return Ok(());
+        return;
     }
-    let slow = inflow(&rt, rt.alloc(), true);
-    assert!(rt; matches!(slow, Inflow::Watched(_)));
-    let prompt = inflow(&rt, rt.alloc(), false);
-    assert!(rt; matches!(prompt, Inflow::Prompt(_)));
-    for mut input in [slow, prompt] {
-        let mut buf = [0; 16];
-        assert_eq!(rt; input.read(&mut buf).ok(), Some(TEXT.len()));
-        assert_eq!(rt; &buf[..TEXT.len()], TEXT);
-    }
-    Ok(())
+    gives_text(&rt, rt.alloc(), true, "watched");
+    gives_text(&rt, rt.alloc(), false, "prompt");
 }

@@ -1,12 +1,12 @@
+use crate::compare::same_at;
 use serve_report::progress::{Board, Line};
 use std::process::Abort;
-use std::test::Fail;
 use test_tools::Room;
 
 /// Compares what was written since the last time, and in how many writes.
 fn shows(rt: &impl Abort, screen: &mut Room, text: &str, writes: u64) {
     let shown = (str::from_utf8(&screen.taken).ok(), screen.writes);
-    assert_eq!(rt; shown, (Some(text), writes), "was memory refused?");
+    same_at(rt, shown, (Some(text), writes), "was memory refused?");
     screen.taken.clear();
     screen.writes = 0;
 }
@@ -17,14 +17,24 @@ fn shows_line(rt: &impl Abort, screen: &mut Room, line: &str) {
         .ok()
         .map(|text| text.trim_end_matches(' '));
     let shown = (text, screen.taken.len(), screen.writes);
-    assert_eq!(rt; shown, (Some(line), 64, 1), "was memory refused?");
+    same_at(rt, shown, (Some(line), 64, 1), "was memory refused?");
     screen.taken.clear();
     screen.writes = 0;
 }
 
+/// Compares how many writes were made at a moment.
+fn writes_at(rt: &impl Abort, screen: &Room, writes: u64, time: u64) {
+    same_at(
+        rt,
+        screen.writes,
+        writes,
+        format_args!("{time}: was memory refused?"),
+    );
+}
+
 /// 50 frames of 1920x1080 4:2:0, with their lines, at 25 a second, and then twenty more.
 #[test]
-fn the_line_of_a_stream_alone_has_the_frames_and_two_rates(rt: HostRuntime) -> Result<(), Fail> {
+fn the_line_of_a_stream_alone_has_the_frames_and_two_rates(rt: HostRuntime) {
     let line = Line::new();
     let mut screen = Room::endless(rt.alloc());
     line.add_written(50, 50 * 3_110_406);
@@ -38,11 +48,10 @@ fn the_line_of_a_stream_alone_has_the_frames_and_two_rates(rt: HostRuntime) -> R
     line.draw(&mut screen, 2_800);
     let text = "\r70 frames, 25.0 frames/s, 77 MB/s";
     shows_line(&rt, &mut screen, text);
-    Ok(())
 }
 
 #[test]
-fn a_line_that_was_drawn_is_ended_by_a_last_one(rt: HostRuntime) -> Result<(), Fail> {
+fn a_line_that_was_drawn_is_ended_by_a_last_one(rt: HostRuntime) {
     let line = Line::new();
     let mut screen = Room::endless(rt.alloc());
     line.draw_last(&mut screen, Some(99));
@@ -55,36 +64,35 @@ fn a_line_that_was_drawn_is_ended_by_a_last_one(rt: HostRuntime) -> Result<(), F
     line.draw_last(&mut screen, Some(0));
     let text = "\r0 frames, 0.0 frames/s, 0 MB/s                                 \n";
     shows(&rt, &mut screen, text, 2);
-    Ok(())
 }
 
 /// A moment, and how many writes of the line of a stream alone are made at it.
 const LINE_DUE: &[(u64, u64)] = &[(99, 0), (130, 1), (229, 0), (20, 0), (230, 1), (329, 0)];
 
 #[test]
-fn a_line_is_due_ten_times_a_second(rt: HostRuntime) -> Result<(), Fail> {
+fn a_line_is_due_ten_times_a_second(rt: HostRuntime) {
     let line = Line::new();
     let mut screen = Room::endless(rt.alloc());
     line.add_written(1, 10);
     for (time, writes) in LINE_DUE {
         line.draw(&mut screen, *time);
-        assert_eq!(rt; screen.writes, *writes, "was memory refused?");
+        writes_at(&rt, &screen, *writes, *time);
         screen.writes = 0;
     }
-    Ok(())
 }
 
 #[test]
-fn a_line_has_a_stream_s_name_and_both_counts(rt: HostRuntime) -> Result<(), Fail> {
-    let board = Board::new(rt.alloc(), &["0123456789abcdefghijklmnopqrstuv"])?;
+fn a_line_has_a_stream_s_name_and_both_counts(rt: HostRuntime) {
+    let board = Board::new(rt.alloc(), &["0123456789abcdefghijklmnopqrstuv"]).expect(
+        &rt, "no board",
+    );
     let mut screen = Room::endless(rt.alloc());
     board.add_read(0, 16_777_216);
     board.add_written(0, 16_777_216);
     board.draw(&mut screen, 200);
     let longest = "0123456789abcdefghijklmnopqrstuv frames in 16777216 out 16777216\x1B[K\n";
-    assert_eq!(rt; longest.len(), 64 + 4);
+    same_at(&rt, longest.len(), 64 + 4, "the longest line");
     shows(&rt, &mut screen, longest, 1);
-    Ok(())
 }
 
 /// A moment, and how many writes are made at it.
@@ -99,20 +107,19 @@ const DUE: &[(u64, u64)] = &[
 ];
 
 #[test]
-fn lines_are_due_five_times_a_second(rt: HostRuntime) -> Result<(), Fail> {
-    let board = Board::new(rt.alloc(), &["soft"])?;
+fn lines_are_due_five_times_a_second(rt: HostRuntime) {
+    let board = Board::new(rt.alloc(), &["soft"]).expect(&rt, "no board");
     let mut screen = Room::endless(rt.alloc());
     for (time, writes) in DUE {
         board.draw(&mut screen, *time);
-        assert_eq!(rt; screen.writes, *writes, "was memory refused?");
+        writes_at(&rt, &screen, *writes, *time);
         screen.writes = 0;
     }
-    Ok(())
 }
 
 #[test]
-fn lines_are_drawn_over_those_before(rt: HostRuntime) -> Result<(), Fail> {
-    let board = Board::new(rt.alloc(), &["a", "back"])?;
+fn lines_are_drawn_over_those_before(rt: HostRuntime) {
+    let board = Board::new(rt.alloc(), &["a", "back"]).expect(&rt, "no board");
     let mut screen = Room::endless(rt.alloc());
     board.add_read(0, 3);
     board.draw(&mut screen, 199);
@@ -132,17 +139,15 @@ fn lines_are_drawn_over_those_before(rt: HostRuntime) -> Result<(), Fail> {
     board.draw_last(&mut screen);
     let last = "\x1B[2Aa frames in 3 out 3\x1B[K\nback frames in 1 out 1\x1B[K\n";
     shows(&rt, &mut screen, last, 1);
-    Ok(())
 }
 
 #[test]
-fn a_short_run_draws_nothing(rt: HostRuntime) -> Result<(), Fail> {
-    let board = Board::new(rt.alloc(), &["a"])?;
+fn a_short_run_draws_nothing(rt: HostRuntime) {
+    let board = Board::new(rt.alloc(), &["a"]).expect(&rt, "no board");
     let mut screen = Room::endless(rt.alloc());
     board.add_read(0, 1);
     board.add_read(1, 1);
     board.draw(&mut screen, 20);
     board.draw_last(&mut screen);
     shows(&rt, &mut screen, "", 0);
-    Ok(())
 }

@@ -1,10 +1,10 @@
 use super::memory::NoFiles;
 use super::{Run, all_run, says, words_of, written};
+use crate::compare::same_at;
 use serve_report::main_on;
 use std::alloc::Global;
 use std::process::Abort;
 use std::sync::Wait;
-use std::test::Fail;
 use std::thread::Threads;
 use std::time::Clock;
 use test_tools::Narrow;
@@ -73,20 +73,12 @@ const WRONG_WORDS: &[(&str, &str)] = &[
 ];
 
 #[test]
-fn wrong_words_are_told(rt: HostRuntime) -> Result<(), Fail> {
+fn wrong_words_are_told(rt: HostRuntime) {
     for (line, said) in WRONG_WORDS {
-        let left = says(
-            &rt,
-            rt.alloc(),
-            line,
-            b"".as_slice(),
-            &mut [0; 256],
-            said,
-            2,
-        )?;
-        assert_eq!(rt; left, 256, "{line}");
+        let empty = b"".as_slice();
+        let left = says(&rt, rt.alloc(), line, empty, &mut [0; 256], said, 2);
+        same_at(&rt, left, 256, *line);
     }
-    Ok(())
 }
 
 #[test]
@@ -106,8 +98,10 @@ fn no_words_are_wrong_words(rt: HostRuntime) {
         &NoFiles,
     );
     let left = rest.len();
-    assert_eq!(rt; status, 2);
-    assert!(rt; written(&errors, left).starts_with(b"error: 'y4mserve' requires a subcommand"));
+    same_at(&rt, status, 2, "the status");
+    let front = b"error: 'y4mserve' requires a subcommand";
+    let said = written(&errors, left).get(..front.len());
+    same_at(&rt, said, Some(front.as_slice()), "what is said");
 }
 
 const TALL: &[u8] = b"YUV4MPEG2 W1 H16384 Cmono\n";
@@ -128,8 +122,8 @@ const RIGHT_WORDS: &[Run<'_>] = &[
 ];
 
 #[test]
-fn words_that_are_right_are_followed(rt: HostRuntime) -> Result<(), Fail> {
-    all_run(&rt, rt.alloc(), RIGHT_WORDS)
+fn words_that_are_right_are_followed(rt: HostRuntime) {
+    all_run(&rt, rt.alloc(), RIGHT_WORDS);
 }
 
 /// Asks for help, and compares the front of what comes.
@@ -139,15 +133,15 @@ fn helps(
     line: &str,
     front: &str,
     words: &[&str],
-) -> Result<(), Fail> {
+) {
     let mut room = [0; 16384];
-    let left = says(rt, alloc, line, b"".as_slice(), &mut room, "", 0)?;
-    let text = str::from_utf8(written(&room, left))?;
-    assert!(rt; text.starts_with(front), "{line}");
+    let left = says(rt, alloc, line, b"".as_slice(), &mut room, "", 0);
+    let text = str::from_utf8(written(&room, left)).expect(rt, line);
+    same_at(rt, text.starts_with(front), true, line);
     for word in words {
-        assert!(rt; text.contains(*word), "{line}: {word}");
+        let place = format_args!("{line}: {word}");
+        same_at(rt, text.contains(*word), true, place);
     }
-    Ok(())
 }
 
 /// The operations and the faults of a stream, of which the page of `filter` speaks.
@@ -272,25 +266,17 @@ const HELPS: &[(&str, &str, &[&str])] = &[
 ];
 
 #[test]
-fn each_help_is_a_page_to_work_from(rt: HostRuntime) -> Result<(), Fail> {
+fn each_help_is_a_page_to_work_from(rt: HostRuntime) {
     for (line, front, words) in HELPS {
-        helps(&rt, rt.alloc(), line, front, words)?;
+        helps(&rt, rt.alloc(), line, front, words);
     }
-    Ok(())
 }
 
 #[test]
-fn help_that_is_not_taken_is_told(rt: HostRuntime) -> Result<(), Fail> {
-    says(
-        &rt,
-        rt.alloc(),
-        "--version",
-        b"".as_slice(),
-        &mut [0; 5],
-        "y4mserve: write\n",
-        1,
-    )?;
-    Ok(())
+fn help_that_is_not_taken_is_told(rt: HostRuntime) {
+    let empty = b"".as_slice();
+    let said = "y4mserve: write\n";
+    says(&rt, rt.alloc(), "--version", empty, &mut [0; 5], said, 1);
 }
 
 /// Words, and in how many writes the program says what is wrong, and writes what it gives.
@@ -303,9 +289,9 @@ const LINES: &[(&str, (u64, u64))] = &[
 ];
 
 #[test]
-fn what_is_said_goes_out_in_one_write(rt: HostRuntime) -> Result<(), Fail> {
+fn what_is_said_goes_out_in_one_write(rt: HostRuntime) {
     for (line, lines) in LINES {
-        let words = words_of(rt.alloc(), line)?;
+        let words = words_of(rt.alloc(), line).expect(&rt, line);
         let mut errors = Narrow::new(usize::MAX, None);
         let mut output = Narrow::new(usize::MAX, None);
         main_on(
@@ -317,7 +303,6 @@ fn what_is_said_goes_out_in_one_write(rt: HostRuntime) -> Result<(), Fail> {
             &mut errors,
             &NoFiles,
         );
-        assert_eq!(rt; (errors.writes, output.writes), *lines, "{line}");
+        same_at(&rt, (errors.writes, output.writes), *lines, *line);
     }
-    Ok(())
 }

@@ -1,11 +1,11 @@
 //! Runs of `serve`.
 use super::memory::{Given, Made, Memory};
 use super::{words_of, written};
+use crate::compare::same_at;
 use serve_report::{Unwatched, Watch, run_on};
-use std::alloc::{AllocError, Global};
+use std::alloc::Global;
 use std::process::Abort;
 use std::sync::Wait;
-use std::test::Fail;
 use std::thread::Threads;
 use std::time::Clock;
 
@@ -66,8 +66,8 @@ fn runs_in<
     watch: &V,
     report: &mut [u8],
     errors: &mut [u8],
-) -> Result<(u8, usize, usize), AllocError> {
-    let words = words_of(alloc, line)?;
+) -> (u8, usize, usize) {
+    let words = words_of(alloc, line).expect(rt, line);
     let mut room = report;
     let mut rest = errors;
     let status = run_on(
@@ -80,7 +80,7 @@ fn runs_in<
         files,
         watch,
     );
-    Ok((status, room.len(), rest.len()))
+    (status, room.len(), rest.len())
 }
 
 /// Runs the program with these words and files, and compares what it reports and says, and its status.
@@ -90,25 +90,18 @@ pub fn serves<R: Abort + Threads + Wait + Clock + Copy + Drop + Send + Sync + 's
     line: &str,
     files: &Memory<'_, R>,
     expected: Expected<'_>,
-) -> Result<(), Fail> {
-    serves_under(rt, alloc, line, files, &Unwatched, expected)
+) {
+    serves_under(rt, alloc, line, files, &Unwatched, expected);
 }
 
 /// The same, under a watch.
 pub fn serves_under<
     R: Abort + Threads + Wait + Clock + Copy + Drop + Send + Sync + 'static,
     V: Watch + Sync,
->(
-    rt: &R,
-    alloc: Global,
-    line: &str,
-    files: &Memory<'_, R>,
-    watch: &V,
-    expected: Expected<'_>,
-) -> Result<(), Fail> {
+>(rt: &R, alloc: Global, line: &str, files: &Memory<'_, R>, watch: &V, expected: Expected<'_>) {
     let mut faults = [0; 512];
     let mut lines = [0; 8192];
-    let (status, left, unsaid) = runs_in(rt, alloc, line, files, watch, &mut lines, &mut faults)?;
+    let (status, left, unsaid) = runs_in(rt, alloc, line, files, watch, &mut lines, &mut faults);
     let report = str::from_utf8(written(&lines, left)).ok();
     let said = str::from_utf8(written(&faults, unsaid)).ok();
     let wanted = (
@@ -116,15 +109,13 @@ pub fn serves_under<
         Some(expected.report),
         expected.status,
     );
-    assert_eq!(rt; (said, report, status), wanted, "{line}");
-    Ok(())
+    same_at(rt, (said, report, status), wanted, line);
 }
 
 /// Compares what was written to a file.
 pub fn holds<R: Abort + Wait>(rt: &R, file: &Made<'_>, text: &[u8]) {
-    let name = file.name;
     let kept = file.text.lock(rt);
-    assert_eq!(rt; kept.as_slice(), text, "{name}");
+    same_at(rt, kept.as_slice(), text, file.name);
 }
 
 /// Runs the two streams from these inputs; the writer of the first takes so many bytes.
@@ -135,17 +126,16 @@ pub fn serves_two<R: Abort + Threads + Wait + Clock + Copy + Drop + Send + Sync 
     most: usize,
     a_text: &[u8],
     expected: Expected<'_>,
-) -> Result<(), Fail> {
+) {
     let inputs = [a, given("b.y4m", B)];
     let outputs = [
         Made::new(alloc, "a.out", most),
         Made::new(alloc, "b.out", 4096),
     ];
     let files = Memory::new(rt, &inputs, &outputs);
-    serves(rt, alloc, TWO, &files, expected)?;
+    serves(rt, alloc, TWO, &files, expected);
     holds(rt, &outputs[0], a_text);
     holds(rt, &outputs[1], B_TURNED);
-    Ok(())
 }
 
 const HEADER: &[u8] = b"YUV4MPEG2 W2 H2 F25:1 Ip A1:1 Cmono XA=b\n";
@@ -167,27 +157,20 @@ const SERVED: &[(&[u8], &[u8], &str)] = &[
 ];
 
 #[test]
-fn two_streams_are_served_at_once(rt: HostRuntime) -> Result<(), Fail> {
+fn two_streams_are_served_at_once(rt: HostRuntime) {
     for (text, written, report) in SERVED {
         let expected = Expected {
             report,
             errors: "",
             status: 0,
         };
-        serves_two(
-            &rt,
-            rt.alloc(),
-            given("a.y4m", text),
-            4096,
-            written,
-            expected,
-        )?;
+        let input = given("a.y4m", text);
+        serves_two(&rt, rt.alloc(), input, 4096, written, expected);
     }
-    Ok(())
 }
 
 #[test]
-fn a_crop_has_a_header_of_its_own_and_a_blur_costs_more(rt: HostRuntime) -> Result<(), Fail> {
+fn a_crop_has_a_header_of_its_own_and_a_blur_costs_more(rt: HostRuntime) {
     let inputs = [given("a.y4m", A)];
     let outputs = [Made::new(rt.alloc(), "a.out", 4096)];
     let files = Memory::new(&rt, &inputs, &outputs);
@@ -199,8 +182,7 @@ fn a_crop_has_a_header_of_its_own_and_a_blur_costs_more(rt: HostRuntime) -> Resu
     };
     // A crop costs 1 and a blur of radius 2 costs 3.
     let line = "serve --band 2 --quantum 1 a:a.y4m:a.out:10:40:crop:0,0,1,1+blur:2";
-    serves(&rt, rt.alloc(), line, &files, expected)?;
+    serves(&rt, rt.alloc(), line, &files, expected);
     let text = b"YUV4MPEG2 W1 H1 Cmono\nFRAME\n\x00FRAME\n\x10FRAME\n\x7F";
     holds(&rt, &outputs[0], text);
-    Ok(())
 }

@@ -1,6 +1,7 @@
 //! A stream that is filtered by one thread, or by two.
 use super::memory::NoFiles;
 use super::words_of;
+use crate::compare::same_at;
 use serve_report::main_on;
 use std::alloc::{AllocError, Global};
 use std::io::{self, Read, Write};
@@ -8,7 +9,6 @@ use std::process::Abort;
 use std::sync::Wait;
 use std::sync::atomic::AtomicU64;
 use std::sync::atomic::Ordering::SeqCst;
-use std::test::Fail;
 use std::thread::Threads;
 use std::time::Clock;
 use test_tools::{Parts, Tape};
@@ -130,9 +130,9 @@ fn course_of<T: Abort + Threads + Wait + Clock + Copy + Drop + Send + Sync + 'st
     line: &str,
     header: &[u8],
     samples: usize,
-) -> Result<(u32, bool), Fail> {
-    let text = two_frames(alloc, header, samples)?;
-    let words = words_of(alloc, line)?;
+) -> (u32, bool) {
+    let text = two_frames(alloc, header, samples).expect(rt, line);
+    let words = words_of(alloc, line).expect(rt, line);
     let course = Course::new((text.len() as u64).saturating_sub(samples as u64));
     let input = reader_of(&course, &text);
     let mut output = Waiting {
@@ -144,32 +144,29 @@ fn course_of<T: Abort + Threads + Wait + Clock + Copy + Drop + Send + Sync + 'st
     let mut faults = [0; 64];
     let mut errors = faults.as_mut_slice();
     let status = main_on(rt, alloc, &words, input, &mut output, &mut errors, &NoFiles);
-    assert_eq!(rt; (status, output.written), (0, text.len()), "NoMemory?");
-    Ok((course.parts.met(), course.reads_first()))
+    same_at(rt, (status, output.written), (0, text.len()), "NoMemory?");
+    (course.parts.met(), course.reads_first())
 }
 
 #[test]
-fn one_thread_reads_a_frame_behind_an_image(rt: HostRuntime) -> Result<(), Fail> {
+fn one_thread_reads_a_frame_behind_an_image(rt: HostRuntime) {
     let line = "filter --threads 1 invert";
-    let course = course_of(&rt, rt.alloc(), line, LARGE, LARGE_SAMPLES)?;
-    assert_eq!(rt; course, (1, false), "{line}");
-    Ok(())
+    let course = course_of(&rt, rt.alloc(), line, LARGE, LARGE_SAMPLES);
+    same_at(&rt, course, (1, false), line);
 }
 
 #[test]
-fn two_threads_read_a_frame_beside_an_image(rt: HostRuntime) -> Result<(), Fail> {
+fn two_threads_read_a_frame_beside_an_image(rt: HostRuntime) {
     for line in ["filter --threads 2 invert", "filter invert"] {
-        let (met, _) = course_of(&rt, rt.alloc(), line, LARGE, LARGE_SAMPLES)?;
-        assert_eq!(rt; met, 2, "was a thread or its memory refused?");
+        let (met, _) = course_of(&rt, rt.alloc(), line, LARGE, LARGE_SAMPLES);
+        same_at(&rt, met, 2, "was a thread or its memory refused?");
     }
-    Ok(())
 }
 
 #[test]
-fn two_threads_read_a_small_frame_behind_an_image(rt: HostRuntime) -> Result<(), Fail> {
+fn two_threads_read_a_small_frame_behind_an_image(rt: HostRuntime) {
     for line in ["filter --threads 2 invert", "filter invert"] {
-        let course = course_of(&rt, rt.alloc(), line, SMALL, SMALL_SAMPLES)?;
-        assert_eq!(rt; course, (1, false), "{line}");
+        let course = course_of(&rt, rt.alloc(), line, SMALL, SMALL_SAMPLES);
+        same_at(&rt, course, (1, false), line);
     }
-    Ok(())
 }

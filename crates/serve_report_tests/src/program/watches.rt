@@ -1,5 +1,6 @@
 use super::memory::NoFiles;
 use super::{words_of, written};
+use crate::compare::same_at;
 use serve_report::{Watch, run_on};
 use std::alloc::Global;
 use std::io::Read;
@@ -7,7 +8,6 @@ use std::process::Abort;
 use std::sync::Wait;
 use std::sync::atomic::AtomicU64;
 use std::sync::atomic::Ordering::SeqCst;
-use std::test::Fail;
 use std::thread::Threads;
 use std::time::Clock;
 use test_tools::Tape;
@@ -148,8 +148,8 @@ fn watched<R: Read + Drop + Send>(
     watch: &Told<'_>,
     said: &str,
     status: u8,
-) -> Result<usize, Fail> {
-    let words = words_of(alloc, line)?;
+) -> usize {
+    let words = words_of(alloc, line).expect(rt, line);
     let mut faults = [0; 256];
     let mut rest = faults.as_mut_slice();
     let mut output = [0; 8192];
@@ -159,22 +159,21 @@ fn watched<R: Read + Drop + Send>(
     );
     let left = rest.len();
     let told = str::from_utf8(written(&faults, left)).ok();
-    assert_eq!(rt; (told, answer), (Some(said), status), "{line}");
-    Ok(8192 - room.len().min(8192))
+    same_at(rt, (told, answer), (Some(said), status), line);
+    8192 - room.len().min(8192)
 }
 
 /// 3 frames of 6 bytes; a header of 16, and lines of 6, 9 and 6.
 const THREE: &[u8] = b"YUV4MPEG2 W2 H2\nFRAME\n123456FRAME Ip\n\nFRAMEFRAME\nabcdef";
 
 #[test]
-fn a_terminal_is_no_output_of_filter(rt: HostRuntime) -> Result<(), Fail> {
+fn a_terminal_is_no_output_of_filter(rt: HostRuntime) {
     let watch = Told::new(true, true);
     let mut input = Tape::by_steps(THREE, 99);
     let line = "filter invert";
     let said = "y4mserve: output is a terminal\n";
-    let count = watched(&rt, rt.alloc(), line, &mut input, &watch, said, 2)?;
-    assert_eq!(rt; (count, input.reads, watch.asked()), (0, 0, 1));
-    Ok(())
+    let count = watched(&rt, rt.alloc(), line, &mut input, &watch, said, 2);
+    same_at(&rt, (count, input.reads, watch.asked()), (0, 0, 1), line);
 }
 
 /// Words and an input, what is said, the status, and how much is written.
@@ -185,16 +184,16 @@ const BEFORE: &[(&str, &[u8], &str, u8, usize)] = &[
 ];
 
 #[test]
-fn wrong_words_and_help_come_before_terminals(rt: HostRuntime) -> Result<(), Fail> {
+fn wrong_words_and_help_come_before_terminals(rt: HostRuntime) {
     let watch = Told::new(true, true);
     for (line, input, said, status, count) in BEFORE {
-        let given = watched(&rt, rt.alloc(), line, *input, &watch, said, *status)?;
-        assert_eq!(rt; given, *count, "{line}");
+        let given = watched(&rt, rt.alloc(), line, *input, &watch, said, *status);
+        same_at(&rt, given, *count, *line);
     }
     let empty = b"".as_slice();
-    let count = watched(&rt, rt.alloc(), "filter --help", empty, &watch, "", 0)?;
-    assert!(rt; count > 0 && watch.asked() == 0, "{count} bytes");
-    Ok(())
+    let line = "filter --help";
+    let count = watched(&rt, rt.alloc(), line, empty, &watch, "", 0);
+    same_at(&rt, (count.min(1), watch.asked()), (1, 0), line);
 }
 
 const AWAITED: &[(&str, &str)] = &[
@@ -207,26 +206,24 @@ const AWAITED: &[(&str, &str)] = &[
 ];
 
 #[test]
-fn a_terminal_that_is_awaited_is_told_once(rt: HostRuntime) -> Result<(), Fail> {
+fn a_terminal_that_is_awaited_is_told_once(rt: HostRuntime) {
     let watch = Told::new(true, false);
     for (line, said) in AWAITED {
-        let count = watched(&rt, rt.alloc(), line, THREE, &watch, said, 0)?;
-        assert_eq!(rt; count, THREE.len(), "{line}");
+        let count = watched(&rt, rt.alloc(), line, THREE, &watch, said, 0);
+        same_at(&rt, count, THREE.len(), *line);
     }
-    Ok(())
 }
 
 #[test]
-fn each_frame_is_told_however_it_comes(rt: HostRuntime) -> Result<(), Fail> {
+fn each_frame_is_told_however_it_comes(rt: HostRuntime) {
     for most in [1, 5, 16, 22, 99] {
         let watch = Told::new(false, false);
         let input = Tape::by_steps(THREE, most);
-        let count = watched(&rt, rt.alloc(), "filter vflip", input, &watch, "", 0)?;
+        let count = watched(&rt, rt.alloc(), "filter vflip", input, &watch, "", 0);
         let told = (count, watch.asked(), watch.frames(0), watch.ended());
         let whole = THREE.len();
-        assert_eq!(rt; told, (whole, 1, (3, 3, whole as u64), 1), "{most} bytes");
+        same_at(&rt, told, (whole, 1, (3, 3, whole as u64), 1), most);
     }
-    Ok(())
 }
 
 /// The same without its last byte.
@@ -273,12 +270,11 @@ const FOLLOWED: &[(&str, &[u8], &str, u8, usize, Frames, u64)] = &[
 ];
 
 #[test]
-fn frames_are_told_as_they_are_written(rt: HostRuntime) -> Result<(), Fail> {
+fn frames_are_told_as_they_are_written(rt: HostRuntime) {
     for (line, input, said, status, count, frames, ended) in FOLLOWED {
         let watch = Told::new(false, false);
-        let given = watched(&rt, rt.alloc(), line, *input, &watch, said, *status)?;
+        let given = watched(&rt, rt.alloc(), line, *input, &watch, said, *status);
         let told = (given, watch.asked(), watch.frames(0), watch.ended());
-        assert_eq!(rt; told, (*count, 1, *frames, *ended), "{line}");
+        same_at(&rt, told, (*count, 1, *frames, *ended), *line);
     }
-    Ok(())
 }

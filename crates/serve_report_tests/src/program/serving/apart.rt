@@ -1,8 +1,13 @@
 //! Whether the files of a run are told apart.
 use super::{A, A_INVERTED, Expected, given, holds, serves};
+use crate::compare::same_at;
 use crate::program::memory::{Made, Memory};
 use serve_report::{FileId, Place};
-use std::test::Fail;
+use std::alloc::Global;
+use std::process::Abort;
+use std::sync::Wait;
+use std::thread::Threads;
+use std::time::Clock;
 
 const ONE: FileId = FileId {
     device: 1,
@@ -131,24 +136,35 @@ const REFUSED: &[(&str, Places, &str, u8)] = &[
     ),
 ];
 
+/// Runs the program with these words, where no file can be opened or made, and sees how many are asked for.
+fn asks_for<R: Abort + Threads + Wait + Clock + Copy + Drop + Send + Sync + 'static>(
+    rt: &R,
+    alloc: Global,
+    line: &str,
+    places: Places,
+    expected: Expected<'_>,
+    count: u64,
+) {
+    let files = Memory {
+        places,
+        ..Memory::new(rt, &[], &[])
+    };
+    serves(rt, alloc, line, &files, expected);
+    let asked = *files.asked.lock(rt);
+    same_at(rt, asked, count, line);
+}
+
 #[test]
-fn files_that_clash_are_refused(rt: HostRuntime) -> Result<(), Fail> {
+fn files_that_clash_are_refused(rt: HostRuntime) {
     for (line, places, fault, status) in REFUSED {
-        let files = Memory {
-            places,
-            ..Memory::new(&rt, &[], &[])
-        };
-        let errors = format!(in rt.alloc(); "y4mserve: {fault}\n")?;
+        let errors = format!(in rt.alloc(); "y4mserve: {fault}\n").expect(&rt, line);
         let expected = Expected {
             report: "",
             errors: errors.as_str(),
             status: *status,
         };
-        serves(&rt, rt.alloc(), line, &files, expected)?;
-        let asked = *files.asked.lock(&rt);
-        assert_eq!(rt; asked, 0, "{line}");
+        asks_for(&rt, rt.alloc(), line, places, expected, 0);
     }
-    Ok(())
 }
 
 /// What stands behind the names of two streams that are served.
@@ -176,8 +192,16 @@ const SERVED: &[Places] = &[
     ],
 ];
 
+/// Two streams of one film.
+const BOTH: Expected<'_> = Expected {
+    report: "a accepted 3 delivered 3 charged 3 stop whole\n\
+             b accepted 3 delivered 3 charged 3 stop whole\nunits 6\n",
+    errors: "",
+    status: 0,
+};
+
 #[test]
-fn one_film_is_read_by_two_streams(rt: HostRuntime) -> Result<(), Fail> {
+fn one_film_is_read_by_two_streams(rt: HostRuntime) {
     let line = "serve a:film:a.out:1:2:invert b:film:b.out:1:2:invert";
     let inputs = [given("film", A)];
     for places in SERVED {
@@ -189,20 +213,17 @@ fn one_film_is_read_by_two_streams(rt: HostRuntime) -> Result<(), Fail> {
             places,
             ..Memory::new(&rt, &inputs, &outputs)
         };
-        let expected = Expected {
-            report: "a accepted 3 delivered 3 charged 3 stop whole\n\
-                     b accepted 3 delivered 3 charged 3 stop whole\nunits 6\n",
-            errors: "",
-            status: 0,
-        };
-        serves(&rt, rt.alloc(), line, &files, expected)?;
-        // Two files are opened, and two made.
+        serves(&rt, rt.alloc(), line, &files, BOTH);
         let asked = *files.asked.lock(&rt);
-        assert_eq!(rt; asked, 4);
+        same_at(
+            &rt,
+            asked,
+            4,
+            "two files that are opened, and two that are made",
+        );
         holds(&rt, &outputs[0], A_INVERTED);
         holds(&rt, &outputs[1], A_INVERTED);
     }
-    Ok(())
 }
 
 /// Words, what stands behind their names, and the report.
@@ -224,20 +245,13 @@ const STOPPED: &[(&str, Places, &str)] = &[
 ];
 
 #[test]
-fn files_that_do_not_clash_are_asked_for(rt: HostRuntime) -> Result<(), Fail> {
+fn files_that_do_not_clash_are_asked_for(rt: HostRuntime) {
     for (line, places, report) in STOPPED {
-        let files = Memory {
-            places,
-            ..Memory::new(&rt, &[], &[])
-        };
         let expected = Expected {
             report,
             errors: "",
             status: 1,
         };
-        serves(&rt, rt.alloc(), line, &files, expected)?;
-        let asked = *files.asked.lock(&rt);
-        assert_eq!(rt; asked, 2, "{line}");
+        asks_for(&rt, rt.alloc(), line, places, expected, 2);
     }
-    Ok(())
 }

@@ -1,10 +1,10 @@
 //! What is checked of the words before any file is opened.
 use super::{Expected, serves};
+use crate::compare::same_at;
 use crate::program::memory::Memory;
 use std::alloc::{AllocError, Global};
 use std::process::Abort;
 use std::sync::Wait;
-use std::test::Fail;
 use std::thread::Threads;
 use std::time::Clock;
 
@@ -15,17 +15,16 @@ fn refuses<R: Abort + Threads + Wait + Clock + Copy + Drop + Send + Sync + 'stat
     line: &str,
     errors: &str,
     status: u8,
-) -> Result<(), Fail> {
+) {
     let files = Memory::new(rt, &[], &[]);
     let expected = Expected {
         report: "",
         errors,
         status,
     };
-    serves(rt, alloc, line, &files, expected)?;
+    serves(rt, alloc, line, &files, expected);
     let asked = *files.asked.lock(rt);
-    assert_eq!(rt; asked, 0, "{line}");
-    Ok(())
+    same_at(rt, asked, 0, line);
 }
 
 /// Words, what is said of them, and the status.
@@ -100,11 +99,10 @@ const REFUSED: &[(&str, &str, u8)] = &[
 ];
 
 #[test]
-fn words_are_checked_in_order(rt: HostRuntime) -> Result<(), Fail> {
+fn words_are_checked_in_order(rt: HostRuntime) {
     for (line, said, status) in REFUSED {
-        refuses(&rt, rt.alloc(), line, said, *status)?;
+        refuses(&rt, rt.alloc(), line, said, *status);
     }
-    Ok(())
 }
 
 const BAD_WORDS: &[&str] = &[
@@ -127,19 +125,21 @@ fn refuses_word<R: Abort + Threads + Wait + Clock + Copy + Drop + Send + Sync + 
     rt: &R,
     alloc: Global,
     word: &str,
-) -> Result<(), Fail> {
-    let line = format!(in alloc; "serve {word}")?;
-    let said = format!(in alloc; "y4mserve: bad stream {word}\n")?;
-    refuses(rt, alloc, line.as_str(), said.as_str(), 2)
+) {
+    let line = format!(in alloc; "serve {word}").expect(rt, word);
+    let said = format!(in alloc; "y4mserve: bad stream {word}\n").expect(rt, word);
+    refuses(rt, alloc, line.as_str(), said.as_str(), 2);
 }
 
 #[test]
-fn a_stream_word_has_six_parts(rt: HostRuntime) -> Result<(), Fail> {
+fn a_stream_word_has_six_parts(rt: HostRuntime) {
     for word in BAD_WORDS {
-        refuses_word(&rt, rt.alloc(), word)?;
+        refuses_word(&rt, rt.alloc(), word);
     }
-    let long = "0123456789".repeat(rt.alloc(), 20)?;
-    refuses_word(&rt, rt.alloc(), long.as_str())
+    let long = "0123456789"
+        .repeat(rt.alloc(), 20)
+        .expect(&rt, "a long word");
+    refuses_word(&rt, rt.alloc(), long.as_str());
 }
 
 /// Words for so many streams, none of which has a form.
@@ -159,10 +159,9 @@ const MANY: &[(&str, u64, &str)] = &[
 ];
 
 #[test]
-fn there_are_at_most_64_streams(rt: HostRuntime) -> Result<(), Fail> {
+fn there_are_at_most_64_streams(rt: HostRuntime) {
     for (front, count, said) in MANY {
-        let line = formless(rt.alloc(), front, *count)?;
-        refuses(&rt, rt.alloc(), line.as_str(), said, 2)?;
+        let line = formless(rt.alloc(), front, *count).expect(&rt, front);
+        refuses(&rt, rt.alloc(), line.as_str(), said, 2);
     }
-    Ok(())
 }

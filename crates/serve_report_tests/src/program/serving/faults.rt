@@ -1,10 +1,10 @@
 //! Streams that stop, while another goes on.
 use super::{A, A_INVERTED, B, B_TURNED, Expected, TWO, given, holds, serves, serves_two};
+use crate::compare::same_at;
 use crate::program::memory::{Given, Made, Memory};
 use std::alloc::Global;
 use std::process::Abort;
 use std::sync::Wait;
-use std::test::Fail;
 use std::thread::Threads;
 use std::time::Clock;
 use test_tools::streams::{CUT, ONE, WIDER};
@@ -56,23 +56,22 @@ const STOPPED: &[Stopped<'_>] = &[
 ];
 
 #[test]
-fn a_fault_stops_its_own_stream(rt: HostRuntime) -> Result<(), Fail> {
+fn a_fault_stops_its_own_stream(rt: HostRuntime) {
     for (text, fails, most, end, row, units) in STOPPED {
         let input = Given {
             name: "a.y4m",
             text,
             fails: *fails,
         };
-        let report = format!(in rt.alloc(); "a {row}{OTHER}units {units}\n")?;
+        let report = format!(in rt.alloc(); "a {row}{OTHER}units {units}\n").expect(&rt, row);
         let expected = Expected {
             report: report.as_str(),
             errors: "",
             status: 1,
         };
-        let images = A_INVERTED.get(..*end).ok_or("the images")?;
-        serves_two(&rt, rt.alloc(), input, *most, images, expected)?;
+        let images = A_INVERTED.get(..*end).expect(&rt, row);
+        serves_two(&rt, rt.alloc(), input, *most, images, expected);
     }
-    Ok(())
 }
 
 /// Runs two streams of which the first stops before the session; its output is not made.
@@ -82,27 +81,26 @@ fn stops_early<R: Abort + Threads + Wait + Clock + Copy + Drop + Send + Sync + '
     word: &str,
     text: &[u8],
     stop: &str,
-) -> Result<(), Fail> {
+) {
+    let line = format!(in alloc; "serve --band 2 {word} b:b.y4m:b.out:1:2:hflip+vflip");
+    let line = line.expect(rt, word);
+    let front = "a accepted 0 delivered 0 charged 0 stop";
+    let report = format!(in alloc; "{front} {stop}{OTHER}units 6\n").expect(rt, word);
     let inputs = [given("a.y4m", text), given("b.y4m", B)];
     let outputs = [
         Made::new(alloc, "a.out", 4096),
         Made::new(alloc, "b.out", 4096),
     ];
     let files = Memory::new(rt, &inputs, &outputs);
-    let line = format!(in alloc; "serve --band 2 {word} b:b.y4m:b.out:1:2:hflip+vflip")?;
-    let other = OTHER;
-    let front = "a accepted 0 delivered 0 charged 0 stop";
-    let report = format!(in alloc; "{front} {stop}{other}units 6\n")?;
     let expected = Expected {
         report: report.as_str(),
         errors: "",
         status: 1,
     };
-    serves(rt, alloc, line.as_str(), &files, expected)?;
+    serves(rt, alloc, line.as_str(), &files, expected);
     let is_made = *outputs[0].is_made.lock(rt);
-    assert!(rt; !is_made, "{word}");
+    same_at(rt, is_made, false, word);
     holds(rt, &outputs[1], B_TURNED);
-    Ok(())
 }
 
 const CROP: &str = "a:a.y4m:a.out:1:2:crop:0,0,4,4";
@@ -128,15 +126,14 @@ const EARLY: &[(&str, &[u8], &str)] = &[
 ];
 
 #[test]
-fn a_stream_that_stops_before_its_output_makes_none(rt: HostRuntime) -> Result<(), Fail> {
+fn a_stream_that_stops_before_its_output_makes_none(rt: HostRuntime) {
     for (word, text, stop) in EARLY {
-        stops_early(&rt, rt.alloc(), word, text, stop)?;
+        stops_early(&rt, rt.alloc(), word, text, stop);
     }
-    Ok(())
 }
 
 #[test]
-fn no_stream_may_be_left(rt: HostRuntime) -> Result<(), Fail> {
+fn no_stream_may_be_left(rt: HostRuntime) {
     let files = Memory::new(&rt, &[], &[]);
     let report = "a accepted 0 delivered 0 charged 0 stop open\n\
                   b accepted 0 delivered 0 charged 0 stop open\n\
@@ -146,5 +143,5 @@ fn no_stream_may_be_left(rt: HostRuntime) -> Result<(), Fail> {
         errors: "",
         status: 1,
     };
-    serves(&rt, rt.alloc(), TWO, &files, expected)
+    serves(&rt, rt.alloc(), TWO, &files, expected);
 }

@@ -2,7 +2,8 @@
 use super::{Expected, given, holds, serves};
 use crate::program::memory::{Made, Memory};
 use std::alloc::{AllocError, Global};
-use std::test::Fail;
+use std::process::Abort;
+use std::sync::Wait;
 
 /// How many streams there are.
 const STREAMS: u64 = 64;
@@ -30,6 +31,23 @@ fn names(alloc: Global) -> Result<Vec<String>, AllocError> {
     Ok(names)
 }
 
+/// The files that are made.
+fn outputs_of<'a>(rt: &impl Abort, alloc: Global, names: &'a [String]) -> Vec<Made<'a>> {
+    let mut outputs = Vec::new(alloc);
+    for name in names {
+        let output = Made::new(alloc, name.as_str(), 4096);
+        outputs.push(output).ok().expect(rt, "was memory refused?");
+    }
+    outputs
+}
+
+/// Each file holds this text.
+fn each_holds<R: Abort + Wait>(rt: &R, outputs: &[Made<'_>], text: &[u8]) {
+    for file in outputs {
+        holds(rt, file, text);
+    }
+}
+
 /// The words, and what is reported.
 fn words_and_report(alloc: Global) -> Result<(String, String), AllocError> {
     let mut line = String::from_str(alloc, "serve --workers 16")?;
@@ -45,25 +63,19 @@ fn words_and_report(alloc: Global) -> Result<(String, String), AllocError> {
 }
 
 #[test]
-fn sixty_four_streams_share_sixteen_workers(rt: HostRuntime) -> Result<(), Fail> {
-    let names = names(rt.alloc())?;
-    let mut outputs = Vec::new(rt.alloc());
-    for name in &names {
-        outputs.push(Made::new(rt.alloc(), name.as_str(), 4096))?;
-    }
-    let text = text_of(rt.alloc(), 0x10)?;
+fn sixty_four_streams_share_sixteen_workers(rt: HostRuntime) {
+    let text = text_of(rt.alloc(), 0x10).expect(&rt, "the text");
+    let inverted = text_of(rt.alloc(), 0xEF).expect(&rt, "the images");
+    let (line, report) = words_and_report(rt.alloc()).expect(&rt, "the words");
+    let names = names(rt.alloc()).expect(&rt, "the names");
+    let outputs = outputs_of(&rt, rt.alloc(), names.as_slice());
     let inputs = [given("in.y4m", text.as_slice())];
     let files = Memory::new(&rt, &inputs, outputs.as_slice());
-    let (line, report) = words_and_report(rt.alloc())?;
     let expected = Expected {
         report: report.as_str(),
         errors: "",
         status: 0,
     };
-    serves(&rt, rt.alloc(), line.as_str(), &files, expected)?;
-    let inverted = text_of(rt.alloc(), 0xEF)?;
-    for file in &outputs {
-        holds(&rt, file, inverted.as_slice());
-    }
-    Ok(())
+    serves(&rt, rt.alloc(), line.as_str(), &files, expected);
+    each_holds(&rt, outputs.as_slice(), inverted.as_slice());
 }

@@ -2,12 +2,12 @@
 ghost use Rattle.std.specs.Prelude.{⊤};
 
 use super::{A, A_INVERTED, B, B_TURNED, TWO, given, holds};
+use crate::compare::same_at;
 use crate::program::memory::{Made, Memory, Output};
 use crate::program::{words_of, written};
 use serve_report::{Files, Inlet, Place, main_on};
 use std::io;
 use std::sync::Wait;
-use std::test::Fail;
 use test_tools::{Parts, Tape};
 
 /// Files of which each input is opened once the other's opening has begun.
@@ -44,8 +44,15 @@ impl<'a, T: Wait + Sync> Files for Meeting<'a, T> {
     }
 }
 
+const REFUSED: &str = "was a thread or its memory refused?";
+
+/// The report has the words' order.
+const REPORT: &str = "a accepted 3 delivered 3 charged 3 stop whole\n\
+                      b accepted 3 delivered 3 charged 6 stop whole\nunits 9\n";
+
 #[test]
-fn streams_are_opened_side_by_side(rt: HostRuntime) -> Result<(), Fail> {
+fn streams_are_opened_side_by_side(rt: HostRuntime) {
+    let words = words_of(rt.alloc(), TWO).expect(&rt, TWO);
     let inputs = [given("a.y4m", A), given("b.y4m", B)];
     let outputs = [
         Made::new(rt.alloc(), "a.out", 4096),
@@ -55,7 +62,6 @@ fn streams_are_opened_side_by_side(rt: HostRuntime) -> Result<(), Fail> {
         files: Memory::new(&rt, &inputs, &outputs),
         parts: Parts::new(),
     };
-    let words = words_of(rt.alloc(), TWO)?;
     let (mut room, mut faults) = ([0; 256], [0; 64]);
     let (mut report, mut errors) = (room.as_mut_slice(), faults.as_mut_slice());
     let input = b"".as_slice();
@@ -69,17 +75,10 @@ fn streams_are_opened_side_by_side(rt: HostRuntime) -> Result<(), Fail> {
         &files,
     );
     let left = report.len();
-    assert_eq!(rt; status, 0, "was a thread or its memory refused?");
-    // The report has the words' order.
-    assert_eq!(rt;
-        str::from_utf8(written(&room, left)).ok(),
-        Some(
-            "a accepted 3 delivered 3 charged 3 stop whole\n\
-             b accepted 3 delivered 3 charged 6 stop whole\nunits 9\n"
-        )
-    );
+    same_at(&rt, status, 0, REFUSED);
+    let report = str::from_utf8(written(&room, left)).ok();
+    same_at(&rt, report, Some(REPORT), "the report");
     holds(&rt, &outputs[0], A_INVERTED);
     holds(&rt, &outputs[1], B_TURNED);
-    assert_eq!(rt; files.parts.met(), 2, "was a thread or its memory refused?");
-    Ok(())
+    same_at(&rt, files.parts.met(), 2, REFUSED);
 }

@@ -1,6 +1,7 @@
 //! Streams that share one worker, and which of them is served first.
 ghost use Rattle.std.specs.Prelude.{⊤};
 
+use crate::compare::same_at;
 use crate::program::{words_of, written};
 use serve_report::{Files, Inlet, Place, main_on};
 use std::alloc::Global;
@@ -9,7 +10,6 @@ use std::process::Abort;
 use std::sync::Wait;
 use std::sync::atomic::Ordering::SeqCst;
 use std::sync::atomic::{AtomicBool, AtomicU64};
-use std::test::Fail;
 use std::thread::{self, Threads};
 use std::time::Clock;
 
@@ -199,8 +199,8 @@ fn runs<T: Abort + Threads + Wait + Clock + Copy + Drop + Send + Sync + 'static>
     alloc: Global,
     line: &str,
     pair: &Pair,
-) -> Result<u64, Fail> {
-    let words = words_of(alloc, line)?;
+) -> u64 {
+    let words = words_of(alloc, line).expect(rt, line);
     let (mut room, mut faults) = ([0; 256], [0; 64]);
     let (mut report, mut errors) = (room.as_mut_slice(), faults.as_mut_slice());
     let input = b"".as_slice();
@@ -214,14 +214,13 @@ fn runs<T: Abort + Threads + Wait + Clock + Copy + Drop + Send + Sync + 'static>
         &Both(pair),
     );
     let left = report.len();
-    assert_eq!(rt; status, 0, "was a thread or its memory refused?");
+    same_at(rt, status, 0, "was a thread or its memory refused?");
     let rows = str::from_utf8(written(&room, left)).ok();
-    assert!(rt;
-        rows.is_some_and(|rows| rows.contains("stop whole")),
-        "{line}"
-    );
-    assert!(rt; !pair.is_early.load(SeqCst), "the first took too long");
-    Ok(pair.seen.load(SeqCst))
+    let is_whole = rows.is_some_and(|rows| rows.contains("stop whole"));
+    same_at(rt, is_whole, true, line);
+    let is_early = pair.is_early.load(SeqCst);
+    same_at(rt, is_early, false, "the first took too long");
+    pair.seen.load(SeqCst)
 }
 
 /// Runs both streams again and again, and sees that often enough at most so many images of the second were
@@ -233,21 +232,18 @@ fn counts_at_most<T: Abort + Threads + Wait + Clock + Copy + Drop + Send + Sync 
     frames: [u64; 2],
     begins_at: u64,
     most: u64,
-) -> Result<(), Fail> {
+) {
     let mut few = 0u32;
     for _ in 0..TRIES {
         let pair = Pair::new(frames, begins_at);
-        let seen = runs(rt, alloc, line, &pair)?;
+        let seen = runs(rt, alloc, line, &pair);
         few = few.saturating_add(u32::from(seen <= most));
         if few >= ENOUGH {
             break;
         }
     }
-    assert!(rt;
-        few >= ENOUGH,
-        "{line}: {few} runs with at most {most} images of the second"
-    );
-    Ok(())
+    let place = format_args!("{line}: runs with at most {most} images of the second");
+    same_at(rt, few, ENOUGH, place);
 }
 
 /// Words of which the first stream has 24 times the share of the second, in either order. A frame costs 32.
@@ -259,11 +255,10 @@ const SHARES: &[&str] = &[
 /// When the first ends, all of the second's images are there where their shares are equal, and two where each
 /// always has a frame waiting; other work on the machine may make them more.
 #[test]
-fn who_has_the_greater_share_is_served_first(rt: HostRuntime) -> Result<(), Fail> {
+fn who_has_the_greater_share_is_served_first(rt: HostRuntime) {
     for line in SHARES {
-        counts_at_most(&rt, rt.alloc(), line, [48, 48], 0, 24)?;
+        counts_at_most(&rt, rt.alloc(), line, [48, 48], 0, 24);
     }
-    Ok(())
 }
 
 /// Words whose budgets last for all frames, while too few moments pass for an idle stream to begin anew: each
@@ -276,9 +271,8 @@ const PERIODS: &[&str] = &[
 /// The second comes when 12 frames or more were offered. So its deadline is the later one, by two moments at
 /// least, and it is served where the first has no frame waiting. Had no moment passed, it would go first.
 #[test]
-fn who_comes_later_has_the_later_deadline(rt: HostRuntime) -> Result<(), Fail> {
+fn who_comes_later_has_the_later_deadline(rt: HostRuntime) {
     for line in PERIODS {
-        counts_at_most(&rt, rt.alloc(), line, [24, 12], 12, 3)?;
+        counts_at_most(&rt, rt.alloc(), line, [24, 12], 12, 3);
     }
-    Ok(())
 }

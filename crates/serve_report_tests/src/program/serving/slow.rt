@@ -4,7 +4,6 @@ use crate::program::memory::{Given, Made, Memory};
 use std::alloc::Global;
 use std::process::Abort;
 use std::sync::Wait;
-use std::test::Fail;
 use std::thread::Threads;
 use std::time::Clock;
 use test_tools::streams::ONE;
@@ -16,7 +15,7 @@ fn serves_two_slowly<R: Abort + Threads + Wait + Clock + Copy + Drop + Send + Sy
     a: Given<'static>,
     a_text: &[u8],
     expected: Expected<'_>,
-) -> Result<(), Fail> {
+) {
     let inputs = [a, given("b.y4m", B)];
     let outputs = [
         Made::new(alloc, "a.out", 4096),
@@ -26,28 +25,26 @@ fn serves_two_slowly<R: Abort + Threads + Wait + Clock + Copy + Drop + Send + Sy
         slow: &inputs,
         ..Memory::new(rt, &[], &outputs)
     };
-    serves(rt, alloc, TWO, &files, expected)?;
+    serves(rt, alloc, TWO, &files, expected);
     holds(rt, &outputs[0], a_text);
     holds(rt, &outputs[1], B_TURNED);
-    Ok(())
 }
 
 #[test]
-fn inputs_that_may_wait_are_served_as_others_are(rt: HostRuntime) -> Result<(), Fail> {
+fn inputs_that_may_wait_are_served_as_others_are(rt: HostRuntime) {
     for (text, written, report) in SERVED {
         let expected = Expected {
             report,
             errors: "",
             status: 0,
         };
-        serves_two_slowly(&rt, rt.alloc(), given("a.y4m", text), written, expected)?;
+        serves_two_slowly(&rt, rt.alloc(), given("a.y4m", text), written, expected);
     }
-    Ok(())
 }
 
 /// A looker reads ahead of the client, which has the frame before it has the fault.
 #[test]
-fn a_fault_of_an_input_that_may_wait_comes_behind_its_frames(rt: HostRuntime) -> Result<(), Fail> {
+fn a_fault_of_an_input_that_may_wait_comes_behind_its_frames(rt: HostRuntime) {
     let input = Given {
         name: "a.y4m",
         text: ONE,
@@ -59,6 +56,6 @@ fn a_fault_of_an_input_that_may_wait_comes_behind_its_frames(rt: HostRuntime) ->
         errors: "",
         status: 1,
     };
-    let images = A_INVERTED.get(..32).ok_or("the images")?;
-    serves_two_slowly(&rt, rt.alloc(), input, images, expected)
+    let images = A_INVERTED.get(..32).expect(&rt, "the images");
+    serves_two_slowly(&rt, rt.alloc(), input, images, expected);
 }

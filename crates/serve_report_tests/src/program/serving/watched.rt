@@ -1,11 +1,11 @@
 //! What a watch is told of streams that are served at once.
 use super::{A, Expected, TWO, given, serves_under};
+use crate::compare::same_at;
 use crate::program::memory::{Made, Memory};
 use crate::program::watches::Told;
 use std::alloc::Global;
 use std::process::Abort;
 use std::sync::Wait;
-use std::test::Fail;
 use std::thread::Threads;
 use std::time::Clock;
 
@@ -37,7 +37,7 @@ fn serves_two_under(
     watch: &Told<'_>,
     report: &str,
     status: u8,
-) -> Result<(), Fail> {
+) {
     let inputs = [given(first, A), given("b.y4m", ONE)];
     let outputs = [
         Made::new(alloc, "a.out", 4096),
@@ -49,45 +49,50 @@ fn serves_two_under(
         errors: "",
         status,
     };
-    serves_under(rt, alloc, line, &files, watch, expected)
+    serves_under(rt, alloc, line, &files, watch, expected);
 }
 
 #[test]
-fn frames_are_told_as_those_of_their_stream(rt: HostRuntime) -> Result<(), Fail> {
+fn frames_are_told_as_those_of_their_stream(rt: HostRuntime) {
     let watch = Told::of_streams(&["a", "b"]);
-    serves_two_under(&rt, rt.alloc(), TWO, "a.y4m", &watch, BOTH, 0)?;
+    serves_two_under(&rt, rt.alloc(), TWO, "a.y4m", &watch, BOTH, 0);
     let wanted = (1, (3, 3, 22 + 3 * (6 + 4)), (1, 1, 22 + 6 + 4), 1);
-    assert_eq!(rt; said_to(&watch), wanted);
-    Ok(())
+    same_at(&rt, said_to(&watch), wanted, "the watch");
 }
 
 #[test]
-fn a_stream_keeps_its_number_where_one_before_it_stops(rt: HostRuntime) -> Result<(), Fail> {
+fn a_stream_keeps_its_number_where_one_before_it_stops(rt: HostRuntime) {
     let watch = Told::of_streams(&["a", "b"]);
     let report = "a accepted 0 delivered 0 charged 0 stop open\n\
                   b accepted 1 delivered 1 charged 2 stop whole\nunits 2\n";
-    serves_two_under(&rt, rt.alloc(), TWO, "elsewhere", &watch, report, 1)?;
-    assert_eq!(rt; said_to(&watch), (1, (0, 0, 0), (1, 1, 32), 1));
-    Ok(())
+    serves_two_under(&rt, rt.alloc(), TWO, "elsewhere", &watch, report, 1);
+    let wanted = (1, (0, 0, 0), (1, 1, 32), 1);
+    same_at(&rt, said_to(&watch), wanted, "the watch");
 }
 
 #[test]
-fn nothing_is_told_of_a_quiet_run_or_to_a_watch_that_follows_none(
-    rt: HostRuntime,
-) -> Result<(), Fail> {
+fn nothing_is_told_of_a_quiet_run_or_to_a_watch_that_follows_none(rt: HostRuntime) {
     let quiet = "serve -q --workers 2 a:a.y4m:a.out:1:2:invert b:b.y4m:b.out:1:2:hflip+vflip";
-    for (line, watch) in [
-        (quiet, Told::of_streams(&["a", "b"])),
-        (TWO, Told::of_none(&["a", "b"])),
-    ] {
-        serves_two_under(&rt, rt.alloc(), line, "a.y4m", &watch, BOTH, 0)?;
-        assert_eq!(rt; said_to(&watch), (0, (0, 0, 0), (0, 0, 0), 0));
-    }
-    Ok(())
+    tells_nothing(&rt, rt.alloc(), quiet, &Told::of_streams(&["a", "b"]));
+    tells_nothing(&rt, rt.alloc(), TWO, &Told::of_none(&["a", "b"]));
 }
 
+/// Serves two streams, and sees that the watch is told nothing.
+fn tells_nothing(
+    rt: &(impl Abort + Threads + Wait + Clock + Copy + Drop + Send + Sync + 'static),
+    alloc: Global,
+    line: &str,
+    watch: &Told<'_>,
+) {
+    serves_two_under(rt, alloc, line, "a.y4m", watch, BOTH, 0);
+    same_at(rt, said_to(watch), NOTHING, line);
+}
+
+/// What a watch is told that is told nothing.
+const NOTHING: Said = (0, (0, 0, 0), (0, 0, 0), 0);
+
 #[test]
-fn no_stream_begins_where_the_words_are_wrong(rt: HostRuntime) -> Result<(), Fail> {
+fn no_stream_begins_where_the_words_are_wrong(rt: HostRuntime) {
     let watch = Told::of_streams(&["a", "b"]);
     let files = Memory::new(&rt, &[], &[]);
     let expected = Expected {
@@ -96,7 +101,6 @@ fn no_stream_begins_where_the_words_are_wrong(rt: HostRuntime) -> Result<(), Fai
         status: 2,
     };
     let line = "serve a:a.y4m:a.out:1:2:blur:9";
-    serves_under(&rt, rt.alloc(), line, &files, &watch, expected)?;
-    assert_eq!(rt; said_to(&watch), (0, (0, 0, 0), (0, 0, 0), 0));
-    Ok(())
+    serves_under(&rt, rt.alloc(), line, &files, &watch, expected);
+    same_at(&rt, said_to(&watch), NOTHING, line);
 }
