@@ -69,8 +69,8 @@ const STREAMS: &[Run<'_>] = &[
     // A header alone gives the header alone.
     (
         "filter invert",
-        b"YUV4MPEG2 W2 H1 Cmono\n",
-        b"YUV4MPEG2 W2 H1 Cmono\n",
+        b"YUV4MPEG2 W2 H2 F25:1 Ip A1:1 Cmono XA=b\n",
+        b"YUV4MPEG2 W2 H2 F25:1 Ip A1:1 Cmono XA=b\n",
         "",
         0,
     ),

@@ -1,7 +1,9 @@
 //! Streams that stop, while another goes on.
-use super::{A, A_INVERTED, B, B_TURNED, Expected, TWO, given, holds, serves, serves_two};
+use super::{A, A_INVERTED, B, B_TURNED, Expected, TWO, given, holds, runs_in, serves, serves_two};
 use crate::compare::same_at;
 use crate::program::memory::{Given, Made, Memory};
+use crate::program::written;
+use serve_report::Unwatched;
 use std::alloc::Global;
 use std::process::Abort;
 use std::sync::Wait;
@@ -144,4 +146,36 @@ fn no_stream_may_be_left(rt: HostRuntime) {
         status: 1,
     };
     serves(&rt, rt.alloc(), TWO, &files, expected);
+}
+
+/// There is room for the first five bytes of the report. Both streams are whole by then.
+#[test]
+fn a_report_that_is_not_taken_is_told(rt: HostRuntime) {
+    let inputs = [given("a.y4m", A), given("b.y4m", B)];
+    let outputs = [
+        Made::new(rt.alloc(), "a.out", 4096),
+        Made::new(rt.alloc(), "b.out", 4096),
+    ];
+    let files = Memory::new(&rt, &inputs, &outputs);
+    let (mut lines, mut faults) = ([0; 5], [0; 64]);
+    let (status, left, unsaid) = runs_in(
+        &rt,
+        rt.alloc(),
+        TWO,
+        &files,
+        &Unwatched,
+        &mut lines,
+        &mut faults,
+    );
+    let said = str::from_utf8(written(&faults, unsaid)).ok();
+    same_at(&rt, (said, status), (Some("y4mserve: write\n"), 1), TWO);
+    same_at(&rt, (lines, left), (*b"a acc", 0), "the report");
+    was_given(&rt, &outputs[0], A_INVERTED);
+    was_given(&rt, &outputs[1], B_TURNED);
+}
+
+/// The file was given this text, where no memory was refused: nothing else tells so here.
+fn was_given<R: Abort + Wait>(rt: &R, file: &Made<'_>, text: &[u8]) {
+    let kept = file.text.lock(rt);
+    same_at(rt, kept.as_slice(), text, "was memory refused?");
 }
