@@ -28,7 +28,8 @@ place_of m s = length (filter (λ x. not (is_released m.clock x)) (take s m.stre
 module _ {F G : Type 0} (measures : SizeTest F) (is_image : ImageRelation F G) where
   -- the transcript q, of a setup of the streams that aren't released after p, leads to where p does, without
   -- the others. To each stream of q the very same happened as in p, and it gave the same images
-  pub record IsRetired (setup : Setup) (p : Transcript F G) (alone : Setup) (q : Transcript F G) : Type 0 where
+  pub record IsRetired (setup : Setup) (p : Transcript F G) (alone : Setup) (q : Transcript F G)
+      : Type 0 where
     pub is_setup : IsSetup alone
     pub legal : IsLegal measures is_image alone q
     pub state : state_of alone q ≡ retired (state_of setup p)

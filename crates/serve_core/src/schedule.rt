@@ -1,7 +1,7 @@
 //! The streams, what each worker holds, and the pool of the streams that are ready.
 ghost use Rattle.std.specs.Prelude.{◌≡◌, ◌≢◌, ◌≤◌, ◌<◌, ◌^◌, ◌↔◌, Bool, Some, None, length, slice_get};
-ghost use Rattle.std.specs.Prelude.{filter, not, replicate, vec_len, slice_set, IsTrue, IsFalse, IsSome, IsSomeAnd, MatchOption, IfOk, IfErr};
-ghost use Rattle.std.specs.Prelude.{IfSome, IfNone, OnOk, option_copied};
+ghost use Rattle.std.specs.Prelude.{filter, not, replicate, vec_len, slice_set, IsTrue, IsFalse, IsSome};
+ghost use Rattle.std.specs.Prelude.{IsSomeAnd, MatchOption, IfOk, IfErr, IfSome, IfNone, OnOk, option_copied};
 ghost use Rattle.std.specs.Arc.{arc_value};
 ghost use Rattle.cbs_account.specs.Admission.{Fits};
 ghost use Rattle.edf_pool.specs.Earliest.{IsEarliest};

@@ -24,9 +24,9 @@ pub fn released_law()
 {}
 
 /// Where no worker holds a lease after a legal transcript, and a stream isn't released, there is a legal
-/// transcript of a setup of the streams alone that aren't: it leads to the same state without the others, to each
-/// of these streams the very same happened, and it gave the same images. So what is reached is reached without
-/// the released streams; and a stream that stays is found under its new number.
+/// transcript of a setup of the streams alone that aren't: it leads to the same state without the others, to
+/// each of these streams the very same happened, and it gave the same images. So what is reached is reached
+/// without the released streams; and a stream that stays is found under its new number.
 pub fn retire_law()
     ensures of_frames { RetiredLaw measures is_image }
     ensures bare { RetiredLaw measures_any is_any_image }
