@@ -3,6 +3,7 @@
 mod admissions;
 mod calls;
 mod clients;
+mod ends;
 mod epochs;
 mod full;
 mod hubs;

@@ -2,9 +2,8 @@
 ghost use Rattle.std.specs.Prelude.{◌≡◌};
 ghost use Rattle.serve_core.specs.Schedule.{opened_schedule};
 
-use super::seated::{
-    Left, again_after, ended_after, followed, left_after, left_by, left_of, seated_of,
-};
+use super::ends::{Left, again_after, ended_after, followed, left_after, left_by, left_of};
+use super::seated::seated_of;
 use super::steps::Answer::{
     Accepted, AcceptedAt, Admitted, Closed, Given, Refused, SpecBack, Worked,
 };

@@ -1,7 +1,8 @@
 //! Hubs that go on in further epochs.
 ghost use Rattle.std.specs.Prelude.{◌≡◌};
 
-use super::seated::{Seated, again_after, ended_after, followed};
+use super::ends::{again_after, ended_after, followed};
+use super::seated::Seated;
 use super::steps::Answer::{Full, Given, Refused, Worked};
 use super::steps::Call::{Collect, IsFull, Work};
 use super::steps::{CLOSED, FIFTEEN_FRAMES, Step};

@@ -2,8 +2,9 @@
 ghost use Rattle.std.specs.Prelude.{◌≡◌};
 ghost use Rattle.serve_core.specs.Schedule.{opened_schedule};
 
+use super::ends::{Left, followed, left_after, left_of};
 use super::leases::{BLURRED, ONE_BAND};
-use super::seated::{Left, Seated, followed, left_after, left_of, seated_after};
+use super::seated::{Seated, seated_after};
 use super::steps::{Answer, CLOSED, Call, FIFTEEN_FRAMES, SEVEN_LEASES, Step, TWELVE_FRAMES};
 use super::{Core, PLAIN, frame_of, same, setup_of, stepped, told};
 use frame_view::Frame;

@@ -5,7 +5,8 @@ ghost use Rattle.lease.specs.Job.{JobValue};
 ghost use Rattle.serve_core.specs.Desk.{IsFreshFor};
 ghost use Rattle.serve_core.specs.Streams.{IsFresh};
 
-use super::seated::{Seated, left_after};
+use super::ends::left_after;
+use super::seated::Seated;
 use super::steps::Answer::{Accepted, Closed, Given, Refused, Returned, Worked};
 use super::steps::Call::{Close, Collect, Offer, OfferOver, Work};
 use super::steps::{Answer, Step, follow};

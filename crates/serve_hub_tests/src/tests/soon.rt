@@ -1,5 +1,5 @@
 //! Images that clients wait for where they come soon, and journals that are full.
-use super::seated::left_after;
+use super::ends::left_after;
 use super::steps::Answer::{Accepted, Closed, Full, Given, Refused, Worked};
 use super::steps::Call::{Close, CollectSoon, IsFull, Offer, Work};
 use super::steps::{Step, TWELVE_FRAMES};

@@ -4,7 +4,8 @@ ghost use Rattle.serve_core.specs.Schedule.{opened_schedule};
 ghost use Rattle.std.specs.Thread.{IsSend, IsSync};
 
 use super::clients::{Client, Frames};
-use super::seated::{Seated, reopened_of, seated_of};
+use super::ends::reopened_of;
+use super::seated::{Seated, seated_of};
 use super::{PLAIN, Served, same, same_at, setup_of, stepped};
 use serve_core::Setup;
 use serve_hub::{Ended, Epoch, Hub, LeaseRefused, Refusal, StreamSeat, WorkSeat};

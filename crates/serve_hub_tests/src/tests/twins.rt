@@ -3,7 +3,8 @@ ghost use Rattle.std.specs.Prelude.{◌≡◌};
 ghost use Rattle.serve_core.specs.Schedule.{opened_schedule};
 
 use super::calls::after_one_frame;
-use super::seated::{Seated, followed, seated_after};
+use super::ends::followed;
+use super::seated::{Seated, seated_after};
 use super::steps::{AFTER_CLOSE, Answer, CLOSED, FIRST_FRAME, FIRST_IMAGE};
 use super::{Core, PLAIN, same, same_list, setup_of, stepped, told};
 use serve_core::Setup;

@@ -1,5 +1,5 @@
 use Rattle.serve_core.specs.Schedule.{opened_schedule}
-use Rattle.serve_hub_tests.proofs.tests.seated.ended_after.Given as goal
+use Rattle.serve_hub_tests.proofs.tests.ends.ended_after.Given as goal
 
 abbrev pub ghosts-first_after-L-Ledger : goal.ghosts-first_after-L-Ledger
 ghosts-first_after-L-Ledger g a = record { name = a.blank.name; parts = a.blank.parts }
