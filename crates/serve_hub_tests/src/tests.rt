@@ -9,6 +9,7 @@ mod full;
 mod hubs;
 mod jobs;
 mod leases;
+mod missing;
 mod newcomers;
 mod replayed;
 mod retired;

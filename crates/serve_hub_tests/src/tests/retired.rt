@@ -16,8 +16,8 @@ use std::sync::Wait;
 use std::sync::ledger::Blank;
 use std::test::Fail;
 
-/// What a hub of four streams leaves at moment 9, two of which are released then: the first, whose deadline is
-/// 8, and the last, which had no frame.
+/// What a hub of four streams leaves at moment 9, two of which are released then: the first, whose deadline
+/// is 8, and the last, which had no frame.
 fn first_epoch<L: Epoch, R: Wait + Abort>(
     rt: &R,
     alloc: Global,
@@ -77,6 +77,7 @@ fn two_streams_go_on_without_two(rt: HostRuntime) -> Result<(), Fail> {
     let setup = setup_of(alloc, 1, &[PLAIN, PLAIN, PLAIN, PLAIN])?;
     let ended = first_epoch::<Brand, _>(&rt, alloc, Blank::new(80), setup)?;
     same(&rt, (ended.clock(), ended.journal().len()), (9, 11));
+    same(&rt, who_stay(&ended), [false, true, true, false, false]);
     let Ok(Retired { ended, journal }) = ended.retire(alloc) else {
         return Err("not retired".into());
     };
@@ -92,6 +93,17 @@ fn two_streams_go_on_without_two(rt: HostRuntime) -> Result<(), Fail> {
     let ended = next_epoch::<Brand, _>(&rt, alloc, Blank::new(80), ended)?;
     same(&rt, (ended.clock(), ended.journal().len()), (9, 8));
     Ok(())
+}
+
+/// Which of five numbers are of streams that stay. No stream has the last.
+fn who_stay(ended: &Ended) -> [bool; 5] {
+    [
+        ended.stays(0),
+        ended.stays(1),
+        ended.stays(2),
+        ended.stays(3),
+        ended.stays(4),
+    ]
 }
 
 /// What a hub leaves whose only stream is closed.
