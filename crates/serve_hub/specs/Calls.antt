@@ -251,6 +251,14 @@ FinishesOther lease (Torn (came.Number n)) old new =
     (n ≢ lease.number) × IsOutcome lease (settled.Finished n) × Settles lease (settled.Finished n) old new
 FinishesOther lease e old new = ⊥
 
+-- which refusals a worker is told that gives this lease back
+abbrev pub IsSettleRefusal : WorkSeatValue → LeaseValue → Refusal → Type 0
+IsSettleRefusal seat lease (Core e) = (e ≡ cores.NoWorker) ⊎ (e ≡ cores.NoLease)
+IsSettleRefusal seat lease StrayLease = ⊤
+IsSettleRefusal seat lease (Torn (came.Limit limit)) = limit ≢ seat.calls.limit
+IsSettleRefusal seat lease (Torn (came.Number n)) = n ≢ lease.number
+IsSettleRefusal seat lease e = ⊥
+
 -- why a settlement is refused. The lease doesn't come back where it was settled after all
 abbrev pub IsSettleRefused : LeaseValue → LeaseRefused → (old new : WorkSeatValue) → Type 0
 IsSettleRefused lease e old new =

@@ -1,7 +1,7 @@
 //! The seat of a worker.
 ghost use Rattle.std.specs.Prelude.{◌≡◌, ◌≢◌, ◌↔◌, IfErr, IfOk, IsTrue, MatchOption, OnErr, length};
-ghost use Rattle.serve_hub.specs.declared.refusal.Refusal.TheVariants.{HistoryFull};
-ghost use Rattle.serve_hub.specs.Calls.{FinishesOther, HasNumber, IsLeaseRefusal, IsOutcome, Leases, Settles};
+ghost use Rattle.serve_hub.specs.Calls.{FinishesOther, HasNumber, IsLeaseRefusal, IsOutcome};
+ghost use Rattle.serve_hub.specs.Calls.{IsSettleRefusal, Leases, Settles};
 ghost use Rattle.serve_hub.specs.Ends.{HasLeaseOut};
 ghost use Rattle.serve_hub.specs.Seats.{opened_worker};
 
@@ -85,7 +85,7 @@ impl<L: Epoch> WorkSeat<L> {
         Ok(lease)
     }
 
-    #[tactic(auto, using(crate::proofs::Outcomes::outcome))]
+    #[tactic(auto, using(crate::proofs::Outcomes::outcome, crate::proofs::Refusing::settle_told))]
     pub(crate) fn settle(
         &mut self,
         shared: &mut Shared<L>,
@@ -96,7 +96,7 @@ impl<L: Epoch> WorkSeat<L> {
         ensures refused { IfErr result (λ e. MatchOption e.lease
             (FinishesOther lease e.refusal self.old self.new)
             (λ back. (back ≡ lease) × (self.new ≡ self.old))) }
-        ensures reserved { IfErr result (λ e. e.refusal ≢ HistoryFull) }
+        ensures refusals { IfErr result (λ e. IsSettleRefusal self.old lease e.refusal) }
     {
         if self.calls.limit != shared.limit {
             return Err(LeaseRefused {
