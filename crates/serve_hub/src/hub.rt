@@ -117,7 +117,8 @@ impl<L: Epoch> Hub<L> {
 
     /// What the hub did, where all seats are back, no lease is out, what the seats keep of their calls and
     /// their streams is what the book has, and its limit is the hub's. A hub that can't be ended comes back
-    /// with the seats, and without its lock, so that its book tells which seats there are.
+    /// with the seats, and without its lock, so that its book tells which seats there are. [`Unlocked::lock`]
+    /// makes it a hub again.
     ///
     /// No contract can name what is under a lock, so what the end tells of the streams' chains and of their
     /// counts is compared with the seats here, the journal's clock with the seats' first moments, and its
@@ -152,6 +153,8 @@ impl<L: Epoch> Hub<L> {
             IsBook m.unlocked.book × (m.unlocked.book.opening ≡ L.opening)) }
         ensures out { IfErr result (λ m. m.fault ≡ faults.LeaseOut
             → ¬ All (λ s. ¬ HasLeaseOut s) workers.items) }
+        ensures differs { IfErr result (λ m. m.fault ≡ faults.Differs
+            → All (λ s. ¬ HasLeaseOut s) workers.items) }
         ensures settled { OnOk result (All (λ s. ¬ HasLeaseOut s) workers.items) }
         ensures hub { IfErr result (λ m. m.unlocked.hub ≡ self) }
         ensures back { IfErr result (λ m. (m.streams.items ≡ streams.items)
@@ -215,6 +218,7 @@ fn fault<L: Epoch>(
     ensures missing { (result ≡ Some faults.SeatMissing)
         ↔ IsMissing counts.0 counts.1 (vec_len streams.now) (vec_len workers.now) }
     ensures out { result ≡ Some faults.LeaseOut → ¬ All (λ s. ¬ HasLeaseOut s) workers.now.items }
+    ensures differs { result ≡ Some faults.Differs → All (λ s. ¬ HasLeaseOut s) workers.now.items }
     ensures settled { IfNone result (All (λ s. ¬ HasLeaseOut s) workers.now.items) }
     ensures there { IfNone result ((vec_len streams.now ≡ shared.now.streams)
         × (vec_len workers.now ≡ shared.now.workers)) }

@@ -1,4 +1,4 @@
-use Rattle.std.proofs.Common.{◌∙◌, All, ap, sym, subst, length, rules}
+use Rattle.std.proofs.Common.{◌∙◌, All, Some, ap, sym, subst, length, rules}
 use Rattle.std.specs.Prelude.{reverse}
 use Rattle.serve_core.specs.Schedule.{ScheduleValue}
 use Rattle.serve_hub.specs.Books.{BookValue}
@@ -53,3 +53,6 @@ returns-clause-all_workers g c =
 
 pub returns-in-Some-clause-missing : goal.returns-in-Some-clause-missing
 returns-in-Some-clause-missing c = search rules
+
+pub returns-in-Some-clause-differs : goal.returns-in-Some-clause-differs
+returns-in-Some-clause-differs g c e = c.in-Some.ensures.differs (ap Some e)
