@@ -88,7 +88,8 @@ impl Ended {
     }
 
     /// Takes the released streams out, with the journal, so that the next epoch opens with the others alone.
-    /// These are numbered anew, in their order, as their seats will be; nothing else of them changes. It is
+    /// These are numbered anew, in their order, as their seats will be; nothing else of them changes. The end
+    /// that comes back has no entries, so each worker's bands and units are counted anew from 0. It is
     /// refused, and all stays as it is, where no stream would stay, where the seats weren't those of the
     /// streams, one each, or where the memory for an empty journal is refused.
     pub fn retire(self, alloc: Global) -> Result<Retired, Ended>
@@ -263,7 +264,8 @@ pub enum Fault {
     Differs,
 }
 
-/// A hub that isn't ended, without its lock, and the seats that were handed over.
+/// A hub that isn't ended, without its lock, and the seats that were handed over. [`Unlocked::lock`] makes it
+/// a hub again, for the same seats.
 #[derive(Drop)]
 pub struct Mismatch<L: Epoch> {
     pub fault: Fault,

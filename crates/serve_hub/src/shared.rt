@@ -143,6 +143,7 @@ impl<L: Epoch> Shared<L> {
         ensures book { IsBook self.now.book }
         ensures opening { self.now.book.opening ≡ L.opening }
     {
+        // The call is made for what it recalls, that the book keeps what every book keeps.
         let _journal = self.book.journal();
         self.book.desk().streams()
     }

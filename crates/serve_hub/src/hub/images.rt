@@ -46,6 +46,9 @@ impl<L: Epoch> Hub<L> {
 
     /// The oldest image of the seat's stream, with its source. It waits for one while the stream isn't
     /// drained and one can come.
+    ///
+    /// Where the stream is open and has no unfinished frame none comes, since this call has the seat, which
+    /// alone offers frames and closes the stream: it waits until the journal is full, perhaps for ever.
     pub fn collect<R: Wait>(
         &self,
         rt: &R,
