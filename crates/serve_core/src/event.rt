@@ -6,7 +6,7 @@ use frame_view::Frame;
 use std::sync::Arc;
 
 /// What is asked of the machine. Streams and workers are told by their number, from 0.
-#[derive(Debug, Drop)]
+#[derive(Drop)]
 pub enum Event {
     /// A frame arrives at a stream.
     Arrive(u32, Arc<Frame>),
@@ -27,7 +27,7 @@ pub enum Event {
 }
 
 /// What the machine answers.
-#[derive(Debug, Drop)]
+#[derive(Drop)]
 pub enum Reply {
     /// The frame was accepted, with this number in its stream, from 0.
     Accepted(u64),

@@ -28,7 +28,7 @@ pub enum SetupError {
 
 /// Workers, the most bands of one lease, and the streams: all within their limits, and the streams fit on the
 /// workers. Contracts see it as the record of that name in `specs/Setup.antt`.
-#[derive(Debug, Drop)]
+#[derive(Drop)]
 pub struct Setup {
     pub(crate) workers: u64,
     pub(crate) quantum: u64,

@@ -16,7 +16,7 @@ use y4m_header::MOST_FRAMES;
 
 /// What a stream is served with: its frames' geometry, its chain, its account, and how many frames it may
 /// have. Contracts see it as the record of that name in `specs/Setup.antt`.
-#[derive(Debug, Drop)]
+#[derive(Drop)]
 pub struct StreamSpec {
     pub(crate) geometry: Geometry,
     pub(crate) job: Arc<JobSpec>,
