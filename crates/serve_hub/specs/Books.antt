@@ -96,6 +96,13 @@ pub record IsBook (b : BookValue) : Type 0 where
   pub charges : sum b.units + charges b.opening ≡ charges b.desk
   pub fits : taken b ≤ b.limit
 
+-- a book that was opened from this desk had places for so many entries
+pub record HasHadRoom (opening : ScheduleValue) (entries : ℕ) : Type 0 where
+  pub book : BookValue
+  pub is_book : IsBook book
+  pub opened : book.opening ≡ opening
+  pub left : room book ≡ entries
+
 -- a book has the streams that it opened with, and perhaps more behind them
 abbrev pub SpecsLaw : Type 0
 SpecsLaw = (b : BookValue) → IsBook b → (more : List StreamSpec) × (specs_of b.desk ≡ specs_of b.opening ++ more)

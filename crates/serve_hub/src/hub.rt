@@ -24,6 +24,7 @@ use crate::error::HubError;
 use crate::limits::{MOST_SEATS, is_limit};
 use crate::rest::SeatRest;
 use crate::room::Room;
+use crate::room_left::RoomLeft;
 use crate::shared::Shared;
 use crate::stream_seat::StreamSeat;
 use crate::unlocked::Unlocked;
@@ -186,6 +187,12 @@ impl<L: Epoch> Hub<L> {
     /// No contract can name what is under a lock, so none promises anything of the answer.
     pub fn is_full(&self, rt: &impl Wait) -> bool {
         self.shared.lock(rt).is_full()
+    }
+
+    /// The room that the journal has left, as the book under the lock tells it. It waits for the lock alone.
+    pub fn room_left(&self, rt: &impl Wait) -> RoomLeft<L> {
+        let shared = self.shared.lock(rt);
+        RoomLeft::of(&shared)
     }
 
     /// Wakes a worker where a stream may be ready, and all who wait where the journal is full.

@@ -12,7 +12,7 @@ ghost use Rattle.serve_work.specs.ClientInside.{KeepsAllowed, KeepsMoments, Serv
 ghost use Rattle.serve_work.specs.Clients.{AllowsStop, ClientEnds, ClientStart};
 ghost use Rattle.serve_work.specs.Rests.{CanGoOn, IsFresh, IsRest, IsRestOf, IsRunning, IsTallied, IsUnbegun};
 ghost use Rattle.serve_work.specs.Rests.{course_stop_before, reader_in, rest_stop};
-ghost use Rattle.serve_work.specs.Turns.{Turns, end_of, seat_in, turn_stop};
+ghost use Rattle.serve_work.specs.Turns.{PausesAtFull, Turns, end_of, seat_in, turn_stop};
 
 use crate::begun::{Begun, State};
 use crate::buffers::Buffers;
@@ -22,7 +22,7 @@ use crate::rest::ClientRest;
 use crate::serving::{Step, serve};
 use crate::stop::{Cause, Stop};
 use filters::FilterError;
-use serve_hub::{Epoch, Hub, StreamSeat};
+use serve_hub::{Epoch, Hub, RoomLeft, StreamSeat};
 use std::alloc::Global;
 use std::sync::Wait;
 use y4m_header::Header;
@@ -51,8 +51,8 @@ pub struct ClientEnd<L: Epoch, R: Source, W: Sink> {
 pub enum ClientTurn<L: Epoch, R: Source, W: Sink> {
     /// It is done.
     Ended(ClientEnd<L, R, W>),
-    /// The journal is full: this is left to do in the next epoch.
-    Paused(StreamSeat<L>, ClientRest<R, W>),
+    /// The journal is full, as the hub told: this is left to do in the next epoch.
+    Paused(StreamSeat<L>, ClientRest<R, W>, RoomLeft<L>),
 }
 
 /// The stop, or the fault of the flush where all went well before.
@@ -182,12 +182,10 @@ fn run<L: Epoch, R: Source + Drop, W: Sink, K: Clock, T: Wait>(
                 accepted,
                 collected: accepted.saturating_sub(seat.kept() as u64),
             };
-            ClientTurn::Paused(
-                seat,
-                ClientRest {
-                    state: State::Begun(begun),
-                },
-            )
+            let rest = ClientRest {
+                state: State::Begun(begun),
+            };
+            ClientTurn::Paused(seat, rest, hub.room_left(rt))
         }
     }
 }
@@ -225,20 +223,8 @@ fn begin<L: Epoch, R: Source + Drop, W: Sink, K: Clock, T: Wait>(
     }
 }
 
-/// Serves one stream: it offers the frames that it reads, and writes the images that it collects.
-///
-/// The header line is written first, with the size of the images. Before each frame it writes the images
-/// that are there or come soon. While its queue is full it collects an image and writes it; at the end of
-/// the input, and at any fault, it closes the stream and collects the images that are left. After a fault of
-/// the writer, or an answer that contradicts the seat, these are thrown away, and nothing more is written;
-/// where that came before a frame was read, frames are read and offered on until the queue is full or the
-/// input ends, and it is told then. Once a stream runs, frames and images have the memory of those before
-/// them.
-///
-/// Where the journal is full it pauses, also while its input is silent, and tells what is left to do: in the
-/// next epoch a call with the stream's seat of that epoch goes on from there, with the frame first that it
-/// read and couldn't offer, if there is one.
-pub fn client<L: Epoch, R: Source + Drop, W: Sink, K: Clock, T: Wait>(
+/// Goes on with a stream until a call finds the journal full, or all is done.
+fn go_on<L: Epoch, R: Source + Drop, W: Sink, K: Clock, T: Wait>(
     rt: &T,
     alloc: Global,
     hub: &Hub<L>,
@@ -277,4 +263,50 @@ pub fn client<L: Epoch, R: Source + Drop, W: Sink, K: Clock, T: Wait>(
             )
         }
     }
+}
+
+/// Serves one stream: it offers the frames that it reads, and writes the images that it collects.
+///
+/// The header line is written first, with the size of the images. Before each frame it writes the images
+/// that are there or come soon. While its queue is full it collects an image and writes it; at the end of
+/// the input, and at any fault, it closes the stream and collects the images that are left. After a fault of
+/// the writer, or an answer that contradicts the seat, these are thrown away, and nothing more is written;
+/// where that came before a frame was read, frames are read and offered on until the queue is full or the
+/// input ends, and it is told then. Once a stream runs, frames and images have the memory of those before
+/// them.
+///
+/// Where the journal is full it pauses, also while its input is silent, and tells what is left to do: in the
+/// next epoch a call with the stream's seat of that epoch goes on from there, with the frame first that it
+/// read and couldn't offer, if there is one.
+pub fn client<L: Epoch, R: Source + Drop, W: Sink, K: Clock, T: Wait>(
+    rt: &T,
+    alloc: Global,
+    hub: &Hub<L>,
+    seat: StreamSeat<L>,
+    rest: ClientRest<R, W>,
+    clock: &K,
+) -> ClientTurn<L, R, W>
+    requires header { IsOfHeader (reader_in rest).header seat.chain.geometry }
+    requires rest { IsRest seat rest }
+    ensures turn { (start : ClientStart) (past : List Act) → IsRestOf start past seat rest
+        → Turns R.remaining R.failures W.contents W.failures W.is_flushed start past result }
+    ensures moments { KeepsMoments (K.gives clock.now) seat (seat_in result) }
+    ensures stop { KeepsAllowed (K.gives clock.now) (rest_stop rest) (turn_stop result) }
+    ensures full { PausesAtFull result }
+{
+    let mut seat = seat;
+    let mut rest = rest;
+    for _ in rt.forever() {
+        match go_on(rt, alloc, hub, seat, rest, clock) {
+            ClientTurn::Ended(end) => return ClientTurn::Ended(end),
+            ClientTurn::Paused(same, later, left) => {
+                if left.is_full() {
+                    return ClientTurn::Paused(same, later, left);
+                }
+                seat = same;
+                rest = later;
+            }
+        }
+    }
+    unreachable!()
 }

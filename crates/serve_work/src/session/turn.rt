@@ -105,7 +105,7 @@ impl<L: Epoch, R: Source + Drop, W: Sink + Drop> Held<L, R, W> {
         match stream {
             Stream::Over(served) => Held::new(seat, Stream::Over(served)),
             Stream::Waiting(rest) => match client(rt, alloc, hub, seat, rest, clock) {
-                ClientTurn::Paused(seat, rest) => Held::new(seat, Stream::Waiting(rest)),
+                ClientTurn::Paused(seat, rest, _) => Held::new(seat, Stream::Waiting(rest)),
                 ClientTurn::Ended(end) => {
                     let (seat, served) = part(end);
                     Held::new(seat, Stream::Over(served))

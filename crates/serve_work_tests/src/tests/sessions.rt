@@ -211,7 +211,7 @@ fn end_of<L: Epoch, R: Source + Drop>(
 ) -> ClientEnd<L, R, OverWrite<Room>> {
     match turn {
         ClientTurn::Ended(end) => end,
-        ClientTurn::Paused(_, _) => panic!(rt; "the client pauses"),
+        ClientTurn::Paused(_, _, _) => panic!(rt; "the client pauses"),
     }
 }
 

@@ -302,7 +302,7 @@ fn epoch<L: Epoch, R: Source + Drop, T: Abort + Wait>(
             let written = end.writer.into_inner().taken;
             Came::Ended(end.stop, end.accepted, end.delivered, written)
         }
-        ClientTurn::Paused(seat, rest) => {
+        ClientTurn::Paused(seat, rest, _) => {
             let ended = end_epoch(rt, alloc, hub, seat, other, worker);
             Came::Paused(Paused { ended, rest })
         }
