@@ -50,7 +50,8 @@ held_length value (seat ∷ seats) (stream ∷ streams) = omega (arith, held_len
 
 -- the streams that have seats, where all have
 pub streams_held : {S : Type 0} (value : S → StreamValue) (seats : List StreamSeatValue) (streams : List S)
-    → length (held_with value seats streams) ≡ length streams → map (λ held. held.stream) (held_with value seats streams) ≡ map value streams
+    → length (held_with value seats streams) ≡ length streams
+    → map (λ held. held.stream) (held_with value seats streams) ≡ map value streams
 streams_held value [] [] e = refl
 streams_held value [] (stream ∷ streams) e = absurd (omega (arith, e))
 streams_held value (seat ∷ seats) [] e = refl

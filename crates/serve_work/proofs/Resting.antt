@@ -23,7 +23,6 @@ use Rattle.serve_work.specs.declared.buffers.Buffers.{Buffers}
 use Rattle.serve_work.specs.declared.feeding.Fed.{Fed}
 use Rattle.serve_work.specs.declared.course.Course as code
 use Rattle.serve_work.specs.declared.course.Course.TheVariants as courses
-use Rattle.serve_work.specs.declared.stop.Cause.TheVariants.{NoMemory}
 use Rattle.serve_work.specs.declared.stop.Stop.{Stop}
 use Rattle.serve_work.specs.declared.stop.Stop.TheVariants.{Whole, Read, Write, Refused, Torn}
 use Rattle.serve_work.specs.Clients.{ClientStart, StreamStopsAt}

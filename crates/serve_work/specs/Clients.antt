@@ -198,8 +198,8 @@ pub record IsWhole (start : ClientStart) (end : ClientOutcome) : Type 0 where
   pub flushed : end.is_flushed ≡ true
 
 -- what becomes of a stream: the frames that were taken off the front of its reader and accepted, why there
--- are no more, and what went out. Where nothing was written, or not all of the header line, no frame was read.
--- The seat is that of the last epoch, and its stream's seats made these calls in the epochs before
+-- are no more, and what went out. Where nothing was written, or not all of the header line, no frame was
+-- read. The seat is that of the last epoch, and its stream's seats made these calls in the epochs before
 pub record Ends (StopsAt : Stop → ClientProgress → Type 0) (start : ClientStart) (past : List Act)
     (seat : StreamSeatValue) (end : ClientOutcome) : Type 0 where
   pub frames : List FrameText

@@ -83,7 +83,8 @@ abbrev pub IsUnended : {R W : Type 0} (left : R → Option (List ℕ)) (read_fai
 IsUnended left read_failures after failures is_flushed is_first helds (unended.Unopened fault inputs) = ⊥
 IsUnended left read_failures after failures is_flushed is_first helds (unended.Unbegun back) =
     IsTrue is_first
-    × (map (stream_of left read_failures after failures is_flushed) back.items ≡ map (λ held. held.stream) helds)
+    × (map (stream_of left read_failures after failures is_flushed) back.items
+    ≡ map (λ held. held.stream) helds)
 IsUnended left read_failures after failures is_flushed is_first helds unended.Mismatch = ⊤
 
 -- nothing was done of the stream of this input
@@ -91,14 +92,16 @@ abbrev pub unread : {W : Type 0} (contents : W → Option (List ℕ)) (failures 
     → StreamValue
 unread contents failures input = Waiting (Unbegun input.0 (contents input.1) (failures input.1))
 
--- what comes back where a session's first epoch came to no end: its inputs as they were, or their streams with
--- nothing done of them
+-- what comes back where a session's first epoch came to no end: its inputs as they were, or their streams
+-- with nothing done of them
 abbrev pub GivesBack : {R W : Type 0} (left : R → Option (List ℕ)) (read_failures : R → ℕ)
     (after : W → Option (List ℕ)) (failures : W → ℕ) (is_flushed : W → Bool) → List (ReaderState × W)
     → Unended R W → Type 0
-GivesBack left read_failures after failures is_flushed inputs (unended.Unopened fault back) = back.items ≡ inputs
+GivesBack left read_failures after failures is_flushed inputs (unended.Unopened fault back) =
+    back.items ≡ inputs
 GivesBack left read_failures after failures is_flushed inputs (unended.Unbegun back) =
-    map (stream_of left read_failures after failures is_flushed) back.items ≡ map (unread after failures) inputs
+    map (stream_of left read_failures after failures is_flushed) back.items
+    ≡ map (unread after failures) inputs
 GivesBack left read_failures after failures is_flushed inputs unended.Mismatch = ⊤
 
 abbrev pub AreUnread : {W : Type 0} → List (ReaderState × W) → Type 0

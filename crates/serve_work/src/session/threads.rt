@@ -84,8 +84,8 @@ fn work_in<L: Epoch, G: Gate + Sync, T: Threads + Wait>(
 /// Starts the workers, runs the clients, and waits until the workers are back. Where no worker started, no
 /// client runs.
 ///
-/// The seat of a worker whose thread is refused stays in its slot. Where all are needed, none begins then, and
-/// the streams come back as they were.
+/// The seat of a worker whose thread is refused stays in its slot. Where all are needed, none begins then,
+/// and the streams come back as they were.
 pub(super) fn run_threads<
     L: Epoch + Send + Sync,
     R: Source + Drop + Send,

@@ -1,6 +1,7 @@
 //! The streams of a session: each waits for its client, which goes on with it in each epoch, until it is
 //! over.
-ghost use Rattle.std.specs.Prelude.{◌≡◌, ◌≤◌, List, [], IfErr, IfOk, Option, Some, map, vec_capacity, vec_len};
+ghost use Rattle.std.specs.Prelude.{◌≡◌, ◌≤◌, List, [], IfErr, IfOk, Option, Some, map};
+ghost use Rattle.std.specs.Prelude.{vec_capacity, vec_len};
 ghost use Rattle.std.specs.List.{AllByRecursion};
 ghost use Rattle.serve_hub.specs.declared.entry.Act.{Act};
 ghost use Rattle.serve_hub.specs.Seats.{StreamSeatValue};
@@ -200,8 +201,8 @@ impl<L: Epoch, R: Source + Drop, W: Sink + Drop> Turn<L, R, W> {
     }
 }
 
-/// The streams of these inputs, with nothing done of them. Where there is no memory for their list, the inputs
-/// come back.
+/// The streams of these inputs, with nothing done of them. Where there is no memory for their list, the
+/// inputs come back.
 pub(super) fn waiting<R: Source + Drop, W: Sink + Drop>(
     alloc: Global,
     inputs: Vec<(StreamReader<R>, W)>,

@@ -207,8 +207,8 @@ fn faults_of_later_epochs_are_told(rt: HostRuntime) {
 }
 
 /// Serves the two streams by so many workers over epochs of 16 entries. Where memory or a worker's thread is
-/// refused, that is told, and what was written is a front of the images. A session that tells it has asked for
-/// no moment.
+/// refused, that is told, and what was written is a front of the images. A session that tells it has asked
+/// for no moment.
 fn wants_memory_alone(rt: &(impl Abort + Threads + Wait + Sync), alloc: Global, workers: u64) {
     let hall = Hall {
         workers,
