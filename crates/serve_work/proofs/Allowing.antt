@@ -113,7 +113,7 @@ given_up_stop (Discarding stop) is = is
 
 -- a client that is given up tells the fault that it keeps
 pub given_up_kept : (course : CourseValue) → TellsKept (course_stop course) (stop_given_up course)
-given_up_kept (Feeding in_hand) = tt
+given_up_kept (Feeding in_hand) = refl
 given_up_kept (Holding in_hand held) = λ fault. refl
 given_up_kept (Draining Whole) = λ fault. absurd (fault refl)
 given_up_kept (Draining (Read f)) = λ fault. refl

@@ -89,7 +89,7 @@ module _ {T : Type 0} where
   -- a fault that was kept is told behind the flush too
   pub told_kept : (kept : Option Stop) (stop : Stop) (flush : Result T WriteFault) (told : Stop) → Flushes stop flush told
       → TellsKept kept stop → TellsKept kept told
-  told_kept None stop flush told e k = tt
+  told_kept None stop flush told e k = stop_stays stop flush told e (λ is. absurd (cc)) ∙ k
   told_kept (Some s) stop flush told e k = λ fault. stop_stays stop flush told e (λ is. fault (sym (k fault) ∙ is)) ∙ k fault
 
   reads_flushed : (stop : Stop) (flush : Result T WriteFault) (told : Stop) (n : ℕ) → Flushes stop flush told

@@ -473,9 +473,10 @@ abbrev pub Serves : List Act → Stop → ReaderState → ReaderState → Stream
     → WriterState → WriterState → Type 0
 Serves = ServesTo ClientStopsAt
 
--- a stop that was kept is told, if it is a fault
+-- a stop that was kept is told, if it is a fault, and want of memory where none was kept
 abbrev pub TellsKept : Option Stop → Stop → Type 0
-TellsKept kept told = IfSome kept (λ stop. stop ≢ Whole → told ≡ stop)
+TellsKept None told = told ≡ Refused causes.NoMemory
+TellsKept (Some stop) told = stop ≢ Whole → told ≡ stop
 
 -- the stop, or the fault of the flush where all went well before
 abbrev pub Flushes : {T : Type 0} → Stop → Result T WriteFault → Stop → Type 0

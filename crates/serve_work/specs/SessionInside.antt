@@ -17,7 +17,7 @@ use Rattle.serve_work.specs.declared.session.turn.Stream.{Stream}
 use Rattle.serve_work.specs.declared.session.turn.Stream.TheVariants as streams
 use Rattle.serve_work.specs.declared.stop.Stop.{Stop}
 use Rattle.serve_work.specs.Clients.{AllowsStop, ClientEnds, ClientOutcome, ClientStart, StreamEnds}
-use Rattle.serve_work.specs.ClientInside.{IsNoNewEnd, KeepsAllowed, KeepsMoments}
+use Rattle.serve_work.specs.ClientInside.{IsNoNewEnd, KeepsAllowed, KeepsMoments, TellsKept}
 use Rattle.serve_work.specs.Rests.{IsRest, IsRestOf, RestValue, Unbegun, reader_in, rest_stop}
 use Rattle.serve_work.specs.Sessions.{acts_in, outcome_of}
 
@@ -172,7 +172,8 @@ abbrev pub AllRun : (Gives : ℕ → Type 0) → List (Option HeldValue) → Lis
 AllRun Gives old new = (helds : List HeldValue) → old ≡ map Some helds
     → (after : List HeldValue) × (new ≡ map Some after) × AllGoOn Gives helds after
 
--- what is told of a stream is its end, from whatever it began with; the clock's end only where it was kept
+-- what is told of a stream is its end, from whatever it began with; the clock's end only where it was kept,
+-- and a fault that was kept
 abbrev pub IsOver : {R W : Type 0} (left : R → Option (List ℕ)) (read_failures : R → ℕ)
     (after : W → Option (List ℕ)) (failures : W → ℕ) (is_flushed : W → Bool) → Stream R W → Served R W
     → Type 0
@@ -181,6 +182,7 @@ IsOver left read_failures after failures is_flushed stream served =
     → StandsAt (stream_of left read_failures after failures is_flushed stream) start past seat
     → StreamEnds start past seat (outcome_of left read_failures after failures is_flushed served))
     × IsNoNewEnd (kept_stop stream) (Some served.stop)
+    × TellsKept (kept_stop stream) served.stop
 
 abbrev pub AreOver : {R W : Type 0} (left : R → Option (List ℕ)) (read_failures : R → ℕ)
     (after : W → Option (List ℕ)) (failures : W → ℕ) (is_flushed : W → Bool) → List (Stream R W)

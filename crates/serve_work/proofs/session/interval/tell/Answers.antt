@@ -17,7 +17,7 @@ loop-stream-preserved g c =
     let steps = c.in-Some.ensures.steps in
     record {
       told = told_one _ _ _ _ _ c.args.streams.items _ _ c.loop-stream.served.items _ c.in-Some.stream _ inv.told steps.0
-          c.push_reserved.ensures.items ((c.told.ensures.ends, c.told.ensures.stop), tt);
+          c.push_reserved.ensures.items ((c.told.ensures.ends, c.told.ensures.stop, c.told.ensures.kept), tt);
       left = omega (arith, inv.left, ap length steps.0, steps.1);
       room = omega (arith, inv.room, steps.1, c.push_reserved.ensures.len, c.push_reserved.ensures.capacity);
     }
