@@ -38,7 +38,7 @@ nothing_held (Some held) e told = inr told.1
 
 -- and a worker's seat is told it as the book refuses it
 pub settle_told : (b : BookValue) (seat : WorkSeatValue) (w : ℕ) (lease : LeaseValue) (e : Refusal)
-    → RefusesSettle b w lease e → IsSettleRefusal seat lease e
+    → RefusesSettle b w lease e → IsSettleRefusal seat e
 settle_told b seat w lease (Core e) told = nothing_held (slice_get b.desk.workers w) e told
 settle_told b seat w lease StrayLease told = tt
 settle_told b seat w lease HistoryFull told = absurd told

@@ -41,6 +41,19 @@ IsOtherOp ops (parts.Count n) = n ≢ length ops
 IsOtherOp ops (parts.Op k op) = slice_get ops k ≢ Some op
 IsOtherOp ops part = ⊥
 
+-- a part of a list of operations, and of a chain
+abbrev pub HasOp : List Op → ChainPart → Type 0
+HasOp ops (parts.Count n) = n ≡ length ops
+HasOp ops (parts.Op k op) = slice_get ops k ≡ Some op
+HasOp ops part = ⊥
+
+abbrev pub HasPart : ChainValue → ChainPart → Type 0
+HasPart chain (parts.Format width height chroma) =
+    let format : Format = record { width = width; height = height; chroma = chroma } in
+    format ≡ format_of chain.geometry
+HasPart chain (parts.BandRows rows) = rows ≡ chain.band_height.rows
+HasPart chain part = HasOp chain.ops part
+
 abbrev pub IsOtherPart : ChainValue → ChainPart → Type 0
 IsOtherPart chain (parts.Format width height chroma) =
     let format : Format = record { width = width; height = height; chroma = chroma } in
@@ -251,13 +264,12 @@ FinishesOther lease (Torn (came.Number n)) old new =
     (n ≢ lease.number) × IsOutcome lease (settled.Finished n) × Settles lease (settled.Finished n) old new
 FinishesOther lease e old new = ⊥
 
--- which refusals a worker is told that gives this lease back
-abbrev pub IsSettleRefusal : WorkSeatValue → LeaseValue → Refusal → Type 0
-IsSettleRefusal seat lease (Core e) = (e ≡ cores.NoWorker) ⊎ (e ≡ cores.NoLease)
-IsSettleRefusal seat lease StrayLease = ⊤
-IsSettleRefusal seat lease (Torn (came.Limit limit)) = limit ≢ seat.calls.limit
-IsSettleRefusal seat lease (Torn (came.Number n)) = n ≢ lease.number
-IsSettleRefusal seat lease e = ⊥
+-- why a worker gets its lease back that it would settle
+abbrev pub IsSettleRefusal : WorkSeatValue → Refusal → Type 0
+IsSettleRefusal seat (Core e) = (e ≡ cores.NoWorker) ⊎ (e ≡ cores.NoLease)
+IsSettleRefusal seat StrayLease = ⊤
+IsSettleRefusal seat (Torn (came.Limit limit)) = limit ≢ seat.calls.limit
+IsSettleRefusal seat e = ⊥
 
 -- why a settlement is refused. The lease doesn't come back where it was settled after all
 abbrev pub IsSettleRefused : LeaseValue → LeaseRefused → (old new : WorkSeatValue) → Type 0

@@ -1,6 +1,6 @@
 //! In what the chain of a stream differs from that of its seat.
 ghost use Rattle.std.specs.Prelude.{◌≡◌, IfNone, IfSome};
-ghost use Rattle.serve_hub.specs.Calls.{IsOtherOp, IsOtherPart};
+ghost use Rattle.serve_hub.specs.Calls.{HasOp, HasPart, IsOtherOp, IsOtherPart};
 
 use filters::Op;
 use lease::JobSpec;
@@ -22,6 +22,7 @@ pub enum ChainPart {
 /// The first part of a chain that another one doesn't have, if they differ.
 pub(crate) fn other_part(found: &JobSpec, own: &JobSpec) -> Option<ChainPart>
     ensures same { IfNone result (found.now ≡ own.now) }
+    ensures found { IfSome result (HasPart found.now) }
     ensures other { IfSome result (IsOtherPart own.now) }
 {
     let geometry = found.chain().geometry();
@@ -38,6 +39,7 @@ pub(crate) fn other_part(found: &JobSpec, own: &JobSpec) -> Option<ChainPart>
 /// The same of their operations alone.
 fn other_op(found: &[Op], own: &[Op]) -> Option<ChainPart>
     ensures same { IfNone result (found.now ≡ own.now) }
+    ensures found { IfSome result (HasOp found.now) }
     ensures other { IfSome result (IsOtherOp own.now) }
 {
     if found.len() != own.len() {

@@ -1,5 +1,5 @@
 //! The seat of a worker.
-ghost use Rattle.std.specs.Prelude.{◌≡◌, ◌≢◌, ◌↔◌, IfErr, IfOk, IsTrue, MatchOption, OnErr, length};
+ghost use Rattle.std.specs.Prelude.{◌≡◌, ◌≢◌, ◌↔◌, IfErr, IfOk, IfSome, IsTrue, MatchOption, OnErr, length};
 ghost use Rattle.serve_hub.specs.Calls.{FinishesOther, HasNumber, IsLeaseRefusal, IsOutcome};
 ghost use Rattle.serve_hub.specs.Calls.{IsSettleRefusal, Leases, Settles};
 ghost use Rattle.serve_hub.specs.Ends.{HasLeaseOut};
@@ -96,7 +96,7 @@ impl<L: Epoch> WorkSeat<L> {
         ensures refused { IfErr result (λ e. MatchOption e.lease
             (FinishesOther lease e.refusal self.old self.new)
             (λ back. (back ≡ lease) × (self.new ≡ self.old))) }
-        ensures refusals { IfErr result (λ e. IsSettleRefusal self.old lease e.refusal) }
+        ensures refusals { IfErr result (λ e. IfSome e.lease (λ _. IsSettleRefusal self.old e.refusal)) }
     {
         if self.calls.limit != shared.limit {
             return Err(LeaseRefused {

@@ -1,5 +1,5 @@
 //! Leases that threads get and settle.
-ghost use Rattle.std.specs.Prelude.{◌≡◌, ◌≢◌, IfErr, IfOk, OnErr};
+ghost use Rattle.std.specs.Prelude.{◌≡◌, ◌≢◌, IfErr, IfOk, IfSome, OnErr};
 ghost use Rattle.serve_core.specs.declared.refusal.Refusal.TheVariants.{NoneReady};
 ghost use Rattle.serve_hub.specs.declared.refusal.Refusal.TheVariants.{Core};
 ghost use Rattle.serve_hub.specs.Calls.{HasNumber, IsEndOfLeases, IsLeaseRefusal, IsOutcome};
@@ -73,7 +73,7 @@ impl<L: Epoch> Hub<L> {
         ensures settled { IfOk result (λ done. Settles lease done seat.old seat.new) }
         ensures outcome { IfOk result (λ done. IsOutcome lease done × HasNumber lease done) }
         ensures refused { IfErr result (λ e. IsSettleRefused lease e seat.old seat.new) }
-        ensures refusals { IfErr result (λ e. IsSettleRefusal seat.old lease e.refusal) }
+        ensures refusals { IfErr result (λ e. IfSome e.lease (λ _. IsSettleRefusal seat.old e.refusal)) }
     {
         let stream = lease.stream();
         let mut shared = self.shared.lock(rt);
