@@ -127,7 +127,7 @@ class Session(Case):
             return "what was written is no front of the images"
         lines = ended.out.splitlines()
         if self.names_words(ended) or ended.answer() == (1, b"", b"y4mserve: session NoMemory\n"):
-            return None if ended.refused and wrote == [b"", b""] else "a session that wants memory wrote"
+            return None if ended.refused and not any(wrote) else "a session that wants memory wrote"
         told = [self.LINE.fullmatch(line) for line in lines[:-1]]
         if not ended.refused or ended.status != 1 or ended.errors or None in told or [line[1] for line in told] != self.names:
             return f"status {ended.status}, {ended.out!r}, {ended.errors[-200:]!r}"
