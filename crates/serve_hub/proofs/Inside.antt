@@ -1,6 +1,6 @@
 -- What a book keeps after an accepted call.
 use Rattle.std.proofs.Common.{ℕ, ◌+◌, ◌^◌, ◌≡◌, ◌≤◌, List, [], ◌∷◌, ◌++◌, length, reverse, Some, slice_get}
-use Rattle.std.proofs.Common.{◌<◌, inl, inr, slice_index_or, slice_set, refl, sym, ◌∙◌, ap, subst, arith}
+use Rattle.std.proofs.Common.{◌<◌, Bool, true, false, ◌-◌, if◌then◌else◌, inl, inr, slice_index_or, slice_set, refl, sym, ◌∙◌, ap, subst, arith}
 use Rattle.std.proofs.lemmas.Option.{slice_get-get_or}
 use Rattle.serve_core.proofs.Events.Streams.{same_or}
 use Rattle.serve_core.proofs.Items.Lists.{slice_get_set_other, slice_get_set_same}
@@ -11,7 +11,7 @@ use Rattle.serve_hub.specs.declared.entry.Act.{Act}
 use Rattle.serve_hub.specs.declared.entry.Entry.{Entry}
 use Rattle.serve_hub.specs.declared.entry.Seat.{Seat}
 use Rattle.serve_hub.specs.BookInside.{IsKept, book}
-use Rattle.serve_hub.specs.Books.{Appends, BookValue, IsBook, taken, with_units}
+use Rattle.serve_hub.specs.Books.{Appends, BookValue, IsBook, being_ended, entries_left, room, taken, with_units}
 use Rattle.serve_hub.specs.Journal.{entry_of}
 use Rattle.serve_hub.proofs.Entered.{IsEntered}
 use Rattle.serve_hub.proofs.Kept.{grown, pushed}
@@ -20,10 +20,11 @@ length-push : (xs : List Entry) (e : Entry) → length (xs ++ e ∷ []) ≡ leng
 length-push [] e = refl
 length-push (x ∷ xs) e = let more = length-push xs e in omega (arith, more)
 
-same_book : (o o' d : ScheduleValue) (p p' : List Entry) (l l' : ℕ) (u : List ℕ) → o ≡ o' → p ≡ p' → l ≡ l'
-    → let v : BookValue = record { opening = o; past = p; desk = d; limit = l; units = u } in
-    let w : BookValue = record { opening = o'; past = p'; desk = d; limit = l'; units = u } in v ≡ w
-same_book o o' d p p' l l' u e f g = cc
+same_book : (o o' d : ScheduleValue) (p p' : List Entry) (l l' : ℕ) (u : List ℕ) (b b' : Bool) → o ≡ o' → p ≡ p' → l ≡ l'
+    → b ≡ b'
+    → let v : BookValue = record { opening = o; past = p; desk = d; limit = l; units = u; is_ending = b } in
+    let w : BookValue = record { opening = o'; past = p'; desk = d; limit = l'; units = u; is_ending = b' } in v ≡ w
+same_book o o' d p p' l l' u b b' e f g h = cc
 
 -- z is a with one entry more at the end of its journal
 pub record IsPushed (a z : Inside) (seat : Seat) (act : Act) : Type 0 where
@@ -31,13 +32,14 @@ pub record IsPushed (a z : Inside) (seat : Seat) (act : Act) : Type 0 where
   pub limit : z.limit ≡ a.limit
   pub items : z.journal.items ≡ a.journal.items ++ entry_of seat act ∷ []
   pub capacity : vec_capacity z.journal ≡ vec_capacity a.journal
+  pub ending : z.is_ending ≡ a.is_ending
 
 pub book_grown : (a z : Inside) (seat : Seat) (act : Act) → IsPushed a z seat act
     → book z ≡ grown (book a) seat act z.desk z.units.items
 book_grown a z seat act p =
     same_book z.opening.value a.opening.value z.desk (reverse z.journal.items)
-    (entry_of seat act ∷ reverse a.journal.items) z.limit a.limit z.units.items p.opening
-    (pushed a.journal.items z.journal.items (entry_of seat act) p.items) p.limit
+    (entry_of seat act ∷ reverse a.journal.items) z.limit a.limit z.units.items z.is_ending a.is_ending p.opening
+    (pushed a.journal.items z.journal.items (entry_of seat act) p.items) p.limit p.ending
 
 -- no worker's units rise by more than 2^32
 abbrev pub AreFewMore : List ℕ → List ℕ → Type 0
@@ -105,3 +107,23 @@ few_more units w spent inside few v n e =
           (was, here, omega (arith, value, few)))
       | inr p ↦ (n, sym (slice_get_set_other units w v _ (λ q. p.0 (sym q))) ∙ e, omega arith)
     ]
+
+-- where entries may be added, the journal has them left
+
+room_left : (b : Bool) (n need : ℕ) → need ≤ (if b then 0 else n) → need ≤ n
+room_left true n need has = omega (arith, has)
+room_left false n need has = has
+
+pub has_left : (b : BookValue) (need : ℕ) → need ≤ room b → need ≤ entries_left b
+has_left b need has = room_left b.is_ending (entries_left b) need has
+
+-- a book whose epoch is being ended is one still
+pub still_book : (b : BookValue) → IsBook b → IsBook (being_ended b)
+still_book b is = record {
+  sound = is.sound;
+  journal = is.journal;
+  workers = is.workers;
+  units = is.units;
+  charges = is.charges;
+  fits = is.fits;
+}

@@ -79,20 +79,20 @@ is_book_over desk limit sound fits = record {
   fits = omega (arith, fits);
 }
 
-same_book : (o d x : ScheduleValue) (p : List Entry) (l : ℕ) (u : List ℕ) → o ≡ d → d ≡ x → p ≡ []
-    → u ≡ replicate (length x.workers) 0
-    → let b : BookValue = record { opening = o; past = p; desk = d; limit = l; units = u } in
+same_book : (o d x : ScheduleValue) (p : List Entry) (l : ℕ) (u : List ℕ) (ending : Bool) → o ≡ d → d ≡ x → p ≡ []
+    → u ≡ replicate (length x.workers) 0 → ending ≡ false
+    → let b : BookValue = record { opening = o; past = p; desk = d; limit = l; units = u; is_ending = ending } in
     b ≡ opened_book x l
-same_book o d x p l u e f g h = cc
+same_book o d x p l u ending e f g h i = cc
 
 -- what a book keeps that is opened over a desk
 pub kept_over : (z : Inside) (x : ScheduleValue) → Sound (desk_state x) → reserved x ≤ z.limit → z.limit ≤ MOST_ENTRIES
     → z.opening.value ≡ z.desk → z.desk ≡ x → z.journal.items ≡ []
     → z.units.items ≡ replicate (length x.workers) 0 → z.taken ≡ reserved x → z.limit ≤ vec_capacity z.journal
-    → IsKept z
-kept_over z x sound fits most o d j u t room =
+    → z.is_ending ≡ false → IsKept z
+kept_over z x sound fits most o d j u t room unmarked =
     let is : book z ≡ opened_book x z.limit =
-    same_book z.opening.value z.desk x (reverse z.journal.items) z.limit z.units.items o d (ap reverse j) u in
+    same_book z.opening.value z.desk x (reverse z.journal.items) z.limit z.units.items z.is_ending o d (ap reverse j) u unmarked in
     record {
       is_book = subst IsBook (sym is) (is_book_over x z.limit sound fits);
       counted = omega (arith, t, ap taken is);
@@ -103,22 +103,22 @@ kept_over z x sound fits most o d j u t room =
     }
 
 pub over_is : (z : Inside) (x : ScheduleValue) → z.opening.value ≡ z.desk → z.desk ≡ x → z.journal.items ≡ []
-    → z.units.items ≡ replicate (length x.workers) 0 → book z ≡ opened_book x z.limit
-over_is z x o d j u =
-    same_book z.opening.value z.desk x (reverse z.journal.items) z.limit z.units.items o d (ap reverse j) u
+    → z.units.items ≡ replicate (length x.workers) 0 → z.is_ending ≡ false → book z ≡ opened_book x z.limit
+over_is z x o d j u unmarked =
+    same_book z.opening.value z.desk x (reverse z.journal.items) z.limit z.units.items z.is_ending o d (ap reverse j) u unmarked
 
 -- what a new book keeps
 pub kept_opened : (z : Inside) (setup : Setup) → IsWithin setup → IsLimit (length setup.streams) z.limit
     → z.opening.value ≡ z.desk → z.desk ≡ opened_schedule setup → z.journal.items ≡ []
     → z.units.items ≡ replicate setup.workers 0 → z.taken ≡ length setup.streams
-    → z.limit ≤ vec_capacity z.journal → IsKept z
-kept_opened z setup v l o d j u t room =
+    → z.limit ≤ vec_capacity z.journal → z.is_ending ≡ false → IsKept z
+kept_opened z setup v l o d j u t room unmarked =
     let none : Option Held = None in
     let n : length (opened_schedule setup).workers ≡ setup.workers = length-replicate setup.workers none in
     let sound : Sound (desk_state (opened_schedule setup)) =
     subst Sound (sym (desk_opened setup)) (opening_sound measures_any is_any_image setup v) in
     kept_over z (opened_schedule setup) sound (omega (arith, places_opened setup, l.closes)) l.most o d j
-    (u ∙ ap (λ (k : ℕ). replicate k 0) (sym n)) (omega (arith, t, places_opened setup)) room
+    (u ∙ ap (λ (k : ℕ). replicate k 0) (sym n)) (omega (arith, t, places_opened setup)) room unmarked
 
 -- a book that is opened over the desk of a setup
 pub is_opening : (opening of_book : ScheduleValue) (setup : Setup) (w : ℕ) → IsSetup setup

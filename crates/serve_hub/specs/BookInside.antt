@@ -12,6 +12,7 @@ book a = record {
   desk = a.desk;
   limit = a.limit;
   units = a.units.items;
+  is_ending = a.is_ending;
 }
 
 pub record IsKept (a : Inside) : Type 0 where

@@ -1,7 +1,7 @@
 -- What a book keeps.
 use Rattle.std.specs.Prelude.{ℕ, ◌+◌, ◌-◌, ◌≡◌, ◌≤◌, List, [], ◌∷◌, ◌++◌, length, map, replicate, slice_get}
 use Rattle.std.specs.Prelude.{slice_set, slice_index_or, sum, sum_by, Option, Some, None, IsSomeAnd}
-use Rattle.std.specs.Prelude.{if◌then◌else◌}
+use Rattle.std.specs.Prelude.{Bool, false, true, if◌then◌else◌}
 use Rattle.lease.specs.Lease.{LeaseValue}
 use Rattle.serve_core.specs.declared.held.Held.{Held}
 use Rattle.serve_core.specs.Bare.{Blank}
@@ -28,6 +28,8 @@ pub record BookValue : Type 0 where
   pub limit : ℕ
   -- the units of each worker's bands
   pub units : List ℕ
+  -- whether its epoch is being ended
+  pub is_ending : Bool
 
 -- a desk of no stream and no worker
 abbrev pub no_schedule : ScheduleValue
@@ -41,6 +43,7 @@ opened_book desk limit = record {
   desk = desk;
   limit = limit;
   units = replicate (length desk.workers) 0;
+  is_ending = false;
 }
 
 -- a limit for a journal of so many streams
@@ -75,8 +78,13 @@ reserved desk = sum_by one_out desk.workers + sum_by one_open desk.streams
 abbrev pub taken : BookValue → ℕ
 taken b = length b.past + reserved b.desk
 
+-- how many entries the journal has left, beside those that are reserved
+abbrev pub entries_left : BookValue → ℕ
+entries_left b = b.limit - taken b
+
+-- how many entries may be added: none but those that are reserved where the epoch is being ended
 abbrev pub room : BookValue → ℕ
-room b = b.limit - taken b
+room b = if b.is_ending then 0 else entries_left b
 
 -- worker w's units are those of its Stepped replies in the journal's transcript
 abbrev pub AreUnits : BookValue → Type 0
@@ -112,6 +120,10 @@ pub record Appends (seat : Seat) (act : Act) (old new : BookValue) : Type 0 wher
   pub book : new ≡ record old { past = entry_of seat act ∷ old.past; desk = new.desk }
   pub events : LeadsDesk old.desk (events_of (specs_of new.desk) (desk_state old.desk) seat act) new.desk
   pub fits : length new.past ≤ new.limit
+
+-- from now on only what is reserved is entered
+abbrev pub being_ended : BookValue → BookValue
+being_ended b = record b { is_ending = true }
 
 -- worker w has done bands of so many units more
 abbrev pub with_units : (w units : ℕ) → BookValue → BookValue

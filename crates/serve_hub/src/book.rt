@@ -9,7 +9,8 @@ ghost use Rattle.serve_core.specs.Reached.{IsReached};
 ghost use Rattle.serve_core.specs.Retired.{retired_schedule, staying};
 ghost use Rattle.serve_core.specs.Schedule.{opened_schedule};
 ghost use Rattle.serve_core.specs.Sound.{Sound};
-ghost use Rattle.serve_hub.specs.Books.{IsBook, IsLimit, book_transcript, opened_book, opening_of, reserved};
+ghost use Rattle.serve_hub.specs.Books.{IsBook, IsLimit, being_ended, book_transcript, opened_book};
+ghost use Rattle.serve_hub.specs.Books.{opening_of, reserved};
 ghost use Rattle.serve_hub.specs.Books as rules;
 ghost use Rattle.serve_hub.specs.Ends.{AreFree};
 ghost use Rattle.serve_hub.specs.Journal.{act_bands, bands_of, units_from};
@@ -30,8 +31,9 @@ use std::snapshot::Snapshot;
 /// A desk, and the journal of what it accepted: an entry for each accepted call, and none for a refused one.
 ///
 /// The journal has a limit. An entry is reserved for the settlement of each lease that is out and for the
-/// close of each stream that isn't closed, so these are never refused for it. The memory for the journal is
-/// taken when the book is made, so only `new`, `offer`, `admit` and `admit_newcomer` take any.
+/// close of each stream that isn't closed, so these are never refused for it. Where the epoch is being ended
+/// all else is refused as by a full journal. The memory for the journal is taken when the book is made, so
+/// only `new`, `offer`, `admit` and `admit_newcomer` take any.
 ///
 /// Contracts see the `BookValue` of `specs/Books.antt`: the journal leads from the desk as it was when the
 /// book was opened to the desk as it is.
@@ -43,6 +45,7 @@ pub struct Book {
     limit: usize,
     taken: usize,
     units: Vec<u64>,
+    is_ending: bool,
 }
 
 impl Model for Book {
@@ -80,6 +83,7 @@ impl Book {
             limit,
             taken: streams,
             units,
+            is_ending: false,
         })
     }
 
@@ -151,11 +155,26 @@ impl Book {
         self.limit
     }
 
-    /// How many entries are left, beside those that are reserved.
+    /// How many entries the journal has left, beside those that are reserved.
+    pub fn left(&self) -> usize
+        ensures { result ≡ rules.entries_left self.now }
+    {
+        self.limit - self.taken
+    }
+
+    /// How many entries may be added beside those that are reserved: none where the epoch is being ended.
     pub fn room(&self) -> usize
         ensures { result ≡ rules.room self.now }
     {
-        self.limit - self.taken
+        if self.is_ending { 0 } else { self.left() }
+    }
+
+    /// Ends the epoch: from now on a call that needs an entry which isn't reserved is answered `HistoryFull`
+    /// where it would be accepted.
+    pub fn end_epoch(&mut self)
+        ensures { self.new ≡ being_ended self.old }
+    {
+        self.is_ending = true;
     }
 
     /// The desk, which has at least the streams that the book opened with.
@@ -242,6 +261,7 @@ fn opened_over(
         limit,
         taken,
         units,
+        is_ending: false,
     }
 }
 

@@ -8,7 +8,8 @@ ghost use Rattle.serve_core.specs.Desk.{desk_state};
 ghost use Rattle.serve_core.specs.Reached.{IsReached};
 ghost use Rattle.serve_core.specs.Retired.{staying, stays};
 ghost use Rattle.serve_core.specs.Schedule.{account_of, counts_of};
-ghost use Rattle.serve_hub.specs.Books.{IsBook, IsLimit, book_transcript, opened_book, opening_of, room};
+ghost use Rattle.serve_hub.specs.Books.{IsBook, IsLimit, book_transcript, entries_left};
+ghost use Rattle.serve_hub.specs.Books.{opened_book, opening_of, room};
 ghost use Rattle.serve_hub.specs.Ends.{AreFree, IsOpening};
 ghost use Rattle.serve_hub.specs.Journal.{bands_of, units_from};
 ghost use Rattle.serve_hub.specs.Retired.{rests_kept, retired_end};
@@ -156,7 +157,14 @@ impl Ended {
         self.book.limit()
     }
 
-    /// Whether the journal has no place for another lease and its settlement.
+    /// How many entries the journal has left, beside those that are reserved.
+    pub fn left(&self) -> usize
+        ensures { result ≡ entries_left self.now.book }
+    {
+        self.book.left()
+    }
+
+    /// Whether the journal had no place for another lease and its settlement, or the epoch was ended before.
     pub fn is_full(&self) -> bool
         ensures { IsTrue result ↔ (room self.now.book < 2) }
     {
@@ -176,6 +184,13 @@ impl Ended {
             ≡ option_map (λ stream. account_of stream.state) (slice_get self.now.book.desk.streams s) }
     {
         self.book.desk().account(s)
+    }
+
+    /// The number of the stream whose seat was handed over at this place.
+    pub fn number(&self, place: usize) -> Option<u32>
+        ensures { result ≡ option_map (λ rest. rest.number) (slice_get self.now.streams place) }
+    {
+        self.streams.get(place).map(|rest| rest.number)
     }
 
     /// How many frames of stream `s` were accepted, finished and collected, and what it was charged.

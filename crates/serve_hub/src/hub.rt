@@ -45,9 +45,11 @@ use std::sync::{Condvar, Mutex, Wait};
 /// journal.
 ///
 /// Each accepted call wakes those whom it may help. One that may make a stream ready wakes a worker: a frame
-/// that is accepted, an image that is collected, and a settlement that leaves its stream a frame that isn't
-/// finished. A frame that is finished wakes the client of its stream. All workers wake at a close, at an
-/// admission and where nothing is left to lease, and all who wait where the journal is full.
+/// that is accepted where no other of its stream is unfinished, and a collection and a settlement that leave
+/// their stream a frame that isn't finished. Where another frame is before it, a worker was woken for that
+/// one, or has it, or the outbox is full. A frame that is finished wakes the client of its stream. All workers
+/// wake at a close, at an admission and where nothing is left to lease, and all who wait where the journal is
+/// full or the epoch is being ended.
 #[derive(Drop)]
 pub struct Hub<L: Epoch> {
     shared: Mutex<Shared<L>>,
@@ -181,8 +183,8 @@ impl<L: Epoch> Hub<L> {
         Ok(shared.into_ended(streams, workers))
     }
 
-    /// Whether the journal has no place for another lease and its settlement. Then no frame is leased any
-    /// more, and the epoch comes to its end. It waits for the lock alone.
+    /// Whether the journal has no place for another lease and its settlement, or the epoch is being ended.
+    /// Then no frame is leased any more, and the epoch comes to its end. It waits for the lock alone.
     ///
     /// No contract can name what is under a lock, so none promises anything of the answer.
     pub fn is_full(&self, rt: &impl Wait) -> bool {
@@ -193,6 +195,19 @@ impl<L: Epoch> Hub<L> {
     pub fn room_left(&self, rt: &impl Wait) -> RoomLeft<L> {
         let shared = self.shared.lock(rt);
         RoomLeft::of(&shared)
+    }
+
+    /// Ends the epoch: from now on an offer, a collection, a lease and an admission are answered
+    /// `HistoryFull` where they would be accepted, as where the journal is full. Who waits is woken. Closes
+    /// and settlements are as ever. It waits for the lock alone.
+    ///
+    /// No contract can name what is under a lock, so what the mark does is said of
+    /// [`Book::end_epoch`](crate::book::Book::end_epoch), and of the book that is left.
+    pub fn end_epoch(&self, rt: &impl Wait) {
+        let mut shared = self.shared.lock(rt);
+        shared.book.end_epoch();
+        drop(shared);
+        self.wake(false, true);
     }
 
     /// Wakes a worker where a stream may be ready, and all who wait where the journal is full.

@@ -11,7 +11,7 @@ use Rattle.serve_core.specs.Setup.{StreamSpec}
 use Rattle.serve_core.specs.States.{State, StreamState}
 use Rattle.serve_core.specs.Streams.{KeptStream}
 use Rattle.serve_hub.specs.declared.entry.Entry.{Entry}
-use Rattle.serve_hub.specs.Books.{BookValue, IsBook, one_open, room, specs_of}
+use Rattle.serve_hub.specs.Books.{BookValue, IsBook, entries_left, one_open, specs_of}
 use Rattle.serve_hub.specs.Ends.{AreFree}
 use Rattle.serve_hub.specs.Journal.{transcript_of}
 use Rattle.serve_hub.proofs.Opened.{only_closes}
@@ -53,14 +53,14 @@ as_open (stream ∷ streams) =
 
 -- a book that is left with no lease out ends an epoch
 pub ends_epoch : (limit : ℕ) (goes_on : Bool) (book : BookValue) → IsBook book → book.limit ≡ limit → AreFree book.desk.workers
-    → (IsTrue goes_on → room book < 2) → IsEpoch limit goes_on book.past (desk_state book.desk)
+    → (IsTrue goes_on → entries_left book < 2) → IsEpoch limit goes_on book.past (desk_state book.desk)
 ends_epoch limit goes_on book is same free few =
     let closes = only_closes book.desk free in
     let are_open : open_streams (desk_state book.desk) ≡ sum_by one_open book.desk.streams = as_open book.desk.streams in
     record {
       free = free;
       fits = omega (arith, is.fits, same, closes, are_open);
-      full = λ on. let room = few on in omega (arith, room, same, closes, are_open);
+      full = λ on. let no_more = few on in omega (arith, no_more, same, closes, are_open);
     }
 
 -- behind the epochs of a session comes another

@@ -38,9 +38,10 @@ impl<L: Epoch> Hub<L> {
     {
         let mut shared = self.shared.lock(rt);
         let answer = seat.collect(&mut shared);
+        let may_be_ready = answer.is_ok() && shared.has_work(seat.number());
         let is_full = shared.is_full();
         drop(shared);
-        self.wake(answer.is_ok(), is_full);
+        self.wake(may_be_ready, is_full);
         seat.compare(answer)
     }
 
@@ -96,9 +97,10 @@ impl<L: Epoch> Hub<L> {
             match seat.collect(&mut shared) {
                 Err(Refusal::Core(CoreRefusal::Empty)) => {}
                 answer => {
+                    let may_be_ready = answer.is_ok() && shared.has_work(seat.number());
                     let is_full = shared.is_full();
                     drop(shared);
-                    self.wake(answer.is_ok(), is_full);
+                    self.wake(may_be_ready, is_full);
                     return seat.compare(answer);
                 }
             }

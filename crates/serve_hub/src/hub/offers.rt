@@ -114,7 +114,8 @@ impl<L: Epoch> Hub<L> {
         }
     }
 
-    /// Offers a job, and wakes a worker for it where it doesn't come back.
+    /// Offers a job, and wakes a worker for it where it doesn't come back and no frame of the stream is
+    /// before it.
     fn enter(
         &self,
         rt: &impl Wait,
@@ -135,10 +136,11 @@ impl<L: Epoch> Hub<L> {
             × IsOfferTold seat.old at (arc_value kept).geometry e.0)) }
     {
         let mut shared = self.shared.lock(rt);
+        let had_work = shared.has_work(seat.number());
         let answer = seat.offer(&mut shared, at, job, kept);
         let is_full = shared.is_full();
         drop(shared);
-        self.wake(!matches!(answer, Err((_, Some(_)))), is_full);
+        self.wake(!had_work && !matches!(answer, Err((_, Some(_)))), is_full);
         answer
     }
 

@@ -131,6 +131,7 @@ impl<L: Epoch> Seated<L> {
             Call::CollectSoon(s) => Ok(given(self.collect_soon(rt, s))),
             Call::Close(s) => Ok(closed(self.close(rt, s))),
             Call::IsFull => Ok(Answer::Full(self.hub.is_full(rt))),
+            Call::EndEpoch => Ok(self.end_epoch(rt)),
         }
     }
 
@@ -222,6 +223,11 @@ impl<L: Epoch> Seated<L> {
                 Answer::SpecBack(refusal, spec.queue(), spec.outbox())
             }
         }
+    }
+
+    fn end_epoch(&self, rt: &impl Wait) -> Answer {
+        self.hub.end_epoch(rt);
+        Answer::Full(self.hub.is_full(rt))
     }
 
     pub(super) fn close(&mut self, rt: &impl Wait, s: u32) -> Result<(), Refusal> {

@@ -1,11 +1,14 @@
 //! Images that clients wait for where they come soon, and journals that are full.
-use super::ends::left_after;
+use super::ends::{again_after, ended_after, left_after};
 use super::steps::Answer::{Accepted, Closed, Full, Given, Refused, Worked};
-use super::steps::Call::{Close, CollectSoon, IsFull, Offer, Work};
+use super::steps::Call::{Close, CollectSoon, EndEpoch, IsFull, Offer, Work};
 use super::steps::{Step, TWELVE_FRAMES};
 use super::threads::{Plan, serve, serve_whole};
 use super::{Core, PLAIN, same};
-use serve_hub::{Refusal, Settled};
+use serve_hub::{Ended, Refusal, Settled};
+use std::alloc::Global;
+use std::process::Abort;
+use std::sync::Wait;
 use std::test::Fail;
 
 const EMPTY: Refusal = Refusal::Core(Core::Empty);
@@ -72,6 +75,59 @@ const THREE_MORE: &[Step] = &[
 const NO_LEASE: &[Step] = &[
     (Work(0, 1), Refused(Refusal::HistoryFull)),
     (CollectSoon(0), Refused(EMPTY)),
+];
+
+/// Where the epoch is being ended, all but a close is refused where it would be accepted, and what is refused
+/// anyway is refused as before. The next epoch goes on.
+#[test]
+fn an_epoch_is_ended_before_its_journal_is_full(rt: HostRuntime) -> Result<(), Fail> {
+    let ended = ended_after(&rt, rt.alloc(), &[PLAIN], &[ONE_IMAGE, ENDING])?;
+    same(&rt, told_of_places(&ended), (4, 11, true, [Some(0), None]));
+    same(&rt, entries_again(&rt, rt.alloc(), ended)?, (4, 4));
+    Ok(())
+}
+
+/// How many entries an end's journal has and may have beside, whether it is full, and the numbers of the first
+/// two streams that handed their seats over.
+fn told_of_places(ended: &Ended) -> (usize, usize, bool, [Option<u32>; 2]) {
+    let numbers = [ended.number(0), ended.number(1)];
+    (
+        ended.journal().len(),
+        ended.left(),
+        ended.is_full(),
+        numbers,
+    )
+}
+
+/// How many entries the epoch had, and how many the next one has.
+fn entries_again<R: Wait + Abort>(
+    rt: &R,
+    alloc: Global,
+    ended: Ended,
+) -> Result<(usize, usize), Fail> {
+    let (again, entries) = again_after(rt, alloc, ended, &[AFTER_ALL])?;
+    Ok((entries, again.journal().len()))
+}
+
+const ONE_IMAGE: &[Step] = &[
+    (Offer(0, 0), Accepted(0)),
+    (Work(0, 1), Worked((0, 0, 1), Settled::Finished(0))),
+    (Offer(0, 1), Accepted(1)),
+];
+
+const ENDING: &[Step] = &[
+    (IsFull, Full(false)),
+    (EndEpoch, Full(true)),
+    (Offer(0, 2), Refused(Refusal::HistoryFull)),
+    (CollectSoon(0), Refused(Refusal::HistoryFull)),
+    (Work(0, 1), Refused(Refusal::HistoryFull)),
+];
+
+const AFTER_ALL: &[Step] = &[
+    (IsFull, Full(false)),
+    (CollectSoon(0), Given(Some(0), Some(255))),
+    (Work(0, 1), Worked((0, 1, 1), Settled::Finished(1))),
+    (CollectSoon(0), Given(Some(1), Some(254))),
 ];
 
 /// One frame at a time, 1,000 of them.

@@ -32,6 +32,8 @@ pub(super) enum Call {
     Admit(&'static Served<'static>),
     /// A hub tells whether its journal is full.
     IsFull,
+    /// A hub ends its epoch, and tells whether its journal is full.
+    EndEpoch,
 }
 
 /// What a call answers.

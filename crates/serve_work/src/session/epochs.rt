@@ -2,7 +2,7 @@
 ghost use Rattle.std.specs.Prelude.{◌≡◌, ◌<◌, ◌↔◌, true, List, [], IfErr, IfOk, IsFalse, IsTrue, OnOk};
 ghost use Rattle.std.specs.Prelude.{length, map};
 ghost use Rattle.serve_core.specs.Schedule.{opened_schedule};
-ghost use Rattle.serve_hub.specs.Books.{IsLimit, room};
+ghost use Rattle.serve_hub.specs.Books.{IsLimit, entries_left};
 ghost use Rattle.serve_hub.specs.declared.entry.Entry.{Entry};
 ghost use Rattle.serve_work.specs.Intervals.{Beginning, CanBegin, IsBetween, IsLater, beginning_of};
 ghost use Rattle.serve_work.specs.Sessions.{AreInputs};
@@ -44,9 +44,9 @@ fn any_waits<R: Source, W: Sink>(streams: &Vec<Stream<R, W>>) -> bool
 /// Whether another epoch is to come: the journal of this one is full, and a stream waits. Where no worker
 /// started it has no entry, so it isn't full.
 fn another_comes<R: Source, W: Sink>(ended: &Ended, streams: &Vec<Stream<R, W>>) -> bool
-    ensures { IsTrue result ↔ (room ended.now.book < 2) × ¬ AreAllOver streams.now.items }
+    ensures { IsTrue result ↔ (entries_left ended.now.book < 2) × ¬ AreAllOver streams.now.items }
 {
-    ended.is_full() && any_waits(streams)
+    ended.left() < 2 && any_waits(streams)
 }
 
 /// The streams go on with their seats of this epoch, until all are over or the journal is full. In the first

@@ -8,4 +8,4 @@ invariant_of-result c =
     c.fill.ensures.items (λ y e. e)
     ∙ ap (λ (n : ℕ). replicate n 0) (omega (arith, c.requires.units, c.args.units.ok.0)) in
     kept_over _ c.args.desk c.requires.sound c.requires.fits c.requires.most c.of.ensures refl c.requires.empty
-    units c.requires.taken c.requires.capacity
+    units c.requires.taken c.requires.capacity refl

@@ -1,4 +1,5 @@
 use Rattle.std.proofs.Common.{◌≤◌, ◌+◌, ◌++◌, ◌∷◌, [], inl, sym, ◌∙◌, ap, subst, refl, arith}
+use Rattle.std.proofs.lemmas.List.{length-reverse}
 use Rattle.serve_core.specs.Schedule as schedules
 use Rattle.serve_core.specs.Setup.{StreamSpec}
 use Rattle.serve_hub.specs.declared.book.Book.TheInside.{Inside}
@@ -10,9 +11,17 @@ use Rattle.serve_hub.specs.BookInside.{book}
 use Rattle.serve_hub.specs.Books.{BookValue, room, taken}
 use Rattle.serve_hub.proofs.Admitting.{refused_so}
 use Rattle.serve_hub.proofs.Entered.{IsEntered, admit_entered}
-use Rattle.serve_hub.proofs.Inside.{IsPushed, appends, kept, no_more}
+use Rattle.serve_hub.proofs.Inside.{has_left, IsPushed, appends, kept, no_more}
 use Rattle.serve_hub.proofs.Refusing.{is_full}
 use Rattle.serve_hub.proofs.book.Book.admit_newcomer.Goals as goal
+
+pub push_reserved-requires : goal.push_reserved-requires
+push_reserved-requires c =
+    let b = book c.self.inside in
+    let has_room : 2 ≤ room b =
+    subst (λ (x : BookValue). 2 ≤ room x) (sym c.self.view_is) (omega (arith, c.if-room-lt2.false, c.room.ensures)) in
+    let len = length-reverse c.self.inside.journal.items in
+    omega (arith, has_left b 2 has_room, c.self.invariant.reserved, len)
 
 -- the entry is the next of the journal
 entered : (c : goal.After-self-1)
@@ -21,7 +30,7 @@ entered c =
     let b = book c.self.inside in
     let has_room : 2 ≤ room b =
     subst (λ (x : BookValue). 2 ≤ room x) (sym c.self.view_is) (omega (arith, c.if-room-lt2.false, c.room.ensures)) in
-    let fits : taken b + 2 ≤ c.self.inside.limit = omega (arith, has_room) in
+    let fits : taken b + 2 ≤ c.self.inside.limit = omega (arith, has_left b 2 has_room) in
     admit_entered b c.in-Ok.s c.args.newcomer c.admit_newcomer.new.self c.self.invariant.is_book c.in-Ok.ensures.events
     c.in-Ok.ensures.stream fits
 
@@ -33,6 +42,7 @@ opened_to c = record {
   limit = c.self.inside.limit;
   taken = c.self.inside.taken + 2;
   units = c.self.inside.units;
+  is_ending = c.self.inside.is_ending;
 }
 
 pushed : (c : goal.After-self-1) → IsPushed c.self.inside (opened_to c) (Stream c.in-Ok.s) Admitted
@@ -41,6 +51,7 @@ pushed c = record {
   limit = refl;
   items = c.push_reserved.ensures.items ∙ ap (λ e. c.self.inside.journal.items ++ e ∷ []) c.new.ensures;
   capacity = c.push_reserved.ensures.capacity;
+  ending = refl;
 }
 
 pub invariant_of-self : goal.invariant_of-self

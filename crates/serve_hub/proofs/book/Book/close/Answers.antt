@@ -24,6 +24,7 @@ invariant_of-self-2 c =
       limit = refl;
       items = c.push_reserved.ensures.items ∙ ap (λ e. c.self.inside.journal.items ++ e ∷ []) c.new.ensures;
       capacity = c.push_reserved.ensures.capacity;
+      ending = refl;
     }) h (omega arith) (no_more c.self.inside.units.items)
 
 pub returns-clause-entry : goal.returns-clause-entry
@@ -37,11 +38,13 @@ returns-clause-entry c =
       limit = c.self.inside.limit;
       taken = c.self.inside.taken;
       units = c.self.inside.units;
+      is_ending = c.self.inside.is_ending;
     } in
     let pushed : IsPushed c.self.inside z (Stream c.args.s) Closed = record {
       opening = refl;
       limit = refl;
       items = c.push_reserved.ensures.items ∙ ap (λ e. c.self.inside.journal.items ++ e ∷ []) c.new.ensures;
       capacity = c.push_reserved.ensures.capacity;
+      ending = refl;
     } in
     appends c.self.inside z c.args.self.now (Stream c.args.s) Closed 0 c.self.view_is pushed h refl

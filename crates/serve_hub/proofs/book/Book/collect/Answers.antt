@@ -7,14 +7,16 @@ use Rattle.serve_hub.specs.Answers.{DeskGives}
 use Rattle.serve_hub.specs.BookInside.{book}
 use Rattle.serve_hub.specs.Books.{BookValue, room, taken}
 use Rattle.serve_hub.proofs.Entered.{collect_entered, collected_here}
-use Rattle.serve_hub.proofs.Inside.{kept, no_more}
+use Rattle.serve_hub.proofs.Inside.{has_left, kept, no_more}
 use Rattle.serve_hub.proofs.book.Book.collect.Goals as goal
 
 pub push_reserved-requires : goal.push_reserved-requires
 push_reserved-requires c =
-    let free = c.if-room-lt1.false in
-    let left = length-reverse c.self.inside.journal.items in
-    omega (arith, free, c.room.ensures, ap room c.self.view_is, c.self.invariant.reserved, left)
+    let b = book c.self.inside in
+    let has_room : 1 ≤ room b =
+    subst (λ (x : BookValue). 1 ≤ room x) (sym c.self.view_is) (omega (arith, c.if-room-lt1.false, c.room.ensures)) in
+    let len = length-reverse c.self.inside.journal.items in
+    omega (arith, has_left b 1 has_room, c.self.invariant.reserved, len)
 
 pub invariant_of-self-2 : goal.invariant_of-self-2
 invariant_of-self-2 c =
@@ -25,7 +27,7 @@ invariant_of-self-2 c =
     c.in-Some.ensures in
     let has_room : 1 ≤ room b =
     subst (λ (x : BookValue). 1 ≤ room x) (sym c.self.view_is) (omega (arith, c.if-room-lt1.false, c.room.ensures)) in
-    let fits : taken b + 1 ≤ c.self.inside.limit = omega (arith, has_room) in
+    let fits : taken b + 1 ≤ c.self.inside.limit = omega (arith, has_left b 1 has_room) in
     let h = collect_entered b c.args.s n a.0 c.collect.new.self c.self.invariant.is_book
     c.in_ok-pair.ensures.events a.1 number a.2.1 fits in
     kept c.self.inside _ (Stream c.args.s) (Collected n) 1 c.self.invariant (record {
@@ -33,6 +35,7 @@ invariant_of-self-2 c =
       limit = refl;
       items = c.push_reserved.ensures.items ∙ ap (λ e. c.self.inside.journal.items ++ e ∷ []) c.new.ensures;
       capacity = c.push_reserved.ensures.capacity;
+      ending = refl;
     }) h refl (no_more c.self.inside.units.items)
 
 pub returns-clause-answer : goal.returns-clause-answer

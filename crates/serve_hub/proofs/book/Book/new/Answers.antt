@@ -13,4 +13,4 @@ invariant_of-result c =
     c.in_ok-units.ensures.items_if_clones_equal (λ y e. e) ∙ ap (λ (n : ℕ). replicate n 0) c.workers-workers.ensures
     in
     kept_opened _ c.args.setup c.recall_limits.ensures.0 limit c.of.ensures c.in_ok-desk.ensures.desk
-    c.in_ok-journal.ensures.items units count c.in_ok-journal.ensures.capacity
+    c.in_ok-journal.ensures.items units count c.in_ok-journal.ensures.capacity refl

@@ -1,4 +1,5 @@
 use Rattle.std.proofs.Common.{ℕ, ◌≤◌, ◌+◌, ◌++◌, ◌∷◌, [], inl, inr, None, sym, ◌∙◌, ap, subst, refl, arith}
+use Rattle.std.proofs.lemmas.List.{length-reverse}
 use Rattle.std.specs.Arc.{arc_value}
 use Rattle.frame_view.specs.declared.geometry.Geometry.{Geometry}
 use Rattle.serve_core.specs.declared.refusal.Refusal as core
@@ -14,8 +15,16 @@ use Rattle.serve_hub.specs.BookInside.{book}
 use Rattle.serve_hub.specs.Books.{Appends, BookValue, room, taken}
 use Rattle.serve_hub.specs.Journal.{entry_of, tick_of}
 use Rattle.serve_hub.proofs.Entered.{IsEntered, offer_entered}
-use Rattle.serve_hub.proofs.Inside.{IsPushed, appends, kept, no_more}
+use Rattle.serve_hub.proofs.Inside.{has_left, IsPushed, appends, kept, no_more}
 use Rattle.serve_hub.proofs.book.Book.offer.Goals as goal
+
+pub push_reserved-requires : goal.push_reserved-requires
+push_reserved-requires c =
+    let b = book c.self.inside in
+    let has_room : 1 ≤ room b =
+    subst (λ (x : BookValue). 1 ≤ room x) (sym c.self.view_is) (omega (arith, c.if-room-lt1.false, c.room.ensures)) in
+    let len = length-reverse c.self.inside.journal.items in
+    omega (arith, has_left b 1 has_room, c.self.invariant.reserved, len)
 
 abbrev act : goal.After-self-1 → Act
 act c = Offered (tick_of c.self.inside.desk.clock c.args.at) c.in-Ok.number
@@ -27,7 +36,7 @@ entered c =
     let b = book c.self.inside in
     let has_room : 1 ≤ room b =
     subst (λ (x : BookValue). 1 ≤ room x) (sym c.self.view_is) (omega (arith, c.if-room-lt1.false, c.room.ensures)) in
-    let fits : taken b + 1 ≤ c.self.inside.limit = omega (arith, has_room) in
+    let fits : taken b + 1 ≤ c.self.inside.limit = omega (arith, has_left b 1 has_room) in
     offer_entered b c.args.s c.args.at c.in-Ok.number c.in-Ok.ensures.job.0 c.offer.new.self c.self.invariant.is_book
     c.in-Ok.ensures.events c.in-Ok.ensures.job.3 fits
 
@@ -39,6 +48,7 @@ offered_to c = record {
   limit = c.self.inside.limit;
   taken = c.self.inside.taken + 1;
   units = c.self.inside.units;
+  is_ending = c.self.inside.is_ending;
 }
 
 pushed : (c : goal.After-self-1) → IsPushed c.self.inside (offered_to c) (Stream c.args.s) (act c)
@@ -50,6 +60,7 @@ pushed c =
       limit = refl;
       items = c.push_reserved.ensures.items ∙ ap (λ e. c.self.inside.journal.items ++ e ∷ []) made;
       capacity = c.push_reserved.ensures.capacity;
+      ending = refl;
     }
 
 pub invariant_of-self : goal.invariant_of-self

@@ -126,6 +126,7 @@ invariant_of-self c =
       limit = refl;
       items = c.push_reserved.ensures.items ∙ ap (λ e. c.self.inside.journal.items ++ e ∷ []) (made c);
       capacity = c.push_reserved.ensures.capacity;
+      ending = refl;
     }) (rw (units c) (entered c)) (omega arith) (rw (units c) more)
 
 pub returns-clause-entry : goal.returns-clause-entry
@@ -138,12 +139,14 @@ returns-clause-entry c =
       limit = c.self.inside.limit;
       taken = c.self.inside.taken;
       units = with_item c.self.inside.units c.args.w (c.index_mut.result.now + c.spent-units.result);
+      is_ending = c.self.inside.is_ending;
     } in
     let pushed : IsPushed c.self.inside z (Worker c.args.w) act = record {
       opening = refl;
       limit = refl;
       items = c.push_reserved.ensures.items ∙ ap (λ e. c.self.inside.journal.items ++ e ∷ []) (made c);
       capacity = c.push_reserved.ensures.capacity;
+      ending = refl;
     } in
     let finished : is_some c.take_back-number.result ≡ is_finished c.settled.result =
     finished_as c.take_back-number.result ∙ ap is_finished (sym c.settled.ensures) in
