@@ -13,11 +13,11 @@ const GLANCE: u64 = 1;
 /// What a client finds that is about to read.
 #[derive(Clone, Copy, Debug, PartialEq, Eq)]
 pub(crate) enum Input {
-    /// The next frame has begun to come, or the end or a fault is there.
+    /// The next frame has come whole, or the end or a fault is there.
     Ready,
-    /// Nothing came yet.
+    /// It hasn't come whole yet.
     Silent,
-    /// Nothing came yet, and the journal is full.
+    /// It hasn't, and the journal is full.
     JournalFull,
 }
 
@@ -37,7 +37,7 @@ pub(crate) fn await_input<L: Epoch, R: Source + Drop, T: Wait>(
 }
 
 /// Whether a frame is read beside the work on another one: where that takes long, since a filter looks at
-/// more than a band's own rows, and the input is there.
+/// more than a band's own rows, and the frame is there.
 pub(crate) fn reads_ahead<L: Epoch, R: Source + Drop>(
     seat: &StreamSeat<L>,
     reader: &StreamReader<R>,

@@ -13,3 +13,4 @@ pub mod OneCall
 pub mod WholeFrames
 pub mod Told
 pub mod LineFeeds
+pub mod Awaited

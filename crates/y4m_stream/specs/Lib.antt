@@ -7,3 +7,4 @@ pub mod Filtered
 pub mod Inside
 pub mod Laws
 pub mod Words
+pub mod Wanted

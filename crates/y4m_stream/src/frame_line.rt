@@ -4,17 +4,53 @@ ghost use Rattle.std.specs.Prelude.{IfErr, IfSome, IfNone, OnOk, ◌≤◌};
 ghost use Rattle.std.specs.Io.KnownBytes.{Consumes, IsAtEnd, Keeps};
 ghost use Rattle.frame_view.specs.Frame.{line_of, samples_of};
 ghost use Rattle.y4m_header.specs.FrameLine.{IsFrameLine};
+ghost use Rattle.y4m_header.specs.declared.limits.TheConstants.{LARGEST_DATA};
 ghost use Rattle.y4m_header.specs.StreamText.{text_of};
 ghost use Rattle.y4m_stream.specs.Front.{HasGiven, IsCutFrame, StandsAtFrame};
 ghost use Rattle.y4m_stream.specs.Inside.{BeginsWithLine, LacksFrameLine, rest_of};
 ghost use Rattle.y4m_stream.specs.Reader.{failures_told, frame_text_of};
+ghost use Rattle.y4m_stream.specs.Wanted.{IsEnough, IsLacking};
 
 use crate::device::Source;
 use crate::fault::ReadFault;
 use crate::line::find_line;
 use crate::lookahead::{LINE_LIMIT, Lookahead};
+use crate::wanted::{Wanted, is_frame_line};
 use frame_view::Frame;
 use y4m_header::check_frame_line;
+use y4m_header::text::place_of;
+
+/// What is lacking of a frame with so many bytes of data, where these come first: nothing where it is there,
+/// or where a fault is.
+pub fn lacks(held: &[u8], len: usize) -> Option<Wanted>
+    requires held { length held.now ≤ LINE_LIMIT }
+    requires len { len ≤ LARGEST_DATA }
+    ensures enough { IfNone result (IsEnough LINE_LIMIT len held.now) }
+    ensures lacking { IfSome result (λ wanted. IsLacking len held.now wanted.line wanted.behind) }
+{
+    let Some(end) = place_of(b'\n', held) else {
+        if LINE_LIMIT <= held.len() {
+            return None;
+        }
+        return Some(Wanted::line(LINE_LIMIT - held.len(), len));
+    };
+    if is_frame_line(&held[..end]) {
+        return lacks_data(held.len() - end - 1, len);
+    }
+    None
+}
+
+/// What is lacking of so many bytes of data, where so many came.
+fn lacks_data(came: usize, len: usize) -> Option<Wanted>
+    requires { len ≤ LARGEST_DATA }
+    ensures enough { IfNone result (len ≤ came) }
+    ensures lacking { IfSome result (λ wanted. (wanted.line ≡ 0) × (came + wanted.behind ≡ len)) }
+{
+    if len <= came {
+        return None;
+    }
+    Some(Wanted::data(len - came))
+}
 
 /// Whether nothing is left; reads only where nothing is held.
 fn is_at_end<R: Source>(input: &mut Lookahead<R>) -> Result<bool, ReadFault>

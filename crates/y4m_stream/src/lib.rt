@@ -13,6 +13,7 @@ mod overlapped;
 mod passing;
 mod put;
 pub mod reader;
+mod wanted;
 pub mod writer;
 
 pub use device::{OverRead, OverWrite, Sink, Source};
@@ -21,4 +22,5 @@ pub use filter::{filter_between, filter_bytes, filter_stream, resized_header, sh
 pub use overlapped::{LEAST_OVERLAPPED, filter_overlapped};
 pub use put::put_all;
 pub use reader::StreamReader;
+pub use wanted::Wanted;
 pub use writer::StreamWriter;

@@ -10,7 +10,7 @@ ghost use Rattle.y4m_stream.specs.Reader.{answer_of, data_len_of, failures_told}
 
 use crate::device::Source;
 use crate::fault::ReadFault;
-use crate::frame_line::{find_frame_line, take_data};
+use crate::frame_line::{find_frame_line, lacks, take_data};
 use crate::line::find_line;
 use crate::lookahead::{LINE_LIMIT, Lookahead};
 use frame_view::{Frame, Geometry};
@@ -143,11 +143,13 @@ impl<R: Source + Drop> StreamReader<R> {
         &self.header
     }
 
-    /// Whether the next frame has begun to come, or the end or a fault is there. It waits for that at most so
-    /// many milliseconds, as the source does, and takes no byte. A frame of which a part has come may still
-    /// be waited for when it is read.
+    /// Whether the next frame has come whole, or the end or a fault is there. It waits for that at most so
+    /// many milliseconds, as the source does, and takes no byte.
     pub fn is_ready(&self, milliseconds: u64) -> bool {
-        !self.input.held().is_empty() || self.input.source().is_ready(milliseconds)
+        match lacks(self.input.held(), Geometry::of(&self.header).bytes()) {
+            Some(wanted) => self.input.source().is_ready(milliseconds, wanted),
+            None => true,
+        }
     }
 
     /// Reads the next frame, or answers none at the end.

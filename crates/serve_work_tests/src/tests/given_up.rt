@@ -14,7 +14,7 @@ use std::test::Fail;
 use std::thread::Threads;
 use test_tools::streams::{HEADER, ONE, numbered};
 use test_tools::{Room, Tape};
-use y4m_stream::{OverRead, OverWrite, Sink, Source, StreamReader, WriteFault};
+use y4m_stream::{OverRead, OverWrite, Sink, Source, StreamReader, Wanted, WriteFault};
 
 /// How often a source is asked at most whether it is ready. Then it says so.
 const PATIENCE: u64 = 10_000_000;
@@ -53,7 +53,7 @@ impl<'a, S: Source> Source for Silent<'a, S> {
         self.source.read(buf)
     }
 
-    fn is_ready(&self, _milliseconds: u64) -> bool {
+    fn is_ready(&self, _milliseconds: u64, _wanted: Wanted) -> bool {
         self.heard.taken.load(Ordering::SeqCst) >= self.least
             || self.asked.fetch_add(1, Ordering::SeqCst) > PATIENCE
     }

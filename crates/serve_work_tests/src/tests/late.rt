@@ -13,7 +13,7 @@ use std::sync::atomic::{AtomicU64, Ordering};
 use std::thread::Threads;
 use test_tools::streams::{CUT, HEADER, ONE, ONE_INVERTED, THREE, THREE_INVERTED};
 use test_tools::{Room, Tape};
-use y4m_stream::{OverRead, OverWrite, ReadFault, Sink, Source, StreamReader, WriteFault};
+use y4m_stream::{OverRead, OverWrite, ReadFault, Sink, Source, StreamReader, Wanted, WriteFault};
 
 /// How often a source is asked at most whether it is ready. Then it says so, and its read fails: what it waits
 /// for doesn't come any more, as where another stream had no memory.
@@ -74,7 +74,7 @@ impl<'a, S: Source> Source for Late<'a, S> {
         self.source.read(buf)
     }
 
-    fn is_ready(&self, _milliseconds: u64) -> bool {
+    fn is_ready(&self, _milliseconds: u64, _wanted: Wanted) -> bool {
         self.pace.has_come(self.reads) || self.asked.fetch_add(1, Ordering::SeqCst) > PATIENCE
     }
 }

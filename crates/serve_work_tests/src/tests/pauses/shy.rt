@@ -2,7 +2,7 @@
 use std::io::{self, Read};
 use std::sync::atomic::{AtomicBool, Ordering};
 use test_tools::Tape;
-use y4m_stream::{OverRead, Source};
+use y4m_stream::{OverRead, Source, Wanted};
 
 /// The bytes of a header line, and of a frame of four samples with its line.
 const HEADER_BYTES: usize = 22;
@@ -68,7 +68,7 @@ impl<'a, S: Source> Source for Shy<'a, S> {
         self.source.read(buf)
     }
 
-    fn is_ready(&self, _milliseconds: u64) -> bool {
+    fn is_ready(&self, _milliseconds: u64, _wanted: Wanted) -> bool {
         self.bell.is_rung.load(Ordering::SeqCst)
     }
 }
