@@ -1,17 +1,19 @@
 //! A reader, and what was read from it before it was asked for.
-ghost use Rattle.std.specs.Prelude.{◌≡◌, ◌≢◌, ◌<◌, ◌↔◌, [], drop, false, length, min, take, IfErr, IfOk, IsOk};
+ghost use Rattle.std.specs.Prelude.{◌≡◌, ◌≢◌, ◌+◌, ◌<◌, [], false, true, length, take, IfErr, IfOk, IsOk};
 ghost use Rattle.std.specs.Prelude.{MatchResult};
-ghost use Rattle.std.specs.Io.{ReadsAtMost};
+ghost use Rattle.std.specs.Io.{ReadsAtMost, StartsWith};
 ghost use Rattle.std.specs.Io.KnownBytes.{Keeps, ReadConsumes, prepend_known};
-ghost use Rattle.serve_report.specs.ReadAhead.{HasNone, rest_of};
+ghost use Rattle.serve_report.specs.ReadAhead.{HasNone, HasWanted, IsNoFurther, IsThere, rest_of};
 
+use crate::stock::Stock;
 use std::alloc::Global;
 use std::io::{self, Read};
 use std::marker::Model;
 use std::mem;
+use y4m_stream::Wanted;
 
-/// The most bytes that are read ahead: as many as a pipe holds.
-const MOST: usize = 1 << 16;
+/// How many bytes may be read ahead at first: as many as a pipe holds.
+const ROOM: usize = 1 << 16;
 
 /// What a read told that gave no bytes.
 #[derive(Drop)]
@@ -21,89 +23,86 @@ pub enum Told {
     Fault(io::Error),
 }
 
-/// A reader, and what was read from it ahead of its client: bytes, or the end, or a fault.
+/// A reader, and what was read from it ahead of its client: bytes, and then perhaps the end, or a fault.
 #[derive(Drop)]
 pub struct Ahead<R: Read> {
     reader: R,
-    bytes: Vec<u8>,
-    /// Where the bytes that are held begin and end.
-    from: usize,
-    to: usize,
+    stock: Stock,
     told: Told,
 }
 
 impl<R: Read> Model for Ahead<R> {
-    ghost use Rattle.std.specs.Prelude.{◌<◌, ◌≤◌, drop, length, take};
     ghost use Rattle.serve_report.specs.ReadAhead.{AheadState, IsTold};
 
     ghost Value = { AheadState };
 
     ghost view = { λ a. record {
-      held = drop a.from (take a.to a.bytes.items);
+      held = a.stock.held;
+      room = a.stock.room;
       left = R.remaining a.reader;
       told = a.told;
     } };
 
-    ghost invariant = { λ a. (a.from ≤ a.to) × (a.to ≤ length a.bytes.items) × (0 < length a.bytes.items)
-        × IsTold a.told (R.remaining a.reader) };
+    ghost invariant = { λ a. IsTold a.told (R.remaining a.reader) };
 }
 
 impl<R: Read> Ahead<R> {
     /// Holds nothing yet. Where there is no memory the reader comes back.
     pub fn new(alloc: Global, reader: R) -> Result<Ahead<R>, R>
         ensures ok { IfOk result (λ ahead.
-            ahead ≡ record { held = []; left = R.remaining reader; told = Told.Nothing }) }
+            ahead ≡ record { held = []; room = ROOM; left = R.remaining reader; told = Told.Nothing }) }
         ensures err { IfErr result (λ back. back ≡ reader) }
     {
-        let Ok(bytes) = vec![in alloc; 0u8; MOST] else {
+        let Ok(stock) = Stock::new(alloc, ROOM) else {
             return Err(reader);
         };
         Ok(Ahead {
             reader,
-            bytes,
-            from: 0,
-            to: 0,
+            stock,
             told: Told::Nothing,
         })
     }
 
-    /// Whether the next read is answered by what is held.
-    pub fn has_news(&self) -> bool
-        ensures { (result ≡ false) ↔ HasNone self.now }
+    /// Whether reads of what is wanted are answered by what is held, or of as much of it as there is room
+    /// for.
+    pub fn has(&self, wanted: Wanted) -> bool
+        ensures none { HasNone self.now → result ≡ false }
+        ensures there { result ≡ true → IsThere wanted self.now }
+        ensures untold { result ≡ false → self.now.told ≡ Told.Nothing }
+        ensures lacking { result ≡ false → ¬ HasWanted wanted self.now.held }
     {
-        self.from < self.to || !matches!(self.told, Told::Nothing)
+        if !matches!(self.told, Told::Nothing) {
+            return true;
+        }
+        let held = self.stock.held();
+        wanted.least(held).min(self.stock.room()) <= held.len()
     }
 
-    /// Reads once, where nothing is held.
-    pub fn look(&mut self)
+    /// Reads once more of what is wanted, where that isn't held. It makes room for all that is wanted, where
+    /// there is memory.
+    pub fn look(&mut self, wanted: Wanted)
         ensures bytes { Keeps (rest_of self.old) (rest_of self.new) }
+        ensures held { StartsWith self.new.held self.old.held }
         ensures news { ¬ HasNone self.new }
-        ensures same { ¬ HasNone self.old → self.new ≡ self.old }
+        ensures told { self.old.told ≢ Told.Nothing → self.new ≡ self.old }
+        ensures same { HasWanted wanted self.old.held → self.new ≡ self.old }
+        ensures no_further { IsNoFurther wanted self.old.held self.new.held }
+        ensures memory { self.old.room < self.new.room → self.new.room ≡ wanted.line + wanted.behind }
     {
-        if self.has_news() {
+        if self.has(wanted) {
             return;
         }
-        match self.reader.read(&mut self.bytes) {
+        self.stock.widen(wanted.most());
+        let held = self.stock.held();
+        let most = wanted.least(held).min(self.stock.room());
+        if most <= held.len() {
+            return;
+        }
+        match self.stock.fill(&mut self.reader, most) {
             Ok(0) => self.told = Told::End,
-            Ok(n) => {
-                self.from = 0;
-                self.to = n;
-            }
+            Ok(_) => {}
             Err(error) => self.told = Told::Fault(error),
         }
-    }
-
-    /// Moves as many bytes as both have from the front into `out`.
-    fn take_into(&mut self, out: &mut [u8]) -> usize
-        ensures count { result ≡ min (length self.old.held) (length out.old) }
-        ensures moved { take result out.new ≡ take result self.old.held }
-        ensures left { self.new ≡ record self.old { held = drop result self.old.held } }
-    {
-        let held = &self.bytes[self.from..self.to];
-        let n = held.len().min(out.len());
-        out[..n].copy_from_slice(&held[..n]);
-        self.from += n;
-        n
     }
 
     /// Gives the reader up, and loses what is held.
@@ -127,8 +126,8 @@ impl<R: Read> Read for Ahead<R> {
         if buf.is_empty() {
             return Ok(0);
         }
-        if self.from < self.to {
-            return Ok(self.take_into(buf));
+        if self.stock.is_holding() {
+            return Ok(self.stock.take_into(buf));
         }
         match mem::replace(&mut self.told, Told::Nothing) {
             Told::Nothing => self.reader.read(buf),

@@ -9,7 +9,7 @@ use std::io::{self, Read};
 use std::sync::Wait;
 use std::thread::Threads;
 use std::time::Clock;
-use y4m_stream::Source;
+use y4m_stream::{Source, Wanted};
 
 /// A file that was opened for reading.
 #[derive(Drop)]
@@ -93,9 +93,9 @@ impl<R: Read, S: Read + Drop, T: Wait + Clock + Drop> Source for OverInflow<R, S
         answer
     }
 
-    fn is_ready(&self, milliseconds: u64) -> bool {
+    fn is_ready(&self, milliseconds: u64, wanted: Wanted) -> bool {
         match &self.inflow {
-            Inflow::Watched(lookout) => lookout.is_ready(milliseconds),
+            Inflow::Watched(lookout) => lookout.is_ready(milliseconds, wanted),
             _ => true,
         }
     }

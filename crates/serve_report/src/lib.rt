@@ -11,6 +11,7 @@ pub mod lookout;
 pub mod program;
 pub mod progress;
 mod serve;
+mod stock;
 mod tell;
 mod words;
 

@@ -1,4 +1,4 @@
-//! A reader that can be asked whether a read would wait.
+//! A reader that can be asked whether reads would wait.
 ghost use Rattle.std.specs.Io.{ReadsAtMost};
 
 use crate::ahead::Ahead;
@@ -8,41 +8,42 @@ use std::mem;
 use std::sync::{Arc, Condvar, CondvarTimeouts, Mutex, Wait};
 use std::thread::{self, Threads};
 use std::time::{Clock, Duration};
+use y4m_stream::Wanted;
 
 /// Who has the reader, and what is asked of the looker.
 #[derive(Drop)]
 enum State<R: Read> {
     /// The looker rests. What it found is held, until it is taken.
     Resting(Ahead<R>),
-    /// The looker is to read.
-    Wanted(Ahead<R>),
-    /// The looker reads.
-    Looking,
+    /// The looker is to read of what is wanted.
+    Asked(Ahead<R>, Wanted),
+    /// The looker reads of it.
+    Looking(Wanted),
     /// The client is gone, and the looker is to end.
     Over,
 }
 
 impl<R: Read + Drop> State<R> {
-    /// Whether it isn't known yet if a read would wait.
+    /// Whether it isn't known yet if reads would wait.
     fn is_unknown(&self) -> bool {
-        matches!(self, State::Wanted(_) | State::Looking)
+        matches!(self, State::Asked(_, _) | State::Looking(_))
     }
 
     fn is_looking(&self) -> bool {
-        matches!(self, State::Looking)
+        matches!(self, State::Looking(_))
     }
 
     /// Whether the looker has something to do.
     fn calls(&self) -> bool {
-        matches!(self, State::Wanted(_) | State::Over)
+        matches!(self, State::Asked(_, _) | State::Over)
     }
 
-    /// The looker is to read, where nothing is held. It answers whether that is new.
-    fn ask(&mut self) -> bool {
-        match mem::replace(self, State::Looking) {
+    /// The looker is to read, where what is wanted isn't held. It answers whether that is new.
+    fn ask(&mut self, wanted: Wanted) -> bool {
+        match mem::replace(self, State::Looking(wanted)) {
             State::Resting(ahead) => {
-                *self = State::asked(ahead);
-                matches!(self, State::Wanted(_))
+                *self = State::asked(ahead, wanted);
+                matches!(self, State::Asked(_, _))
             }
             other => {
                 *self = other;
@@ -51,18 +52,21 @@ impl<R: Read + Drop> State<R> {
         }
     }
 
-    fn asked(ahead: Ahead<R>) -> State<R> {
-        if ahead.has_news() {
+    fn asked(ahead: Ahead<R>, wanted: Wanted) -> State<R> {
+        if ahead.has(wanted) {
             State::Resting(ahead)
         } else {
-            State::Wanted(ahead)
+            State::Asked(ahead, wanted)
         }
     }
 
-    /// The reader for the looker, where it is to read.
-    fn lend(&mut self) -> Option<Ahead<R>> {
-        match mem::replace(self, State::Looking) {
-            State::Wanted(ahead) => Some(ahead),
+    /// The reader for the looker, where it is to read, and what is wanted.
+    fn lend(&mut self) -> Option<(Ahead<R>, Wanted)> {
+        match mem::replace(self, State::Over) {
+            State::Asked(ahead, wanted) => {
+                *self = State::Looking(wanted);
+                Some((ahead, wanted))
+            }
             other => {
                 *self = other;
                 None
@@ -70,19 +74,21 @@ impl<R: Read + Drop> State<R> {
         }
     }
 
-    /// The looker has read. Where the client is gone the reader is given up.
-    fn settle(&mut self, ahead: Ahead<R>) {
-        if self.is_looking() {
-            *self = State::Resting(ahead);
+    /// The looker has read once: it is to read on, where what is wanted isn't held yet. Where the client is
+    /// gone the reader is given up. It answers whether the client is to be told.
+    fn settle(&mut self, ahead: Ahead<R>) -> bool {
+        if let State::Looking(wanted) = *self {
+            *self = State::asked(ahead, wanted);
         }
+        !self.is_unknown()
     }
 
     /// Reads for the client. What was wanted isn't any more. It fails where the reader isn't here.
     fn read(&mut self, buf: &mut [u8]) -> io::Result<usize>
         ensures { ReadsAtMost result buf.new }
     {
-        match mem::replace(self, State::Looking) {
-            State::Wanted(ahead) => *self = State::Resting(ahead),
+        match mem::replace(self, State::Over) {
+            State::Asked(ahead, _) => *self = State::Resting(ahead),
             other => *self = other,
         }
         match self {
@@ -99,25 +105,26 @@ struct Post<R: Read> {
     changed: Condvar,
 }
 
-/// Reads once whenever the client wants to know, until the client is gone.
+/// Reads of what the client wants, once and again, until the client is gone.
 fn look_out<R: Read + Drop, T: Wait>(rt: &T, post: &Post<R>) {
     for _ in rt.forever() {
         let mut state = post
             .changed
             .wait_while(rt, post.state.lock(rt), |state| !state.calls());
-        let Some(mut ahead) = state.lend() else {
+        let Some((mut ahead, wanted)) = state.lend() else {
             return;
         };
         drop(state);
-        ahead.look();
-        post.state.lock(rt).settle(ahead);
-        post.changed.notify_all();
+        ahead.look(wanted);
+        if post.state.lock(rt).settle(ahead) {
+            post.changed.notify_all();
+        }
     }
 }
 
-/// A reader that can be asked whether a read would wait.
+/// A reader that can be asked whether reads would wait.
 ///
-/// A thread, the looker, reads ahead of the client, once for a question, and only where nothing is held. It
+/// A thread, the looker, reads ahead of the client, until what it was asked for is held, and no further. It
 /// ends once the client is gone; where it is in a read then, that read is the last.
 pub struct Lookout<R: Read + Drop, T: Wait + Drop> {
     rt: T,
@@ -161,14 +168,14 @@ impl<R: Read + Drop, T: Wait + Drop> Lookout<R, T> {
         Ok(Lookout { rt, post })
     }
 
-    /// Whether a read would be answered at once: with bytes, with the end, or with a fault. It waits for that
-    /// at most so many milliseconds.
-    pub fn is_ready(&self, milliseconds: u64) -> bool
+    /// Whether reads of what is wanted would be answered at once: with bytes, with the end, or with a fault.
+    /// It waits for that at most so many milliseconds.
+    pub fn is_ready(&self, milliseconds: u64, wanted: Wanted) -> bool
     where
         T: Clock,
     {
         let mut state = self.post.state.lock(&self.rt);
-        if state.ask() {
+        if state.ask(wanted) {
             self.post.changed.notify_all();
         }
         let patience = Duration::from_millis(milliseconds);

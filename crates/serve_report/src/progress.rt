@@ -12,7 +12,7 @@ use std::io::{self, Write};
 use std::marker::Model;
 use std::sync::Mutex;
 use std::sync::atomic::{AtomicU64, Ordering};
-use y4m_stream::{Sink, Source};
+use y4m_stream::{Sink, Source, Wanted};
 
 /// The time between two drawings of the lines of streams.
 const BETWEEN_DRAWINGS: u64 = 200;
@@ -133,8 +133,8 @@ impl<'w, S: Source, V: Watch> Source for WatchedSource<'w, S, V> {
         self.source.read(buf)
     }
 
-    fn is_ready(&self, milliseconds: u64) -> bool {
-        self.source.is_ready(milliseconds)
+    fn is_ready(&self, milliseconds: u64, wanted: Wanted) -> bool {
+        self.source.is_ready(milliseconds, wanted)
     }
 
     fn frame_ended(&mut self) {

@@ -1,4 +1,6 @@
-//! A reader that is asked whether a read would wait.
+//! A reader that is asked whether reads would wait.
+mod frames;
+
 use crate::compare::same_at;
 use serve_report::Lookout;
 use serve_report::inlet::{Inflow, Inlet, inflow_of};
@@ -9,6 +11,7 @@ use std::sync::{Arc, Condvar, Mutex, Wait};
 use std::thread::{self, Threads};
 use std::time::Clock;
 use test_tools::Tape;
+use y4m_stream::Wanted;
 
 /// More milliseconds than anything here takes.
 const PATIENCE: u64 = 600_000;
@@ -30,39 +33,50 @@ impl Door {
     }
 }
 
-/// A reader whose reads wait until a door is open.
+/// A reader whose reads wait until a door is open, but for so many at first.
 #[derive(Drop)]
-struct Behind<T: Wait + Drop> {
+struct Behind<T: Wait + Drop, R: Read> {
     rt: T,
     door: Arc<Door>,
-    tape: Tape<'static>,
+    before: u64,
+    reader: R,
 }
 
-impl<T: Wait + Drop> Read for Behind<T> {
+impl<T: Wait + Drop, R: Read> Read for Behind<T, R> {
     fn read(&mut self, buf: &mut [u8]) -> io::Result<usize> {
+        if self.before > 0 {
+            self.before -= 1;
+            return self.reader.read(buf);
+        }
         let is_open = self.door.is_open.lock(&self.rt);
         drop(
             self.door
                 .changed
                 .wait_while(&self.rt, is_open, |is_open| !*is_open),
         );
-        self.tape.read(buf)
+        self.reader.read(buf)
     }
 }
 
-/// A door that is shut, and a reader behind it. The test's thread is the other one that holds the door.
-fn shut<T: Abort + Wait + Copy + Drop>(rt: &T, alloc: Global) -> (Arc<Door>, Behind<T>) {
+/// A door that is shut, and a reader of which all reads but so many at first are behind it. The test's thread
+/// is the other one that holds the door.
+fn shut<T: Abort + Wait + Copy + Drop, R: Read>(
+    rt: &T,
+    alloc: Global,
+    reader: R,
+    before: u64,
+) -> (Arc<Door>, Behind<T, R>) {
     let shut = Door {
         is_open: Mutex::new(false),
         changed: Condvar::new(),
     };
     let door = Arc::new(alloc, shut).expect(rt, "no door");
     let theirs = Arc::try_clone(&door).expect(rt, "no door");
-    let tape = Tape::new(TEXT, false);
     let behind = Behind {
         rt: *rt,
         door: theirs,
-        tape,
+        before,
+        reader,
     };
     (door, behind)
 }
@@ -82,7 +96,7 @@ where
     R: Read + Drop + Send + 'static,
     T: Abort + Threads + Wait + Clock + Copy + Drop + Send + 'static,
 {
-    let is_ready = !asks || lookout.is_ready(PATIENCE);
+    let is_ready = !asks || lookout.is_ready(PATIENCE, Wanted::data(1));
     same_at(rt, is_ready, true, "before a read");
 }
 
@@ -171,26 +185,33 @@ fn what_is_read_ahead_is_read_once_and_in_order(rt: HostRuntime) {
     }
 }
 
-/// The lookout answers so, however long it may wait.
-fn answers<R, T>(rt: &T, lookout: &Lookout<R, T>, milliseconds: &[u64], is_ready: bool)
+/// The lookout answers so of what is wanted, however long it may wait.
+fn answers<R, T>(
+    rt: &T,
+    lookout: &Lookout<R, T>,
+    wanted: Wanted,
+    milliseconds: &[u64],
+    is_ready: bool,
+)
 where
     R: Read + Drop + Send + 'static,
     T: Abort + Threads + Wait + Clock + Copy + Drop + Send + 'static,
 {
     for most in milliseconds {
-        same_at(rt, lookout.is_ready(*most), is_ready, *most);
+        same_at(rt, lookout.is_ready(*most, wanted), is_ready, *most);
     }
 }
 
 #[test]
 fn a_read_that_waits_is_told_of(rt: HostRuntime) {
-    let (door, reader) = shut(&rt, rt.alloc());
+    let (door, reader) = shut(&rt, rt.alloc(), Tape::new(TEXT, false), 0);
     let Some(mut lookout) = started(&rt, rt.alloc(), reader) else {
         return;
     };
-    answers(&rt, &lookout, &[0, 1, 20], false);
+    let wanted = Wanted::data(TEXT.len());
+    answers(&rt, &lookout, wanted, &[0, 1, 20], false);
     door.open(&rt);
-    answers(&rt, &lookout, &[PATIENCE, PATIENCE], true);
+    answers(&rt, &lookout, wanted, &[PATIENCE, PATIENCE], true);
     let mut buf = [0; 16];
     same_at(
         &rt,
@@ -198,16 +219,16 @@ fn a_read_that_waits_is_told_of(rt: HostRuntime) {
         Some(TEXT.len()),
         "the bytes",
     );
-    same_at(&rt, &buf[..TEXT.len()], TEXT, "the text");
+    same_at(&rt, buf.get(..TEXT.len()), Some(TEXT), "the text");
 }
 
 #[test]
 fn a_read_waits_for_the_one_that_was_begun(rt: HostRuntime) {
-    let (door, reader) = shut(&rt, rt.alloc());
+    let (door, reader) = shut(&rt, rt.alloc(), Tape::new(TEXT, false), 0);
     let Some(mut lookout) = started(&rt, rt.alloc(), reader) else {
         return;
     };
-    same_at(&rt, lookout.is_ready(20), false, "behind the door");
+    answers(&rt, &lookout, Wanted::data(TEXT.len()), &[20], false);
     let read = || {
         let mut buf = [0; 16];
         (lookout.read(&mut buf).ok(), buf)
@@ -215,16 +236,16 @@ fn a_read_waits_for_the_one_that_was_begun(rt: HostRuntime) {
     // Where no thread is granted, the door is opened first.
     let ((taken, buf), _) = thread::join(&rt, read, || door.open(&rt));
     same_at(&rt, taken, Some(TEXT.len()), "the bytes");
-    same_at(&rt, &buf[..TEXT.len()], TEXT, "the text");
+    same_at(&rt, buf.get(..TEXT.len()), Some(TEXT), "the text");
 }
 
 #[test]
 fn a_client_may_go_while_its_looker_reads(rt: HostRuntime) {
-    let (door, reader) = shut(&rt, rt.alloc());
+    let (door, reader) = shut(&rt, rt.alloc(), Tape::new(TEXT, false), 0);
     let Some(lookout) = started(&rt, rt.alloc(), reader) else {
         return;
     };
-    same_at(&rt, lookout.is_ready(20), false, "behind the door");
+    answers(&rt, &lookout, Wanted::data(TEXT.len()), &[20], false);
     drop(lookout);
     door.open(&rt);
 }
