@@ -47,9 +47,9 @@ use std::sync::{Condvar, Mutex, Wait};
 /// Each accepted call wakes those whom it may help. One that may make a stream ready wakes a worker: a frame
 /// that is accepted where no other of its stream is unfinished, and a collection and a settlement that leave
 /// their stream a frame that isn't finished. Where another frame is before it, a worker was woken for that
-/// one, or has it, or the outbox is full. A frame that is finished wakes the client of its stream. All workers
-/// wake at a close, at an admission and where nothing is left to lease, and all who wait where the journal is
-/// full or the epoch is being ended.
+/// one, or has it, or the outbox is full. A frame that is finished wakes the client of its stream. All
+/// workers wake at a close, at an admission and where nothing is left to lease, and all who wait where the
+/// journal is full or the epoch is being ended.
 #[derive(Drop)]
 pub struct Hub<L: Epoch> {
     shared: Mutex<Shared<L>>,

@@ -87,8 +87,8 @@ fn an_epoch_is_ended_before_its_journal_is_full(rt: HostRuntime) -> Result<(), F
     Ok(())
 }
 
-/// How many entries an end's journal has and may have beside, whether it is full, and the numbers of the first
-/// two streams that handed their seats over.
+/// How many entries an end's journal has and may have beside, whether it is full, and the numbers of the
+/// first two streams that handed their seats over.
 fn told_of_places(ended: &Ended) -> (usize, usize, bool, [Option<u32>; 2]) {
     let numbers = [ended.number(0), ended.number(1)];
     (
