@@ -1,5 +1,5 @@
 -- Images that are given with the oldest frame that a seat keeps.
-use Rattle.std.proofs.Common.{ℕ, ◌≡◌, ◌<◌, List, [], ◌∷◌, drop, length, Some, slice_get, slice_index_or, sym, ◌∙◌}
+use Rattle.std.proofs.Common.{ℕ, ◌≡◌, ◌<◌, List, [], ◌∷◌, drop, length, Some, slice_get, slice_index_or, sym, ◌∙◌, ◌-◌, refl}
 use Rattle.std.proofs.Common.{ap, arith, subst, ◌≢◌, IfErr, IfOk, OnOk, Ok, Err, None, Option, Result, MatchOption, MatchResult}
 use Rattle.std.proofs.lemmas.Option.{slice_get_within}
 use Rattle.frame_view.specs.declared.geometry.Geometry.{Geometry}
@@ -13,7 +13,8 @@ use Rattle.serve_hub.specs.declared.refusal.Refusal.{Refusal}
 use Rattle.serve_hub.specs.declared.refused.CollectRefused.{CollectRefused}
 use Rattle.serve_hub.specs.Calls.{Collects, Gives, GivesOther, IsCollectRefused, IsCollectTold, IsOldest, IsOther, after_refusal}
 use Rattle.serve_hub.specs.Calls.{gives_up}
-use Rattle.serve_hub.specs.Seats.{StreamSeatValue, with_call}
+use Rattle.serve_hub.proofs.Moving.{sum_more}
+use Rattle.serve_hub.specs.Seats.{StreamSeatValue, collected_by, one_collection, torn_at, with_call}
 
 -- an image has the size that the operations make of its frame's
 image_format : (ops : List Op) (source image : FrameValue) → IsImageByAll ops source image
@@ -77,23 +78,32 @@ given answer (Ok pair) old mid new a k r s =
     (subst (λ (x : Result Collected Refusal). OnOk x (mid.kept ≡ old.kept)) r.0 k) r.1 s r.2
 given answer (Err e) old mid new a k r s = tt
 
+-- how many were collected before
+one_fewer : (pair : Collected) (old mid : StreamSeatValue) → Collects pair old mid → collected_by mid - 1 ≡ collected_by old
+one_fewer pair old mid x = omega (
+  arith,
+  ap collected_by x.seat,
+  sum_more one_collection old.calls.list (acts.Collected x.number),
+)
+
 -- what was collected and compared is refused
 pub refused : (answer : Result Collected Refusal) (result : Result Collected CollectRefused)
     (old mid new : StreamSeatValue) → IfOk answer (λ pair. Collects pair old mid)
     → OnOk answer (mid.kept ≡ old.kept) → IfErr answer (λ e. IsCollectTold old e × (mid ≡ old))
-    → IfErr result (λ e. MatchResult answer (λ pair. IsOther pair e mid × (new ≡ gives_up mid))
+    → IfErr result (λ e. MatchResult answer (λ pair. IsOther pair e mid × (new ≡ torn_at (collected_by mid - 1) (gives_up mid)))
     (λ refusal. (e.refusal ≡ refusal) × (e.pair ≡ None) × (new ≡ after_refusal refusal mid)))
     → IfErr result (λ e. IsCollectRefused e old new)
 refused answer (Ok pair) old mid new a k t r = tt
 refused (Ok pair) (Err e) old mid new a k t r =
-    let kept : new.kept ≡ drop 1 mid.kept = ap (λ (v : StreamSeatValue). v.kept) r.1 in
     subst (λ (p : Option Collected).
     MatchOption p (IsCollectTold old e.refusal × (new ≡ after_refusal e.refusal old)) (λ p. GivesOther p e old new))
     (sym r.0.1)
     (record {
-      collects = collects_up pair old mid new a k r.1;
+      mid = gives_up mid;
+      collects = collects_up pair old mid (gives_up mid) a k refl;
       other = (subst (λ (l : List FrameValue). slice_get l 0 ≢ Some (source_in pair)) k r.0.0, r.0.1, r.0.2);
-      kept = kept ∙ ap (λ (l : List FrameValue). drop 1 l) k;
+      kept = ap (λ (l : List FrameValue). drop 1 l) k;
+      noted = r.1 ∙ ap (λ n. torn_at n (gives_up mid)) (one_fewer pair old mid a);
     })
 refused (Err refusal) (Err e) old mid new a k t r =
     subst (λ (p : Option Collected).

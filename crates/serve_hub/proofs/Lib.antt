@@ -8,6 +8,7 @@ pub mod Entered
 pub mod Settling
 pub mod Inside
 pub mod Bands
+pub mod Noting
 pub mod Opened
 pub mod Keeping
 pub mod Giving

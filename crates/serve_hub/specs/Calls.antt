@@ -31,9 +31,8 @@ use Rattle.serve_hub.specs.declared.refused.OfferRefused.{OfferRefused}
 use Rattle.serve_hub.specs.declared.refused.OverRefused.{OverRefused}
 use Rattle.serve_hub.specs.Answers.{is_finished}
 use Rattle.serve_hub.specs.Journal.{tick_of}
-use Rattle.serve_hub.specs.Seats.{HasPlace, StreamSeatValue, WorkSeatValue, moments_with, no_calls}
-use Rattle.serve_hub.specs.Seats.{opened_rest}
-use Rattle.serve_hub.specs.Seats.{seat_over, with_call}
+use Rattle.serve_hub.specs.Seats.{HasPlace, StreamSeatValue, WorkSeatValue, collected_by, moments_with}
+use Rattle.serve_hub.specs.Seats.{no_calls, opened_rest, seat_over, torn_at, with_call}
 
 -- a part of a chain that isn't one of these operations, or not that of this chain
 abbrev pub IsOtherOp : List Op → ChainPart → Type 0
@@ -162,15 +161,24 @@ pub record NotesFrom (clock at : ℕ) (old new : StreamSeatValue) : Type 0 where
 abbrev pub Notes : (at : ℕ) → (old new : StreamSeatValue) → Type 0
 Notes at old new = (clock : ℕ) × NotesFrom clock at old new
 
--- an accepted frame got another number than the seat's next
-abbrev pub AcceptsOther : FrameValue → Refusal → (old new : StreamSeatValue) → Type 0
-AcceptsOther frame (Torn (came.Number n)) old new = (n ≢ old.accepted) × Accepts frame n old new
-AcceptsOther frame e old new = ⊥
+-- a seat notes that it is told Torn
+abbrev pub noted : Refusal → StreamSeatValue → StreamSeatValue
+noted (Torn c) seat = torn_at (collected_by seat) seat
+noted e seat = seat
 
--- a refused frame comes back, and the seat stays as it was
+-- an accepted frame got another number than the seat's next
+abbrev pub GetsOther : FrameValue → Refusal → (old new : StreamSeatValue) → Type 0
+GetsOther frame (Torn (came.Number n)) old new = (n ≢ old.accepted) × Accepts frame n old new
+GetsOther frame e old new = ⊥
+
+-- and the seat notes it
+abbrev pub AcceptsOther : FrameValue → Refusal → (old new : StreamSeatValue) → Type 0
+AcceptsOther frame e old new = (mid : StreamSeatValue) × GetsOther frame e old mid × (new ≡ noted e mid)
+
+-- a refused frame comes back, and the seat stays as it was, but that it notes a Torn
 pub record ReturnsFrame (at : ℕ) (frame : Frame) (e : Refusal) (old new : StreamSeatValue) : Type 0 where
   pub told : IsOfferTold old at frame.geometry e
-  pub seat : new ≡ old
+  pub seat : new ≡ noted e old
 
 -- why an offer is refused. The frame doesn't come back where it was accepted after all
 abbrev pub IsOfferRefused : (at : ℕ) → Frame → OfferRefused → (old new : StreamSeatValue) → Type 0
@@ -213,16 +221,19 @@ pub record Gives (pair : Collected) (old new : StreamSeatValue) : Type 0 where
 abbrev pub gives_up : StreamSeatValue → StreamSeatValue
 gives_up seat = record seat { kept = drop 1 seat.kept }
 
--- a seat that is told Torn gives its oldest frame up
+-- a seat that is told Torn notes it, and gives its oldest frame up
 abbrev pub after_refusal : Refusal → StreamSeatValue → StreamSeatValue
-after_refusal (Torn c) seat = gives_up seat
+after_refusal (Torn c) seat = gives_up (noted (Torn c) seat)
 after_refusal e seat = seat
 
--- an image came that isn't of the oldest frame that the seat keeps, which the seat gives up
+-- an image came that isn't of the oldest frame that the seat keeps, which the seat gives up; it notes that with
+-- how many came before
 pub record GivesOther (pair : Collected) (e : CollectRefused) (old new : StreamSeatValue) : Type 0 where
-  pub collects : Collects pair old new
+  pub mid : StreamSeatValue
+  pub collects : Collects pair old mid
   pub other : IsOther pair e old
-  pub kept : new.kept ≡ drop 1 old.kept
+  pub kept : mid.kept ≡ drop 1 old.kept
+  pub noted : new ≡ torn_at (collected_by old) mid
 
 -- why a collection gives no image of the seat's oldest frame
 abbrev pub IsCollectRefused : CollectRefused → (old new : StreamSeatValue) → Type 0

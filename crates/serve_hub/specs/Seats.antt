@@ -41,6 +41,8 @@ pub record StreamSeatValue : Type 0 where
   pub places : ℕ
   -- how many images of its stream were collected before the seat was there
   pub before : ℕ
+  -- how many had been collected when its stream's seat was first told Torn, if it was
+  pub torn : Option ℕ
 
 -- the moments of a seat's offers, with one more at this moment
 abbrev pub moments_with : Option Moments → ℕ → Moments
@@ -59,6 +61,7 @@ pub record StreamRest : Type 0 where
   pub is_closed : Bool
   pub kept : List FrameValue
   pub places : ℕ
+  pub torn : Option ℕ
 
 abbrev pub one_collection : Act → ℕ
 one_collection (Collected number) = 1
@@ -67,6 +70,14 @@ one_collection act = 0
 -- how many images of the seat's stream were collected, in all epochs
 abbrev pub collected_by : StreamSeatValue → ℕ
 collected_by seat = seat.before + sum_by one_collection seat.calls.list
+
+-- a seat that is told Torn, where so many images of its stream were collected before: the first number stays
+abbrev pub first_noted : Option ℕ → ℕ → Option ℕ
+first_noted None n = Some n
+first_noted (Some first) n = Some first
+
+abbrev pub torn_at : ℕ → StreamSeatValue → StreamSeatValue
+torn_at n seat = record seat { torn = first_noted seat.torn n }
 
 -- the seat can keep one frame more
 pub record HasPlace (seat : StreamSeatValue) : Type 0 where
@@ -110,6 +121,7 @@ left_by seat = record {
   is_closed = seat.is_closed;
   kept = seat.kept;
   places = seat.places;
+  torn = seat.torn;
 }
 
 -- the seat of a stream in the next epoch, without calls yet
@@ -126,6 +138,7 @@ seat_over limit rest = record {
   kept = rest.kept;
   places = rest.places;
   before = rest.collected;
+  torn = rest.torn;
 }
 
 -- what there is of a stream before its first epoch
@@ -140,6 +153,7 @@ opened_rest number spec = record {
   is_closed = false;
   kept = [];
   places = spec.queue + spec.outbox;
+  torn = None;
 }
 
 abbrev pub opened_worker : (limit number : ℕ) → WorkSeatValue

@@ -1,5 +1,5 @@
 //! The calls that a seat made.
-ghost use Rattle.std.specs.Prelude.{◌≡◌, ◌+◌, ◌<◌, ◌≤◌, [], length, sum_by};
+ghost use Rattle.std.specs.Prelude.{◌≡◌, ◌+◌, ◌<◌, ◌≤◌, ◌^◌, [], length, sum_by};
 ghost use Rattle.std.specs.Prelude.{IfOk, IsSomeAnd, slice_get, vec_capacity};
 ghost use Rattle.serve_hub.specs.Seats.{no_calls, one_collection, with_call};
 
@@ -53,7 +53,8 @@ impl<L: Ledger> Calls<L> {
 
     /// How many images were collected.
     pub(crate) fn collections(&self) -> u64
-        ensures { result ≡ sum_by one_collection self.now.list }
+        ensures value { result ≡ sum_by one_collection self.now.list }
+        ensures small { result < 2 ^ 63 }
     {
         let mut sum = 0;
         for call in &self.list {

@@ -23,6 +23,7 @@ pub(crate) struct SeatRest {
     pub(crate) collected: u64,
     pub(crate) is_closed: bool,
     pub(crate) kept: VecDeque<Arc<Frame>>,
+    pub(crate) torn: Option<u64>,
 }
 
 impl Model for SeatRest {
@@ -44,6 +45,7 @@ impl Model for SeatRest {
       is_closed = a.is_closed;
       kept = kept_in a.kept.items;
       places = deque_capacity a.kept;
+      torn = a.torn;
     } };
 
     ghost invariant = { λ a. AreSized (arc_value a.spec).geometry (kept_in a.kept.items)
@@ -70,6 +72,7 @@ impl SeatRest {
             collected: 0,
             is_closed: false,
             kept: VecDeque::with_capacity(alloc, places as usize)?,
+            torn: None,
         })
     }
 

@@ -1,12 +1,14 @@
 //! The seat of a stream.
-ghost use Rattle.std.specs.Prelude.{ℕ, ◌≡◌, ◌+◌, ◌≤◌, length, slice_get, IfNone, IfSome, IsSomeAnd, IsTrue};
+ghost use Rattle.std.specs.Prelude.{ℕ, ◌≡◌, ◌≢◌, ◌+◌, ◌≤◌, length, slice_get, IfNone, IfSome, IsSomeAnd};
+ghost use Rattle.std.specs.Prelude.{IsTrue, Some};
 ghost use Rattle.y4m_header.specs.declared.limits.TheConstants.{MOST_FRAMES};
 ghost use Rattle.frame_view.specs.declared.geometry.Geometry.{Geometry};
 ghost use Rattle.serve_core.specs.Schedule.{HasStream};
+ghost use Rattle.serve_hub.specs.declared.refusal.Came.TheVariants.{NoPlace};
 ghost use Rattle.serve_hub.specs.declared.refusal.Refusal.TheVariants.{Torn};
-ghost use Rattle.serve_hub.specs.Calls.{IsCloseTold, IsCollectTold, IsOfferTold};
+ghost use Rattle.serve_hub.specs.Calls.{IsCloseTold, IsCollectTold, IsOfferTold, noted};
 ghost use Rattle.serve_hub.specs.Ends.{IsStreamOf};
-ghost use Rattle.serve_hub.specs.Seats.{collected_by, left_by, no_calls, seat_over, with_call};
+ghost use Rattle.serve_hub.specs.Seats.{collected_by, left_by, no_calls, seat_over, torn_at, with_call};
 
 mod images;
 mod offers;
@@ -17,7 +19,7 @@ use crate::chain_part::other_part;
 use crate::entry::Act;
 use crate::epoch::Epoch;
 use crate::moments::Moments;
-use crate::refusal::Came;
+use crate::refusal::{Came, Refusal};
 use crate::rest::SeatRest;
 use crate::shared::Shared;
 use frame_view::Frame;
@@ -43,6 +45,7 @@ pub struct StreamSeat<L: Epoch> {
     is_closed: bool,
     kept: VecDeque<Arc<Frame>>,
     before: u64,
+    torn: Option<u64>,
 }
 
 impl<L: Epoch> Model for StreamSeat<L> {
@@ -66,6 +69,7 @@ impl<L: Epoch> Model for StreamSeat<L> {
       kept = kept_in a.kept.items;
       places = deque_capacity a.kept;
       before = a.before;
+      torn = a.torn;
     } };
 
     ghost invariant = { λ a. AreSized (arc_value a.spec).geometry (kept_in a.kept.items)
@@ -87,6 +91,7 @@ impl<L: Epoch> StreamSeat<L> {
             collected,
             is_closed,
             kept,
+            torn,
         } = rest;
         StreamSeat {
             number,
@@ -99,6 +104,7 @@ impl<L: Epoch> StreamSeat<L> {
             is_closed,
             kept,
             before: collected,
+            torn,
         }
     }
 
@@ -129,7 +135,7 @@ impl<L: Epoch> StreamSeat<L> {
         ensures amount { result.0.amount ≡ length self.calls.list }
         ensures rest { result.1 ≡ left_by self }
     {
-        let collected = self.before + self.calls.collections();
+        let collected = self.collected();
         let StreamSeat {
             number,
             calls,
@@ -139,6 +145,7 @@ impl<L: Epoch> StreamSeat<L> {
             accepted,
             is_closed,
             kept,
+            torn,
             before: _,
             moments: _,
         } = self;
@@ -151,6 +158,7 @@ impl<L: Epoch> StreamSeat<L> {
             collected,
             is_closed,
             kept,
+            torn,
         };
         (calls.into_share(), rest)
     }
@@ -188,6 +196,39 @@ impl<L: Epoch> StreamSeat<L> {
         ensures { result ≡ self.now.before }
     {
         self.before
+    }
+
+    /// How many images of its stream were collected.
+    fn collected(&self) -> u64
+        ensures { result ≡ collected_by self.now }
+    {
+        self.calls.collections() + self.before
+    }
+
+    /// How many images of its stream had been collected when its stream's seat was first told `Torn`, in this
+    /// epoch or in an earlier one, if it was.
+    pub fn torn(&self) -> Option<u64>
+        ensures { result ≡ self.now.torn }
+    {
+        self.torn
+    }
+
+    /// Notes a refusal that is told as Torn, unless one was noted before.
+    pub(crate) fn note(&mut self, refusal: Refusal)
+        ensures { self.new ≡ noted refusal self.old }
+    {
+        if let Refusal::Torn(_) = refusal {
+            self.tear(self.collected());
+        }
+    }
+
+    /// The same of a Torn, behind so many images.
+    fn tear(&mut self, collected: u64)
+        ensures { self.new ≡ torn_at collected self.old }
+    {
+        if self.torn.is_none() {
+            self.torn = Some(collected);
+        }
     }
 
     /// Whether the stream was closed, by this seat or by its seat in an earlier epoch.
@@ -247,6 +288,7 @@ impl<L: Epoch> StreamSeat<L> {
         ensures limit { IfNone result (self.now.calls.limit ≡ shared.now.book.limit) }
         ensures chain { IfNone result (HasStream shared.now.book.desk self.now.number (λ stream.
             stream.state.spec.chain ≡ self.now.chain)) }
+        ensures place { result ≢ Some NoPlace }
         ensures offer { (at : ℕ) (geometry : Geometry)
             → IfSome result (λ came. IsOfferTold self.now at geometry (Torn came)) }
         ensures close { IfSome result (λ came. IsCloseTold self.now (Torn came)) }

@@ -1,5 +1,6 @@
 -- How a stream goes on from one epoch to the next.
-use Rattle.std.proofs.Common.{◌≡◌, ◌⊎◌, ◌+◌, ◌++◌, ℕ, List, [], Option, ap, append-nil, arith, inl, inr, refl, subst, sym, ◌∙◌}
+use Rattle.std.proofs.Common.{◌≡◌, ◌⊎◌, ◌+◌, ◌++◌, ◌≤◌, ℕ, List, [], Option, IfSome, IsSome, ap, append-nil, arith, inl, inr}
+use Rattle.std.proofs.Common.{refl, subst, sym, ◌∙◌}
 use Rattle.filters.specs.ChainImage.{FrameValue}
 use Rattle.y4m_header.specs.StreamText.{FrameText}
 use Rattle.y4m_stream.specs.Reader.{ReaderState, data_len_of}
@@ -18,7 +19,7 @@ use Rattle.serve_work.proofs.Tallying.{collections_both, collections_counted}
 use Rattle.serve_work.proofs.Stopping.{moves_until, read_by, until_moves}
 
 reopened_stays : (old new : StreamSeatValue) → IsReopened old new → Stays old new
-reopened_stays old new r = record { number = r.number; chain = r.chain; frames = r.frames; is_closed = r.is_closed }
+reopened_stays old new r = record { number = r.number; chain = r.chain; frames = r.frames; is_closed = r.is_closed; torn = r.torn }
 
 -- what a stream's seat moved, its seat of the next epoch has moved
 Moves-to : (first old new : StreamSeatValue) (writer writer' : WriterState) (frames : List FrameText) → Stays first new
@@ -51,6 +52,9 @@ module _ (past : List Act) (old new : StreamSeatValue) (r : IsReopened old new) 
   before_across : (first : ℕ) → old.before ≡ first + collections_in past → new.before ≡ first + collections_in later
   before_across first e = omega (arith, e, r.before, collections_counted old.calls.list, collections_both past old.calls.list)
 
+  torn_across : (P : ℕ → Type 0) → IfSome old.torn P → IfSome new.torn P
+  torn_across P p = subst (λ (o : Option ℕ). IfSome o P) (sym r.torn) p
+
   Passes-across : (reader before : ReaderState) (first : StreamSeatValue) (writer writer' : WriterState) (frames : List FrameText)
       → Passes reader before first old writer writer' frames → Passes reader before first new writer writer' frames
   Passes-across reader before first writer writer' frames a = record {
@@ -74,7 +78,7 @@ module _ (past : List Act) (old new : StreamSeatValue) (r : IsReopened old new) 
         moved = until_moves stop first (as_open new) writer writer' a.frames useful
             (Moves-to first (as_open old) (as_open new) writer writer' a.frames
             (Stays-trans first (as_open old) (as_open new) moved.seat_stays
-            (record { number = r.number; chain = r.chain; frames = r.frames; is_closed = refl }))
+            (record { number = r.number; chain = r.chain; frames = r.frames; is_closed = refl; torn = r.torn }))
             r.accepted r.kept r.frames moved);
         count = r.accepted ∙ a.count;
       }
@@ -86,6 +90,7 @@ module _ (past : List Act) (old new : StreamSeatValue) (r : IsReopened old new) 
     read = read_by past later stop reader reader' first old new a.frames same_calls a.read;
     count = r.accepted ∙ a.count;
     sent = a.sent;
+    torn = λ is. subst IsSome (sym r.torn) (a.torn is);
     whole = λ is.
         let all = a.whole is in
         (all.0, all.1, record { closed = rw r.is_closed all.2.closed; none = r.kept ∙ all.2.none });
@@ -106,6 +111,8 @@ module _ (past : List Act) (old new : StreamSeatValue) (r : IsReopened old new) 
     read = a.read;
     count = r.accepted ∙ a.count;
     most = r.frames ∙ a.most;
+    is_closed = r.is_closed ∙ a.is_closed;
+    torn = λ is. subst IsSome (sym r.torn) (a.torn is);
     sent = a.sent;
     spoilt = a.spoilt;
     holds = a.holds;
@@ -140,6 +147,7 @@ module _ (past : List Act) (old new : StreamSeatValue) (r : IsReopened old new) 
       offers = counted_across a.tally.offers;
       images = omega (arith, a.tally.images, ap collections_in same_calls);
       before = before_across start.seat.before a.tally.before;
+      torn = λ none. torn_across (λ n. start.seat.before + begun.writer.frames ≤ n) (a.tally.torn none);
     };
     accepted = a.accepted ∙ sym r.accepted;
     collected = rw (r.accepted, r.kept) a.collected;
@@ -193,6 +201,8 @@ module _ (past : List Act) (old new : StreamSeatValue) (r : IsReopened old new) 
     offers = ap offers_in same_calls ∙ a.offers;
     collections = omega (arith, a.collections, ap collections_in same_calls);
     before = before_across start.seat.before a.before;
+    torn = λ none. torn_across (λ n. start.seat.before + end.delivered ≤ n) (a.torn none);
+    told = λ is. subst IsSome (sym r.torn) (a.told is);
   }
 
 pub streams_cross : StreamsCross

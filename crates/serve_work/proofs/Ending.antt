@@ -1,7 +1,7 @@
 -- What a client comes to.
 use Rattle.std.proofs.Common.{◌≡◌, ◌≢◌, ◌↔◌, ◌⊎◌, ℕ, ◌+◌, true, false, List, [], ◌∷◌, ◌++◌, length, take}
 use Rattle.std.proofs.Common.{Option, None, Some, Result, Ok, Err, OnOk, IfErr, refl, sym, ap, ◌∙◌, append-nil}
-use Rattle.std.proofs.Common.{length-append, arith, subst, inl, inr, unwrap_or}
+use Rattle.std.proofs.Common.{length-append, arith, subst, inl, inr, unwrap_or, ◌≤◌, IfSome}
 use Rattle.std.proofs.KnownBytes.{Appends-kept, Appends-trans, Consumes-nil}
 use Rattle.std.proofs.lemmas.List.{length-take-le}
 use Rattle.std.proofs.lemmas.List.Elements.{All-nil}
@@ -17,7 +17,7 @@ use Rattle.y4m_stream.specs.Served.{IsHeaderOfImages, served_header}
 use Rattle.y4m_stream.specs.Writer.{FlushesOrFails, IsOpenedFor, IsWriterFor, WriterState, write_failures_at, write_failures_told}
 use Rattle.y4m_stream.proofs.Puts.{put_both}
 use Rattle.serve_hub.specs.declared.entry.Act.{Act}
-use Rattle.serve_hub.specs.Seats.{StreamSeatValue}
+use Rattle.serve_hub.specs.Seats.{StreamSeatValue, collected_by}
 use Rattle.serve_work.specs.declared.stop.Cause.TheVariants.{NoMemory}
 use Rattle.serve_work.specs.declared.stop.Stop.{Stop}
 use Rattle.serve_work.specs.declared.stop.Stop.TheVariants.{Whole, Read, Write, Refused, Torn}
@@ -25,7 +25,7 @@ use Rattle.serve_work.specs.Clients.{ClientOutcome, ClientProgress, ClientStart,
 use Rattle.serve_work.specs.Clients.{ClientStopsAt, StreamStopsAt, WroteImages, WroteNothing, reads_at}
 use Rattle.serve_work.specs.ClientInside.{BreaksOff, Flushes, IsSent, SendsWhole, ServesTo, TalliesSeat, TellsKept}
 use Rattle.serve_work.specs.Rests.{IsFresh, IsTallied, IsUnbegun}
-use Rattle.serve_work.proofs.Tallying.{counted_later}
+use Rattle.serve_work.proofs.Tallying.{counted_later, if_more}
 
 -- what finishing a writer tells
 pub record Finishes {T : Type 0} (writer : WriterState) (flush : Result T WriteFault) (end : ClientOutcome) : Type 0 where
@@ -69,6 +69,14 @@ module _ {T : Type 0} where
   whole_flush (Refused cause) flush told e is = let both : Refused cause ≡ Whole = sym e ∙ is in absurd (cc)
   whole_flush (Write f) flush told e is = let both : Write f ≡ Whole = sym e ∙ is in absurd (cc)
   whole_flush Torn flush told e is = let both : Torn ≡ Whole = sym e ∙ is in absurd (cc)
+
+  torn_flushed : (stop : Stop) (flush : Result T WriteFault) (told : Stop) → Flushes stop flush told → told ≡ Torn → stop ≡ Torn
+  torn_flushed Whole (Ok t) told e is = let both : Whole ≡ Torn = sym e ∙ is in absurd (cc)
+  torn_flushed Whole (Err f) told e is = let both : Write f ≡ Torn = sym e ∙ is in absurd (cc)
+  torn_flushed (Read f) flush told e is = let both : Read f ≡ Torn = sym e ∙ is in absurd (cc)
+  torn_flushed (Refused cause) flush told e is = let both : Refused cause ≡ Torn = sym e ∙ is in absurd (cc)
+  torn_flushed (Write f) flush told e is = let both : Write f ≡ Torn = sym e ∙ is in absurd (cc)
+  torn_flushed Torn flush told e is = refl
 
   pub stops_flushed : (stop : Stop) (flush : Result T WriteFault) (told : Stop) (at : ClientProgress) → Flushes stop flush told
       → ClientStopsAt stop at → ClientStopsAt told at
@@ -282,6 +290,8 @@ module _ (start : ClientStart) (end : ClientOutcome) (shown : HeaderValue) (writ
         offers = tally.offers ∙ sym accepted;
         collections = omega (arith, tally.images, delivered);
         before = tally.before;
+        torn = λ none. subst (λ n. IfSome seat'.torn (λ m. start.seat.before + n ≤ m)) (sym delivered) (tally.torn none);
+        told = λ is. s.torn (torn_flushed stop flush end.stop flushes is);
       }
 
 -- the header line that is written
@@ -302,6 +312,10 @@ module _ (start : ClientStart) (end : ClientOutcome) where
   not_whole : WroteNothing start end ⊎ CutsHeader start end → end.stop ≢ Whole
   not_whole (inl a) is = let both : Refused NoMemory ≡ Whole = sym a.stop ∙ is in absurd (cc)
   not_whole (inr a) is = let both : Write a.fault ≡ Whole = sym a.stop ∙ is in absurd (cc)
+
+  not_torn : WroteNothing start end ⊎ CutsHeader start end → end.stop ≢ Torn
+  not_torn (inl a) is = let both : Refused NoMemory ≡ Torn = sym a.stop ∙ is in absurd (cc)
+  not_torn (inr a) is = let both : Write a.fault ≡ Torn = sym a.stop ∙ is in absurd (cc)
 
   before_or : (P : Type 0) → WroteNothing start end ⊎ CutsHeader start end → WroteNothing start end ⊎ CutsHeader start end ⊎ P
   before_or P (inl a) = inl a
@@ -333,4 +347,8 @@ module _ (start : ClientStart) (end : ClientOutcome) where
     offers = omega (arith, counted_later past seat seat' tally unbegun.offers, same, unbegun.fresh.accepted, accepted);
     collections = omega (arith, delivered_none out);
     before = tally.before ∙ unbegun.before;
+    torn = λ none.
+        if_more (λ n. collected_by seat ≤ n) (λ n. start.seat.before + end.delivered ≤ n) seat'.torn
+        (λ n few. omega (arith, few, unbegun.before, delivered_none out)) (tally.torn (unbegun.stays.torn ∙ none));
+    told = λ is. absurd (not_torn out is);
   }

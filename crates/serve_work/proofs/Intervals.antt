@@ -186,7 +186,7 @@ from_setup setup journal last led =
 
 -- where a stream stands, its client may go on
 
-ready_at : (start : ClientStart) (past : List Act) (seat : StreamSeatValue) (stream : StreamValue) → StandsAt stream start past seat
+pub ready_at : (start : ClientStart) (past : List Act) (seat : StreamSeatValue) (stream : StreamValue) → StandsAt stream start past seat
     → IsSizedStart start → IsReadyAt stream seat
 ready_at start past seat (Waiting rest) a is = (rest_sized start past seat rest a is, (start, past, a))
 ready_at start past seat (Over outcome) a is = tt
@@ -211,9 +211,10 @@ reopened limit seat = record {
   kept = refl;
   calls = refl;
   before = refl;
+  torn = refl;
 }
 
-stands_across : (start : ClientStart) (past : List Act) (old new : StreamSeatValue) (stream : StreamValue) → IsReopened old new
+pub stands_across : (start : ClientStart) (past : List Act) (old new : StreamSeatValue) (stream : StreamValue) → IsReopened old new
     → StandsAt stream start past old → StandsAt stream start (past ++ old.calls.list) new
 stands_across start past old new (Waiting rest) r a = (streams_cross start past old new r).0 rest a
 stands_across start past old new (Over outcome) r a = (streams_cross start past old new r).1 outcome a

@@ -26,9 +26,8 @@ use Rattle.serve_work.specs.declared.stop.Stop.{Stop}
 use Rattle.serve_work.specs.declared.stop.Stop.TheVariants.{Whole, Read, Write, Refused, Torn}
 use Rattle.serve_work.specs.ClientInside.{Accounted, Cuts, HaltsWith}
 use Rattle.serve_work.specs.ClientInside.{Moves, StopsWith, texts_of}
-use Rattle.serve_work.proofs.Staying.{GivesUp-stays, Puts-writes, Stays-same, Stays-trans, Writes-trans}
+use Rattle.serve_work.proofs.Staying.{Collects-stays, Puts-writes, Stays-same, Stays-trans, Writes-trans}
 use Rattle.serve_work.proofs.Staying.{stays_chain, stays_closed, stays_frames, text_of_value}
-use Rattle.serve_work.proofs.Tallying.{Collects-up}
 
 pub frames_text-append : (xs ys : List FrameText) → frames_text (xs ++ ys) ≡ frames_text xs ++ frames_text ys
 frames_text-append [] ys = refl
@@ -91,7 +90,7 @@ Moves-accept seat seat' writer frame n a = rw a.seat (record {
   frames = omega arith;
   count = refl;
   within = λ _. omega (arith, a.few);
-  seat_stays = record { number = refl; chain = refl; frames = refl; is_closed = refl };
+  seat_stays = record { number = refl; chain = refl; frames = refl; is_closed = refl; torn = refl };
   writer_stays = refl;
 })
 
@@ -113,7 +112,7 @@ Moves-give seat seat' writer writer' pair given put =
         ap (λ (s : StreamSeatValue). s.frames)
             given.collects.seat,
       ) few;
-      seat_stays = GivesUp-stays seat seat' (Collects-up pair seat seat' given.collects);
+      seat_stays = Collects-stays pair seat seat' given.collects;
       writer_stays = Puts-writes writer writer' image put;
     }
 
@@ -177,7 +176,11 @@ StopsWith-later (Read fault) seat mid seat' writer between writer' xs ys a b = M
 StopsWith-later (Refused cause) seat mid seat' writer between writer' xs ys a b =
     Moves-trans seat mid seat' writer between writer' xs ys a b
 StopsWith-later (Write fault) seat mid seat' writer between writer' xs ys a b = Cuts-later seat mid writer between writer' xs ys fault a b
-StopsWith-later Torn seat mid seat' writer between writer' xs ys a b = (b.0, Moves-trans seat mid b.0 writer between writer' xs ys a b.1)
+StopsWith-later Torn seat mid seat' writer between writer' xs ys a b = (
+  b.0,
+  Moves-trans seat mid b.0 writer between writer' xs ys a b.1,
+  b.2,
+)
 
 pub HaltsWith-later : (halt : Halt) (seat mid seat' : StreamSeatValue) (writer between writer' : WriterState) (xs ys : List FrameText)
     → Moves seat mid writer between xs → HaltsWith halt mid seat' between writer' ys → HaltsWith halt seat seat' writer writer' (xs ++ ys)

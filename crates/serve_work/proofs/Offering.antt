@@ -1,6 +1,6 @@
 -- What an offer is to a client.
 use Rattle.std.proofs.Common.{◌≡◌, ℕ, [], ◌∷◌, false, refl, ap, ◌∙◌, subst}
-use Rattle.std.proofs.Common.{IsTrue, ◌≢◌, ◌⊎◌, None, Some, inl, inr}
+use Rattle.std.proofs.Common.{IsTrue, ◌≢◌, ◌⊎◌, ◌++◌, None, Some, inl, inr, arith, sym}
 use Rattle.std.specs.declared.alloc.Global.{Global}
 use Rattle.std.specs.declared.sync.Arc.{Arc}
 use Rattle.std.specs.Arc.{arc_value}
@@ -13,8 +13,9 @@ use Rattle.serve_core.specs.declared.refusal.Refusal as core
 use Rattle.serve_core.specs.declared.refusal.Refusal.TheVariants as cores
 use Rattle.serve_hub.specs.declared.refusal.Refusal.{Refusal}
 use Rattle.serve_hub.specs.declared.refusal.Refusal.TheVariants as hub
-use Rattle.serve_hub.specs.Calls.{Accepts, AllowsOffer, IsOfferTold}
-use Rattle.serve_hub.specs.Seats.{StreamSeatValue}
+use Rattle.serve_hub.specs.declared.refusal.Came.TheVariants as came
+use Rattle.serve_hub.specs.Calls.{Accepts, AcceptsOther, AllowsOffer, IsOfferTold, noted}
+use Rattle.serve_hub.specs.Seats.{StreamSeatValue, collected_by}
 use Rattle.serve_work.specs.declared.stop.Cause.TheVariants.{TooManyFrames}
 use Rattle.serve_work.specs.declared.feeding.Fed.{Fed}
 use Rattle.serve_work.specs.declared.feeding.Fed.TheVariants as feds
@@ -25,13 +26,17 @@ use Rattle.serve_work.specs.declared.stop.Halt.{Halt}
 use Rattle.serve_work.specs.declared.stop.Halt.TheVariants.{Full, Stopped}
 use Rattle.serve_work.specs.declared.stop.Stop.{Stop}
 use Rattle.serve_work.specs.declared.stop.Stop.TheVariants.{Whole, Read, Write, Refused, Torn}
-use Rattle.serve_work.specs.Clients.{IsDrained}
+use Rattle.serve_work.specs.Clients.{HasOtherNumber, IsDrained}
 use Rattle.serve_work.specs.ClientInside.{AcceptsTorn, GivesUp, HaltsWith, IsOfCollection, IsOffered}
 use Rattle.serve_work.specs.ClientInside.{IsSizedFed, KeepsFrame, Moves, Refuses, StopsWith, TalliesSeat, Unfed, fed_of, stop_of}
-use Rattle.serve_work.proofs.Staying.{GivesUp-trans, stays_chain, stays_closed, stays_frames}
-use Rattle.serve_work.proofs.Tallying.{TalliesSeat-accept, counted_later, other_number, seat_same}
+use Rattle.serve_work.proofs.Staying.{GivesUp-torn, GivesUp-trans, stays_chain, stays_closed, stays_frames}
+use Rattle.serve_work.proofs.Tallying.{TalliesSeat-accept, TalliesSeat-torn, collected_more, counted_later, other_number}
+use Rattle.serve_work.proofs.Tallying.{seat_same, some_torn}
 use Rattle.serve_work.proofs.Moving.{Moves-accept, Moves-none, Moves-trans, StopsWith-later, size_later}
 use Rattle.serve_work.proofs.Refusing.{seat_stop}
+
+clash : IsTrue false → ⊥
+clash e = cc
 
 same_cause : (a b : Cause) → Refused a ≡ Refused b → a ≡ b
 same_cause a b e = cc
@@ -48,40 +53,56 @@ Refuses-later stop seat mid seat' writer between writer' a up r = record {
 }
 
 -- what a refused offer is to a client, where neither the queue nor the journal is full
-offer_core : (e : core.Refusal) (frame : Frame) (at : ℕ) (seat : StreamSeatValue) → AllowsOffer seat at frame.geometry e → e ≢ cores.Full
+offer_core : (e : core.Refusal) (frame : Frame) (at : ℕ) (seat : StreamSeatValue) → seat.is_closed ≡ false
+    → frame.geometry ≡ seat.chain.geometry → AllowsOffer seat at frame.geometry e → e ≢ cores.Full
     → IsOffered (offered.Stopped (stop_of (hub.Core e))) at frame seat seat
-offer_core cores.NoStream frame at seat p not = absurd p
-offer_core cores.Closed frame at seat p not = inl refl
-offer_core cores.WrongSize frame at seat p not = inl refl
-offer_core cores.TooManyFrames frame at seat p not = (λ _. p, λ is. absurd (cc), refl)
-offer_core cores.Full frame at seat p not = absurd (not refl)
-offer_core cores.NoMemory frame at seat p not = (λ is. absurd (cc), λ is. absurd (cc), refl)
-offer_core cores.NoWorker frame at seat p not = absurd p
-offer_core cores.Busy frame at seat p not = absurd p
-offer_core cores.NoneReady frame at seat p not = absurd p
-offer_core cores.NoLease frame at seat p not = absurd p
-offer_core cores.GrantSpent frame at seat p not = absurd p
-offer_core cores.Past frame at seat p not = absurd p
-offer_core cores.ClockEnd frame at seat p not = (λ is. absurd (cc), λ _. p, refl)
-offer_core cores.AlreadyClosed frame at seat p not = absurd p
-offer_core cores.Empty frame at seat p not = absurd p
-offer_core cores.Drained frame at seat p not = absurd p
-offer_core cores.TooManyStreams frame at seat p not = absurd p
-offer_core cores.BadLimits frame at seat p not = absurd p
-offer_core cores.BadBandwidth frame at seat p not = absurd p
-offer_core cores.Overload frame at seat p not = absurd p
+offer_core cores.NoStream frame at seat is_open sized p not = absurd p
+offer_core cores.Closed frame at seat is_open sized p not = absurd (clash (subst IsTrue is_open p))
+offer_core cores.WrongSize frame at seat is_open sized p not = absurd (p sized)
+offer_core cores.TooManyFrames frame at seat is_open sized p not = (λ _. p, λ is. absurd (cc), refl)
+offer_core cores.Full frame at seat is_open sized p not = absurd (not refl)
+offer_core cores.NoMemory frame at seat is_open sized p not = (λ is. absurd (cc), λ is. absurd (cc), refl)
+offer_core cores.NoWorker frame at seat is_open sized p not = absurd p
+offer_core cores.Busy frame at seat is_open sized p not = absurd p
+offer_core cores.NoneReady frame at seat is_open sized p not = absurd p
+offer_core cores.NoLease frame at seat is_open sized p not = absurd p
+offer_core cores.GrantSpent frame at seat is_open sized p not = absurd p
+offer_core cores.Past frame at seat is_open sized p not = absurd p
+offer_core cores.ClockEnd frame at seat is_open sized p not = (λ is. absurd (cc), λ _. p, refl)
+offer_core cores.AlreadyClosed frame at seat is_open sized p not = absurd p
+offer_core cores.Empty frame at seat is_open sized p not = absurd p
+offer_core cores.Drained frame at seat is_open sized p not = absurd p
+offer_core cores.TooManyStreams frame at seat is_open sized p not = absurd p
+offer_core cores.BadLimits frame at seat is_open sized p not = absurd p
+offer_core cores.BadBandwidth frame at seat is_open sized p not = absurd p
+offer_core cores.Overload frame at seat is_open sized p not = absurd p
 
-pub offer_refused : (e : Refusal) (frame : Frame) (at : ℕ) (seat : StreamSeatValue) → IsOfferTold seat at frame.geometry e
-    → e ≢ hub.Core cores.Full → e ≢ hub.HistoryFull → IsOffered (offered.Stopped (stop_of e)) at frame seat seat
-offer_refused (hub.Core e) frame at seat p not other = offer_core e frame at seat p (λ is. not (ap hub.Core is))
-offer_refused hub.HistoryFull frame at seat p not other = absurd (other refl)
-offer_refused hub.StrayLease frame at seat p not other = absurd p
-offer_refused (hub.Torn c) frame at seat p not other = inl refl
+pub offer_refused : (e : Refusal) (frame : Frame) (at : ℕ) (seat : StreamSeatValue) → seat.is_closed ≡ false
+    → frame.geometry ≡ seat.chain.geometry → IsOfferTold seat at frame.geometry e
+    → e ≢ hub.Core cores.Full → e ≢ hub.HistoryFull → IsOffered (offered.Stopped (stop_of e)) at frame seat (noted e seat)
+offer_refused (hub.Core e) frame at seat is_open sized p not other = offer_core e frame at seat is_open sized p (λ is. not (ap hub.Core is))
+offer_refused hub.HistoryFull frame at seat is_open sized p not other = absurd (other refl)
+offer_refused hub.StrayLease frame at seat is_open sized p not other = absurd p
+offer_refused (hub.Torn c) frame at seat is_open sized p not other = inl refl
 
--- an offer of the same frame, where a refusal leaves the seat
-pub offered_back : (o : Offered) (at : ℕ) (frame frame' : Frame) (old new : StreamSeatValue) → frame' ≡ frame → new ≡ old
-    → IsOffered o at frame' old old → IsOffered o at frame old new
-offered_back o at frame frame' old new same stays p = rw (stays, ← same) p
+-- an offer that was accepted with another number than the seat's next
+pub offered_other : (e : Refusal) (frame : Frame) (at : ℕ) (old new : StreamSeatValue) → AcceptsOther (value_of frame) e old new
+    → IsOffered (offered.Stopped Torn) at frame old new
+offered_other (hub.Core e) frame at old new a = absurd a.1
+offered_other hub.HistoryFull frame at old new a = absurd a.1
+offered_other hub.StrayLease frame at old new a = absurd a.1
+offered_other (hub.Torn (came.Number n)) frame at old new a = inr (n, a.1.0, (a.0, a.1.1, a.2))
+offered_other (hub.Torn (came.Refused e)) frame at old new a = absurd a.1
+offered_other (hub.Torn came.Source) frame at old new a = absurd a.1
+offered_other (hub.Torn (came.Limit limit)) frame at old new a = absurd a.1
+offered_other (hub.Torn (came.Chain part)) frame at old new a = absurd a.1
+offered_other (hub.Torn came.NoPlace) frame at old new a = absurd a.1
+offered_other (hub.Torn came.Other) frame at old new a = absurd a.1
+
+-- an offer of the same frame, where a refusal leaves the seat so
+pub offered_back : (o : Offered) (at : ℕ) (frame frame' : Frame) (old left new : StreamSeatValue) → frame' ≡ frame → new ≡ left
+    → IsOffered o at frame' old left → IsOffered o at frame old new
+offered_back o at frame frame' old left new same stays p = rw (stays, ← same) p
 
 pub offered_tally : (o : Offered) (at : ℕ) (frame : Frame) (old new : StreamSeatValue) → IsOffered o at frame old new
     → TalliesSeat old new
@@ -93,8 +114,13 @@ offered_tally (offered.Stopped (Read fault)) at frame old new p = absurd p
 offered_tally (offered.Stopped (Write fault)) at frame old new p = absurd p
 offered_tally (offered.Stopped (Refused cause)) at frame old new p = seat_same old new p.2
 offered_tally (offered.Stopped Torn) at frame old new p = elim p [
-  | inl same ↦ seat_same old new same
-  | inr taken ↦ TalliesSeat-accept (value_of frame) taken.0 old new taken.2
+  | inl same ↦ TalliesSeat-torn (collected_by old) old old new (seat_same old old refl) refl (omega arith) same
+  | inr taken ↦
+      let mid = taken.2.0 in
+      let accepted = taken.2.1 in
+      let tally = TalliesSeat-accept (value_of frame) taken.0 old mid accepted in
+      TalliesSeat-torn (collected_by mid) old mid new tally (ap (λ (s : StreamSeatValue). s.torn) accepted.seat)
+      (collected_more old mid tally.before tally.collections) taken.2.2
 ]
 
 -- a frame that is accepted after others moved
@@ -123,20 +149,20 @@ offer_stopped (Refused cause) at frame seat mid seat' writer between a up tally 
 offer_stopped Torn at frame seat mid seat' writer between a up tally p = elim p [
   | inl stays ↦ inl (Refuses-later Torn seat mid seat' writer between between a up (record {
     of_seat = tt;
-    moved = (mid, Moves-none mid mid between between refl refl);
-    stays = rw stays refl;
+    moved = (mid, Moves-none mid mid between between refl refl, some_torn (collected_by mid) mid seat' stays);
+    stays = GivesUp-torn (collected_by mid) mid mid seat' refl stays;
     limit = λ is. absurd (cc);
   }))
   | inr taken ↦ inr (record {
     torn = refl;
-    other = λ past same. other_number past (value_of frame) taken.0 mid seat' (counted_later past seat mid tally same) taken.1 taken.2;
-    moved = Moves-trans seat mid seat' writer between between [] (frame_text_of frame ∷ []) a
-        (Moves-accept mid seat' between frame taken.0 taken.2);
+    other = λ past same. subst (λ (s : StreamSeatValue). HasOtherNumber (past ++ s.calls.list)) (sym taken.2.2)
+        (other_number past (value_of frame) taken.0 mid taken.2.0 (counted_later past seat mid tally same) taken.1 taken.2.1);
+    mid = taken.2.0;
+    moved = Moves-trans seat mid taken.2.0 writer between between [] (frame_text_of frame ∷ []) a
+        (Moves-accept mid taken.2.0 between frame taken.0 taken.2.1);
+    noted = taken.2.2;
   })
 ]
-
-clash : IsTrue false → ⊥
-clash e = cc
 
 -- the stop of a collection from an open seat
 pub collection_stopped : (stop : Stop) (seat mid seat' : StreamSeatValue) (writer between writer' : WriterState)

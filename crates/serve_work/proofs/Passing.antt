@@ -18,7 +18,7 @@ use Rattle.y4m_stream.specs.Reader.{IsOfHeader, MeetsEnd, ReaderState, TakesFram
 use Rattle.y4m_stream.specs.Writer.{IsWriterFor, WriterState}
 use Rattle.y4m_stream.proofs.MoreFrames.{frames_text-push}
 use Rattle.serve_hub.specs.declared.entry.Act.{Act}
-use Rattle.serve_hub.specs.Seats.{StreamSeatValue}
+use Rattle.serve_hub.specs.Seats.{StreamSeatValue, collected_by}
 use Rattle.serve_work.specs.declared.stop.Cause.TheVariants.{TooManyFrames, ClockEnd, NoMemory}
 use Rattle.serve_work.specs.declared.feeding.Fed.{Fed}
 use Rattle.serve_work.specs.declared.feeding.Fed.TheVariants as feds
@@ -31,7 +31,7 @@ use Rattle.serve_work.specs.ClientInside.{AcceptsTorn, Feeds, FeedsOn, GivesUp, 
 use Rattle.serve_work.specs.ClientInside.{IsOfDelivery, IsOfSeat, IsSizedFed, IsUnread, Moves, Offers, Passes, Refuses, StopsReading, Takes}
 use Rattle.serve_work.specs.ClientInside.{TalliesSeat, Unfed, fed_before, text_in}
 use Rattle.serve_work.proofs.Staying.{stays_chain, stays_frames}
-use Rattle.serve_work.proofs.Tallying.{counted_later}
+use Rattle.serve_work.proofs.Tallying.{counted_later, some_torn}
 use Rattle.serve_work.proofs.Moving.{Moves-none, Moves-trans, StopsWith-later, frames_text-append, size_later}
 
 -- no frame passes, and images go out
@@ -186,7 +186,7 @@ module _ (reader mid : ReaderState) (seat between : StreamSeatValue) (writer v :
       → Feeds past stop reader reader' seat seat' writer writer'
   Feeds-torn past stop reader' seat' writer' frame counted one torn =
       let is_frame : IsFrame frame = rw so_far.header at one.is_frame in
-      let moved : Moves seat seat' writer writer' (frames ++ frame ∷ []) = Moves-trans seat between seat' writer v writer' frames
+      let moved : Moves seat torn.mid writer writer' (frames ++ frame ∷ []) = Moves-trans seat between torn.mid writer v writer' frames
       (frame ∷ []) so_far.moved torn.moved in
       rw torn.torn (record {
         frames = frames ++ frame ∷ [];
@@ -198,8 +198,8 @@ module _ (reader mid : ReaderState) (seat between : StreamSeatValue) (writer v :
           stops = inr (torn.other past counted, one.ahead);
           reads = one.no_failure ∙ so_far.no_failure;
         };
-        moved = (seat', moved);
-        count = moved.count;
+        moved = (torn.mid, moved, some_torn (collected_by torn.mid) torn.mid seat' torn.noted);
+        count = ap (λ (s : StreamSeatValue). s.accepted) torn.noted ∙ moved.count;
       })
 
   -- the frame in hand wasn't accepted as it should be

@@ -1,8 +1,7 @@
 -- What a refused collection is to a client.
 use Rattle.std.proofs.Common.{◌≡◌, List, [], refl, sym, ap, ◌∙◌}
 use Rattle.std.proofs.Common.{Option, None, Some, MatchOption, ◌≢◌, IsTrue, false, subst}
-use Rattle.std.proofs.Common.{IfOk, IfErr, Ok, Err, Result}
-use Rattle.filters.specs.ChainImage.{FrameValue}
+use Rattle.std.proofs.Common.{IfOk, IfErr, IsSome, Ok, Err, Result, arith}
 use Rattle.y4m_stream.specs.Writer.{WriterState}
 use Rattle.serve_core.specs.declared.collected.Collected.{Collected}
 use Rattle.serve_core.specs.declared.refusal.Refusal as core
@@ -11,8 +10,8 @@ use Rattle.serve_hub.specs.declared.refusal.Refusal.{Refusal}
 use Rattle.serve_hub.specs.declared.refusal.Came.TheVariants as came
 use Rattle.serve_hub.specs.declared.refusal.Refusal.TheVariants as hub
 use Rattle.serve_hub.specs.declared.refused.CollectRefused.{CollectRefused}
-use Rattle.serve_hub.specs.Calls.{AllowsCollect, Collects, Gives, GivesOther, IsCollectRefused, IsCollectTold, after_refusal}
-use Rattle.serve_hub.specs.Seats.{CallsValue, StreamSeatValue}
+use Rattle.serve_hub.specs.Calls.{AllowsCollect, Collects, Gives, GivesOther, IsCollectRefused, IsCollectTold, after_refusal, gives_up}
+use Rattle.serve_hub.specs.Seats.{StreamSeatValue, collected_by}
 use Rattle.serve_work.specs.declared.stop.Halt.{Halt}
 use Rattle.serve_work.specs.declared.stop.Halt.TheVariants.{Full, Stopped}
 use Rattle.serve_work.specs.declared.stop.Stop.{Stop}
@@ -20,7 +19,8 @@ use Rattle.serve_work.specs.declared.stop.Stop.TheVariants.{Whole, Read, Write, 
 use Rattle.serve_work.specs.Clients.{IsDrained}
 use Rattle.serve_work.specs.ClientInside.{GivesUp, HaltsWith, IsOfCollection, IsOfDelivery, IsOfSeat, IsUseful}
 use Rattle.serve_work.specs.ClientInside.{TalliesSeat, halt_of, stop_of}
-use Rattle.serve_work.proofs.Tallying.{Collects-up, TalliesSeat-collect, TalliesSeat-same}
+use Rattle.serve_work.proofs.Staying.{GivesUp-torn}
+use Rattle.serve_work.proofs.Tallying.{Collects-up, TalliesSeat-collect, TalliesSeat-same, TalliesSeat-torn, seat_same, some_torn}
 use Rattle.serve_work.proofs.Moving.{Moves-none}
 
 -- what a refused collection is to a client
@@ -29,71 +29,78 @@ pub record IsRefusedAs (halt : Halt) (old new : StreamSeatValue) (writer : Write
   pub drained : halt ≡ Stopped Whole → IsDrained old × (new ≡ old)
   pub own : IsOfCollection halt
 
-nothing_torn : (old new : StreamSeatValue) (writer : WriterState) → IsRefusedAs (Stopped Torn) old new writer
-nothing_torn old new writer = record {
-  moved = (old, Moves-none old old writer writer refl refl);
+nothing_torn : (old new : StreamSeatValue) (writer : WriterState) → IsSome new.torn → IsRefusedAs (Stopped Torn) old new writer
+nothing_torn old new writer torn = record {
+  moved = (old, Moves-none old old writer writer refl refl, torn);
   drained = λ is. absurd (cc);
   own = tt;
 }
 
-refused_core : (e : core.Refusal) (old new : StreamSeatValue) (writer : WriterState) → AllowsCollect old e → new ≡ old
+refused_core : (e : core.Refusal) (old new : StreamSeatValue) (writer : WriterState) → e ≢ cores.Empty → AllowsCollect old e → new ≡ old
     → IsRefusedAs (Stopped (stop_of (hub.Core e))) old new writer
-refused_core cores.NoStream old new writer p same = absurd p
-refused_core cores.Closed old new writer p same = absurd p
-refused_core cores.WrongSize old new writer p same = absurd p
-refused_core cores.TooManyFrames old new writer p same = absurd p
-refused_core cores.Full old new writer p same = absurd p
-refused_core cores.NoMemory old new writer p same = absurd p
-refused_core cores.NoWorker old new writer p same = absurd p
-refused_core cores.Busy old new writer p same = absurd p
-refused_core cores.NoneReady old new writer p same = absurd p
-refused_core cores.NoLease old new writer p same = absurd p
-refused_core cores.GrantSpent old new writer p same = absurd p
-refused_core cores.Past old new writer p same = absurd p
-refused_core cores.ClockEnd old new writer p same = absurd p
-refused_core cores.AlreadyClosed old new writer p same = absurd p
-refused_core cores.TooManyStreams old new writer p same = absurd p
-refused_core cores.BadLimits old new writer p same = absurd p
-refused_core cores.BadBandwidth old new writer p same = absurd p
-refused_core cores.Overload old new writer p same = absurd p
-refused_core cores.Empty old new writer p same = nothing_torn old new writer
-refused_core cores.Drained old new writer p same = record {
+refused_core cores.NoStream old new writer not p same = absurd p
+refused_core cores.Closed old new writer not p same = absurd p
+refused_core cores.WrongSize old new writer not p same = absurd p
+refused_core cores.TooManyFrames old new writer not p same = absurd p
+refused_core cores.Full old new writer not p same = absurd p
+refused_core cores.NoMemory old new writer not p same = absurd p
+refused_core cores.NoWorker old new writer not p same = absurd p
+refused_core cores.Busy old new writer not p same = absurd p
+refused_core cores.NoneReady old new writer not p same = absurd p
+refused_core cores.NoLease old new writer not p same = absurd p
+refused_core cores.GrantSpent old new writer not p same = absurd p
+refused_core cores.Past old new writer not p same = absurd p
+refused_core cores.ClockEnd old new writer not p same = absurd p
+refused_core cores.AlreadyClosed old new writer not p same = absurd p
+refused_core cores.TooManyStreams old new writer not p same = absurd p
+refused_core cores.BadLimits old new writer not p same = absurd p
+refused_core cores.BadBandwidth old new writer not p same = absurd p
+refused_core cores.Overload old new writer not p same = absurd p
+refused_core cores.Empty old new writer not p same = absurd (not refl)
+refused_core cores.Drained old new writer not p same = record {
   moved = Moves-none old new writer writer same refl;
   drained = λ _. (record { closed = p.0; none = p.1 }, same);
   own = tt;
 }
 
-refused_as : (e : Refusal) (old new : StreamSeatValue) (writer : WriterState) → IsCollectTold old e
+refused_as : (e : Refusal) (old new : StreamSeatValue) (writer : WriterState) → e ≢ hub.Core cores.Empty → IsCollectTold old e
     → new ≡ after_refusal e old → IsRefusedAs (halt_of e) old new writer
-refused_as (hub.Core e) old new writer p same = refused_core e old new writer p same
-refused_as hub.HistoryFull old new writer p same = record {
+refused_as (hub.Core e) old new writer not p same = refused_core e old new writer (λ is. not (ap hub.Core is)) p same
+refused_as hub.HistoryFull old new writer not p same = record {
   moved = Moves-none old new writer writer same refl;
   drained = λ is. absurd (cc);
   own = tt;
 }
-refused_as hub.StrayLease old new writer p same = absurd p
-refused_as (hub.Torn c) old new writer p same = nothing_torn old new writer
+refused_as hub.StrayLease old new writer not p same = absurd p
+refused_as (hub.Torn c) old new writer not p same =
+    nothing_torn old new writer (some_torn (collected_by old) (gives_up old) new same)
 
 refused_pair : (o : Option Collected) (e : CollectRefused) (old new : StreamSeatValue) (writer : WriterState)
+    → e.refusal ≢ hub.Core cores.Empty
     → MatchOption o (IsCollectTold old e.refusal × (new ≡ after_refusal e.refusal old)) (λ pair. GivesOther pair e old new)
     → IsRefusedAs (halt_of e.refusal) old new writer
-refused_pair None e old new writer m = refused_as e.refusal old new writer m.0 m.1
-refused_pair (Some pair) e old new writer m = rw m.other.2 (nothing_torn old new writer)
+refused_pair None e old new writer not m = refused_as e.refusal old new writer not m.0 m.1
+refused_pair (Some pair) e old new writer not m =
+    rw m.other.2 (nothing_torn old new writer (some_torn (collected_by old) m.mid new m.noted))
 
-pub collect_refused : (e : CollectRefused) (old new : StreamSeatValue) (writer : WriterState) → IsCollectRefused e old new
-    → IsRefusedAs (halt_of e.refusal) old new writer
-collect_refused e old new writer m = refused_pair e.pair e old new writer m
+pub collect_refused : (e : CollectRefused) (old new : StreamSeatValue) (writer : WriterState) → e.refusal ≢ hub.Core cores.Empty
+    → IsCollectRefused e old new → IsRefusedAs (halt_of e.refusal) old new writer
+collect_refused e old new writer not m = refused_pair e.pair e old new writer not m
 
--- a refusal leaves all but what the seat keeps
-kept_alone : (e : Refusal) (old new : StreamSeatValue) → new ≡ after_refusal e old → new ≡ record old { kept = new.kept }
-kept_alone (hub.Core e) old new same =
-    same ∙ ap (λ (k : List FrameValue). record old { kept = k }) (sym (ap (λ (v : StreamSeatValue). v.kept) same))
-kept_alone hub.HistoryFull old new same =
-    same ∙ ap (λ (k : List FrameValue). record old { kept = k }) (sym (ap (λ (v : StreamSeatValue). v.kept) same))
-kept_alone hub.StrayLease old new same =
-    same ∙ ap (λ (k : List FrameValue). record old { kept = k }) (sym (ap (λ (v : StreamSeatValue). v.kept) same))
-kept_alone (hub.Torn c) old new same =
-    same ∙ ap (λ (k : List FrameValue). record old { kept = k }) (sym (ap (λ (v : StreamSeatValue). v.kept) same))
+-- a refusal leaves all but what the seat keeps, and notes
+refusal_up : (e : Refusal) (old new : StreamSeatValue) → new ≡ after_refusal e old → GivesUp old new
+refusal_up (hub.Core e) old new same = rw same refl
+refusal_up hub.HistoryFull old new same = rw same refl
+refusal_up hub.StrayLease old new same = rw same refl
+refusal_up (hub.Torn c) old new same = GivesUp-torn (collected_by old) old (gives_up old) new refl same
+
+refusal_tally : (e : Refusal) (old new : StreamSeatValue) → new ≡ after_refusal e old → TalliesSeat old new
+refusal_tally (hub.Core e) old new same = seat_same old new same
+refusal_tally hub.HistoryFull old new same = seat_same old new same
+refusal_tally hub.StrayLease old new same = seat_same old new same
+refusal_tally (hub.Torn c) old new same =
+    TalliesSeat-torn (collected_by old) old (gives_up old) new (TalliesSeat-same old (gives_up old) refl refl refl refl refl refl refl)
+    refl (omega arith) same
 
 -- what a collection leaves of a seat, whatever its answer
 pub record IsCollected (old new : StreamSeatValue) : Type 0 where
@@ -106,16 +113,12 @@ collected_pair pair old new c = record { up = Collects-up pair old new c; tally 
 collected_none : (o : Option Collected) (e : CollectRefused) (old new : StreamSeatValue)
     → MatchOption o (IsCollectTold old e.refusal × (new ≡ after_refusal e.refusal old)) (λ pair. GivesOther pair e old new)
     → IsCollected old new
-collected_none None e old new m =
-    let same = kept_alone e.refusal old new m.1 in
-    record {
-      up = same ∙ ap (λ (k : CallsValue). record old { calls = k; kept = new.kept }) (sym (ap (λ (v : StreamSeatValue). v.calls) same));
-      tally = TalliesSeat-same old new (ap (λ (v : StreamSeatValue). v.number) same)
-          (ap (λ (v : StreamSeatValue). v.chain) same) (ap (λ (v : StreamSeatValue). v.before) same)
-          (ap (λ (v : StreamSeatValue). v.calls) same) (ap (λ (v : StreamSeatValue). v.accepted) same)
-          (ap (λ (v : StreamSeatValue). v.moments) same);
-    }
-collected_none (Some pair) e old new m = collected_pair pair old new m.collects
+collected_none None e old new m = record { up = refusal_up e.refusal old new m.1; tally = refusal_tally e.refusal old new m.1 }
+collected_none (Some pair) e old new m = record {
+  up = GivesUp-torn (collected_by old) old m.mid new (Collects-up pair old m.mid m.collects) m.noted;
+  tally = TalliesSeat-torn (collected_by old) old m.mid new (TalliesSeat-collect pair old m.mid m.collects)
+      (ap (λ (v : StreamSeatValue). v.torn) m.collects.seat) (omega arith) m.noted;
+}
 
 pub collected : (answer : Result Collected CollectRefused) (old new : StreamSeatValue) → IfOk answer (λ pair. Gives pair old new)
     → IfErr answer (λ e. IsCollectRefused e old new) → IsCollected old new

@@ -1,6 +1,6 @@
 -- How a client goes on from where it paused.
 use Rattle.std.proofs.Common.{All, ◌≡◌, ℕ, ◌≤◌, List, [], length, Option, IfSome, None, Some, refl, sym, ap}
-use Rattle.std.proofs.Common.{◌∙◌, append-nil, arith, subst, inl, inr, false}
+use Rattle.std.proofs.Common.{◌∙◌, ◌+◌, ◌⊎◌, append-nil, arith, subst, inl, inr, false}
 use Rattle.std.proofs.KnownBytes.{Appends-nil, Consumes-nil}
 use Rattle.std.proofs.lemmas.List.Elements.{All-nil}
 use Rattle.std.specs.declared.alloc.Global.{Global}
@@ -18,7 +18,7 @@ use Rattle.y4m_stream.specs.Reader.{IsOfHeader, ReaderState, data_len_of}
 use Rattle.y4m_stream.specs.Served.{IsHeaderOfImages}
 use Rattle.y4m_stream.specs.Writer.{IsOpenedFor, IsWriterFor, WriterState}
 use Rattle.serve_hub.specs.declared.entry.Act.{Act}
-use Rattle.serve_hub.specs.Seats.{StreamSeatValue}
+use Rattle.serve_hub.specs.Seats.{StreamSeatValue, collected_by}
 use Rattle.serve_work.specs.declared.buffers.Buffers.{Buffers}
 use Rattle.serve_work.specs.declared.feeding.Fed.{Fed}
 use Rattle.serve_work.specs.declared.course.Course as code
@@ -29,9 +29,9 @@ use Rattle.serve_work.specs.Clients.{ClientStart, StreamStopsAt}
 use Rattle.serve_work.specs.ClientInside.{Accounted, AreBuffersFor, FeedsOn, HasInHand, Holds, IsCounted, IsSized, Moves}
 use Rattle.serve_work.specs.ClientInside.{Serves, ServesTo, Stays, Tallies, texts_of}
 use Rattle.serve_work.specs.Rests.{BegunValue, CanFeed, CanGoOn, CourseValue, Feeding, Draining, Discarding, HasMemoryFor, Holding}
-use Rattle.serve_work.specs.Rests.{IsAt, IsBegun, IsFresh, IsOutset, IsRunning, IsTallied, IsUnbegun, Outset, as_open, course_of}
-use Rattle.serve_work.specs.Rests.{stop_given_up}
-use Rattle.serve_work.proofs.Tallying.{collections_both, counted_later}
+use Rattle.serve_work.specs.Rests.{IsAt, IsBefore, IsBegun, IsFresh, IsOutset, IsRunning, IsSilent, IsTallied, IsUnbegun, Outset}
+use Rattle.serve_work.specs.Rests.{as_open, course_of, stop_given_up}
+use Rattle.serve_work.proofs.Tallying.{collections_both, collections_counted, counted_later, if_later, if_more}
 use Rattle.serve_work.proofs.Moving.{Accounted-later, few_of, one_size, size_later}
 use Rattle.serve_work.proofs.Passing.{FeedsOn-behind, takes_of}
 use Rattle.serve_work.proofs.Spoiling.{held_told, held_up, read_in_hand}
@@ -39,14 +39,42 @@ use Rattle.serve_work.proofs.Stopping.{moves_until, sends_whole}
 
 -- what is tallied over the epochs
 pub tallied_later : (past : List Act) (first seat seat' : StreamSeatValue) (writer writer' : WriterState) → IsTallied past first seat writer
-    → Tallies seat seat' writer writer' → IsTallied past first seat' writer'
-tallied_later past first seat seat' writer writer' a t = record {
+    → (first.torn ≡ None → seat.torn ≡ None) ⊎ (writer'.frames ≡ writer.frames) → Tallies seat seat' writer writer'
+    → IsTallied past first seat' writer'
+tallied_later past first seat seat' writer writer' a quiet t = record {
   number = t.seat.number ∙ a.number;
   chain = t.seat.chain ∙ a.chain;
   offers = counted_later past seat seat' t.seat a.offers;
   images = omega (arith, a.images, t.images, collections_both past seat.calls.list, collections_both past seat'.calls.list);
   before = t.seat.before ∙ a.before;
+  torn = λ none.
+      let both = collections_both past seat.calls.list in
+      let own = collections_counted seat.calls.list in
+      let Few : ℕ → Type 0 = λ n. first.before + writer'.frames ≤ n in
+      elim quiet [
+        | inl untorn ↦
+            if_more (λ n. writer'.frames + collected_by seat ≤ writer.frames + n) Few seat'.torn
+            (λ n few. omega (arith, few, a.images, a.before, both, own)) (t.torn (untorn none))
+        | inr same ↦
+            if_later Few (λ n. collected_by seat ≤ n) seat.torn seat'.torn
+            (λ n few. omega (arith, few, a.images, a.before, both, own, same)) t.seat.noted t.seat.torn
+            (if_more (λ n. first.before + writer.frames ≤ n) Few seat.torn (λ n few. omega (arith, few, same)) (a.torn none))
+      ];
 }
+
+-- a client that may write has a seat that wasn't told Torn, if it began with such
+pub untorn_or_silent : (course : Option code.Course) (past : List Act) (o : Outset) (reader : ReaderState) (seat : StreamSeatValue)
+    (writer writer' : WriterState) → IsBefore course past o reader seat writer → (IsSilent course → writer' ≡ writer)
+    → (o.seat.torn ≡ None → seat.torn ≡ None) ⊎ (writer'.frames ≡ writer.frames)
+untorn_or_silent None past o reader seat writer writer' at silent = inl (λ none. at.passed.moved.seat_stays.torn ∙ none)
+untorn_or_silent (Some (courses.Feeding in_hand)) past o reader seat writer writer' at silent =
+    inl (λ none. at.passed.moved.seat_stays.torn ∙ none)
+untorn_or_silent (Some (courses.Holding in_hand held)) past o reader seat writer writer' at silent =
+    inr (ap (λ (w : WriterState). w.frames) (silent tt))
+untorn_or_silent (Some (courses.Draining stop)) past o reader seat writer writer' at silent =
+    inl (λ none. (moves_until stop o.seat (as_open seat) o.writer writer at.1.frames at.0 at.1.moved).seat_stays.torn ∙ none)
+untorn_or_silent (Some (courses.Discarding stop)) past o reader seat writer writer' at silent =
+    inr (ap (λ (w : WriterState). w.frames) (silent tt))
 
 -- memory for one chain is memory for another whose frames and images have the same sizes
 abbrev AreSources : Geometry → Buffers → Type 0
@@ -129,6 +157,7 @@ can_go_on (courses.Feeding in_hand) past o reader seat writer buffers is most ta
 can_go_on (courses.Holding in_hand held) past o reader seat writer buffers is most tally size header at memory = record {
   is_open = at.is_open;
   frame = sized_now in_hand reader memory.chain seat.chain memory.header header memory.sized;
+  is_unclosed = at.is_closed ∙ is.fresh.is_open;
   spoilt = at.spoilt;
 }
 can_go_on (courses.Draining stop) past o reader seat writer buffers is most tally size header at memory =
@@ -252,6 +281,7 @@ serves_more past stop o reader seat writer a = record {
   read = record { rest = a.read.rest; each = a.read.each; taken = a.read.taken; stops = inl a.read.stops; reads = a.read.reads };
   count = a.count;
   sent = a.sent;
+  torn = a.torn;
   whole = a.whole;
 }
 
@@ -266,6 +296,7 @@ given_up (Feeding in_hand) past o reader seat writer is ahead at = record {
       (takes_of o.reader at.before o.seat seat o.writer writer at.frames at.passed) at.holds ahead;
   count = at.passed.moved.count;
   sent = inl (sends_whole o.seat o.writer at.frames is.fresh.kept is.writing seat writer at.passed.moved, λ f same. absurd (cc));
+  torn = λ same. absurd (cc);
   whole = λ same. absurd (cc);
 }
 given_up (Holding None held) past o reader seat writer is ahead at = held_up held o reader seat writer past at ahead
@@ -278,6 +309,7 @@ given_up (Draining Whole) past o reader seat writer is ahead at =
       read = record { rest = a.read.rest; each = a.read.each; taken = a.read.taken; stops = inr (inl a.read.stops); reads = a.read.reads };
       count = a.count;
       sent = inl (sends_whole o.seat o.writer a.frames is.fresh.kept is.writing (as_open seat) writer a.moved, λ f same. absurd (cc));
+      torn = λ same. absurd (cc);
       whole = λ same. absurd (cc);
     }
 given_up (Draining (Read fault)) past o reader seat writer is ahead at =
@@ -287,6 +319,7 @@ given_up (Draining (Read fault)) past o reader seat writer is ahead at =
       read = record { rest = a.read.rest; each = a.read.each; taken = a.read.taken; stops = inl a.read.stops; reads = a.read.reads };
       count = a.count;
       sent = inl (sends_whole o.seat o.writer a.frames is.fresh.kept is.writing (as_open seat) writer a.moved, λ f same. absurd (cc));
+      torn = λ same. absurd (cc);
       whole = λ same. absurd (cc);
     }
 given_up (Draining (Refused cause)) past o reader seat writer is ahead at =
@@ -296,6 +329,7 @@ given_up (Draining (Refused cause)) past o reader seat writer is ahead at =
       read = record { rest = a.read.rest; each = a.read.each; taken = a.read.taken; stops = inl a.read.stops; reads = a.read.reads };
       count = a.count;
       sent = inl (sends_whole o.seat o.writer a.frames is.fresh.kept is.writing (as_open seat) writer a.moved, λ f same. absurd (cc));
+      torn = λ same. absurd (cc);
       whole = λ same. absurd (cc);
     }
 given_up (Draining (Write fault)) past o reader seat writer is ahead at = absurd at.0

@@ -19,7 +19,7 @@ use Rattle.serve_hub.specs.Seats.{StreamSeatValue, collected_by, opened_streams}
 use Rattle.serve_work.specs.declared.stop.Stop.TheVariants.{Whole}
 use Rattle.serve_work.specs.Clients.{ClientOutcome, ClientStart, StreamEnds}
 use Rattle.serve_work.specs.Intervals.{AreFrom}
-use Rattle.serve_work.specs.Sessions.{AreServed, IsStreamTold, IsServedBy, ServedValue, starts_of}
+use Rattle.serve_work.specs.Sessions.{AreServed, IsServed, IsStreamTold, IsServedBy, ServedValue, starts_of}
 use Rattle.serve_work.specs.SessionInside.{AllLeave, ClientLeft}
 use Rattle.serve_work.proofs.Tallying.{collections_both, collections_counted}
 
@@ -145,6 +145,36 @@ module _ {S : Type 0} (told : S → ServedValue) (journal : List Entry) (desk : 
       all_served_from 0 starts lefts served p from streams e
       (λ k n d same less. subst (λ m. HasStream desk m (λ stream. (told (get_or served k d)).charged ≡ stream.state.charged))
       (omega (arith, same)) (charges k d less))
+
+-- one stream was served, and is told as the desk has it
+pub record ServedOne (start : ClientStart) (past : List Act) (seat : StreamSeatValue) (served : ServedValue)
+    (desk : ScheduleValue) : Type 0 where
+  pub is_served : IsServed start served
+  pub past_of : is_served.past ≡ past
+  pub seat_of : is_served.seat ≡ seat
+  pub stream : HasStream desk seat.number (IsStreamTold served)
+
+pub served_one : (start : ClientStart) (past : List Act) (seat : StreamSeatValue) (served : ServedValue) (desk : ScheduleValue)
+    → All IsCharged desk.streams → StreamEnds start past seat served.outcome → HasStream desk seat.number (IsStreamOf seat)
+    → HasStream desk seat.number (λ stream. served.charged ≡ stream.state.charged) → ServedOne start past seat served desk
+served_one start past seat served desk all ends of charged =
+    let at = stream_at desk seat.number _ _ of charged in
+    let cost = cost_between start past seat served.outcome served.charged at.stream ends at.first at.second (at.among all) in
+    let is_told : IsStreamTold served at.stream =
+    record { accepted = at.first.accepted ∙ ends.accepted; charged = sym at.second } in
+    record {
+      is_served = record {
+        past = past;
+        seat = seat;
+        ends = ends;
+        least = cost.least;
+        most = cost.most;
+        whole = cost.whole;
+      };
+      past_of = refl;
+      seat_of = refl;
+      stream = subst (λ o. IsSomeAnd o (IsStreamTold served)) (sym at.here) is_told;
+    }
 
 -- each stream that is told was served
 pub are_served : (journal : List Entry) (last : ScheduleValue) (starts : List ClientStart) (served : List ServedValue)

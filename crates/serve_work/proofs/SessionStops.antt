@@ -42,7 +42,7 @@ module _ (Gives : ℕ → Type 0) {R W : Type 0} (left : R → Option (List ℕ)
   abbrev value : Stream R W → StreamValue
   value stream = stream_of left read_failures after failures is_flushed stream
 
-  one_stop : (stream : Stream R W) → stream_stop (value stream) ≡ kept_stop stream
+  pub one_stop : (stream : Stream R W) → stream_stop (value stream) ≡ kept_stop stream
   one_stop (streams.Waiting rest) = refl
   one_stop (streams.Over served) = refl
 

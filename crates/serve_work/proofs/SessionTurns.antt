@@ -242,7 +242,7 @@ pub one_empty : {S T : Type 0} {P : S → Type 0} {Q : T → Type 0} (m n a b : 
 one_empty m n a b e f (inl p) = inl (e ∙ p.1.0)
 one_empty m n a b e f (inr p) = inr (f ∙ p.1.0)
 
-map_more : {A B : Type 0} (f : A → B) (xs : List A) (x : A) → map f (xs ++ x ∷ []) ≡ map f xs ++ f x ∷ []
+pub map_more : {A B : Type 0} (f : A → B) (xs : List A) (x : A) → map f (xs ++ x ∷ []) ≡ map f xs ++ f x ∷ []
 map_more f [] x = refl
 map_more f (y ∷ xs) x = ap (λ ys. f y ∷ ys) (map_more f xs x)
 

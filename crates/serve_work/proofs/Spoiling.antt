@@ -1,6 +1,6 @@
 -- What a client comes to that holds a fault of a delivery.
 use Rattle.std.proofs.Common.{◌≡◌, ◌≢◌, ◌⊎◌, ℕ, ◌+◌, List, [], ◌++◌, length, Option, None, Some, refl, sym, ap, ◌∙◌}
-use Rattle.std.proofs.Common.{append-nil, append_assoc, length-append, arith, subst, inl, inr}
+use Rattle.std.proofs.Common.{append-nil, append_assoc, length-append, arith, subst, inl, inr, IsSome}
 use Rattle.filters.specs.Chain.{ChainValue}
 use Rattle.y4m_header.specs.StreamText.{FrameText}
 use Rattle.y4m_stream.specs.declared.fault.WriteFault.{WriteFault}
@@ -18,10 +18,10 @@ use Rattle.serve_work.specs.Clients.{ClientProgress, ClientStopsAt, GivesUpAt, H
 use Rattle.serve_work.specs.ClientInside.{Breaks, Feeds, HasInHand, Holds, IsFirst, IsNoWrite, IsOfCollection, IsSent, IsUseful}
 use Rattle.serve_work.specs.ClientInside.{SendsWhole, Serves, ServesTo, StopsReading, StopsReadingAt, StopsWith, Takes}
 use Rattle.serve_work.specs.Rests.{IsOutset, Outset, Spoils}
-use Rattle.serve_work.proofs.Staying.{GivesUp-stays, stays_frames}
+use Rattle.serve_work.proofs.Staying.{stays_frames}
 use Rattle.serve_work.proofs.Moving.{StopsWith-later}
 use Rattle.serve_work.proofs.Passing.{Takes-behind, read_behind, takes_of}
-use Rattle.serve_work.proofs.Stopping.{first_fault, read_until, sent_until}
+use Rattle.serve_work.proofs.Stopping.{first_fault, read_until, sent_until, stopped_torn}
 
 -- what went out of some frames, where another stop is told that isn't another write fault
 pub sent_told : (chain : ChainValue) (frames : List FrameText) (writer writer' : WriterState) (stop told : Stop)
@@ -137,7 +137,9 @@ spoilt_from stop o reader' seat' writer' is b =
       frames = b.frames;
       read = takes_of o.reader reader' o.seat b.mid o.writer b.between b.frames b.passed;
       count = ap (λ (s : StreamSeatValue). s.accepted) b.stays ∙ b.passed.moved.count;
-      most = stays_frames b.mid seat' (GivesUp-stays b.mid seat' b.stays) ∙ stays_frames o.seat b.mid b.passed.moved.seat_stays;
+      most = ap (λ (s : StreamSeatValue). s.frames) b.stays ∙ b.passed.moved.seat_stays.frames;
+      is_closed = ap (λ (s : StreamSeatValue). s.is_closed) b.stays ∙ b.passed.moved.seat_stays.is_closed;
+      torn = λ is. stopped_torn stop b.mid seat' b.between writer' [] is b.moved;
       sent = sent_until o.seat o.writer b.frames is.fresh.kept is.writing stop stop seat' writer' (λ f e. e) all;
       spoilt = b.spoilt;
       holds = refl;
@@ -156,6 +158,8 @@ module _ (held : Stop) (o : Outset) (reader : ReaderState) (seat : StreamSeatVal
         (takes_of a.before b.before seat seat' writer writer b.frames b.passed);
     count = omega (arith, a.count, b.passed.moved.count, length-append a.frames b.frames);
     most = stays_frames seat seat' b.passed.moved.seat_stays ∙ a.most;
+    is_closed = b.passed.moved.seat_stays.is_closed ∙ a.is_closed;
+    torn = λ is. subst IsSome (sym b.passed.moved.seat_stays.torn) (a.torn is);
     sent = sent_more o.seat.chain a.frames b.frames o.writer writer held a.sent;
     spoilt = a.spoilt;
     holds = b.holds;
@@ -176,6 +180,7 @@ module _ (held : Stop) (o : Outset) (reader : ReaderState) (seat : StreamSeatVal
     };
     count = a.count;
     sent = a.sent;
+    torn = a.torn;
     whole = λ is. absurd (a.spoilt (subst IsUseful (sym is) tt));
   }
 
@@ -193,6 +198,7 @@ module _ (held : Stop) (o : Outset) (reader : ReaderState) (seat : StreamSeatVal
     };
     count = a.count;
     sent = a.sent;
+    torn = a.torn;
     whole = λ is. absurd (a.spoilt (subst IsUseful (sym is) tt));
   }
 
@@ -221,6 +227,9 @@ module _ (held : Stop) (o : Outset) (reader : ReaderState) (seat : StreamSeatVal
               (subst (λ (s : Stop). StopsReading past s o.reader reader' o.seat seat' frames) e.0 read) held (of_collection held a.spoilt));
           count = count;
           sent = sent_told o.seat.chain frames o.writer writer held told (λ f is. sym e.1 ∙ is) sent;
+          torn = λ is.
+              let moved = subst (λ (s : Stop). StopsWith s seat seat' writer writer b.frames) e.0 b.moved in
+              subst IsSome (sym moved.seat_stays.torn) (a.torn (sym e.1 ∙ is));
           whole = λ is. absurd (not is);
         }
         | inr e ↦ record {
@@ -228,6 +237,7 @@ module _ (held : Stop) (o : Outset) (reader : ReaderState) (seat : StreamSeatVal
           read = subst (λ (s : Stop). StopsReading past s o.reader reader' o.seat seat' frames) (sym e) read;
           count = count;
           sent = sent_told o.seat.chain frames o.writer writer held told (λ f is. absurd (subst IsNoWrite (sym e ∙ is) own)) sent;
+          torn = λ is. stopped_torn stop seat seat' writer writer b.frames (sym e ∙ is) b.moved;
           whole = λ is. absurd (not is);
         }
       ]

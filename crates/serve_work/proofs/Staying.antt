@@ -3,12 +3,14 @@ use Rattle.std.proofs.Common.{◌≡◌, ℕ, refl, sym, ap, ◌∙◌}
 use Rattle.y4m_header.specs.StreamText.{FrameText}
 use Rattle.filters.specs.ChainImage.{FrameValue}
 use Rattle.y4m_stream.specs.Writer.{PutsFrame, WriterState}
-use Rattle.serve_hub.specs.Seats.{StreamSeatValue}
+use Rattle.serve_core.specs.declared.collected.Collected.{Collected}
+use Rattle.serve_hub.specs.Calls.{Collects}
+use Rattle.serve_hub.specs.Seats.{StreamSeatValue, torn_at}
 use Rattle.serve_work.specs.ClientInside.{GivesUp}
 use Rattle.serve_work.specs.ClientInside.{Stays}
 
 pub Stays-same : (seat : StreamSeatValue) → Stays seat seat
-Stays-same seat = record { number = refl; chain = refl; frames = refl; is_closed = refl }
+Stays-same seat = record { number = refl; chain = refl; frames = refl; is_closed = refl; torn = refl }
 
 pub Stays-trans : (a b c : StreamSeatValue) → Stays a b → Stays b c → Stays a c
 Stays-trans a b c p q = record {
@@ -16,18 +18,25 @@ Stays-trans a b c p q = record {
   chain = q.chain ∙ p.chain;
   frames = q.frames ∙ p.frames;
   is_closed = q.is_closed ∙ p.is_closed;
+  torn = q.torn ∙ p.torn;
 }
 
 pub GivesUp-trans : (a b c : StreamSeatValue) → GivesUp a b → GivesUp b c → GivesUp a c
-GivesUp-trans a b c p q = q ∙ ap (λ (v : StreamSeatValue). record v { calls = c.calls; kept = c.kept }) p
+GivesUp-trans a b c p q = q ∙ ap (λ (v : StreamSeatValue). record v { calls = c.calls; kept = c.kept; torn = c.torn }) p
 
-pub GivesUp-stays : (a b : StreamSeatValue) → GivesUp a b → Stays a b
-GivesUp-stays a b p = record {
-  number = ap (λ (v : StreamSeatValue). v.number) p;
-  chain = ap (λ (v : StreamSeatValue). v.chain) p;
-  frames = ap (λ (v : StreamSeatValue). v.frames) p;
-  is_closed = ap (λ (v : StreamSeatValue). v.is_closed) p;
+pub Collects-stays : (pair : Collected) (a b : StreamSeatValue) → Collects pair a b → Stays a b
+Collects-stays pair a b p = record {
+  number = ap (λ (v : StreamSeatValue). v.number) p.seat;
+  chain = ap (λ (v : StreamSeatValue). v.chain) p.seat;
+  frames = ap (λ (v : StreamSeatValue). v.frames) p.seat;
+  is_closed = ap (λ (v : StreamSeatValue). v.is_closed) p.seat;
+  torn = ap (λ (v : StreamSeatValue). v.torn) p.seat;
 }
+
+-- a seat is told Torn, behind what it gave up
+pub GivesUp-torn : (n : ℕ) (old mid new : StreamSeatValue) → GivesUp old mid → new ≡ torn_at n mid → GivesUp old new
+GivesUp-torn n old mid new up is =
+    is ∙ ap (torn_at n) up ∙ ap (λ (v : StreamSeatValue). record old { calls = v.calls; kept = v.kept; torn = v.torn }) (sym is)
 
 pub stays_chain : (a b : StreamSeatValue) → Stays a b → b.chain ≡ a.chain
 stays_chain a b p = p.chain

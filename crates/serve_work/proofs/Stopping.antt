@@ -1,7 +1,7 @@
 -- What a client's frames come to: those that are accepted, why there are no more, and what went out.
 use Rattle.std.proofs.Common.{ℕ, ◌≡◌, ◌≢◌, ◌+◌, ◌⊎◌, ◌≤◌, List, [], ◌∷◌, ◌++◌, length, refl, sym, ap, ◌∙◌}
 use Rattle.std.proofs.Common.{append-nil, append_assoc, arith, subst, inl, inr, false, Result, Ok, Err, OnOk}
-use Rattle.std.proofs.Common.{IfErr}
+use Rattle.std.proofs.Common.{IfErr, IfSome, IsSome, None, Option}
 use Rattle.filters.specs.ChainImage.{FrameValue}
 use Rattle.y4m_header.specs.StreamText.{FrameText}
 use Rattle.y4m_stream.specs.declared.fault.WriteFault.{WriteFault}
@@ -11,18 +11,19 @@ use Rattle.y4m_header.specs.declared.limits.TheConstants.{MOST_FRAMES}
 use Rattle.serve_hub.specs.declared.entry.Act.{Act}
 use Rattle.serve_hub.specs.declared.entry.Act.TheVariants as acts
 use Rattle.serve_hub.specs.declared.refusal.Refusal.{Refusal}
-use Rattle.serve_hub.specs.Calls.{Closes, IsCloseTold}
-use Rattle.serve_hub.specs.Seats.{StreamSeatValue}
+use Rattle.serve_hub.specs.declared.refusal.Refusal.TheVariants as hub
+use Rattle.serve_hub.specs.Calls.{Closes, IsCloseTold, noted}
+use Rattle.serve_hub.specs.Seats.{StreamSeatValue, collected_by}
 use Rattle.serve_work.specs.declared.stop.Cause.TheVariants.{TooManyFrames, ClockEnd, NoMemory}
 use Rattle.serve_work.specs.declared.stop.Halt.TheVariants.{Stopped}
 use Rattle.serve_work.specs.declared.stop.Stop.{Stop}
 use Rattle.serve_work.specs.declared.stop.Stop.TheVariants.{Whole, Read, Write, Refused, Torn}
 use Rattle.serve_work.specs.Clients.{ClientProgress, ClientStopsAt, HasOtherNumber, IsDrained}
 use Rattle.serve_work.specs.ClientInside.{Accounted, BreaksOff, Cuts, Feeds, IsFirst, IsNoWrite, IsOfCollection, IsSent, IsUseful}
-use Rattle.serve_work.specs.ClientInside.{KeepsMoments, Moves, SendsWhole, Serves, StopsReading, StopsWith, TalliesSeat, texts_of}
+use Rattle.serve_work.specs.ClientInside.{KeepsMoments, MayClose, Moves, SendsWhole, Serves, StopsReading, StopsWith, TalliesSeat, texts_of}
 use Rattle.serve_work.specs.Rests.{as_open}
-use Rattle.serve_work.proofs.Tallying.{TalliesSeat-same, collections_both, none_accepted, offers_both}
-use Rattle.serve_work.proofs.Moving.{Accounted-later, Moves-trans, StopsWith-later, few_of, size_later}
+use Rattle.serve_work.proofs.Tallying.{TalliesSeat-torn, collections_both, none_accepted, offers_both, seat_same, torn_still}
+use Rattle.serve_work.proofs.Moving.{Accounted-later, Moves-none, Moves-trans, StopsWith-later, few_of, size_later}
 
 -- what went out
 
@@ -86,17 +87,16 @@ module _ (seat : StreamSeatValue) (writer : WriterState) (frames : List FrameTex
 
 -- a seat that is closed
 
--- nothing of the seat may have changed but its calls, and whether it is closed
-abbrev pub MayClose : StreamSeatValue → StreamSeatValue → Type 0
-MayClose old new = new ≡ record old { calls = new.calls; is_closed = new.is_closed }
-
 pub may_close : {T : Type 0} (old new : StreamSeatValue) (result : Result T Refusal) → OnOk result (Closes old new)
-    → IfErr result (λ e. IsCloseTold old e × (new ≡ old)) → MayClose old new
+    → IfErr result (λ e. IsCloseTold old e × (new ≡ noted e old)) → MayClose old new
 may_close old new (Ok t) closed refused = rw closed refl
-may_close old new (Err e) closed refused = rw refused.1 refl
+may_close old new (Err (hub.Core e)) closed refused = rw refused.1 refl
+may_close old new (Err hub.HistoryFull) closed refused = rw refused.1 refl
+may_close old new (Err hub.StrayLease) closed refused = rw refused.1 refl
+may_close old new (Err (hub.Torn c)) closed refused = rw refused.1 refl
 
 pub close_tally : {T : Type 0} (old new : StreamSeatValue) (result : Result T Refusal) → OnOk result (Closes old new)
-    → IfErr result (λ e. IsCloseTold old e × (new ≡ old)) → TalliesSeat old new
+    → IfErr result (λ e. IsCloseTold old e × (new ≡ noted e old)) → TalliesSeat old new
 close_tally old new (Ok t) closed refused = rw closed (record {
   number = refl;
   chain = refl;
@@ -106,13 +106,18 @@ close_tally old new (Ok t) closed refused = rw closed (record {
   offers = omega (arith, offers_both old.calls.list (acts.Closed ∷ []));
   moments = λ none. refl;
   collections = omega (arith, collections_both old.calls.list (acts.Closed ∷ []));
+  noted = λ n is. is;
+  torn = λ none. subst (λ (o : Option ℕ). IfSome o (λ n. collected_by old ≤ n)) (sym none) tt;
 })
-close_tally old new (Err e) closed refused = rw refused.1 (TalliesSeat-same old old refl refl refl refl refl refl)
+close_tally old new (Err (hub.Core e)) closed refused = seat_same old new refused.1
+close_tally old new (Err hub.HistoryFull) closed refused = seat_same old new refused.1
+close_tally old new (Err hub.StrayLease) closed refused = seat_same old new refused.1
+close_tally old new (Err (hub.Torn c)) closed refused =
+    TalliesSeat-torn (collected_by old) old old new (seat_same old old refl) refl (omega arith) refused.1
 
-pub close_moments : {T : Type 0} (Gives : ℕ → Type 0) (old new : StreamSeatValue) (result : Result T Refusal)
-    → OnOk result (Closes old new) → IfErr result (λ e. IsCloseTold old e × (new ≡ old)) → KeepsMoments Gives old new
-close_moments Gives old new result closed refused = none_accepted Gives old new (close_tally old new result closed refused)
-    (ap (λ (s : StreamSeatValue). s.accepted) (may_close old new result closed refused))
+pub close_moments : (Gives : ℕ → Type 0) (old new : StreamSeatValue) → TalliesSeat old new → MayClose old new
+    → KeepsMoments Gives old new
+close_moments Gives old new tally close = none_accepted Gives old new tally (ap (λ (s : StreamSeatValue). s.accepted) close)
 
 -- what a seat moves, it would move as an open one
 
@@ -129,7 +134,13 @@ Moves-open seat seat' writer writer' frames a = record {
   frames = a.frames;
   count = a.count;
   within = a.within;
-  seat_stays = record { number = a.seat_stays.number; chain = a.seat_stays.chain; frames = a.seat_stays.frames; is_closed = refl };
+  seat_stays = record {
+    number = a.seat_stays.number;
+    chain = a.seat_stays.chain;
+    frames = a.seat_stays.frames;
+    is_closed = refl;
+    torn = a.seat_stays.torn;
+  };
   writer_stays = a.writer_stays;
 }
 
@@ -149,7 +160,11 @@ StopsWith-open (Write fault) seat seat' writer writer' frames a = record {
   made = a.made;
   cut = a.cut;
 }
-StopsWith-open Torn seat seat' writer writer' frames a = (as_open a.0, Moves-open seat a.0 writer writer' frames a.1)
+StopsWith-open Torn seat seat' writer writer' frames a = (
+  as_open a.0,
+  Moves-open seat a.0 writer writer' frames a.1,
+  a.2,
+)
 
 TalliesSeat-open : (old new : StreamSeatValue) → TalliesSeat old new → TalliesSeat (as_open old) (as_open new)
 TalliesSeat-open old new t = record {
@@ -161,13 +176,16 @@ TalliesSeat-open old new t = record {
   offers = t.offers;
   moments = t.moments;
   collections = t.collections;
+  noted = t.noted;
+  torn = t.torn;
 }
 
 -- the seat closes its stream behind what it moved
 Moves-closed : (seat mid closed : StreamSeatValue) (writer writer' : WriterState) (frames : List FrameText) → seat.is_closed ≡ false
-    → MayClose mid closed → Moves seat mid writer writer' frames → Moves seat (as_open closed) writer writer' frames
-Moves-closed seat mid closed writer writer' frames is_open close a =
-    let moved : Moves seat (record mid { calls = closed.calls; is_closed = false }) writer writer' frames = record {
+    → MayClose mid closed → closed.torn ≡ mid.torn → Moves seat mid writer writer' frames
+    → Moves seat (as_open closed) writer writer' frames
+Moves-closed seat mid closed writer writer' frames is_open close untorn a =
+    let moved : Moves seat (record mid { calls = closed.calls; is_closed = false; torn = closed.torn }) writer writer' frames = record {
       sent = a.sent;
       images = a.images;
       order = a.order;
@@ -182,6 +200,7 @@ Moves-closed seat mid closed writer writer' frames is_open close a =
         chain = a.seat_stays.chain;
         frames = a.seat_stays.frames;
         is_closed = sym is_open;
+        torn = untorn ∙ a.seat_stays.torn;
       };
       writer_stays = a.writer_stays;
     } in
@@ -197,6 +216,8 @@ TalliesSeat-opened old new t = record {
   offers = t.offers;
   moments = t.moments;
   collections = t.collections;
+  noted = t.noted;
+  torn = t.torn;
 }
 
 TalliesSeat-closed : (mid closed : StreamSeatValue) → TalliesSeat mid closed → TalliesSeat mid (as_open closed)
@@ -209,6 +230,8 @@ TalliesSeat-closed mid closed t = record {
   offers = t.offers;
   moments = t.moments;
   collections = t.collections;
+  noted = t.noted;
+  torn = t.torn;
 }
 
 -- the first of two stops
@@ -251,6 +274,12 @@ until_moves (Read fault) seat seat' writer writer' frames p a = a
 until_moves (Refused cause) seat seat' writer writer' frames p a = a
 until_moves (Write fault) seat seat' writer writer' frames p a = absurd p
 until_moves Torn seat seat' writer writer' frames p a = absurd p
+
+-- a seat that stopped its client as Torn noted it
+pub stopped_torn : (stop : Stop) (seat seat' : StreamSeatValue) (writer writer' : WriterState) (frames : List FrameText) → stop ≡ Torn
+    → StopsWith stop seat seat' writer writer' frames → IsSome seat'.torn
+stopped_torn stop seat seat' writer writer' frames is a =
+    let torn = subst (λ (s : Stop). StopsWith s seat seat' writer writer' frames) is a in torn.2
 
 -- what is kept may be collected and written
 module _ (past : List Act) (stop : Stop) (reader reader' : ReaderState) (seat mid closed : StreamSeatValue) (writer between : WriterState)
@@ -346,20 +375,21 @@ Serves-later past stop reader reader' seat mid seat' writer writer' fault tally 
   read = read_later past stop reader reader' seat mid seat' a.frames tally a.read;
   count = same ∙ a.count;
   sent = a.sent;
+  torn = λ is. torn_still mid seat' tally (a.torn is);
   whole = λ is. absurd (fault is);
 }
 
 -- the stream is closed, and images are written on
 pub Feeds-closed : (past : List Act) (stop : Stop) (reader reader' : ReaderState) (seat mid closed : StreamSeatValue)
     (writer between : WriterState)
-    → seat.is_closed ≡ false → IsUseful stop → MayClose mid closed → TalliesSeat mid closed
+    → seat.is_closed ≡ false → IsUseful stop → MayClose mid closed → closed.torn ≡ mid.torn → TalliesSeat mid closed
     → Feeds past stop reader reader' seat mid writer between
     → Feeds past stop reader reader' seat (as_open closed) writer between
-Feeds-closed past stop reader reader' seat mid closed writer between is_open useful close tally a = record {
+Feeds-closed past stop reader reader' seat mid closed writer between is_open useful close untorn tally a = record {
   frames = a.frames;
   read = read_later past stop reader reader' seat mid (as_open closed) a.frames (TalliesSeat-closed mid closed tally) a.read;
   moved = until_moves stop seat (as_open closed) writer between a.frames useful
-      (Moves-closed seat mid closed writer between a.frames is_open close
+      (Moves-closed seat mid closed writer between a.frames is_open close untorn
       (moves_until stop seat mid writer between a.frames useful a.moved));
   count = ap (λ (s : StreamSeatValue). s.accepted) close ∙ a.count;
 }
@@ -396,6 +426,7 @@ module _ (past : List Act) (reader reader' : ReaderState) (seat : StreamSeatValu
     read = read_later past stop reader reader' seat mid seat' a.frames tally a.read;
     count = same ∙ a.count;
     sent = sent_until seat writer a.frames none well stop stop mid writer' (λ f is. is) a.moved;
+    torn = λ is. torn_still mid seat' tally (stopped_torn stop seat mid writer writer' a.frames is a.moved);
     whole = λ is. absurd (spoilt (subst IsUseful (sym is) tt));
   }
 
@@ -422,6 +453,7 @@ module _ (past : List Act) (reader reader' : ReaderState) (seat : StreamSeatValu
               (subst (λ (s : Stop). StopsReading past s reader reader' seat (as_open closed) a.frames) e.0 a.read) last own));
           count = same ∙ a.count;
           sent = sent_until seat writer a.frames none well told last (as_open drained) writer' (λ f is. sym e.1 ∙ is) all;
+          torn = λ is. stopped_torn last closed drained between writer' [] (sym e.1 ∙ is) b;
           whole = λ is.
               let stopped : last ≡ Whole = sym e.1 ∙ is in
               let sent = all_sent seat writer a.frames none well (as_open drained) writer' (left stopped).none
@@ -435,6 +467,16 @@ module _ (past : List Act) (reader reader' : ReaderState) (seat : StreamSeatValu
           count = same ∙ a.count;
           sent = sent_until seat writer a.frames none well told last (as_open drained) writer'
               (λ f is. absurd (subst IsNoWrite (sym e.2 ∙ is) e.0)) all;
+          torn = λ is. absurd (subst IsUseful (sym e.2 ∙ is) useful);
           whole = λ is. absurd (e.1 (sym e.2 ∙ is));
         }
       ]
+
+  -- the close behind the stop is told Torn
+  pub Serves-torn : (stop told : Stop) (mid closed : StreamSeatValue) (writer' : WriterState) → seat.is_closed ≡ false → IsUseful stop
+      → Feeds past stop reader reader' seat mid writer writer' → closed.accepted ≡ mid.accepted → TalliesSeat mid closed
+      → IsSome closed.torn → IsFirst stop Torn told → Serves past told reader reader' seat closed writer writer'
+  Serves-torn stop told mid closed writer' is_open useful a same tally torn first =
+      Serves-drained stop Torn told mid closed writer' writer' useful
+      (Feeds-closed past stop reader reader' seat mid mid writer writer' is_open useful refl refl (seat_same mid mid refl) a)
+      (mid, Moves-none mid mid writer' writer' refl refl, torn) tt (λ is. absurd (cc)) same tally first

@@ -1,7 +1,7 @@
 -- How the calls of a seat add up.
 use Rattle.std.proofs.Common.{◌≡◌, ◌≢◌, ℕ, ◌+◌, List, [], ◌∷◌, ◌++◌, length, filter, sum_by, Bool, refl, sym}
 use Rattle.std.proofs.Common.{ap, ◌∙◌, append_assoc, append-nil, length-append, arith, subst, inl, inr, IfSome, Option}
-use Rattle.std.proofs.Common.{Some, None}
+use Rattle.std.proofs.Common.{Some, None, IsSome, ◌≤◌}
 use Rattle.std.specs.List.{AllByRecursion}
 use Rattle.std.proofs.lemmas.List.Elements.{filter-append}
 use Rattle.std.proofs.lemmas.List.Sums.{sum_by-cons}
@@ -13,9 +13,34 @@ use Rattle.serve_hub.specs.declared.entry.Act.TheVariants as acts
 use Rattle.serve_hub.specs.declared.moments.Moments.{Moments}
 use Rattle.serve_hub.specs.Calls.{Accepts, Collects}
 use Rattle.serve_hub.specs.Journal.{tick_of}
-use Rattle.serve_hub.specs.Seats.{CallsValue, StreamSeatValue, moments_with, one_collection}
+use Rattle.serve_hub.specs.Seats.{CallsValue, StreamSeatValue, collected_by, first_noted, moments_with, one_collection, torn_at}
 use Rattle.serve_work.specs.Clients.{AreAtMoments, HasOtherNumber, IsAtMoment, collections_in, is_collection, is_offer, offers_in}
 use Rattle.serve_work.specs.ClientInside.{GivesUp, IsCounted, KeepsMoments, OffersAt, Tallies, TalliesSeat}
+
+-- what holds of a number, if there is one
+pub if_more : (P Q : ℕ → Type 0) (o : Option ℕ) → ((n : ℕ) → P n → Q n) → IfSome o P → IfSome o Q
+if_more P Q None more p = tt
+if_more P Q (Some n) more p = more n p
+
+pub if_none : (P : ℕ → Type 0) (o : Option ℕ) → o ≡ None → IfSome o P
+if_none P o none = subst (λ (x : Option ℕ). IfSome x P) (sym none) tt
+
+-- of the number that was noted first, or is noted then
+pub if_later : (P Q : ℕ → Type 0) (old new : Option ℕ) → ((n : ℕ) → Q n → P n) → ((n : ℕ) → old ≡ Some n → new ≡ Some n)
+    → (old ≡ None → IfSome new Q) → IfSome old P → IfSome new P
+if_later P Q None new more noted first p = if_more Q P new more (first refl)
+if_later P Q (Some n) new more noted first p = subst (λ (x : Option ℕ). IfSome x P) (sym (noted n refl)) p
+
+some_later : (old new : Option ℕ) → ((n : ℕ) → old ≡ Some n → new ≡ Some n) → IsSome old → IsSome new
+some_later None new noted some = absurd (cc)
+some_later (Some n) new noted some = subst IsSome (sym (noted n refl)) refl
+
+some_noted : (o : Option ℕ) (n : ℕ) → IsSome (first_noted o n)
+some_noted None n = refl
+some_noted (Some first) n = refl
+
+pub some_torn : (n : ℕ) (old new : StreamSeatValue) → new ≡ torn_at n old → IsSome new.torn
+some_torn n old new is = subst (λ (s : StreamSeatValue). IsSome s.torn) (sym is) (some_noted old.torn n)
 
 -- so many of the calls are such
 such_among : (is : Act → Bool) (calls more : List Act)
@@ -41,7 +66,7 @@ collections_counted (acts.Collected number ∷ calls) =
 
 pub Collects-up : (pair : Collected) (old new : StreamSeatValue) → Collects pair old new → GivesUp old new
 Collects-up pair old new c =
-    c.seat ∙ ap (λ (k : CallsValue). record old { calls = k; kept = new.kept }) (sym (ap (λ (v : StreamSeatValue). v.calls) c.seat))
+    c.seat ∙ ap (λ (v : StreamSeatValue). record old { calls = v.calls; kept = new.kept; torn = v.torn }) (sym c.seat)
 
 pub one_collected : (pair : Collected) (old new : StreamSeatValue) → Collects pair old new
     → collections_in new.calls.list ≡ collections_in old.calls.list + 1
@@ -54,8 +79,8 @@ none_offered pair old new c =
     ap (λ (v : StreamSeatValue). offers_in v.calls.list) c.seat ∙ offers_both old.calls.list (acts.Collected c.number ∷ [])
 
 pub TalliesSeat-same : (old new : StreamSeatValue) → new.number ≡ old.number → new.chain ≡ old.chain → new.before ≡ old.before
-    → new.calls ≡ old.calls → new.accepted ≡ old.accepted → new.moments ≡ old.moments → TalliesSeat old new
-TalliesSeat-same old new number chain before calls accepted moments = record {
+    → new.calls ≡ old.calls → new.accepted ≡ old.accepted → new.moments ≡ old.moments → new.torn ≡ old.torn → TalliesSeat old new
+TalliesSeat-same old new number chain before calls accepted moments torn = record {
   number = number;
   chain = chain;
   before = before;
@@ -64,7 +89,20 @@ TalliesSeat-same old new number chain before calls accepted moments = record {
   offers = omega (arith, ap (λ (c : CallsValue). offers_in c.list) calls, accepted);
   moments = λ none. moments;
   collections = omega (arith, ap (λ (c : CallsValue). collections_in c.list) calls);
+  noted = λ n is. torn ∙ is;
+  torn = λ none. if_none (λ n. collected_by old ≤ n) new.torn (torn ∙ none);
 }
+
+-- images that were collected stay so
+pub collected_more : (old new : StreamSeatValue) → new.before ≡ old.before
+    → collections_in old.calls.list ≤ collections_in new.calls.list → collected_by old ≤ collected_by new
+collected_more old new before more = omega (
+  arith,
+  before,
+  more,
+  collections_counted old.calls.list,
+  collections_counted new.calls.list,
+)
 
 pub TalliesSeat-trans : (a b c : StreamSeatValue) → TalliesSeat a b → TalliesSeat b c → TalliesSeat a c
 TalliesSeat-trans a b c p q = record {
@@ -77,7 +115,16 @@ TalliesSeat-trans a b c p q = record {
   moments = λ none.
       let both = offers_both p.added q.added in q.moments (omega (arith, none, both)) ∙ p.moments (omega (arith, none, both));
   collections = omega (arith, p.collections, q.collections);
+  noted = λ n is. q.noted n (p.noted n is);
+  torn = λ none.
+      let more = collected_more a b p.before p.collections in
+      if_later (λ n. collected_by a ≤ n) (λ n. collected_by b ≤ n) b.torn c.torn (λ n few. omega (arith, few, more)) q.noted q.torn
+      (p.torn none);
 }
+
+-- a seat that noted a Torn has noted one
+pub torn_still : (old new : StreamSeatValue) → TalliesSeat old new → IsSome old.torn → IsSome new.torn
+torn_still old new t some = some_later old.torn new.torn t.noted some
 
 pub TalliesSeat-accept : (frame : FrameValue) (n : ℕ) (old new : StreamSeatValue) → Accepts frame n old new → TalliesSeat old new
 TalliesSeat-accept frame n old new a = rw a.seat (record {
@@ -89,6 +136,8 @@ TalliesSeat-accept frame n old new a = rw a.seat (record {
   offers = omega (arith, offers_both old.calls.list (acts.Offered a.tick n ∷ []));
   moments = λ none. absurd (omega (arith, none));
   collections = omega (arith, collections_both old.calls.list (acts.Offered a.tick n ∷ []));
+  noted = λ n is. is;
+  torn = λ none. if_none (λ n. collected_by old ≤ n) old.torn none;
 })
 
 pub TalliesSeat-collect : (pair : Collected) (old new : StreamSeatValue) → Collects pair old new → TalliesSeat old new
@@ -101,21 +150,74 @@ TalliesSeat-collect pair old new c = record {
   offers = omega (arith, none_offered pair old new c, ap (λ (v : StreamSeatValue). v.accepted) c.seat);
   moments = λ none. ap (λ (v : StreamSeatValue). v.moments) c.seat;
   collections = omega (arith, one_collected pair old new c);
+  noted = λ n is. ap (λ (v : StreamSeatValue). v.torn) c.seat ∙ is;
+  torn = λ none. if_none (λ n. collected_by old ≤ n) new.torn (ap (λ (v : StreamSeatValue). v.torn) c.seat ∙ none);
 }
+
+-- a seat is told Torn, behind some calls
+pub TalliesSeat-torn : (n : ℕ) (old mid new : StreamSeatValue) → TalliesSeat old mid → mid.torn ≡ old.torn → collected_by old ≤ n
+    → new ≡ torn_at n mid → TalliesSeat old new
+TalliesSeat-torn n old mid new t same few is = rw is (record {
+  number = t.number;
+  chain = t.chain;
+  before = t.before;
+  added = t.added;
+  calls = t.calls;
+  offers = t.offers;
+  moments = t.moments;
+  collections = t.collections;
+  noted = λ m was. ap (λ (o : Option ℕ). first_noted o n) (same ∙ was);
+  torn = λ none. subst (λ (o : Option ℕ). IfSome (first_noted o n) (λ m. collected_by old ≤ m)) (sym (same ∙ none)) few;
+})
 
 -- the writer put no image
 pub Tallies-seat : (old new : StreamSeatValue) (writer writer' : WriterState) → TalliesSeat old new → writer'.frames ≡ writer.frames
     → Tallies old new writer writer'
-Tallies-seat old new writer writer' t same = record { seat = t; images = omega (arith, t.collections, same) }
+Tallies-seat old new writer writer' t same = record {
+  seat = t;
+  images = omega (arith, t.collections, same);
+  torn = λ none.
+      if_more (λ n. collected_by old ≤ n) (λ n. writer'.frames + collected_by old ≤ writer.frames + n) new.torn
+      (λ n few. omega (arith, few, same)) (t.torn none);
+}
 
 pub Tallies-none : (seat : StreamSeatValue) (writer : WriterState) → Tallies seat seat writer writer
-Tallies-none seat writer = Tallies-seat seat seat writer writer (TalliesSeat-same seat seat refl refl refl refl refl refl) refl
+Tallies-none seat writer = Tallies-seat seat seat writer writer (TalliesSeat-same seat seat refl refl refl refl refl refl refl) refl
 
-pub Tallies-trans : (a b c : StreamSeatValue) (writer between writer' : WriterState) → Tallies a b writer between
+-- behind calls that weren't told Torn
+pub Tallies-trans : (a b c : StreamSeatValue) (writer between writer' : WriterState) → b.torn ≡ a.torn → Tallies a b writer between
     → Tallies b c between writer' → Tallies a c writer writer'
-Tallies-trans a b c writer between writer' p q = record {
+Tallies-trans a b c writer between writer' same p q = record {
   seat = TalliesSeat-trans a b c p.seat q.seat;
   images = omega (arith, p.images, q.images);
+  torn = λ none.
+      if_more (λ n. writer'.frames + collected_by b ≤ between.frames + n) (λ n. writer'.frames + collected_by a ≤ writer.frames + n)
+      c.torn (λ n few. omega (
+        arith,
+        few,
+        p.images,
+        p.seat.before,
+        collections_counted a.calls.list,
+        collections_counted b.calls.list,
+      )) (q.torn (same ∙ none));
+}
+
+-- and then the writer put no image
+pub Tallies-still : (a b c : StreamSeatValue) (writer between : WriterState) → Tallies a b writer between → TalliesSeat b c
+    → Tallies a c writer between
+Tallies-still a b c writer between p t = record {
+  seat = TalliesSeat-trans a b c p.seat t;
+  images = omega (arith, p.images, t.collections);
+  torn = λ none.
+      if_later (λ n. between.frames + collected_by a ≤ writer.frames + n) (λ n. collected_by b ≤ n) b.torn c.torn
+      (λ n few. omega (
+        arith,
+        few,
+        p.images,
+        p.seat.before,
+        collections_counted a.calls.list,
+        collections_counted b.calls.list,
+      )) t.noted t.torn (p.torn none);
 }
 
 -- an image was collected, and put
@@ -124,13 +226,16 @@ pub Tallies-give : (old new : StreamSeatValue) (writer writer' : WriterState) (p
 Tallies-give old new writer writer' pair c more = record {
   seat = TalliesSeat-collect pair old new c;
   images = omega (arith, one_collected pair old new c, more);
+  torn = λ none.
+      if_none (λ n. writer'.frames + collected_by old ≤ writer.frames + n) new.torn
+      (ap (λ (v : StreamSeatValue). v.torn) c.seat ∙ none);
 }
 
 pub seat_same : (old new : StreamSeatValue) → new ≡ old → TalliesSeat old new
 seat_same old new same = TalliesSeat-same old new (ap (λ (v : StreamSeatValue). v.number) same)
     (ap (λ (v : StreamSeatValue). v.chain) same) (ap (λ (v : StreamSeatValue). v.before) same)
     (ap (λ (v : StreamSeatValue). v.calls) same) (ap (λ (v : StreamSeatValue). v.accepted) same)
-    (ap (λ (v : StreamSeatValue). v.moments) same)
+    (ap (λ (v : StreamSeatValue). v.moments) same) (ap (λ (v : StreamSeatValue). v.torn) same)
 
 pub counted_later : (past : List Act) (old new : StreamSeatValue) → TalliesSeat old new → IsCounted past old → IsCounted past new
 counted_later past old new t e =

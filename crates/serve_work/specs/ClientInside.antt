@@ -1,7 +1,6 @@
 -- What contracts inside the crate say of a client.
 use Rattle.std.specs.Prelude.{ℕ, ◌+◌, ◌≡◌, ◌≢◌, ◌≤◌, ◌<◌, ◌⊎◌, ⊤, false, List, [], ◌∷◌}
-use Rattle.std.specs.Prelude.{◌++◌, All, Result, Ok, Err}
-use Rattle.std.specs.Prelude.{Option, Some, None, IfSome, length, map}
+use Rattle.std.specs.Prelude.{◌++◌, All, Result, Ok, Err, Option, Some, None, IfSome, IsSome, length, map}
 use Rattle.std.specs.declared.alloc.Global.{Global}
 use Rattle.std.specs.declared.sync.Arc.{Arc}
 use Rattle.std.specs.Arc.{arc_value}
@@ -24,7 +23,7 @@ use Rattle.serve_hub.specs.declared.entry.Act.{Act}
 use Rattle.serve_hub.specs.declared.refusal.Refusal.{Refusal}
 use Rattle.serve_hub.specs.declared.refusal.Refusal.TheVariants.{Core, HistoryFull}
 use Rattle.serve_hub.specs.Calls.{Accepts, Notes}
-use Rattle.serve_hub.specs.Seats.{StreamSeatValue}
+use Rattle.serve_hub.specs.Seats.{StreamSeatValue, collected_by, torn_at}
 use Rattle.serve_work.specs.declared.buffers.Buffers.{Buffers}
 use Rattle.serve_work.specs.declared.feeding.Fed.{Fed}
 use Rattle.serve_work.specs.declared.feeding.Fed.TheVariants as feds
@@ -36,8 +35,7 @@ use Rattle.serve_work.specs.declared.stop.Halt.TheVariants.{Full, Stopped}
 use Rattle.serve_work.specs.declared.stop.Stop.{Stop}
 use Rattle.serve_work.specs.declared.stop.Stop.TheVariants.{Whole, Read, Write, Refused, Torn}
 use Rattle.serve_work.specs.Clients.{AllowsStop, AreAtMoments, ClientProgress, ClientStopsAt, HasOtherNumber}
-use Rattle.serve_work.specs.Clients.{IsDrained}
-use Rattle.serve_work.specs.Clients.{collections_in, offers_in, reads_at}
+use Rattle.serve_work.specs.Clients.{IsDrained, collections_in, offers_in, reads_at}
 
 -- a refusal that isn't that of a full journal
 abbrev pub stop_of : Refusal → Stop
@@ -131,6 +129,7 @@ pub record Stays (old new : StreamSeatValue) : Type 0 where
   pub chain : new.chain ≡ old.chain
   pub frames : new.frames ≡ old.frames
   pub is_closed : new.is_closed ≡ old.is_closed
+  pub torn : new.torn ≡ old.torn
 
 -- the frames that were accepted are those whose images went out and those that the seat keeps
 pub record Accounted (seat : StreamSeatValue) (writer : WriterState) : Type 0 where
@@ -141,7 +140,8 @@ pub record Accounted (seat : StreamSeatValue) (writer : WriterState) : Type 0 wh
   pub writing : writer.failed ≡ false
 
 -- calls were added to the seat's, among them each offer and each collection that was accepted; where no offer
--- was, the moments of the first and the latest stay
+-- was, the moments of the first and the latest stay. What it noted of a Torn stays; where it is told so first, no
+-- fewer images were collected than before
 pub record TalliesSeat (old new : StreamSeatValue) : Type 0 where
   pub number : new.number ≡ old.number
   pub chain : new.chain ≡ old.chain
@@ -151,11 +151,14 @@ pub record TalliesSeat (old new : StreamSeatValue) : Type 0 where
   pub offers : offers_in new.calls.list + old.accepted ≡ offers_in old.calls.list + new.accepted
   pub moments : offers_in added ≡ 0 → new.moments ≡ old.moments
   pub collections : collections_in old.calls.list ≤ collections_in new.calls.list
+  pub noted : (n : ℕ) → old.torn ≡ Some n → new.torn ≡ Some n
+  pub torn : old.torn ≡ None → IfSome new.torn (λ n. collected_by old ≤ n)
 
--- and the writer has put no more images than were collected
+-- and the writer has put no more images than were collected, and than were before a first Torn
 pub record Tallies (old new : StreamSeatValue) (writer writer' : WriterState) : Type 0 where
   pub seat : TalliesSeat old new
   pub images : writer'.frames + collections_in old.calls.list ≤ writer.frames + collections_in new.calls.list
+  pub torn : old.torn ≡ None → IfSome new.torn (λ n. writer'.frames + collected_by old ≤ writer.frames + n)
 
 -- no frame was offered, or one at this moment
 abbrev pub OffersAt : (at : ℕ) → (old new : StreamSeatValue) → Type 0
@@ -176,9 +179,13 @@ KeepsAllowed Gives old new = IfSome old (AllowsStop Gives) → IfSome new (Allow
 abbrev pub IsNoNewEnd : (old new : Option Stop) → Type 0
 IsNoNewEnd old new = new ≡ Some (Refused causes.ClockEnd) → old ≡ Some (Refused causes.ClockEnd)
 
--- nothing but the seat's calls and what it keeps may have changed
+-- nothing but the seat's calls, what it keeps and what it notes of a Torn may have changed
 abbrev pub GivesUp : StreamSeatValue → StreamSeatValue → Type 0
-GivesUp old new = new ≡ record old { calls = new.calls; kept = new.kept }
+GivesUp old new = new ≡ record old { calls = new.calls; kept = new.kept; torn = new.torn }
+
+-- nothing of the seat may have changed but its calls, whether it is closed, and what it notes of a Torn
+abbrev pub MayClose : StreamSeatValue → StreamSeatValue → Type 0
+MayClose old new = new ≡ record old { calls = new.calls; is_closed = new.is_closed; torn = new.torn }
 
 -- these frames were accepted; the oldest that the seat then kept went out as their images, and it keeps the
 -- others
@@ -213,8 +220,8 @@ pub record Cuts (seat : StreamSeatValue) (writer writer' : WriterState) (accepte
   pub made : IsImageText seat.chain next image
   pub cut : FailsToPut between writer' image fault
 
--- what has moved where a client stops; after a write fault, and where an answer contradicts the seat, what it
--- keeps is of no use
+-- what has moved where a client stops; after a write fault, and where an answer contradicts the seat, which
+-- notes it then, what it keeps is of no use
 abbrev pub StopsWith : Stop → StreamSeatValue → StreamSeatValue → WriterState → WriterState
     → List FrameText → Type 0
 StopsWith Whole seat seat' writer writer' accepted = Moves seat seat' writer writer' accepted
@@ -222,7 +229,7 @@ StopsWith (Read fault) seat seat' writer writer' accepted = Moves seat seat' wri
 StopsWith (Refused cause) seat seat' writer writer' accepted = Moves seat seat' writer writer' accepted
 StopsWith (Write fault) seat seat' writer writer' accepted = Cuts seat writer writer' accepted fault
 StopsWith Torn seat seat' writer writer' accepted =
-    (mid : StreamSeatValue) × Moves seat mid writer writer' accepted
+    (mid : StreamSeatValue) × Moves seat mid writer writer' accepted × IsSome seat'.torn
 
 -- what has moved where a client goes no further
 abbrev pub HaltsWith : Halt → StreamSeatValue → StreamSeatValue → WriterState → WriterState
@@ -242,6 +249,10 @@ abbrev pub ComesBack : Arc Frame Global → Option Frame → Frame → StreamSea
 ComesBack back image frame old new =
     (arc_value back ≡ frame) × IfSome image (IsImageOf old.chain) × (new ≡ old)
 
+-- the seat, told Torn
+abbrev pub as_torn : StreamSeatValue → StreamSeatValue
+as_torn seat = torn_at (collected_by seat) seat
+
 -- one offer of a frame at a moment: it was accepted; or it comes back, the queue or the journal being full; or
 -- the client stops
 abbrev pub IsOffered : Offered → (at : ℕ) → Frame → StreamSeatValue → StreamSeatValue → Type 0
@@ -252,7 +263,8 @@ IsOffered (offered.Stopped (Refused cause)) at frame old new =
     (cause ≡ causes.TooManyFrames → old.accepted ≡ old.frames) × (cause ≡ causes.ClockEnd → LAST_MOMENT < at)
     × (new ≡ old)
 IsOffered (offered.Stopped Torn) at frame old new =
-    (new ≡ old) ⊎ ((n : ℕ) × (n ≢ old.accepted) × Accepts (value_of frame) n old new)
+    (new ≡ as_torn old) ⊎ ((n : ℕ) × (n ≢ old.accepted)
+    × ((mid : StreamSeatValue) × Accepts (value_of frame) n old mid × (new ≡ as_torn mid)))
 IsOffered (offered.Stopped stop) at frame old new = ⊥
 
 -- the frame wasn't accepted, and the client stops
@@ -267,7 +279,9 @@ pub record AcceptsTorn (stop : Stop) (frame : FrameText) (seat seat' : StreamSea
     (writer writer' : WriterState) : Type 0 where
   pub torn : stop ≡ Torn
   pub other : (past : List Act) → IsCounted past seat → HasOtherNumber (past ++ seat'.calls.list)
-  pub moved : Moves seat seat' writer writer' (frame ∷ [])
+  pub mid : StreamSeatValue
+  pub moved : Moves seat mid writer writer' (frame ∷ [])
+  pub noted : seat' ≡ as_torn mid
 
 -- the frame comes back, since the journal is full
 pub record KeepsFrame (back : Arc Frame Global) (frame : Frame) (seat seat' : StreamSeatValue)
@@ -465,6 +479,7 @@ pub record ServesTo (StopsAt : Stop → ClientProgress → Type 0) (past : List 
   pub read : StopsReadingAt StopsAt past stop reader reader' seat seat' frames
   pub count : seat'.accepted ≡ seat.accepted + length frames
   pub sent : IsSent stop seat.chain frames writer writer'
+  pub torn : stop ≡ Torn → IsSome seat'.torn
   pub whole : stop ≡ Whole
       → (writer'.frames ≡ writer.frames + length frames) × (writer'.failed ≡ false) × IsDrained seat'
 

@@ -1,6 +1,6 @@
 -- What a client comes to.
 use Rattle.std.specs.Prelude.{ℕ, ◌+◌, ◌≡◌, ◌≢◌, ◌≤◌, ◌<◌, ◌⊎◌, ⊤, Bool, IsTrue, true, false, List, []}
-use Rattle.std.specs.Prelude.{◌∷◌, ◌++◌, All, Option, filter, length, take}
+use Rattle.std.specs.Prelude.{◌∷◌, ◌++◌, All, Option, None, IfSome, IsSome, filter, length, take}
 use Rattle.std.specs.List.{AllByRecursion}
 use Rattle.std.specs.Io.KnownBytes.{Appends, Consumes, IsAtEnd, Keeps}
 use Rattle.cbs_account.specs.declared.limits.TheConstants.{LAST_MOMENT}
@@ -226,6 +226,10 @@ pub record Ends (StopsAt : Stop → ClientProgress → Type 0) (start : ClientSt
   pub offers : offers_in (past ++ seat.calls.list) ≡ end.accepted
   pub collections : end.delivered ≤ collections_in (past ++ seat.calls.list)
   pub before : seat.before ≡ start.seat.before + collections_in past
+  -- the images that were delivered had been collected before an answer was first told Torn, if one was since the
+  -- beginning; and one was, where that is the stop
+  pub torn : start.seat.torn ≡ None → IfSome seat.torn (λ n. start.seat.before + end.delivered ≤ n)
+  pub told : end.stop ≡ Torn → IsSome seat.torn
 
 -- what a client comes to
 abbrev pub ClientEnds : ClientStart → List Act → StreamSeatValue → ClientOutcome → Type 0

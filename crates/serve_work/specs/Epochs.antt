@@ -16,6 +16,7 @@ pub record IsReopened (old new : StreamSeatValue) : Type 0 where
   pub kept : new.kept ≡ old.kept
   pub calls : new.calls.list ≡ []
   pub before : new.before ≡ collected_by old
+  pub torn : new.torn ≡ old.torn
 
 -- of a new seat's stream all is left to do
 abbrev pub NewStreamIsUnbegun : Type 0

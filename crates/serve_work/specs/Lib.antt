@@ -11,3 +11,5 @@ pub mod Sessions
 pub mod Turns
 pub mod Workers
 pub mod Words
+pub mod Live
+pub mod LiveInside

@@ -1,6 +1,6 @@
 -- What a client has done where the journal is full, and how it goes on in the next epoch.
 use Rattle.std.specs.Prelude.{ℕ, ◌+◌, ◌-◌, ◌≡◌, ◌≢◌, ◌≤◌, ⊤, false, List, [], ◌++◌, Option, Some, None}
-use Rattle.std.specs.Prelude.{length}
+use Rattle.std.specs.Prelude.{IfSome, IsSome, length}
 use Rattle.std.specs.declared.alloc.Global.{Global}
 use Rattle.std.specs.declared.sync.Arc.{Arc}
 use Rattle.frame_view.specs.declared.frame.Frame.{Frame}
@@ -20,7 +20,7 @@ use Rattle.serve_work.specs.declared.course.Course.TheVariants as courses
 use Rattle.serve_work.specs.declared.serving.Step.{Step}
 use Rattle.serve_work.specs.declared.serving.Step.TheVariants as steps
 use Rattle.serve_work.specs.declared.stop.Stop.{Stop}
-use Rattle.serve_work.specs.declared.stop.Stop.TheVariants.{Refused, Whole}
+use Rattle.serve_work.specs.declared.stop.Stop.TheVariants.{Refused, Torn, Whole}
 use Rattle.serve_work.specs.declared.stop.Cause.TheVariants.{NoMemory}
 use Rattle.serve_work.specs.Clients.{ClientStart, collections_in}
 use Rattle.serve_work.specs.ClientInside.{Accounted, AreBuffersFor, Feeds, HasInHand, Holds, IsCounted, IsSent, IsSized}
@@ -123,7 +123,9 @@ pub record Spoils (held : Stop) (o : Outset) (reader : ReaderState) (seat : Stre
   pub read : Takes o.reader before frames
   pub count : seat.accepted ≡ o.seat.accepted + length frames
   pub most : seat.frames ≡ o.seat.frames
+  pub is_closed : seat.is_closed ≡ o.seat.is_closed
   pub sent : IsSent held o.seat.chain frames o.writer writer
+  pub torn : held ≡ Torn → IsSome seat.torn
   pub spoilt : IsUseful held → ⊥
   pub holds : Holds before reader in_hand
   pub is_open : reader.phase ≡ Open
@@ -160,6 +162,12 @@ pub record IsOutset (o : Outset) : Type 0 where
   pub writing : o.writer.failed ≡ false
   pub none : o.writer.frames ≡ 0
 
+-- a client writes no image on this course
+abbrev pub IsSilent : Option code.Course → Type 0
+IsSilent (Some (courses.Holding in_hand held)) = ⊤
+IsSilent (Some (courses.Discarding stop)) = ⊤
+IsSilent course = ⊥
+
 -- what a client needs to go on
 pub record CanFeed (in_hand : Option (Arc Frame Global)) (reader : ReaderState) (seat : StreamSeatValue)
     (writer : WriterState) (buffers : Buffers) : Type 0 where
@@ -178,6 +186,7 @@ pub record CanHold (in_hand : Option (Arc Frame Global)) (held : Stop) (reader :
     (seat : StreamSeatValue) : Type 0 where
   pub is_open : reader.phase ≡ Open
   pub frame : IsSized seat.chain in_hand
+  pub is_unclosed : seat.is_closed ≡ false
   pub spoilt : IsUseful held → ⊥
 
 pub record CanDrain (seat : StreamSeatValue) (writer : WriterState) : Type 0 where
@@ -219,13 +228,14 @@ HasMemoryAt reader writer buffers (steps.Paused course) = HasMemoryFor reader wr
 HasMemoryAt reader writer buffers (steps.Done stop) = ⊤
 
 -- the stream's offers are as many as its frames that were accepted, and no more images were put than were
--- collected
+-- collected, and than were before an answer was first told Torn
 pub record IsTallied (past : List Act) (first seat : StreamSeatValue) (writer : WriterState) : Type 0 where
   pub number : seat.number ≡ first.number
   pub chain : seat.chain ≡ first.chain
   pub offers : IsCounted past seat
   pub images : writer.frames ≤ collections_in (past ++ seat.calls.list)
   pub before : seat.before ≡ first.before + collections_in past
+  pub torn : first.torn ≡ None → IfSome seat.torn (λ n. first.before + writer.frames ≤ n)
 
 -- nothing was done yet, whatever the epoch
 pub record IsUnbegun (start : ClientStart) (past : List Act) (seat : StreamSeatValue) (reader : ReaderState)

@@ -1,9 +1,9 @@
 //! Frames on their way from a reader to a seat.
-ghost use Rattle.std.specs.Prelude.{◌≡◌, ℕ, List, None, Ok, IfErr, IfOk, IfSome, OnOk};
+ghost use Rattle.std.specs.Prelude.{◌≡◌, ℕ, List, None, Ok, IfErr, IfOk, IfSome, OnOk, false};
 ghost use Rattle.std.specs.Arc.{arc_value};
 ghost use Rattle.serve_core.specs.Streams.{IsImageOf};
 ghost use Rattle.serve_hub.specs.declared.entry.Act.{Act};
-ghost use Rattle.serve_hub.specs.Calls.{IsOfferTold};
+ghost use Rattle.serve_hub.specs.Calls.{IsOfferTold, noted};
 ghost use Rattle.serve_hub.specs.Seats.{StreamSeatValue};
 ghost use Rattle.y4m_stream.specs.Reader.{IsOfHeader, MeetsEnd, ReaderState, TakesFrame, frame_text_of};
 ghost use Rattle.y4m_stream.specs.Writer.{IsWriterFor};
@@ -143,6 +143,7 @@ pub(crate) fn offer_once<L: Epoch, T: Wait>(
 ) -> Offered
     requires image { IfSome image (IsImageOf seat.old.chain) }
     requires size { (arc_value frame).geometry ≡ seat.old.chain.geometry }
+    requires open { seat.old.is_closed ≡ false }
     ensures answer { IsOffered result at (arc_value frame) seat.old seat.new }
     ensures moment { OffersAt at seat.old seat.new }
 {
@@ -172,9 +173,11 @@ pub(crate) fn offer_once<L: Epoch, T: Wait>(
 
 /// What a frame comes to that was refused and came back, with the memory of an image if one was at hand.
 fn refused(refusal: Refusal, frame: Arc<Frame>, image: Option<Frame>) -> Offered
-    ensures { (at : ℕ) (seat : StreamSeatValue)
+    ensures { (at : ℕ) (seat : StreamSeatValue) → seat.is_closed ≡ false
+        → (arc_value frame).geometry ≡ seat.chain.geometry
         → IsOfferTold seat at (arc_value frame).geometry refusal
-        → IfSome image (IsImageOf seat.chain) → IsOffered result at (arc_value frame) seat seat }
+        → IfSome image (IsImageOf seat.chain)
+        → IsOffered result at (arc_value frame) seat (noted refusal seat) }
 {
     match refusal {
         Refusal::Core(Core::Full) => Offered::QueueFull(frame, image),

@@ -1,5 +1,5 @@
 //! Frames that are offered while a fault of a delivery is held: no image is written any more.
-ghost use Rattle.std.specs.Prelude.{◌≡◌, List, Some, IfErr, OnOk};
+ghost use Rattle.std.specs.Prelude.{◌≡◌, List, Some, IfErr, OnOk, false};
 ghost use Rattle.std.specs.Arc.{arc_value};
 ghost use Rattle.serve_hub.specs.declared.entry.Act.{Act};
 ghost use Rattle.y4m_stream.specs.Reader.{IsOfHeader, ReaderState, frame_text_of};
@@ -39,9 +39,11 @@ fn offer_on<L: Epoch, K: Clock, T: Wait>(
     frame: Arc<Frame>,
 ) -> Result<(), Onward>
     requires size { (arc_value frame).geometry ≡ seat.old.chain.geometry }
+    requires unclosed { seat.old.is_closed ≡ false }
     ensures answer { (past : List Act) (before reader : ReaderState) (writer : WriterState)
         → IsCounted past seat.old → Holds before reader (Some (frame_text_of (arc_value frame)))
         → OffersOnce result past before reader seat.old seat.new writer }
+    ensures unclosed { OnOk result (seat.new.is_closed ≡ false) }
     ensures tally { TalliesSeat seat.old seat.new }
     ensures moments { KeepsMoments (K.gives clock.now) seat.old seat.new }
     ensures stop { IfErr result (AllowsOnward (K.gives clock.now)) }
@@ -66,9 +68,11 @@ fn hold_once<L: Epoch, R: Source + Drop, K: Clock, T: Wait>(
 ) -> Result<(), Onward>
     requires header { IsOfHeader reader.old.header seat.old.chain.geometry }
     requires open { reader.old.phase ≡ Phase.Open }
+    requires unclosed { seat.old.is_closed ≡ false }
     ensures answer { (past : List Act) (writer : WriterState) → IsCounted past seat.old
         → OffersOnce result past reader.old reader.new seat.old seat.new writer }
     ensures open { OnOk result (reader.new.phase ≡ Phase.Open) }
+    ensures unclosed { OnOk result (seat.new.is_closed ≡ false) }
     ensures tally { TalliesSeat seat.old seat.new }
     ensures moments { KeepsMoments (K.gives clock.now) seat.old seat.new }
     ensures stop { IfErr result (AllowsOnward (K.gives clock.now)) }
@@ -98,6 +102,7 @@ fn hold_on<L: Epoch, R: Source + Drop, K: Clock, T: Wait>(
 ) -> Onward
     requires header { IsOfHeader reader.old.header seat.old.chain.geometry }
     requires open { reader.old.phase ≡ Phase.Open }
+    requires unclosed { seat.old.is_closed ≡ false }
     ensures answer { (past : List Act) (writer : WriterState) → IsCounted past seat.old
         → OffersOn result past reader.old reader.new seat.old seat.new writer }
     ensures tally { TalliesSeat seat.old seat.new }
@@ -127,6 +132,7 @@ pub(crate) fn hold<L: Epoch, R: Source + Drop, K: Clock, T: Wait>(
 ) -> Onward
     requires header { IsOfHeader reader.old.header seat.old.chain.geometry }
     requires open { reader.old.phase ≡ Phase.Open }
+    requires unclosed { seat.old.is_closed ≡ false }
     requires frame { IsSized seat.old.chain in_hand }
     ensures answer { (past : List Act) (before : ReaderState) (writer : WriterState) → IsCounted past seat.old
         → Holds before reader.old (text_in in_hand)

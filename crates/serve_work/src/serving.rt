@@ -1,5 +1,5 @@
 //! A client's way from its reader to its writer: it feeds its seat, and then drains it.
-ghost use Rattle.std.specs.Prelude.{◌≡◌, ◌≢◌, List, None, Some, IfSome};
+ghost use Rattle.std.specs.Prelude.{◌≡◌, ◌≢◌, List, None, Some, IfSome, IsFalse, IsSome, IsTrue};
 ghost use Rattle.serve_hub.specs.declared.entry.Act.{Act};
 ghost use Rattle.y4m_stream.specs.Reader.{IsOfHeader, ReaderState};
 ghost use Rattle.y4m_stream.specs.Writer.{WriterState};
@@ -7,10 +7,10 @@ ghost use Rattle.serve_work.specs.declared.stop.Stop.TheVariants as stops;
 ghost use Rattle.serve_work.specs.declared.buffers.Buffers.{Buffers};
 ghost use Rattle.serve_work.specs.Clients.{AllowsStop};
 ghost use Rattle.serve_work.specs.ClientInside.{HasInHand, IsCounted, IsNoNewEnd, KeepsAllowed, KeepsMoments};
-ghost use Rattle.serve_work.specs.ClientInside.{Serves, Tallies, TalliesSeat, text_in};
+ghost use Rattle.serve_work.specs.ClientInside.{MayClose, Serves, Tallies, TalliesSeat, text_in};
 ghost use Rattle.serve_work.specs.Rests.{CanDrain, CanFeed, CanGoOn, CanHold, Comes, Draining, HasMemoryAt};
-ghost use Rattle.serve_work.specs.Rests.{IsAt, IsBefore, IsOutset, Outset, Spoils, course_stop_before};
-ghost use Rattle.serve_work.specs.Rests.{step_stop};
+ghost use Rattle.serve_work.specs.Rests.{IsAt, IsBefore, IsOutset, IsSilent, Outset, Spoils};
+ghost use Rattle.serve_work.specs.Rests.{course_stop_before, step_stop};
 
 use crate::buffers::Buffers;
 use crate::course::Course;
@@ -20,7 +20,7 @@ use crate::gate::Clock;
 use crate::holding::{Onward, hold};
 use crate::stop::{Halt, Stop};
 use frame_view::Frame;
-use serve_hub::{Epoch, Hub, StreamSeat};
+use serve_hub::{Epoch, Hub, Refusal, StreamSeat};
 use std::alloc::Global;
 use std::sync::{Arc, Wait};
 use y4m_stream::reader::Phase;
@@ -33,6 +33,16 @@ pub(crate) enum Step {
     Paused(Course),
     /// All is done that could be, with the first fault.
     Done(Stop),
+}
+
+/// Closes a stream, and tells whether the answer contradicts the seat.
+fn close_torn<L: Epoch, T: Wait>(rt: &T, hub: &Hub<L>, seat: &mut StreamSeat<L>) -> bool
+    ensures closed { MayClose seat.old seat.new }
+    ensures torn { IsTrue result → IsSome seat.new.torn }
+    ensures untorn { IsFalse result → seat.new.torn ≡ seat.old.torn }
+    ensures tally { TalliesSeat seat.old seat.new }
+{
+    matches!(hub.close(rt, seat), Err(Refusal::Torn(_)))
 }
 
 /// Collects what is left and throws it away, behind a stop that is no end.
@@ -71,7 +81,7 @@ fn spoil_left<L: Epoch, T: Wait>(rt: &T, hub: &Hub<L>, seat: &mut StreamSeat<L>,
     ensures memory { (reader : ReaderState) (writer : WriterState) (buffers : Buffers)
         → HasMemoryAt reader writer buffers result }
 {
-    let _ = hub.close(rt, seat);
+    let _ = close_torn(rt, hub, seat);
     discard_left(rt, hub, seat, stop)
 }
 
@@ -166,9 +176,11 @@ fn feed_left<L: Epoch, R: Source + Drop, W: Sink, K: Clock, T: Wait>(
         Fed::Paused(in_hand) => Step::Paused(Course::Feeding(in_hand)),
         Fed::Held(stop) => hold_left(rt, alloc, hub, seat, reader, clock, None, stop),
         Fed::Stopped(stop) => {
-            let _ = hub.close(rt, seat);
+            let is_torn = close_torn(rt, hub, seat);
             if stop.is_spoilt() {
                 discard_left(rt, hub, seat, stop)
+            } else if is_torn {
+                discard_left(rt, hub, seat, stop.or(Stop::Torn))
             } else {
                 drain_left(rt, hub, seat, writer, stop)
             }
@@ -195,6 +207,7 @@ pub(crate) fn serve<L: Epoch, R: Source + Drop, W: Sink, K: Clock, T: Wait>(
         → IsBefore course past o reader.old seat.old writer.old
         → Comes result past o reader.new seat.new writer.new }
     ensures tally { Tallies seat.old seat.new writer.old writer.new }
+    ensures silent { IsSilent course → writer.new ≡ writer.old }
     ensures moments { KeepsMoments (K.gives clock.now) seat.old seat.new }
     ensures stop { KeepsAllowed (K.gives clock.now) (course_stop_before course) (step_stop result) }
     ensures memory { HasMemoryAt reader.new writer.new buffers.new result }

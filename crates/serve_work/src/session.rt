@@ -7,9 +7,9 @@ ghost use Rattle.serve_work.specs.Sessions.{AreInputs, AreServed, IsSession, ser
 mod epochs;
 mod interval;
 mod opening;
-mod places;
-mod room;
-mod threads;
+pub(crate) mod places;
+pub(crate) mod room;
+pub(crate) mod threads;
 pub(crate) mod turn;
 mod unended;
 

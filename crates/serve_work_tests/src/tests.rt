@@ -6,6 +6,7 @@ mod given_up;
 mod late;
 mod library;
 mod lists;
+mod live;
 mod many;
 mod pauses;
 mod sessions;

@@ -2,7 +2,7 @@
 ghost use Rattle.std.specs.Prelude.{◌≡◌, ◌≢◌, IfErr, IfOk, IsFalse, OnOk};
 ghost use Rattle.serve_core.specs.declared.refusal.Refusal.TheVariants.{Empty};
 ghost use Rattle.serve_hub.specs.declared.refusal.Refusal.TheVariants.{Core, HistoryFull};
-ghost use Rattle.serve_hub.specs.Calls.{Closes, Gives, IsCloseTold, IsCollectRefused};
+ghost use Rattle.serve_hub.specs.Calls.{Closes, Gives, IsCloseTold, IsCollectRefused, noted};
 
 use super::Hub;
 use crate::epoch::Epoch;
@@ -16,14 +16,20 @@ impl<L: Epoch> Hub<L> {
     /// The seat's stream accepts no more frames.
     pub fn close(&self, rt: &impl Wait, seat: &mut StreamSeat<L>) -> Result<(), Refusal>
         ensures closed { OnOk result (Closes seat.old seat.new) }
-        ensures refused { IfErr result (λ e. IsCloseTold seat.old e × (seat.new ≡ seat.old)) }
+        ensures refused { IfErr result (λ e. IsCloseTold seat.old e × (seat.new ≡ noted e seat.old)) }
         ensures reserved { IfErr result (λ e. e ≢ HistoryFull) }
     {
         let mut shared = self.shared.lock(rt);
         let answer = seat.close(&mut shared);
         drop(shared);
         self.for_workers.notify_all();
-        answer
+        match answer {
+            Ok(()) => Ok(()),
+            Err(refusal) => {
+                seat.note(refusal);
+                Err(refusal)
+            }
+        }
     }
 
     /// The oldest image of the seat's stream, with its source. It waits for the lock alone.

@@ -6,7 +6,7 @@ ghost use Rattle.serve_core.specs.declared.refusal.Refusal.TheVariants.{ClockEnd
 ghost use Rattle.serve_core.specs.Streams.{IsFresh, IsImageOf};
 ghost use Rattle.serve_hub.specs.declared.refusal.Refusal.TheVariants.{Core};
 ghost use Rattle.serve_hub.specs.Calls.{Accepts, AcceptsOther, IsOfferRefused, IsOfferTold, IsOverRefused};
-ghost use Rattle.serve_hub.specs.Calls.{Notes};
+ghost use Rattle.serve_hub.specs.Calls.{Notes, noted};
 
 use super::Hub;
 use crate::epoch::Epoch;
@@ -132,7 +132,7 @@ impl<L: Epoch> Hub<L> {
         ensures other_moment { IfErr result (λ e. IfNone e.1 (Notes at seat.old seat.new)) }
         ensures refused { IfErr result (λ e. MatchOption e.1
             (AcceptsOther (value_of (arc_value kept)) e.0 seat.old seat.new)
-            (λ back. (back ≡ job) × (seat.new ≡ seat.old)
+            (λ back. (back ≡ job) × (seat.new ≡ noted e.0 seat.old)
             × IsOfferTold seat.old at (arc_value kept).geometry e.0)) }
     {
         let mut shared = self.shared.lock(rt);
@@ -141,14 +141,24 @@ impl<L: Epoch> Hub<L> {
         let is_full = shared.is_full();
         drop(shared);
         self.wake(!had_work && !matches!(answer, Err((_, Some(_)))), is_full);
-        answer
+        match answer {
+            Ok(number) => Ok(number),
+            Err(refused) => {
+                seat.note(refused.0);
+                Err(refused)
+            }
+        }
     }
 
     /// What a frame is refused for whose job wasn't made.
-    fn refusal(&self, rt: &impl Wait, seat: &StreamSeat<L>, at: u64, frame: &Frame) -> Refusal
-        ensures { IsOfferTold seat.now at frame.now.geometry result }
+    fn refusal(&self, rt: &impl Wait, seat: &mut StreamSeat<L>, at: u64, frame: &Frame) -> Refusal
+        ensures told { IsOfferTold seat.old at frame.now.geometry result }
+        ensures seat { seat.new ≡ noted result seat.old }
     {
         let shared = self.shared.lock(rt);
-        seat.refusal(&shared, at, frame)
+        let refusal = seat.refusal(&shared, at, frame);
+        drop(shared);
+        seat.note(refusal);
+        refusal
     }
 }

@@ -1,5 +1,6 @@
 //! Images that a seat collects, and its close.
-ghost use Rattle.std.specs.Prelude.{◌≡◌, ◌≢◌, Ok, None, IfErr, IfOk, IfSome, MatchResult, OnOk, slice_get};
+ghost use Rattle.std.specs.Prelude.{◌≡◌, ◌≢◌, ◌-◌, Ok, None, IfErr, IfOk, IfSome, MatchResult, OnOk};
+ghost use Rattle.std.specs.Prelude.{slice_get};
 ghost use Rattle.std.specs.Arc.{arc_value};
 ghost use Rattle.std.specs.Option.{option_map};
 ghost use Rattle.filters.specs.ChainImage.{value_of};
@@ -7,6 +8,7 @@ ghost use Rattle.serve_core.specs.Streams.{source_in};
 ghost use Rattle.serve_hub.specs.declared.refusal.Refusal.TheVariants.{HistoryFull};
 ghost use Rattle.serve_hub.specs.Calls.{Closes, Collects, IsCloseTold, IsCollectTold, IsOfBook, IsOldest};
 ghost use Rattle.serve_hub.specs.Calls.{IsOther, after_refusal, gives_up};
+ghost use Rattle.serve_hub.specs.Seats.{collected_by, torn_at};
 
 use super::StreamSeat;
 use crate::epoch::Epoch;
@@ -65,7 +67,8 @@ impl<L: Epoch> StreamSeat<L> {
             × (self.new ≡ gives_up self.old)) }
         ensures size { IfOk result (λ pair. (source_in pair).geometry ≡ self.old.chain.geometry) }
         ensures refused { IfErr result (λ e. MatchResult answer (λ pair. IsOther pair e self.old
-            × (self.new ≡ gives_up self.old)) (λ refusal. (e.refusal ≡ refusal) × (e.pair ≡ None)
+            × (self.new ≡ torn_at (collected_by self.old - 1) (gives_up self.old)))
+            (λ refusal. (e.refusal ≡ refusal) × (e.pair ≡ None)
             × (self.new ≡ after_refusal refusal self.old))) }
     {
         let refusal = match answer {
@@ -73,6 +76,7 @@ impl<L: Epoch> StreamSeat<L> {
             Err(refusal) => refusal,
         };
         if let Refusal::Torn(_) = refusal {
+            self.note(refusal);
             let _oldest = self.give_up();
         }
         Err(CollectRefused {
@@ -91,20 +95,26 @@ impl<L: Epoch> StreamSeat<L> {
         self.kept.pop_front()
     }
 
-    /// Takes the oldest frame off, and compares it with the pair's source.
+    /// Takes the oldest frame off, and compares it with the pair's source. Where that is another frame, one
+    /// image fewer was collected before.
     #[tactic(auto, using(crate::proofs::Keeping::same_size))]
     fn take(&mut self, pair: Collected) -> Result<Collected, CollectRefused>
         ensures given { IfOk result (λ given. (given ≡ pair) × IsOldest pair self.old) }
         ensures size { OnOk result ((source_in pair).geometry ≡ self.old.chain.geometry) }
         ensures other { IfErr result (λ e. IsOther pair e self.old) }
-        ensures seat { self.new ≡ gives_up self.old }
+        ensures seat { OnOk result (self.new ≡ gives_up self.old) }
+        ensures torn { IfErr result (λ _.
+            self.new ≡ torn_at (collected_by self.old - 1) (gives_up self.old)) }
     {
         match self.give_up() {
             Some(oldest) if is_same_frame(&oldest, &pair.source) => Ok(pair),
-            _ => Err(CollectRefused {
-                refusal: Refusal::Torn(Came::Source),
-                pair: Some(pair),
-            }),
+            _ => {
+                self.tear(self.collected().saturating_sub(1));
+                Err(CollectRefused {
+                    refusal: Refusal::Torn(Came::Source),
+                    pair: Some(pair),
+                })
+            }
         }
     }
 

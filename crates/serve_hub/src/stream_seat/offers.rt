@@ -1,10 +1,14 @@
 //! Frames that a seat offers.
-ghost use Rattle.std.specs.Prelude.{◌≡◌, ◌↔◌, ◌<◌, IfErr, IfNone, IfOk, IfSome, IsTrue, MatchOption, OnOk};
+ghost use Rattle.std.specs.Prelude.{◌≡◌, ◌≢◌, ◌↔◌, ◌<◌, IfErr, IfNone, IfOk, IfSome, IsTrue, None};
+ghost use Rattle.std.specs.Prelude.{MatchOption, OnOk, Some};
 ghost use Rattle.std.specs.Arc.{arc_value};
 ghost use Rattle.filters.specs.ChainImage.{value_of};
 ghost use Rattle.serve_core.specs.Schedule.{HasStream};
 ghost use Rattle.serve_core.specs.Streams.{IsFresh, IsImageOf};
-ghost use Rattle.serve_hub.specs.Calls.{Accepts, AcceptsOther, AllowsOffer, IsOfBook, IsOfferTold, NotesFrom};
+ghost use Rattle.serve_hub.specs.declared.refusal.Came.TheVariants.{NoPlace};
+ghost use Rattle.serve_hub.specs.declared.refusal.Refusal.TheVariants.{Torn};
+ghost use Rattle.serve_hub.specs.Answers.{IsOfferAnswer};
+ghost use Rattle.serve_hub.specs.Calls.{Accepts, AllowsOffer, GetsOther, IsOfBook, IsOfferTold, NotesFrom};
 ghost use Rattle.serve_hub.specs.Seats.{HasPlace, kept_more};
 
 use super::StreamSeat;
@@ -68,7 +72,8 @@ impl<L: Epoch> StreamSeat<L> {
     }
 
     /// The seat's frame is offered with its job. A refused job comes back; there is none where it was
-    /// accepted with another number than the seat's next.
+    /// accepted with another number than the seat's next. That the seat has no place is told only where the
+    /// book was asked, and would accept the frame.
     pub(crate) fn offer(
         &mut self,
         shared: &mut Shared<L>,
@@ -84,9 +89,11 @@ impl<L: Epoch> StreamSeat<L> {
         ensures other_moment { IfErr result (λ e.
             IfNone e.1 (NotesFrom shared.old.book.desk.clock at self.old self.new)) }
         ensures refused { IfErr result (λ e. MatchOption e.1
-            (AcceptsOther (value_of (arc_value frame)) e.0 self.old self.new)
+            (GetsOther (value_of (arc_value frame)) e.0 self.old self.new)
             (λ back. (back ≡ job) × (self.new ≡ self.old)
             × IsOfferTold self.old at (arc_value frame).geometry e.0)) }
+        ensures asked { IfErr result (λ e. e.0 ≡ Torn NoPlace
+            → IsOfferAnswer shared.old.book self.old.number at (arc_value frame).geometry None) }
     {
         if let Some(came) = self.contradiction(shared) {
             return Err((Refusal::Torn(came), Some(job)));
@@ -121,9 +128,10 @@ impl<L: Epoch> StreamSeat<L> {
         ensures other_moment { IfErr result (λ e.
             IfNone e.1 (NotesFrom shared.old.book.desk.clock at self.old self.new)) }
         ensures refused { IfErr result (λ e. MatchOption e.1
-            (AcceptsOther (value_of (arc_value frame)) e.0 self.old self.new)
+            (GetsOther (value_of (arc_value frame)) e.0 self.old self.new)
             (λ back. (back ≡ job) × (self.new ≡ self.old)
             × IsOfferTold self.old at (arc_value frame).geometry e.0)) }
+        ensures place { IfErr result (λ e. e.0 ≢ Torn NoPlace) }
     {
         let Shared { book, total, .. } = shared;
         let number = match book.offer_job(self.number, at, job) {
@@ -172,7 +180,10 @@ impl<L: Epoch> StreamSeat<L> {
 
     /// What a frame is refused for, want of memory aside, if it is.
     fn refused_by(&self, shared: &Shared<L>, at: u64, frame: &Frame) -> Option<Refusal>
-        ensures { IfSome result (IsOfferTold self.now at frame.now.geometry) }
+        ensures told { IfSome result (IsOfferTold self.now at frame.now.geometry) }
+        ensures place { result ≢ Some (Torn NoPlace) }
+        ensures accepts { IfNone result (IsOfferAnswer shared.now.book self.now.number at frame.now.geometry
+            None) }
     {
         if let Some(came) = self.contradiction(shared) {
             return Some(Refusal::Torn(came));
@@ -186,7 +197,8 @@ impl<L: Epoch> StreamSeat<L> {
     /// A refusal of a frame as the seat is told it.
     fn told_offer(&self, at: u64, frame: &Frame, refusal: Refusal) -> Refusal
         requires book { IsOfBook refusal }
-        ensures { IsOfferTold self.now at frame.now.geometry result }
+        ensures told { IsOfferTold self.now at frame.now.geometry result }
+        ensures place { result ≢ Torn NoPlace }
     {
         match refusal {
             Refusal::HistoryFull => refusal,

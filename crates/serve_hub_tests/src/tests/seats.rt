@@ -278,6 +278,7 @@ fn torn<L: Epoch, R: Wait + Abort>(rt: &R, seated: &mut Seated<L>) -> Option<u8>
     let sample = torn_sample(rt, seated.try_collect(rt, 0));
     for seat in &seated.streams {
         same(rt, seat.kept(), 0);
+        same(rt, seat.torn(), Some(0));
     }
     sample
 }

@@ -9,13 +9,13 @@ use y4m_stream::{Sink, Source};
 
 /// The places for what an epoch leaves: the seats, and the streams.
 #[derive(Drop)]
-pub(super) struct Places<L: Epoch, R: Source, W: Sink> {
-    pub(super) seats: Vec<StreamSeat<L>>,
-    pub(super) streams: Vec<Stream<R, W>>,
+pub(crate) struct Places<L: Epoch, R: Source, W: Sink> {
+    pub(crate) seats: Vec<StreamSeat<L>>,
+    pub(crate) streams: Vec<Stream<R, W>>,
 }
 
 impl<L: Epoch, R: Source + Drop, W: Sink + Drop> Places<L, R, W> {
-    pub(super) fn new(alloc: Global, streams: usize) -> Result<Places<L, R, W>, AllocError>
+    pub(crate) fn new(alloc: Global, streams: usize) -> Result<Places<L, R, W>, AllocError>
         ensures none { IfOk result (λ places. (places.seats.items ≡ []) × (places.streams.items ≡ [])) }
         ensures room { IfOk result (λ places. (streams ≤ vec_capacity places.seats)
             × (streams ≤ vec_capacity places.streams)) }
@@ -27,7 +27,7 @@ impl<L: Epoch, R: Source + Drop, W: Sink + Drop> Places<L, R, W> {
     }
 
     /// Takes the turns apart, in order.
-    pub(super) fn fill(&mut self, turns: Vec<Turn<L, R, W>>)
+    pub(crate) fn fill(&mut self, turns: Vec<Turn<L, R, W>>)
         requires seats { self.old.seats.items ≡ [] }
         requires streams { self.old.streams.items ≡ [] }
         requires seats_room { vec_len turns ≤ vec_capacity self.old.seats }
@@ -38,6 +38,7 @@ impl<L: Epoch, R: Source + Drop, W: Sink + Drop> Places<L, R, W> {
         ensures streams { (helds : List HeldValue) → turns.items ≡ map Some helds
             → map (stream_of R.remaining R.failures W.contents W.failures W.is_flushed) self.new.streams.items
             ≡ map (λ held. held.stream) helds }
+        ensures same_room { vec_capacity self.new.seats ≡ vec_capacity self.old.seats }
     {
         for turn in turns {
             let Some(held) = turn.into_held() else {

@@ -10,20 +10,20 @@ use std::sync::Mutex;
 use y4m_stream::{Sink, Source};
 
 /// Where a worker finds its seat, and leaves it at its end.
-pub(super) type Slot<L> = Mutex<Option<WorkSeat<L>>>;
+pub(crate) type Slot<L> = Mutex<Option<WorkSeat<L>>>;
 
 /// The lists of an epoch, with a place for each of its streams and workers. A later epoch takes them before
 /// it opens, so that nothing is lost where one is refused.
 #[derive(Drop)]
-pub(super) struct Room<L: Epoch, R: Source, W: Sink> {
-    pub(super) turns: Vec<Turn<L, R, W>>,
-    pub(super) places: Places<L, R, W>,
-    pub(super) slots: Vec<Slot<L>>,
-    pub(super) back: Vec<WorkSeat<L>>,
+pub(crate) struct Room<L: Epoch, R: Source, W: Sink> {
+    pub(crate) turns: Vec<Turn<L, R, W>>,
+    pub(crate) places: Places<L, R, W>,
+    pub(crate) slots: Vec<Slot<L>>,
+    pub(crate) back: Vec<WorkSeat<L>>,
 }
 
 impl<L: Epoch, R: Source + Drop, W: Sink + Drop> Room<L, R, W> {
-    pub(super) fn new(
+    pub(crate) fn new(
         alloc: Global,
         streams: usize,
         workers: usize,
@@ -40,14 +40,14 @@ impl<L: Epoch, R: Source + Drop, W: Sink + Drop> Room<L, R, W> {
 }
 
 /// Puts each worker's seat into a slot.
-pub(super) fn slotted<L: Epoch>(slots: &mut Vec<Slot<L>>, seats: Vec<WorkSeat<L>>) {
+pub(crate) fn slotted<L: Epoch>(slots: &mut Vec<Slot<L>>, seats: Vec<WorkSeat<L>>) {
     for seat in seats {
         let _ = slots.push(Mutex::new(Some(seat)));
     }
 }
 
 /// Takes the workers' seats out of their slots.
-pub(super) fn unslotted<L: Epoch>(slots: Vec<Slot<L>>, back: &mut Vec<WorkSeat<L>>) {
+pub(crate) fn unslotted<L: Epoch>(slots: Vec<Slot<L>>, back: &mut Vec<WorkSeat<L>>) {
     for slot in slots {
         if let Some(seat) = slot.into_inner() {
             let _ = back.push(seat);

@@ -16,7 +16,7 @@ use std::thread::Threads;
 use y4m_stream::{Sink, Source};
 
 /// Runs each client that waits, in a thread of its own, or on the one that asked for it where it is refused.
-pub(super) fn run_clients<
+pub(crate) fn run_clients<
     L: Epoch + Send + Sync,
     R: Source + Drop + Send,
     W: Sink + Drop + Send,
@@ -62,8 +62,22 @@ fn run_beside<
 /// Whether the workers begin. It is locked until each was asked for.
 pub(super) type Start = Mutex<bool>;
 
-/// A worker takes its seat from its slot, and leaves it there at its end, where the workers begin.
-fn work_in<L: Epoch, G: Gate + Sync, T: Threads + Wait>(
+/// A worker takes its seat from its slot, and leaves it there at its end.
+pub(crate) fn work_in<L: Epoch, G: Gate + Sync, T: Threads + Wait>(
+    rt: &T,
+    hub: &Hub<L>,
+    slot: &Slot<L>,
+    gate: &G,
+) {
+    let seat = slot.lock(rt).take();
+    if let Some(seat) = seat {
+        let (seat, _) = work(rt, hub, seat, gate);
+        let _none = slot.lock(rt).replace(seat);
+    }
+}
+
+/// The same, where the workers begin.
+fn begin_in<L: Epoch, G: Gate + Sync, T: Threads + Wait>(
     rt: &T,
     hub: &Hub<L>,
     slot: &Slot<L>,
@@ -71,13 +85,8 @@ fn work_in<L: Epoch, G: Gate + Sync, T: Threads + Wait>(
     gate: &G,
 ) {
     let begins = *start.lock(rt);
-    if !begins {
-        return;
-    }
-    let seat = slot.lock(rt).take();
-    if let Some(seat) = seat {
-        let (seat, _) = work(rt, hub, seat, gate);
-        let _none = slot.lock(rt).replace(seat);
+    if begins {
+        work_in(rt, hub, slot, gate);
     }
 }
 
@@ -86,7 +95,7 @@ fn work_in<L: Epoch, G: Gate + Sync, T: Threads + Wait>(
 ///
 /// The seat of a worker whose thread is refused stays in its slot. Where all are needed, none begins then,
 /// and the streams come back as they were.
-pub(super) fn run_threads<
+pub(crate) fn run_threads<
     L: Epoch + Send + Sync,
     R: Source + Drop + Send,
     W: Sink + Drop + Send,
@@ -127,7 +136,7 @@ pub(super) fn run_threads<
             let mut all_work = true;
             for slot in slots {
                 if scope
-                    .spawn(move || work_in(rt, hub, slot, start, gate))
+                    .spawn(move || begin_in(rt, hub, slot, start, gate))
                     .is_ok()
                 {
                     any_works = true;

@@ -33,7 +33,7 @@ pub(crate) enum Stream<R: Source, W: Sink> {
 }
 
 impl<R: Source, W: Sink> Stream<R, W> {
-    pub(super) fn is_waiting(&self) -> bool
+    pub(crate) fn is_waiting(&self) -> bool
         ensures { result ≡ rules.is_waiting self.now }
     {
         matches!(self, Stream::Waiting(_))
@@ -41,7 +41,7 @@ impl<R: Source, W: Sink> Stream<R, W> {
 }
 
 /// What is told of a stream, when no epoch comes any more.
-pub(super) fn told<R: Source + Drop, W: Sink + Drop>(stream: Stream<R, W>) -> Served<R, W>
+pub(crate) fn told<R: Source + Drop, W: Sink + Drop>(stream: Stream<R, W>) -> Served<R, W>
     ensures ends { (start : ClientStart) (past : List Act) (seat : StreamSeatValue)
         → StandsAt (stream_of R.remaining R.failures W.contents W.failures W.is_flushed stream)
         start past seat → StreamEnds start past seat
@@ -57,7 +57,7 @@ pub(super) fn told<R: Source + Drop, W: Sink + Drop>(stream: Stream<R, W>) -> Se
 
 /// A stream with its seat of this epoch.
 #[derive(Drop)]
-pub(super) struct Held<L: Epoch, R: Source, W: Sink> {
+pub(crate) struct Held<L: Epoch, R: Source, W: Sink> {
     seat: StreamSeat<L>,
     stream: Stream<R, W>,
 }
@@ -116,7 +116,7 @@ impl<L: Epoch, R: Source + Drop, W: Sink + Drop> Held<L, R, W> {
     }
 
     /// The seat, and the stream.
-    pub(super) fn part(self) -> (StreamSeat<L>, Stream<R, W>)
+    pub(crate) fn part(self) -> (StreamSeat<L>, Stream<R, W>)
         ensures seat { result.0 ≡ self.seat }
         ensures stream { stream_of R.remaining R.failures W.contents W.failures W.is_flushed result.1
             ≡ self.stream }
@@ -154,7 +154,7 @@ fn part<L: Epoch, R: Source + Drop, W: Sink + Drop>(
 
 /// The turn of a stream in an epoch. It is empty only while its client runs.
 #[derive(Drop)]
-pub(super) struct Turn<L: Epoch, R: Source, W: Sink> {
+pub(crate) struct Turn<L: Epoch, R: Source, W: Sink> {
     held: Option<Held<L, R, W>>,
 }
 
@@ -169,7 +169,7 @@ impl<L: Epoch, R: Source, W: Sink> Model for Turn<L, R, W> {
 
 impl<L: Epoch, R: Source + Drop, W: Sink + Drop> Turn<L, R, W> {
     /// A stream with its seat.
-    pub(super) fn new(seat: StreamSeat<L>, stream: Stream<R, W>) -> Turn<L, R, W>
+    pub(crate) fn new(seat: StreamSeat<L>, stream: Stream<R, W>) -> Turn<L, R, W>
         requires ready { IsReady (record {
           seat = seat;
           stream = stream_of R.remaining R.failures W.contents W.failures W.is_flushed stream;
@@ -185,7 +185,7 @@ impl<L: Epoch, R: Source + Drop, W: Sink + Drop> Turn<L, R, W> {
     }
 
     /// The stream's client goes on, if it waits.
-    pub(super) fn run<K: Clock, T: Wait>(&mut self, rt: &T, alloc: Global, hub: &Hub<L>, clock: &K)
+    pub(crate) fn run<K: Clock, T: Wait>(&mut self, rt: &T, alloc: Global, hub: &Hub<L>, clock: &K)
         ensures { Runs (K.gives clock.now) self.old self.new }
     {
         if let Some(held) = self.held.take() {
@@ -193,8 +193,16 @@ impl<L: Epoch, R: Source + Drop, W: Sink + Drop> Turn<L, R, W> {
         }
     }
 
+    /// Whether nothing is left to do of its stream.
+    pub(crate) fn is_over(&self) -> bool {
+        match &self.held {
+            None => true,
+            Some(held) => !held.stream.is_waiting(),
+        }
+    }
+
     /// The stream with its seat.
-    pub(super) fn into_held(self) -> Option<Held<L, R, W>>
+    pub(crate) fn into_held(self) -> Option<Held<L, R, W>>
         ensures { result ≡ self }
     {
         self.held
@@ -203,7 +211,7 @@ impl<L: Epoch, R: Source + Drop, W: Sink + Drop> Turn<L, R, W> {
 
 /// The streams of these inputs, with nothing done of them. Where there is no memory for their list, the
 /// inputs come back.
-pub(super) fn waiting<R: Source + Drop, W: Sink + Drop>(
+pub(crate) fn waiting<R: Source + Drop, W: Sink + Drop>(
     alloc: Global,
     inputs: Vec<(StreamReader<R>, W)>,
 ) -> Result<Vec<Stream<R, W>>, Vec<(StreamReader<R>, W)>>
@@ -223,7 +231,7 @@ pub(super) fn waiting<R: Source + Drop, W: Sink + Drop>(
 }
 
 /// The streams with their seats of this epoch, in a list that has the places for them.
-pub(super) fn seated<L: Epoch, R: Source + Drop, W: Sink + Drop>(
+pub(crate) fn seated<L: Epoch, R: Source + Drop, W: Sink + Drop>(
     turns: Vec<Turn<L, R, W>>,
     seats: Vec<StreamSeat<L>>,
     streams: Vec<Stream<R, W>>,

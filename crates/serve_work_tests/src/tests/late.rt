@@ -22,11 +22,11 @@ const PATIENCE: u64 = 100_000_000;
 /// When the bytes of a stream come: so many at first, and then ten at a time, where so many bytes were
 /// written by then, and so many more for each ten of them.
 #[derive(Clone, Copy)]
-struct Pace<'a> {
-    first: usize,
-    written: &'a AtomicU64,
-    least: u64,
-    each: u64,
+pub(super) struct Pace<'a> {
+    pub(super) first: usize,
+    pub(super) written: &'a AtomicU64,
+    pub(super) least: u64,
+    pub(super) each: u64,
 }
 
 impl Pace<'_> {
@@ -39,7 +39,7 @@ impl Pace<'_> {
 
 /// Bytes that come by a pace: a read before that fails.
 #[derive(Drop)]
-struct Paced<'a> {
+pub(super) struct Paced<'a> {
     tape: Tape<'a>,
     pace: Pace<'a>,
 }
@@ -57,7 +57,7 @@ impl Read for Paced<'_> {
 
 /// A source that is ready by a pace, and counts how often it was read and asked.
 #[derive(Drop)]
-struct Late<'a, S: Source> {
+pub(super) struct Late<'a, S: Source> {
     source: S,
     pace: Pace<'a>,
     reads: u64,
@@ -81,7 +81,7 @@ impl<'a, S: Source> Source for Late<'a, S> {
 
 /// A sink that counts the bytes that it takes.
 #[derive(Drop)]
-struct Counted<'a, S: Sink> {
+pub(super) struct Counted<'a, S: Sink> {
     sink: S,
     written: &'a AtomicU64,
 }
@@ -109,20 +109,20 @@ impl<'a, S: Sink> Sink for Counted<'a, S> {
 /// A stream whose input comes late: its bytes, when they come, what it is served with, and where its bytes
 /// that were written are counted.
 #[derive(Clone, Copy)]
-struct Side<'a> {
-    input: &'a [u8],
-    pace: Pace<'a>,
-    plan: Plan<'a>,
-    written: &'a AtomicU64,
+pub(super) struct Side<'a> {
+    pub(super) input: &'a [u8],
+    pub(super) pace: Pace<'a>,
+    pub(super) plan: Plan<'a>,
+    pub(super) written: &'a AtomicU64,
 }
 
-type Reader<'a> = StreamReader<Late<'a, OverRead<Paced<'a>>>>;
+pub(super) type Reader<'a> = StreamReader<Late<'a, OverRead<Paced<'a>>>>;
 
-type Writer<'a> = Counted<'a, OverWrite<Room>>;
+pub(super) type Writer<'a> = Counted<'a, OverWrite<Room>>;
 
-type OneServed<'a> = Served<Late<'a, OverRead<Paced<'a>>>, Writer<'a>>;
+pub(super) type OneServed<'a> = Served<Late<'a, OverRead<Paced<'a>>>, Writer<'a>>;
 
-fn opened<'a>(
+pub(super) fn opened<'a>(
     rt: &impl Abort,
     alloc: Global,
     side: Side<'a>,
@@ -176,12 +176,12 @@ fn served_beside<'a, T: Abort + Threads + Wait + Sync>(
 /// What a stream came to: why it stopped, how many frames were accepted, delivered and charged, and what was
 /// written.
 #[derive(Drop)]
-struct Came {
-    end: (Stop, u64, u64, u64),
-    written: Vec<u8>,
+pub(super) struct Came {
+    pub(super) end: (Stop, u64, u64, u64),
+    pub(super) written: Vec<u8>,
 }
 
-fn end_of(served: OneServed<'_>) -> Came {
+pub(super) fn end_of(served: OneServed<'_>) -> Came {
     let end = (
         served.stop,
         served.accepted,
@@ -220,7 +220,7 @@ fn came_to(rt: &impl Abort, came: Option<Came>, told: &Told<'_>, name: &str) {
 }
 
 /// Twenty frames of four samples each, and what they are inverted to, each behind the header line: 222 bytes.
-fn twenty(alloc: Global) -> Result<(Vec<u8>, Vec<u8>), AllocError> {
+pub(super) fn twenty(alloc: Global) -> Result<(Vec<u8>, Vec<u8>), AllocError> {
     let mut frames = HEADER.to_vec(alloc)?;
     let mut images = HEADER.to_vec(alloc)?;
     for n in 0..20u8 {

@@ -10,7 +10,7 @@ mod steps;
 use self::steps::{After, Case, LOUD, Step, follow};
 use super::PLAIN;
 use serve_work::Stop;
-use test_tools::streams::{HEADER, THREE, THREE_INVERTED, numbered};
+use test_tools::streams::{HEADER, ONE_INVERTED, THREE, THREE_INVERTED, numbered};
 use y4m_stream::{ReadFault, WriteFault};
 
 /// Two frames, and a third one that is cut.
@@ -29,6 +29,7 @@ const THREE_FRAMES: Case<'_> = Case {
     room: PLAIN.room,
     steps: &[],
     written: THREE_INVERTED,
+    torn: None,
 };
 
 /// Two entries are left: the third frame is in hand.
@@ -365,7 +366,32 @@ const TORN: &[Case<'_>] = &[
                 ..LOUD
             },
         ],
+        torn: Some(0),
         ..NO_IMAGES
+    },
+    Case {
+        name: "no image is written behind a torn one",
+        steps: &[
+            ONE_OFFERED,
+            Step {
+                after: After::Paused(2, 1, 1),
+                ..ONE_AND_ONE
+            },
+            // two are left: the image of another frame comes, and the third frame is offered
+            Step {
+                is_forged: true,
+                after: After::Paused(3, 2, 1),
+                ..ONE_AND_ONE
+            },
+            Step {
+                finished: 1,
+                after: After::Ended(Stop::Torn, 3, 1),
+                ..LOUD
+            },
+        ],
+        written: ONE_INVERTED,
+        torn: Some(1),
+        ..THREE_FRAMES
     },
     Case {
         name: "the input is cut behind a torn image",
@@ -383,6 +409,7 @@ const TORN: &[Case<'_>] = &[
                 ..LOUD
             },
         ],
+        torn: Some(0),
         ..NO_IMAGES
     },
 ];

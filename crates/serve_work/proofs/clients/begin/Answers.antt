@@ -1,4 +1,4 @@
-use Rattle.std.proofs.Common.{◌∙◌, ◌++◌, ◌∷◌, [], ap, arith, inl, inr, subst, sym}
+use Rattle.std.proofs.Common.{◌∙◌, ◌+◌, ◌≤◌, ◌++◌, ◌∷◌, [], ap, arith, inl, inr, subst, sym}
 use Rattle.std.proofs.KnownBytes.{Keeps-refl}
 use Rattle.std.specs.Io.KnownBytes.{Keeps}
 use Rattle.filters.specs.Chain.{ChainValue}
@@ -9,7 +9,7 @@ use Rattle.y4m_stream.specs.Writer.{CutsShort, IsOpenedFor}
 use Rattle.serve_work.specs.Clients.{AllowsStop, ClientStopsAt}
 use Rattle.serve_work.proofs.Ending.{Ends-unopened, shown_for}
 use Rattle.serve_work.proofs.Resting.{can_begin, feeding_first, opened_size}
-use Rattle.serve_work.proofs.Tallying.{none_accepted}
+use Rattle.serve_work.proofs.Tallying.{if_none, none_accepted}
 use Rattle.serve_work.proofs.clients.begin.Goals as goal
 
 pub returns-in_default-clause-turn : goal.returns-in_default-clause-turn
@@ -88,6 +88,8 @@ returns-clause-turn g c = λ start past is.
         offers = is.offers;
         images = omega (arith, opened.frames);
         before = is.before;
+        torn = λ none.
+            if_none (λ n. start.seat.before + c.in-Ok-open.output.frames ≤ n) c.args.seat.torn (is.stays.torn ∙ none);
       };
     })
 

@@ -2,19 +2,23 @@ use Rattle.std.proofs.Common.{◌∙◌, Some, arith, subst, sym}
 use Rattle.serve_hub.specs.Seats.{StreamSeatValue}
 use Rattle.serve_work.specs.ClientInside.{KeepsMoments}
 use Rattle.serve_work.proofs.Allowing.{kept_allowed}
-use Rattle.serve_work.proofs.Resting.{outset_of, tallied_later}
+use Rattle.serve_work.specs.Rests.{Outset}
+use Rattle.serve_work.proofs.Resting.{outset_of, tallied_later, untorn_or_silent}
 use Rattle.serve_work.proofs.clients.run.Goals as goal
 
 pub returns-in-Done-clause-turn : goal.returns-in-Done-clause-turn
 returns-in-Done-clause-turn g c = λ start past running.
+    let first : Outset = record { reader = start.reader; seat = start.seat; writer = running.opened } in
     let o = outset_of start running.shown running.opened running.first running.is_opened in
-    let serves = c.in-Done.ensures.answer past (record { reader = start.reader; seat = start.seat; writer = running.opened }) o
-    running.tally.offers running.before in
+    let serves = c.in-Done.ensures.answer past first o running.tally.offers running.before in
     c.end.ensures.ends start past running.shown running.opened running.header running.is_opened running.first serves
-    (tallied_later past start.seat c.args.seat c.serve.new.seat c.args.writer c.serve.new.writer running.tally c.serve.ensures.tally)
+    (tallied_later past start.seat c.args.seat c.serve.new.seat c.args.writer c.serve.new.writer running.tally
+    (untorn_or_silent c.args.course past first c.args.reader c.args.seat c.args.writer c.serve.new.writer running.before
+    c.serve.ensures.silent) c.serve.ensures.tally)
 
 pub returns-in-Paused-clause-turn : goal.returns-in-Paused-clause-turn
 returns-in-Paused-clause-turn g c = λ start past running.
+    let first : Outset = record { reader = start.reader; seat = start.seat; writer = running.opened } in
     let o = outset_of start running.shown running.opened running.first running.is_opened in
     record {
       shown = running.shown;
@@ -22,11 +26,11 @@ returns-in-Paused-clause-turn g c = λ start past running.
       header = running.header;
       is_opened = running.is_opened;
       first = running.first;
-      at = c.in-Paused.ensures.answer past (record { reader = start.reader; seat = start.seat; writer = running.opened }) o
-          running.tally.offers running.before;
+      at = c.in-Paused.ensures.answer past first o running.tally.offers running.before;
       same_header = c.serve.ensures.header ∙ running.same_header;
       tally = tallied_later past start.seat c.args.seat c.serve.new.seat c.args.writer c.serve.new.writer running.tally
-          c.serve.ensures.tally;
+          (untorn_or_silent c.args.course past first c.args.reader c.args.seat c.args.writer c.serve.new.writer running.before
+          c.serve.ensures.silent) c.serve.ensures.tally;
       accepted = c.accepted-accepted.ensures;
       collected = omega (arith, c.saturating_sub.ensures, c.accepted-accepted.ensures, c.kept.ensures);
     }

@@ -13,7 +13,7 @@ returns-in-Err-put-clause-answer g c =
     Cuts-give _ _ _ _ _ _ c.in-Ok.ensures.given (c.in-Err-put.ensures.is_open c.requires.writing)
 
 pub returns-in-Err-clause-answer : goal.returns-in-Err-clause-answer
-returns-in-Err-clause-answer g c = rw c.of.ensures (collect_refused _ _ _ _ c.in-Err.ensures.refused).moved
+returns-in-Err-clause-answer g c = rw c.of.ensures (collect_refused _ _ _ _ c.in-Err.ensures.waited c.in-Err.ensures.refused).moved
 
 pub returns-in-Err-clause-tally : goal.returns-in-Err-clause-tally
 returns-in-Err-clause-tally g c =

@@ -1,4 +1,5 @@
-use Rattle.std.proofs.Common.{◌≡◌, refl, rules}
+use Rattle.std.proofs.Common.{◌≡◌, ◌≢◌, arith, refl, rules}
+use Rattle.std.proofs.lemmas.Grind.{common_steps}
 use Rattle.serve_core.specs.declared.refusal.Refusal.TheVariants as cores
 use Rattle.serve_hub.specs.declared.refusal.Refusal.TheVariants as hub
 use Rattle.serve_work.proofs.Tallying.{Tallies-seat}
@@ -24,12 +25,15 @@ returns-in-Core-Empty-clause-tally g c =
     Tallies-seat _ _ _ _ (collected _ _ _ c.collect_early.ensures.given c.collect_early.ensures.refused).tally refl
 
 pub returns-clause-answer : goal.returns-clause-answer
-returns-clause-answer g c = rw c.of.ensures (collect_refused _ _ _ _ c.in-Err.ensures.refused).moved
+returns-clause-answer g c =
+    let not : c.in-Err.refused.refusal ≢ hub.Core cores.Empty = grind (arith, common_steps) in
+    rw c.of.ensures (collect_refused _ _ _ _ not c.in-Err.ensures.refused).moved
 
 pub returns-clause-own : goal.returns-clause-own
 returns-clause-own g c =
+    let not : c.in-Err.refused.refusal ≢ hub.Core cores.Empty = λ is. search rules in
     rw c.of.ensures (of_delivery _ c.args.seat.now c.collect_early.new.seat c.args.writer.now
-    (collect_refused _ _ _ _ c.in-Err.ensures.refused) c.requires.open)
+    (collect_refused _ _ _ _ not c.in-Err.ensures.refused) c.requires.open)
 
 pub returns-clause-tally : goal.returns-clause-tally
 returns-clause-tally g c =

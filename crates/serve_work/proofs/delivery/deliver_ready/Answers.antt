@@ -39,6 +39,10 @@ loop-preserved g c =
     record {
       moved = Moves-trans _ _ _ _ _ _ [] [] so_far.moved next.ensures.answer;
       up = GivesUp-trans c.args.seat.now c.loop.seat c.deliver_early.new.seat so_far.up c.deliver_early.ensures.kept;
-      tally = Tallies-trans _ _ _ _ _ _ so_far.tally c.deliver_early.ensures.tally;
+      tally = Tallies-trans _ _ _ _ _ _ so_far.moved.seat_stays.torn so_far.tally c.deliver_early.ensures.tally;
       buffers = c.keep.ensures.sized c.args.seat.now.chain so_far.buffers (rw chain at source) (rw chain at image);
     }
+
+pub returns-in-Err-clause-tally : goal.returns-in-Err-clause-tally
+returns-in-Err-clause-tally g c =
+    Tallies-trans _ _ _ _ _ _ c.loop.invariant.moved.seat_stays.torn c.loop.invariant.tally c.deliver_early.ensures.tally

@@ -1,9 +1,12 @@
-use Rattle.std.proofs.Common.{arith}
+use Rattle.std.proofs.Common.{arith, refl}
 use Rattle.std.proofs.lemmas.List.{nil_from_length}
 use Rattle.serve_work.proofs.Staying.{GivesUp-trans}
-use Rattle.serve_work.proofs.Tallying.{TalliesSeat-trans}
+use Rattle.serve_work.proofs.Tallying.{TalliesSeat-trans, seat_same}
 use Rattle.serve_work.proofs.Refusing.{collected}
 use Rattle.serve_work.proofs.delivery.discard.Goals as goal
+
+pub loop-init : goal.loop-init
+loop-init g c = record { up = refl; tally = seat_same _ _ refl }
 
 pub returns-then-kept-eq0-clause-none : goal.returns-then-kept-eq0-clause-none
 returns-then-kept-eq0-clause-none g c = λ _. nil_from_length _ (omega arith)

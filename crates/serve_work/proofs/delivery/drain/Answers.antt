@@ -22,7 +22,7 @@ loop-preserved g c =
     record {
       moved = Moves-trans _ _ _ _ _ _ [] [] so_far.moved c.in-Ok.ensures.answer;
       up = GivesUp-trans c.args.seat.now c.loop.seat c.deliver.new.seat so_far.up c.deliver.ensures.kept;
-      tally = Tallies-trans _ _ _ _ _ _ so_far.tally c.deliver.ensures.tally;
+      tally = Tallies-trans _ _ _ _ _ _ so_far.moved.seat_stays.torn so_far.tally c.deliver.ensures.tally;
     }
 
 pub loop-preserved-in-Ok : goal.loop-preserved-in-Ok
@@ -31,7 +31,7 @@ loop-preserved-in-Ok g c =
     record {
       moved = Moves-trans _ _ _ _ _ _ [] [] so_far.moved c.in-Ok.ensures.answer;
       up = GivesUp-trans c.args.seat.now c.loop.seat c.deliver.new.seat so_far.up c.deliver.ensures.kept;
-      tally = Tallies-trans _ _ _ _ _ _ so_far.tally c.deliver.ensures.tally;
+      tally = Tallies-trans _ _ _ _ _ _ so_far.moved.seat_stays.torn so_far.tally c.deliver.ensures.tally;
     }
 
 pub returns-in-Err-clause-answer : goal.returns-in-Err-clause-answer
@@ -41,7 +41,8 @@ pub returns-in-Err-clause-drained : goal.returns-in-Err-clause-drained
 returns-in-Err-clause-drained g c = λ is. let left = c.in-Err.ensures.drained is in rw left.1 left.0
 
 pub returns-in-Err-clause-tally : goal.returns-in-Err-clause-tally
-returns-in-Err-clause-tally g c = Tallies-trans _ _ _ _ _ _ c.loop.invariant.tally c.deliver.ensures.tally
+returns-in-Err-clause-tally g c =
+    Tallies-trans _ _ _ _ _ _ c.loop.invariant.moved.seat_stays.torn c.loop.invariant.tally c.deliver.ensures.tally
 
 pub returns-in-Err-clause-kept : goal.returns-in-Err-clause-kept
 returns-in-Err-clause-kept g c = GivesUp-trans c.args.seat.now c.loop.seat c.deliver.new.seat c.loop.invariant.up c.deliver.ensures.kept

@@ -3,8 +3,8 @@ use Rattle.std.specs.Arc.{arc_value}
 use Rattle.serve_core.specs.Streams.{IsImageOf}
 use Rattle.serve_work.specs.ClientInside.{AreBuffersFor}
 use Rattle.serve_work.proofs.Allowing.{collection_allowed, offered_allowed}
-use Rattle.serve_work.proofs.Staying.{GivesUp-at, GivesUp-trans, stays_chain}
-use Rattle.serve_work.proofs.Tallying.{KeepsMoments-same, KeepsMoments-trans, Tallies-none, Tallies-seat, Tallies-trans}
+use Rattle.serve_work.proofs.Staying.{GivesUp-at, GivesUp-trans, stays_chain, stays_closed}
+use Rattle.serve_work.proofs.Tallying.{KeepsMoments-same, KeepsMoments-trans, Tallies-none, Tallies-still, Tallies-trans}
 use Rattle.serve_work.proofs.Tallying.{none_given, offers_at}
 use Rattle.serve_work.proofs.Moving.{Accounted-later, Moves-at, Moves-none, Moves-trans, few_of}
 use Rattle.serve_work.proofs.Offering.{collection_halted, offer_stopped, offered_tally}
@@ -19,6 +19,10 @@ loop-init g c = record {
   moments = KeepsMoments-same _ _ _ refl;
   buffers = c.requires.buffers;
 }
+
+pub offer_once-requires-clause-open : goal.offer_once-requires-clause-open
+offer_once-requires-clause-open g c =
+    stays_closed c.args.seat.now c.loop.seat c.loop.invariant.moved.seat_stays ∙ c.requires.accounted.is_open
 
 pub returns-in-Accepted-clause-buffers : goal.returns-in-Accepted-clause-buffers
 returns-in-Accepted-clause-buffers g c = c.take_image-image.ensures.kept _ c.loop.invariant.buffers
@@ -42,8 +46,8 @@ returns-in-Stopped-clause-buffers g c = c.take_image-image.ensures.kept _ c.loop
 
 pub returns-in-Stopped-clause-tally : goal.returns-in-Stopped-clause-tally
 returns-in-Stopped-clause-tally g c =
-    Tallies-trans c.args.seat.now c.loop.seat c.offer_once.new.seat c.args.writer.now c.loop.writer c.loop.writer c.loop.invariant.tally
-    (Tallies-seat _ _ _ _ (offered_tally _ _ _ _ _ c.offer_once.ensures.answer) refl)
+    Tallies-still c.args.seat.now c.loop.seat c.offer_once.new.seat c.args.writer.now c.loop.writer c.loop.invariant.tally
+    (offered_tally _ _ _ _ _ c.offer_once.ensures.answer)
 
 pub deliver-requires-clause-few : goal.deliver-requires-clause-few
 deliver-requires-clause-few g c =
@@ -69,9 +73,9 @@ loop-preserved g c =
           c.in-Ok.ensures.answer;
       up = GivesUp-trans seat at c.deliver.new.seat up c.deliver.ensures.kept;
       frame = c.in-QueueFull.ensures.answer.0 ∙ so_far.frame;
-      tally = Tallies-trans seat at c.deliver.new.seat c.args.writer.now c.loop.writer c.deliver.new.writer
-          (Tallies-trans seat c.loop.seat at c.args.writer.now c.loop.writer c.loop.writer so_far.tally
-          (Tallies-seat _ _ _ _ (offered_tally _ _ _ _ _ c.offer_once.ensures.answer) refl)) c.deliver.ensures.tally;
+      tally = Tallies-trans seat at c.deliver.new.seat c.args.writer.now c.loop.writer c.deliver.new.writer moved.seat_stays.torn
+          (Tallies-still seat c.loop.seat at c.args.writer.now c.loop.writer so_far.tally
+          (offered_tally _ _ _ _ _ c.offer_once.ensures.answer)) c.deliver.ensures.tally;
       moments = KeepsMoments-trans gives seat at c.deliver.new.seat
           (KeepsMoments-trans gives seat c.loop.seat at so_far.moments
           (offers_at gives c.moment.result c.loop.seat at c.moment.ensures c.offer_once.ensures.moment))
@@ -138,3 +142,13 @@ returns-in-Err-clause-moments g c =
     (KeepsMoments-trans gives c.args.seat.now c.loop.seat at c.loop.invariant.moments
     (offers_at gives c.moment.result c.loop.seat at c.moment.ensures c.offer_once.ensures.moment))
     (none_given gives at c.deliver.new.seat c.deliver.ensures.tally.seat c.deliver.ensures.kept)
+
+pub returns-in-Err-clause-tally : goal.returns-in-Err-clause-tally
+returns-in-Err-clause-tally g c =
+    let so_far = c.loop.invariant in
+    let seat = c.args.seat.now in
+    let at = c.offer_once.new.seat in
+    let moved = Moves-at seat c.loop.seat at c.args.writer.now c.loop.writer c.in-QueueFull.ensures.answer.2 so_far.moved in
+    Tallies-trans seat at c.deliver.new.seat c.args.writer.now c.loop.writer c.deliver.new.writer moved.seat_stays.torn
+    (Tallies-still seat c.loop.seat at c.args.writer.now c.loop.writer so_far.tally
+    (offered_tally _ _ _ _ _ c.offer_once.ensures.answer)) c.deliver.ensures.tally

@@ -7,7 +7,7 @@ use Rattle.serve_work.proofs.Staying.{stays_chain}
 use Rattle.serve_work.proofs.Moving.{Accounted-later, few_of, one_size, size_later}
 use Rattle.serve_work.proofs.Passing.{Feeds-end, Feeds-unread, Passes-none, Passes-still, fed_broken, fed_once, passed_once, sized_before}
 use Rattle.serve_work.proofs.Passing.{sized_memory, sized_still}
-use Rattle.serve_work.proofs.Tallying.{KeepsMoments-trans, none_given}
+use Rattle.serve_work.proofs.Tallying.{KeepsMoments-trans, Tallies-trans, none_given}
 use Rattle.serve_work.proofs.feeding.feed_once.Goals as goal
 
 pub deliver_ready-requires-clause-few : goal.deliver_ready-requires-clause-few
@@ -152,3 +152,7 @@ returns-in-Ok-Some-clause-moments g c =
     let gives = g.K.Clock.gives c.args.clock.now in
     KeepsMoments-trans gives _ _ _ (none_given gives _ _ c.deliver_ready.ensures.tally.seat c.deliver_ready.ensures.kept)
     c.accept.ensures.moments
+
+pub returns-in-Ok-Some-clause-tally : goal.returns-in-Ok-Some-clause-tally
+returns-in-Ok-Some-clause-tally g c =
+    Tallies-trans _ _ _ _ _ _ c.in-Ok.ensures.answer.seat_stays.torn c.deliver_ready.ensures.tally c.accept.ensures.tally

@@ -17,7 +17,7 @@ returns-in-None-clause-answer g c = λ past before writer counted h.
     (c.hold_on.ensures.answer past writer counted)
 
 pub offer_on-requires : goal.offer_on-requires
-offer_on-requires g c = record { size = rw c.in-Some.is at c.requires.frame }
+offer_on-requires g c = record { size = rw c.in-Some.is at c.requires.frame; unclosed = c.requires.unclosed }
 
 pub hold_on-requires-in-Ok-clause-header : goal.hold_on-requires-in-Ok-clause-header
 hold_on-requires-in-Ok-clause-header g c = rw c.offer_on.ensures.tally.chain c.requires.header

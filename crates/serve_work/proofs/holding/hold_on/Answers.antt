@@ -13,6 +13,7 @@ loop-init g c = record {
   };
   header = refl;
   is_open = c.requires.open;
+  is_unclosed = c.requires.unclosed;
   tally = seat_same _ _ refl;
   moments = KeepsMoments-same _ _ _ refl;
 }
@@ -31,6 +32,7 @@ loop-preserved g c =
           (c.in-Ok.ensures.answer past writer (counted_later past c.args.seat.now c.loop.seat inv.tally counted));
       header = c.hold_once.ensures.header ∙ inv.header;
       is_open = c.in-Ok.ensures.open;
+      is_unclosed = c.in-Ok.ensures.unclosed;
       tally = TalliesSeat-trans _ _ _ inv.tally c.hold_once.ensures.tally;
       moments = KeepsMoments-trans _ _ _ _ inv.moments c.hold_once.ensures.moments;
     }

@@ -1,4 +1,4 @@
-use Rattle.std.proofs.Common.{◌≡◌, List}
+use Rattle.std.proofs.Common.{◌≡◌, List, false}
 use Rattle.y4m_stream.specs.Writer.{WriterState}
 use Rattle.y4m_stream.specs.declared.reader.Phase.TheVariants.{Open}
 use Rattle.serve_hub.specs.declared.entry.Act.{Act}
@@ -11,6 +11,7 @@ invariant-loop g l = record {
       → HasPassed l.initial.reader l.reader l.initial.seat l.seat writer writer;
   header : l.reader.header ≡ l.initial.reader.header;
   is_open : l.reader.phase ≡ Open;
+  is_unclosed : l.seat.is_closed ≡ false;
   tally : TalliesSeat l.initial.seat l.seat;
   moments : KeepsMoments (g.K.Clock.gives l.fn.clock) l.initial.seat l.seat;
 }

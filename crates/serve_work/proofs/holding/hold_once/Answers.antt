@@ -5,7 +5,7 @@ use Rattle.serve_work.proofs.Allowing.{unread_allowed}
 use Rattle.serve_work.proofs.Moving.{one_size}
 use Rattle.serve_work.proofs.OfferingOn.{no_write_read}
 use Rattle.serve_work.proofs.Passing.{Feeds-end, Feeds-unread, Passes-none}
-use Rattle.serve_work.proofs.Tallying.{KeepsMoments-same}
+use Rattle.serve_work.proofs.Tallying.{KeepsMoments-same, seat_same}
 use Rattle.serve_work.proofs.holding.hold_once.Goals as goal
 
 pub returns-in-Silent-clause-answer : goal.returns-in-Silent-clause-answer
@@ -28,7 +28,7 @@ pub offer_on-requires : goal.offer_on-requires
 offer_on-requires g c =
     let sized : IsOfHeader c.args.reader.now.header (arc_value c.in-Ok-Some.frame).geometry = rw c.in-Ok-Some.field-0-is at
     c.in-Ok-Some.ensures.size in
-    record { size = one_size c.args.reader.now.header _ _ sized c.requires.header }
+    record { size = one_size c.args.reader.now.header _ _ sized c.requires.header; unclosed = c.requires.unclosed }
 
 pub returns-in-Ok-Some-clause-answer : goal.returns-in-Ok-Some-clause-answer
 returns-in-Ok-Some-clause-answer g c = λ past writer counted.
@@ -66,3 +66,15 @@ returns-in-Err-clause-moments g c = KeepsMoments-same _ _ _ refl
 pub returns-in-Err-clause-stop : goal.returns-in-Err-clause-stop
 returns-in-Err-clause-stop g c =
     unread_allowed (g.K.Clock.gives c.args.clock.now) c.in-Err.stop _ _ c.in-Err.ensures.fault
+
+pub returns-in-Silent-clause-tally : goal.returns-in-Silent-clause-tally
+returns-in-Silent-clause-tally g c = seat_same _ _ refl
+
+pub returns-in-JournalFull-clause-tally : goal.returns-in-JournalFull-clause-tally
+returns-in-JournalFull-clause-tally g c = seat_same _ _ refl
+
+pub returns-in-Ok-None-clause-tally : goal.returns-in-Ok-None-clause-tally
+returns-in-Ok-None-clause-tally g c = seat_same _ _ refl
+
+pub returns-in-Err-clause-tally : goal.returns-in-Err-clause-tally
+returns-in-Err-clause-tally g c = seat_same _ _ refl

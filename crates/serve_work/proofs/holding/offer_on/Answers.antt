@@ -1,5 +1,8 @@
+use Rattle.std.proofs.Common.{ap, ◌∙◌}
 use Rattle.std.specs.Arc.{arc_value}
+use Rattle.serve_hub.specs.Seats.{StreamSeatValue}
 use Rattle.serve_work.proofs.Allowing.{offered_allowed}
+use Rattle.serve_work.proofs.Offering.{offered_tally}
 use Rattle.serve_work.proofs.OfferingOn.{offered_in_vain, offered_last, offered_well}
 use Rattle.serve_work.proofs.Tallying.{offers_at}
 use Rattle.serve_work.proofs.holding.offer_on.Goals as goal
@@ -45,3 +48,16 @@ returns-in-JournalFull-clause-moments g c =
 pub returns-clause-moments : goal.returns-clause-moments
 returns-clause-moments g c =
     offers_at (g.K.Clock.gives c.args.clock.now) c.moment.result _ _ c.moment.ensures c.offer_once.ensures.moment
+
+pub returns-in-Accepted-clause-unclosed : goal.returns-in-Accepted-clause-unclosed
+returns-in-Accepted-clause-unclosed g c =
+    ap (λ (s : StreamSeatValue). s.is_closed) c.in-Accepted.ensures.answer.1.seat ∙ c.requires.unclosed
+
+pub returns-in-QueueFull-clause-tally : goal.returns-in-QueueFull-clause-tally
+returns-in-QueueFull-clause-tally g c = offered_tally _ _ _ _ _ c.offer_once.ensures.answer
+
+pub returns-in-JournalFull-clause-tally : goal.returns-in-JournalFull-clause-tally
+returns-in-JournalFull-clause-tally g c = offered_tally _ _ _ _ _ c.offer_once.ensures.answer
+
+pub returns-clause-tally : goal.returns-clause-tally
+returns-clause-tally g c = offered_tally _ _ _ _ _ c.offer_once.ensures.answer

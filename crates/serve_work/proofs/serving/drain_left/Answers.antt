@@ -3,6 +3,7 @@ use Rattle.serve_hub.specs.Seats.{StreamSeatValue}
 use Rattle.serve_work.specs.declared.stop.Halt.TheVariants.{Stopped}
 use Rattle.serve_work.specs.ClientInside.{IsNoNewEnd}
 use Rattle.serve_work.proofs.Allowing.{drained_stop}
+use Rattle.serve_work.proofs.Tallying.{Tallies-still}
 use Rattle.serve_work.proofs.Stopping.{Feeds-drained, Serves-drained}
 use Rattle.serve_work.proofs.serving.drain_left.Goals as goal
 
@@ -54,3 +55,6 @@ returns-then-is_spoilt-clause-stop g c =
 pub returns-else-is_spoilt-clause-stop : goal.returns-else-is_spoilt-clause-stop
 returns-else-is_spoilt-clause-stop g c =
     drained_stop c.args.stop c.in-Stopped.last c.or-told.result c.in-Stopped.ensures.own c.or-told.ensures
+
+pub returns-then-is_spoilt-clause-tally : goal.returns-then-is_spoilt-clause-tally
+returns-then-is_spoilt-clause-tally g c = Tallies-still _ _ _ _ _ c.drain.ensures.tally c.discard_left.ensures.tally

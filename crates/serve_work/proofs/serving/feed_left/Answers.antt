@@ -1,13 +1,14 @@
 use Rattle.std.proofs.Common.{◌≡◌, Some, true, false, ap, refl, sym, ◌∙◌}
 use Rattle.serve_hub.specs.Seats.{StreamSeatValue}
 use Rattle.serve_work.specs.declared.feeding.Fed.TheVariants as feds
+use Rattle.serve_work.specs.declared.stop.Stop.TheVariants.{Torn}
 use Rattle.serve_work.specs.ClientInside.{text_in}
-use Rattle.serve_work.proofs.Allowing.{kept_allowed, same_allowed}
-use Rattle.serve_work.proofs.Tallying.{KeepsMoments-trans, Tallies-seat, Tallies-trans, TalliesSeat-trans, counted_later, none_accepted}
+use Rattle.serve_work.proofs.Allowing.{first_allowed, kept_allowed, same_allowed}
+use Rattle.serve_work.proofs.Tallying.{KeepsMoments-trans, Tallies-still, Tallies-trans, TalliesSeat-trans, counted_later, none_accepted}
 use Rattle.serve_work.proofs.Resting.{fed_from}
 use Rattle.serve_work.proofs.Spoiling.{spoilt_from}
-use Rattle.serve_work.proofs.Stopping.{Feeds-closed, Serves-spoilt, close_moments, close_tally, drain_few}
-use Rattle.serve_work.proofs.Stopping.{drain_size, drain_writing, may_close}
+use Rattle.serve_work.proofs.Stopping.{Feeds-closed, Serves-spoilt, Serves-torn, close_moments, drain_few}
+use Rattle.serve_work.proofs.Stopping.{drain_size, drain_writing, first_fault, moves_until}
 use Rattle.serve_work.proofs.serving.feed_left.Goals as goal
 
 pub drain_left-requires : goal.drain_left-requires
@@ -16,15 +17,15 @@ drain_left-requires g c =
     let stop = c.in-Stopped.stop in
     let fed = c.in-Stopped.ensures.answer can.past can.before can.counted can.holds in
     let useful = c.is_spoilt.ensures.useful.0 c.if-is_spoilt.false in
-    let close = may_close c.feed.new.seat c.close.new.seat c.close.result c.close.ensures.closed c.close.ensures.refused in
+    let close = c.close_torn-is_torn.ensures.closed in
     record {
       can = record {
-        few = drain_few can.past stop can.before c.feed.new.reader c.args.seat.now c.feed.new.seat c.close.new.seat c.args.writer.now
-            c.feed.new.writer useful fed close can.accounted;
-        writing = drain_writing can.past stop can.before c.feed.new.reader c.args.seat.now c.feed.new.seat c.close.new.seat
+        few = drain_few can.past stop can.before c.feed.new.reader c.args.seat.now c.feed.new.seat c.close_torn-is_torn.new.seat
             c.args.writer.now c.feed.new.writer useful fed close can.accounted;
-        size = drain_size can.past stop can.before c.feed.new.reader c.args.seat.now c.feed.new.seat c.close.new.seat c.args.writer.now
-            c.feed.new.writer useful fed close can.size;
+        writing = drain_writing can.past stop can.before c.feed.new.reader c.args.seat.now c.feed.new.seat c.close_torn-is_torn.new.seat
+            c.args.writer.now c.feed.new.writer useful fed close can.accounted;
+        size = drain_size can.past stop can.before c.feed.new.reader c.args.seat.now c.feed.new.seat c.close_torn-is_torn.new.seat
+            c.args.writer.now c.feed.new.writer useful fed close can.size;
       };
     }
 
@@ -50,7 +51,13 @@ hold_left-requires g c =
     let fed = c.in-Held.ensures.answer can.past can.before can.counted can.holds in
     record {
       header = rw (c.feed.ensures.header, c.feed.ensures.tally.seat.chain) c.requires.header;
-      can = record { is_open = fed.is_open; frame = tt; spoilt = fed.spoilt };
+      can = record {
+        is_open = fed.is_open;
+        frame = tt;
+        is_unclosed = ap (λ (s : StreamSeatValue). s.is_closed) fed.stays ∙ fed.passed.moved.seat_stays.is_closed
+            ∙ can.accounted.is_open;
+        spoilt = fed.spoilt;
+      };
     }
 
 pub returns-in-Held-clause-answer : goal.returns-in-Held-clause-answer
@@ -63,7 +70,7 @@ returns-in-Held-clause-answer g c = λ past o is counted at.
 
 pub returns-in-Held-clause-tally : goal.returns-in-Held-clause-tally
 returns-in-Held-clause-tally g c =
-    Tallies-trans _ _ _ _ _ _ c.feed.ensures.tally (Tallies-seat _ _ _ _ c.hold_left.ensures.tally refl)
+    Tallies-still _ _ _ _ _ c.feed.ensures.tally c.hold_left.ensures.tally
 
 pub returns-in-Held-clause-memory : goal.returns-in-Held-clause-memory
 returns-in-Held-clause-memory g c = c.hold_left.ensures.memory c.feed.new.writer c.feed.new.buffers
@@ -75,49 +82,49 @@ returns-then-is_spoilt-clause-answer g c = λ past o is counted at.
     c.feed.new.seat
     c.args.writer.now
     c.feed.new.writer at (λ before h. c.in-Stopped.ensures.answer past before counted h) in
-    let close = may_close c.feed.new.seat c.close.new.seat c.close.result c.close.ensures.closed c.close.ensures.refused in
+    let close = c.close_torn-is_torn.ensures.closed in
     c.discard_left.ensures.answer past o c.feed.new.reader c.feed.new.writer
-    (Serves-spoilt past o.reader c.feed.new.reader o.seat o.writer is.fresh.kept is.writing stop c.feed.new.seat c.close.new.seat
-    c.feed.new.writer
+    (Serves-spoilt past o.reader c.feed.new.reader o.seat o.writer is.fresh.kept is.writing stop c.feed.new.seat
+    c.close_torn-is_torn.new.seat c.feed.new.writer
     (λ useful. let both : true ≡ false = sym c.if-is_spoilt.true ∙ c.is_spoilt.ensures.useful.1 useful in absurd (cc)) all
     (ap (λ (s : StreamSeatValue). s.accepted) close)
-    (close_tally c.feed.new.seat c.close.new.seat c.close.result c.close.ensures.closed c.close.ensures.refused))
+    c.close_torn-is_torn.ensures.tally)
 
 pub returns-then-is_spoilt-clause-tally : goal.returns-then-is_spoilt-clause-tally
 returns-then-is_spoilt-clause-tally g c =
-    Tallies-trans _ _ _ _ _ _ c.feed.ensures.tally
-    (Tallies-seat _ _ _ _ (TalliesSeat-trans c.feed.new.seat c.close.new.seat c.discard_left.new.seat
-    (close_tally c.feed.new.seat c.close.new.seat c.close.result c.close.ensures.closed c.close.ensures.refused)
-    c.discard_left.ensures.tally) refl)
+    Tallies-still _ _ _ _ _ c.feed.ensures.tally
+    (TalliesSeat-trans _ _ _ c.close_torn-is_torn.ensures.tally c.discard_left.ensures.tally)
 
 pub returns-then-is_spoilt-clause-memory : goal.returns-then-is_spoilt-clause-memory
 returns-then-is_spoilt-clause-memory g c = c.discard_left.ensures.memory c.feed.new.reader c.feed.new.writer c.feed.new.buffers
 
-pub returns-else-is_spoilt-clause-answer : goal.returns-else-is_spoilt-clause-answer
-returns-else-is_spoilt-clause-answer g c = λ past o is counted at.
+pub returns-else-is_torn-clause-answer : goal.returns-else-is_torn-clause-answer
+returns-else-is_torn-clause-answer g c = λ past o is counted at.
     let stop = c.in-Stopped.stop in
     let all = fed_from (feds.Stopped stop) (text_in c.args.in_hand) past o c.args.reader.now c.feed.new.reader c.args.seat.now
     c.feed.new.seat
     c.args.writer.now
     c.feed.new.writer at (λ before h. c.in-Stopped.ensures.answer past before counted h) in
-    let close = may_close c.feed.new.seat c.close.new.seat c.close.result c.close.ensures.closed c.close.ensures.refused in
+    let close = c.close_torn-is_torn.ensures.closed in
     let useful = c.is_spoilt.ensures.useful.0 c.if-is_spoilt.false in
     c.drain_left.ensures.answer past o c.feed.new.reader is (
       useful,
-      Feeds-closed past stop o.reader c.feed.new.reader o.seat c.feed.new.seat c.close.new.seat o.writer c.feed.new.writer is.fresh.is_open
-          useful close
-          (close_tally c.feed.new.seat c.close.new.seat c.close.result c.close.ensures.closed c.close.ensures.refused) all,
+      Feeds-closed past stop o.reader c.feed.new.reader o.seat c.feed.new.seat c.close_torn-is_torn.new.seat o.writer
+          c.feed.new.writer is.fresh.is_open useful close (c.close_torn-is_torn.ensures.untorn c.if-is_torn.false)
+          c.close_torn-is_torn.ensures.tally all,
     )
 
-pub returns-else-is_spoilt-clause-tally : goal.returns-else-is_spoilt-clause-tally
-returns-else-is_spoilt-clause-tally g c =
-    Tallies-trans _ _ _ _ _ _ c.feed.ensures.tally
-    (Tallies-trans c.feed.new.seat c.close.new.seat c.drain_left.new.seat c.feed.new.writer c.feed.new.writer c.drain_left.new.writer
-    (Tallies-seat _ _ _ _ (close_tally c.feed.new.seat c.close.new.seat c.close.result c.close.ensures.closed c.close.ensures.refused) refl)
-    c.drain_left.ensures.tally)
+pub returns-else-is_torn-clause-tally : goal.returns-else-is_torn-clause-tally
+returns-else-is_torn-clause-tally g c =
+    let can = c.requires.can in
+    let fed = c.in-Stopped.ensures.answer can.past can.before can.counted can.holds in
+    let moved = moves_until c.in-Stopped.stop c.args.seat.now c.feed.new.seat c.args.writer.now c.feed.new.writer fed.frames
+    (c.is_spoilt.ensures.useful.0 c.if-is_spoilt.false) fed.moved in
+    Tallies-trans _ _ _ _ _ _ (c.close_torn-is_torn.ensures.untorn c.if-is_torn.false ∙ moved.seat_stays.torn)
+    (Tallies-still _ _ _ _ _ c.feed.ensures.tally c.close_torn-is_torn.ensures.tally) c.drain_left.ensures.tally
 
-pub returns-else-is_spoilt-clause-memory : goal.returns-else-is_spoilt-clause-memory
-returns-else-is_spoilt-clause-memory g c = c.drain_left.ensures.memory c.feed.new.reader c.feed.new.buffers
+pub returns-else-is_torn-clause-memory : goal.returns-else-is_torn-clause-memory
+returns-else-is_torn-clause-memory g c = c.drain_left.ensures.memory c.feed.new.reader c.feed.new.buffers
 
 pub returns-in-Held-clause-moments : goal.returns-in-Held-clause-moments
 returns-in-Held-clause-moments g c = KeepsMoments-trans _ _ _ _ c.feed.ensures.moments c.hold_left.ensures.moments
@@ -126,16 +133,16 @@ pub returns-then-is_spoilt-clause-moments : goal.returns-then-is_spoilt-clause-m
 returns-then-is_spoilt-clause-moments g c =
     let gives = g.K.Clock.gives c.args.clock.now in
     KeepsMoments-trans gives c.args.seat.now c.feed.new.seat c.discard_left.new.seat c.feed.ensures.moments
-    (KeepsMoments-trans gives c.feed.new.seat c.close.new.seat c.discard_left.new.seat
-    (close_moments gives c.feed.new.seat c.close.new.seat c.close.result c.close.ensures.closed c.close.ensures.refused)
+    (KeepsMoments-trans gives c.feed.new.seat c.close_torn-is_torn.new.seat c.discard_left.new.seat
+    (close_moments gives _ _ c.close_torn-is_torn.ensures.tally c.close_torn-is_torn.ensures.closed)
     (none_accepted gives _ _ c.discard_left.ensures.tally c.discard_left.ensures.accepted))
 
-pub returns-else-is_spoilt-clause-moments : goal.returns-else-is_spoilt-clause-moments
-returns-else-is_spoilt-clause-moments g c =
+pub returns-else-is_torn-clause-moments : goal.returns-else-is_torn-clause-moments
+returns-else-is_torn-clause-moments g c =
     let gives = g.K.Clock.gives c.args.clock.now in
     KeepsMoments-trans gives c.args.seat.now c.feed.new.seat c.drain_left.new.seat c.feed.ensures.moments
-    (KeepsMoments-trans gives c.feed.new.seat c.close.new.seat c.drain_left.new.seat
-    (close_moments gives c.feed.new.seat c.close.new.seat c.close.result c.close.ensures.closed c.close.ensures.refused)
+    (KeepsMoments-trans gives c.feed.new.seat c.close_torn-is_torn.new.seat c.drain_left.new.seat
+    (close_moments gives _ _ c.close_torn-is_torn.ensures.tally c.close_torn-is_torn.ensures.closed)
     (none_accepted gives _ _ c.drain_left.ensures.tally.seat c.drain_left.ensures.accepted))
 
 pub returns-in-Held-clause-stop : goal.returns-in-Held-clause-stop
@@ -145,6 +152,47 @@ pub returns-then-is_spoilt-clause-stop : goal.returns-then-is_spoilt-clause-stop
 returns-then-is_spoilt-clause-stop g c =
     same_allowed (g.K.Clock.gives c.args.clock.now) (Some c.in-Stopped.stop) _ (sym c.discard_left.ensures.stop) c.in-Stopped.ensures.stop
 
-pub returns-else-is_spoilt-clause-stop : goal.returns-else-is_spoilt-clause-stop
-returns-else-is_spoilt-clause-stop g c =
+pub returns-else-is_torn-clause-stop : goal.returns-else-is_torn-clause-stop
+returns-else-is_torn-clause-stop g c =
     kept_allowed (g.K.Clock.gives c.args.clock.now) (Some c.in-Stopped.stop) _ c.drain_left.ensures.stop c.in-Stopped.ensures.stop
+
+-- the close was answered by what contradicts the seat
+
+pub discard_left-requires-then-is_torn : goal.discard_left-requires-then-is_torn
+discard_left-requires-then-is_torn g c =
+    record { fault = first_fault c.in-Stopped.stop Torn c.or.result c.or.ensures (λ useful. useful) }
+
+pub returns-then-is_torn-clause-answer : goal.returns-then-is_torn-clause-answer
+returns-then-is_torn-clause-answer g c = λ past o is counted at.
+    let stop = c.in-Stopped.stop in
+    let all = fed_from (feds.Stopped stop) (text_in c.args.in_hand) past o c.args.reader.now c.feed.new.reader c.args.seat.now
+    c.feed.new.seat
+    c.args.writer.now
+    c.feed.new.writer at (λ before h. c.in-Stopped.ensures.answer past before counted h) in
+    c.discard_left-then-is_torn.ensures.answer past o c.feed.new.reader c.feed.new.writer
+    (Serves-torn past o.reader c.feed.new.reader o.seat o.writer is.fresh.kept is.writing stop c.or.result c.feed.new.seat
+    c.close_torn-is_torn.new.seat c.feed.new.writer is.fresh.is_open (c.is_spoilt.ensures.useful.0 c.if-is_spoilt.false) all
+    (ap (λ (s : StreamSeatValue). s.accepted) c.close_torn-is_torn.ensures.closed) c.close_torn-is_torn.ensures.tally
+    (c.close_torn-is_torn.ensures.torn c.if-is_torn.true) c.or.ensures)
+
+pub returns-then-is_torn-clause-tally : goal.returns-then-is_torn-clause-tally
+returns-then-is_torn-clause-tally g c =
+    Tallies-still _ _ _ _ _ c.feed.ensures.tally
+    (TalliesSeat-trans _ _ _ c.close_torn-is_torn.ensures.tally c.discard_left-then-is_torn.ensures.tally)
+
+pub returns-then-is_torn-clause-memory : goal.returns-then-is_torn-clause-memory
+returns-then-is_torn-clause-memory g c = c.discard_left-then-is_torn.ensures.memory c.feed.new.reader c.feed.new.writer c.feed.new.buffers
+
+pub returns-then-is_torn-clause-moments : goal.returns-then-is_torn-clause-moments
+returns-then-is_torn-clause-moments g c =
+    let gives = g.K.Clock.gives c.args.clock.now in
+    KeepsMoments-trans gives c.args.seat.now c.feed.new.seat c.discard_left-then-is_torn.new.seat c.feed.ensures.moments
+    (KeepsMoments-trans gives c.feed.new.seat c.close_torn-is_torn.new.seat c.discard_left-then-is_torn.new.seat
+    (close_moments gives _ _ c.close_torn-is_torn.ensures.tally c.close_torn-is_torn.ensures.closed)
+    (none_accepted gives _ _ c.discard_left-then-is_torn.ensures.tally c.discard_left-then-is_torn.ensures.accepted))
+
+pub returns-then-is_torn-clause-stop : goal.returns-then-is_torn-clause-stop
+returns-then-is_torn-clause-stop g c =
+    let gives = g.K.Clock.gives c.args.clock.now in
+    same_allowed gives (Some c.or.result) _ (sym c.discard_left-then-is_torn.ensures.stop)
+    (first_allowed gives c.in-Stopped.stop Torn c.or.result c.in-Stopped.ensures.stop tt c.or.ensures)

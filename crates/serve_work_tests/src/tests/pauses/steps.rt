@@ -60,7 +60,8 @@ pub(super) enum After {
     Ended(Stop, u64, u64),
 }
 
-/// A stream, how many bytes its writer takes, its epochs, and what is written.
+/// A stream, how many bytes its writer takes, its epochs, what is written, and how many images had been
+/// collected when its seat was first told Torn, if it was.
 #[derive(Drop)]
 pub(super) struct Case<'a> {
     pub(super) name: &'a str,
@@ -68,6 +69,7 @@ pub(super) struct Case<'a> {
     pub(super) room: usize,
     pub(super) steps: &'a [Step],
     pub(super) written: &'a [u8],
+    pub(super) torn: Option<u64>,
 }
 
 /// A hub that ended, and what is left to do of its first stream.
@@ -97,8 +99,9 @@ impl<R: Source> Model for Paused<R> {
 #[derive(Drop)]
 enum Came<R: Source> {
     Paused(Paused<R>),
-    /// It stopped for this reason, with so many frames accepted and images delivered, and this was written.
-    Ended(Stop, u64, u64, Vec<u8>),
+    /// It stopped for this reason, with so many frames accepted and images delivered, its seat notes this of
+    /// a Torn, and this was written.
+    Ended(Stop, u64, u64, Option<u64>, Vec<u8>),
 }
 
 impl<R: Source + Drop> Came<R> {
@@ -107,7 +110,7 @@ impl<R: Source + Drop> Came<R> {
             Came::Paused(Paused { rest, .. }) => {
                 After::Paused(rest.accepted(), rest.collected(), rest.delivered())
             }
-            Came::Ended(stop, accepted, delivered, _) => {
+            Came::Ended(stop, accepted, delivered, _, _) => {
                 After::Ended(*stop, *accepted, *delivered)
             }
         }
@@ -118,11 +121,11 @@ impl<R: Source + Drop> Came<R> {
         same_at(rt, self.after(), after, name);
     }
 
-    /// What was written where it ended.
-    fn written(self, rt: &impl Abort) -> Vec<u8> {
+    /// What its seat notes of a Torn, and what was written, where it ended.
+    fn end(self, rt: &impl Abort) -> (Option<u64>, Vec<u8>) {
         match self {
             Came::Paused(_) => panic!(rt; "it didn't end"),
-            Came::Ended(_, _, _, written) => written,
+            Came::Ended(_, _, _, torn, written) => (torn, written),
         }
     }
 }
@@ -299,8 +302,9 @@ fn epoch<L: Epoch, R: Source + Drop, T: Abort + Wait>(
     prepare(rt, alloc, &hub, &mut worker, &mut other, step);
     match client(rt, alloc, &hub, seat, rest, &Still(0)) {
         ClientTurn::Ended(end) => {
+            let torn = end.seat.torn();
             let written = end.writer.into_inner().taken;
-            Came::Ended(end.stop, end.accepted, end.delivered, written)
+            Came::Ended(end.stop, end.accepted, end.delivered, torn, written)
         }
         ClientTurn::Paused(seat, rest, _) => {
             let ended = end_epoch(rt, alloc, hub, seat, other, worker);
@@ -399,11 +403,12 @@ fn resume<R: Source + Drop, T: Abort + Wait>(
         Came::Paused(paused) => {
             next_epoch::<Brand, _, _>(rt, alloc, Blank::new(80), paused, step)
         }
-        Came::Ended(_, _, _, _) => panic!(rt; "it ended early"),
+        Came::Ended(_, _, _, _, _) => panic!(rt; "it ended early"),
     }
 }
 
-/// Goes on from epoch to epoch, and compares what each comes to. It tells what was written.
+/// Goes on from epoch to epoch, and compares what each comes to. It tells what the seat notes of a Torn in
+/// the end, and what was written.
 fn go_on<R: Source + Drop, T: Abort + Wait>(
     rt: &T,
     alloc: Global,
@@ -411,14 +416,14 @@ fn go_on<R: Source + Drop, T: Abort + Wait>(
     bell: &Bell,
     later: &[Step],
     name: &str,
-) -> Vec<u8> {
+) -> (Option<u64>, Vec<u8>) {
     let mut came = first;
     for step in later {
         bell.ring(!step.is_silent);
         came = resume(rt, alloc, came, *step);
         came.is_after(rt, step.after, name);
     }
-    came.written(rt)
+    came.end(rt)
 }
 
 /// Serves the stream of a case, epoch by epoch.
@@ -432,6 +437,7 @@ pub(super) fn follow<T: Abort + Wait>(rt: &T, alloc: Global, case: &Case<'_>) {
     bell.ring(!first.is_silent);
     let came = begin(rt, alloc, source, case.room, *first);
     came.is_after(rt, first.after, case.name);
-    let written = go_on(rt, alloc, came, &bell, later, case.name);
+    let (torn, written) = go_on(rt, alloc, came, &bell, later, case.name);
+    same_at(rt, torn, case.torn, case.name);
     same_at(rt, written.as_slice(), case.written, case.name);
 }

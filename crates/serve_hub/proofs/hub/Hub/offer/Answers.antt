@@ -1,10 +1,12 @@
-use Rattle.std.proofs.Common.{◌∙◌, ap, refl, subst}
+use Rattle.std.proofs.Common.{◌∙◌, ap, subst}
 use Rattle.std.specs.declared.alloc.Global.{Global}
 use Rattle.std.specs.declared.sync.Arc.{Arc}
 use Rattle.std.specs.Arc.{arc_value}
 use Rattle.frame_view.specs.declared.frame.Frame.{Frame}
 use Rattle.lease.specs.Job.{JobValue}
-use Rattle.serve_hub.specs.Calls.{IsOfferTold}
+use Rattle.filters.specs.ChainImage.{value_of}
+use Rattle.serve_hub.specs.Calls.{AcceptsOther, IsOfferTold}
+use Rattle.serve_hub.proofs.Noting.{unmatched}
 use Rattle.serve_hub.proofs.Refusing.{matched}
 use Rattle.serve_hub.proofs.hub.Hub.offer.Goals as goal
 
@@ -14,8 +16,8 @@ returns-in-Err-clause-refused g c =
       same,
       record {
         told = subst (λ (f : Frame). IsOfferTold c.args.seat.now c.args.at f.geometry c.refusal.result)
-            (c.deref.ensures ∙ same) c.refusal.ensures;
-        seat = refl;
+            (c.deref.ensures ∙ same) c.refusal.ensures.told;
+        seat = c.refusal.ensures.seat;
       },
     )
 
@@ -30,3 +32,9 @@ returns-in-Err-default-Some-clause-refused g c =
         seat = back.1;
       },
     )
+
+pub returns-in-Err-default-None-clause-refused : goal.returns-in-Err-default-None-clause-refused
+returns-in-Err-default-None-clause-refused g c =
+    let e = c.in-Err-default-None in
+    subst (λ (f : Frame). AcceptsOther (value_of f) e.refusal c.args.seat.now c.enter.new.seat) c.in-Ok.ensures.kept
+    (unmatched _ _ e.field-0-1 e.field-0-1-is e.ensures.refused)

@@ -1,11 +1,13 @@
-use Rattle.std.proofs.Common.{◌∙◌, ap, refl, subst, rules}
+use Rattle.std.proofs.Common.{◌∙◌, ap, subst, rules}
 use Rattle.std.specs.declared.alloc.Global.{Global}
 use Rattle.std.specs.declared.sync.Arc.{Arc}
 use Rattle.std.specs.Arc.{arc_value}
 use Rattle.frame_view.specs.declared.frame.Frame.{Frame}
 use Rattle.filters.specs.Chain.{ChainValue, format_of, last_format}
 use Rattle.lease.specs.Job.{JobValue}
-use Rattle.serve_hub.specs.Calls.{IsOfferTold}
+use Rattle.filters.specs.ChainImage.{value_of}
+use Rattle.serve_hub.specs.Calls.{AcceptsOther, IsOfferTold}
+use Rattle.serve_hub.proofs.Noting.{unmatched}
 use Rattle.serve_hub.proofs.Refusing.{matched}
 use Rattle.serve_hub.proofs.hub.Hub.offer_over.Goals as goal
 
@@ -16,8 +18,8 @@ returns-in-Err-clause-refused g c =
       c.in-Err.ensures.back.1,
       record {
         told = subst (λ (f : Frame). IsOfferTold c.args.seat.now c.args.at f.geometry c.refusal.result)
-            (c.deref.ensures ∙ same) c.refusal.ensures;
-        seat = refl;
+            (c.deref.ensures ∙ same) c.refusal.ensures.told;
+        seat = c.refusal.ensures.seat;
       },
     )
 
@@ -38,3 +40,9 @@ returns-in-Err-default-Some-clause-refused g c =
 
 pub returns-in-Err-default-Some-clause-other_moment : goal.returns-in-Err-default-Some-clause-other_moment
 returns-in-Err-default-Some-clause-other_moment g c = search rules
+
+pub returns-in-Err-default-None-clause-refused : goal.returns-in-Err-default-None-clause-refused
+returns-in-Err-default-None-clause-refused g c =
+    let e = c.in-Err-default-None in
+    subst (λ (f : Frame). AcceptsOther (value_of f) e.refusal c.args.seat.now c.enter.new.seat) c.in-Ok.ensures.kept
+    (unmatched _ _ e.field-0-1 e.field-0-1-is e.ensures.refused)

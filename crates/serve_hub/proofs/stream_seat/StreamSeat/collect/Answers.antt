@@ -22,6 +22,7 @@ returns-clause-given g c =
       kept = kept_in a.kept.items;
       places = deque_capacity a.kept;
       before = a.before;
+      torn = a.torn;
     } in
     let new : StreamSeatValue = record old { calls = c.count.new.self } in
     let mine = subst (λ (v : StreamSeatValue). HasStream c.args.shared.now.book.desk v.number (λ stream.

@@ -13,5 +13,5 @@ returns-in-Err-clause-refused g c = (
   c.in-Err.ensures.back.0,
   refl,
   subst (λ (f : Frame). IsOfferTold c.args.self.now c.args.at f.geometry c.told_offer.result)
-      c.deref.ensures c.told_offer.ensures,
+      c.deref.ensures c.told_offer.ensures.told,
 )

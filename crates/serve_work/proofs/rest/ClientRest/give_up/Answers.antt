@@ -17,7 +17,7 @@ returns-in-Unbegun-clause-ends g c = λ start past seat at.
     subst (IsRestOf start past seat) (sym c.self.view_is ∙ ap (rest_of contents g.W.Sink.failures) c.in-Unbegun.is) at in
     let kept : Keeps start.before (contents writer) = subst (λ b. Keeps b (contents writer)) is.same_contents (Keeps-refl (contents writer))
     in
-    Ends-unopened start _ StreamStopsAt past seat seat _ _ _ is (TalliesSeat-same seat seat refl refl refl refl refl refl) refl refl
+    Ends-unopened start _ StreamStopsAt past seat seat _ _ _ is (TalliesSeat-same seat seat refl refl refl refl refl refl refl) refl refl
     (c.into_source.ensures.failures ∙ ap (λ (r : ReaderState). r.failures) (c.in-Unbegun.reader-is ∙ is.same_reader))
     (inl (record {
       stop = refl;

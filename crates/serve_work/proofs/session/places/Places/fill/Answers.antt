@@ -1,4 +1,4 @@
-use Rattle.std.proofs.Common.{◌≡◌, ◌∙◌, length, ap, sym, arith}
+use Rattle.std.proofs.Common.{◌≡◌, ◌∙◌, length, ap, refl, sym, arith}
 use Rattle.std.specs.Vec.Iter.{into_iter_items}
 use Rattle.serve_work.proofs.SessionTurns.{first_held, has_held, parted_all, parted_more, parted_none}
 use Rattle.serve_work.proofs.session.places.Places.fill.Goals as goal
@@ -10,6 +10,7 @@ loop-turn-init g c =
     record {
       parts = parted_none _ c.args.turns.items _ places.seats.items places.streams.items c.requires.seats c.requires.streams given.0;
       left = omega (arith, ap length given.0, given.1, c.args.turns.ok.0);
+      same_room = refl;
       seats = omega (arith, given.1, c.requires.seats_room, ap length c.requires.seats, places.seats.ok.0);
       streams = omega (arith, given.1, c.requires.streams_room, ap length c.requires.streams, places.streams.ok.0);
     }
@@ -31,6 +32,7 @@ loop-turn-preserved g c =
           (sym c.into_held.ensures ∙ c.in-Some-into_held.is) c.part-seat.ensures.seat
           c.push_reserved.ensures.items c.push_reserved-in-loop-turn.ensures.items c.part-seat.ensures.stream;
       left = omega (arith, inv.left, ap length steps.0, steps.1);
+      same_room = c.push_reserved.ensures.capacity ∙ inv.same_room;
       seats = omega (arith, inv.seats, steps.1, c.push_reserved.ensures.len, c.push_reserved.ensures.capacity);
       streams = omega (
         arith,
@@ -46,4 +48,4 @@ returns g c =
     let inv = c.loop-turn.invariant in
     let none : length (into_iter_items c.loop-turn.turn-iterator) ≡ 0 = omega (arith, inv.left, c.in-None.ensures.steps.0) in
     let parted = parted_all _ c.args.turns.items _ c.loop-turn.self.seats.items c.loop-turn.self.streams.items inv.parts none in
-    record { seats = λ helds e. (parted helds e).0; streams = λ helds e. (parted helds e).1 }
+    record { seats = λ helds e. (parted helds e).0; streams = λ helds e. (parted helds e).1; same_room = inv.same_room }

@@ -12,6 +12,7 @@ invariant-loop-turn g l =
     record {
       parts : Parted value l.fn.turns.items (into_iter_items l.turn-iterator) l.self.seats.items l.self.streams.items;
       left : length (into_iter_items l.turn-iterator) ≡ into_iter_len l.turn-iterator;
+      same_room : vec_capacity l.self.seats ≡ vec_capacity l.initial.self.seats;
       seats : vec_len l.self.seats + into_iter_len l.turn-iterator ≤ vec_capacity l.self.seats;
       streams : vec_len l.self.streams + into_iter_len l.turn-iterator ≤ vec_capacity l.self.streams;
     }

@@ -1,0 +1,126 @@
+use Rattle.std.proofs.Common.{ℕ, ◌≡◌, ◌≤◌, ◌++◌, ◌∙◌, List, Option, Some, ap, arith, length, map, subst, sym}
+use Rattle.std.specs.Prelude.{reverse, vec_len}
+use Rattle.std.proofs.Common.{length-append}
+use Rattle.serve_hub.specs.Ends.{AreStreamCalls, AreStreamsOf, ClocksReached}
+use Rattle.serve_hub.specs.Seats.{StreamSeatValue, left_by}
+use Rattle.serve_work.specs.declared.live.guests.Guest.{Guest}
+use Rattle.serve_work.specs.LiveInside.{AllAt, IsGuestAt, guests_of, nobody}
+use Rattle.serve_work.specs.SessionInside.{HeldValue, stream_of}
+use Rattle.serve_work.proofs.Living.{all_had, guests_at}
+use Rattle.serve_work.proofs.SessionTurns.{same_length}
+use Rattle.serve_work.proofs.live.epochs.epoch.Goals as goal
+
+pub fill-requires : goal.fill-requires
+fill-requires g c =
+    let seated = c.admit_all.ensures.seated.2 in
+    let ran = c.run_threads-turns.ensures.run seated.helds seated.turns in
+    let few : vec_len c.run_threads-turns.result.0 ≤ 64 = omega (arith, c.run_threads-turns.ensures.count, seated.few) in
+    record {
+      seats = seated.places.no_seats;
+      streams = seated.places.no_streams;
+      seats_room = omega (arith, few, seated.places.seats);
+      streams_room = omega (arith, few, seated.places.streams);
+      held = (ran.0, ran.1);
+    }
+
+pub with_tickets-requires : goal.with_tickets-requires
+with_tickets-requires g c =
+    let value = stream_of g.R.Source.remaining g.R.Source.failures g.W.Sink.contents g.W.Sink.failures g.W.Sink.is_flushed in
+    let seated = c.admit_all.ensures.seated.2 in
+    let ran = c.run_threads-turns.ensures.run seated.helds seated.turns in
+    record {
+      none = seated.places.no_guests;
+      room = omega (
+        arith,
+        ap length (c.fill.ensures.streams ran.0 ran.1),
+        same_length value c.fill.new.self.streams.items,
+        same_length (λ (held : HeldValue). held.stream) ran.0,
+        ap length ran.1,
+        same_length Some ran.0,
+        c.run_threads-turns.result.0.ok.0,
+        c.run_threads-turns.ensures.count,
+        c.fill.new.self.streams.ok.0,
+        seated.few,
+        seated.places.guests,
+      );
+    }
+
+pub with_idle-requires : goal.with_idle-requires
+with_idle-requires g c =
+    let value = stream_of g.R.Source.remaining g.R.Source.failures g.W.Sink.contents g.W.Sink.failures g.W.Sink.is_flushed in
+    let seated = c.admit_all.ensures.seated.2 in
+    let ran = c.run_threads-turns.ensures.run seated.helds seated.turns in
+    let turns : vec_len c.run_threads-turns.result.0 ≡ length ran.0 =
+    omega (arith, ap length ran.1, same_length Some ran.0, c.run_threads-turns.result.0.ok.0) in
+    record {
+      room = omega (
+        arith,
+        ap length (c.fill.ensures.seats ran.0 ran.1),
+        same_length (λ (held : HeldValue). held.seat) ran.0,
+        turns,
+        c.run_threads-turns.ensures.count,
+        c.fill.new.self.seats.ok.0,
+        seated.few,
+        seated.places.seats,
+        c.fill.ensures.same_room,
+      );
+      guests_room = omega (
+        arith,
+        ap length (c.fill.ensures.streams ran.0 ran.1),
+        same_length value c.fill.new.self.streams.items,
+        same_length (λ (held : HeldValue). held.stream) ran.0,
+        turns,
+        c.run_threads-turns.ensures.count,
+        c.fill.new.self.streams.ok.0,
+        seated.few,
+        c.with_tickets.ensures.few,
+        c.with_tickets.ensures.same_room,
+        seated.places.guests,
+      );
+    }
+
+pub returns-clause-guests : goal.returns-clause-guests
+returns-clause-guests g c =
+    let value = stream_of g.R.Source.remaining g.R.Source.failures g.W.Sink.contents g.W.Sink.failures g.W.Sink.is_flushed in
+    let ws = c.admit_all.ensures.seated.0 in
+    let gives = g.K.Clock.gives c.args.clock.now in
+    let limit = g.D.Door.limit in
+    let times = g.D.Door.times in
+    let seated = c.admit_all.ensures.seated.2 in
+    let ran = c.run_threads-turns.ensures.run seated.helds seated.turns in
+    let ended = c.in-Ok.ended in
+    let idle : List StreamSeatValue = c.admit_all.new.hall.idle.items in
+    let own = c.with_idle.ensures.seats ∙ ap (λ (seats : List StreamSeatValue). seats ++ idle) (c.fill.ensures.seats ran.0 ran.1) in
+    let calls = subst (AreStreamCalls (reverse ended.book.past)) own c.in-Ok.ensures.calls.of_streams in
+    let reached = subst (ClocksReached ended.book) own c.in-Ok.ensures.clock_reached in
+    let of_limit = c.in-Ok.ensures.limit ∙ c.requires.limit in
+    let had = all_had limit times g.L.Epoch.opening ended.book c.in-Ok.ensures.book c.in-Ok.ensures.history.same of_limit
+    c.in-Ok.ensures.free gives c.requires.times ws seated.helds ran.0 idle seated.each ran.2 calls reached in
+    let streams = c.fill.new.self.streams.items in
+    let guests = c.with_idle.ensures.guests
+    ∙ ap (λ (gs : List (Option (Guest _ _))). gs ++ nobody idle) (c.with_tickets.ensures.guests
+    ∙ ap (λ (tickets : List ℕ). guests_of tickets streams) seated.tickets) in (
+      ws,
+      c.admit_all.ensures.seated.1,
+      record {
+        seats = map (λ (held : HeldValue). held.seat) ran.0 ++ idle;
+        rests = c.in-Ok.ensures.left ∙ ap (map left_by) own;
+        few = omega (
+          arith,
+          length-append (map (λ (held : HeldValue). held.seat) ran.0) idle,
+          same_length (λ (held : HeldValue). held.seat) ran.0,
+          ap length ran.1,
+          same_length Some ran.0,
+          c.run_threads-turns.result.0.ok.0,
+          c.run_threads-turns.ensures.count,
+          c.admit_all.new.hall.idle.ok.0,
+          seated.few,
+        );
+        kept = subst (AreStreamsOf ended.book.desk) own c.in-Ok.ensures.kept;
+        charges = c.in-Ok.ensures.charges;
+        of_limit = of_limit;
+        each = subst (λ (gs : List (Option (Guest _ _))). AllAt (IsGuestAt value limit times ended.book.desk) gs
+            (map (λ (held : HeldValue). held.seat) ran.0 ++ idle) ws) (sym guests)
+            (guests_at value limit times ended.book.desk ws streams ran.0 idle had (c.fill.ensures.streams ran.0 ran.1));
+      },
+    )

@@ -1,0 +1,77 @@
+use Rattle.std.proofs.Common.{ℕ, ◌≡◌, ◌∙◌, [], ◌∷◌, ap, arith, inr, length, refl, subst, sym}
+use Rattle.serve_work.specs.Clients.{offers_in}
+use Rattle.serve_work.specs.Live.{RequestValue, Waiting}
+use Rattle.serve_work.specs.LiveInside.{AreSeated, Begins, HasTurn, TakesSeat}
+use Rattle.serve_work.specs.Rests.{Unbegun}
+use Rattle.serve_work.specs.SessionInside as sessions
+use Rattle.serve_work.specs.SessionInside.{IsReadyAt, StreamValue, held_at, stream_of}
+use Rattle.serve_work.proofs.Living.{began, empty_seated, may_go, seated_more}
+use Rattle.serve_work.proofs.live.epochs.first.Goals as goal
+
+pub tell-requires : goal.tell-requires
+tell-requires g c =
+    let at = c.requires.first in
+    let first = at.2 in
+    record {
+      answer = ([], at.0, [], at.1, sym first.ticket, (inr refl, first.reader, first.before, first.failures_of));
+    }
+
+pub new_stream-requires : goal.new_stream-requires
+new_stream-requires g c =
+    let first = c.requires.first.2 in
+    record { «open» = rw first.reader first.is_request.is_open }
+
+pub seat-requires : goal.seat-requires
+seat-requires g c =
+    let first = c.requires.first.2 in
+    let seat = c.in-Some.made.1 in
+    let hall = c.in-Some.made.0.hall in
+    let empty = c.in-Some.ensures.empty in
+    let request : RequestValue = c.requires.first.0.request in
+    let new = c.in-Some.ensures.seat request.spec first.streams in
+    let none = ap offers_in new.1.0 in
+    let b = began g.D.Door.limit g.D.Door.times g.L.Epoch.opening request seat first.is_request new.0 none new.1.1 in
+    let rest = sessions.Waiting (Unbegun request.reader request.before request.failures) in
+    let is : _ ≡ rest = c.new_stream.ensures ∙ rw (first.reader, first.before, first.failures_of) refl in
+    record {
+      places = c.in-Some.ensures.places;
+      few = omega (arith, ap length empty.0, ap length empty.2, hall.room.turns.ok.0, hall.idle.ok.0);
+      many = omega (arith, ap length empty.1, hall.tickets.ok.0);
+      ready = subst (λ (v : StreamValue). IsReadyAt v seat) (sym is)
+          (may_go g.D.Door.limit g.D.Door.times g.L.Epoch.opening request rest seat b);
+    }
+
+pub epoch-requires-clause-seated : goal.epoch-requires-clause-seated
+epoch-requires-clause-seated g c κs within =
+    let value = stream_of g.R.Source.remaining g.R.Source.failures g.W.Sink.contents g.W.Sink.failures g.W.Sink.is_flushed in
+    let limit = g.D.Door.limit in
+    let times = g.D.Door.times in
+    let opening = g.L.Epoch.opening in
+    let first = c.requires.first.2 in
+    let seat = c.in-Some.made.1 in
+    let hall = c.in-Some.made.0.hall in
+    let empty = c.in-Some.ensures.empty in
+    let w : Waiting = c.requires.first.0 in
+    let request : RequestValue = w.request in
+    let new = c.in-Some.ensures.seat request.spec first.streams in
+    let none = ap offers_in new.1.0 in
+    let b = began limit times opening request seat first.is_request new.0 none new.1.1 in
+    let rest = sessions.Waiting (Unbegun request.reader request.before request.failures) in
+    let is : value c.new_stream.result ≡ rest = c.new_stream.ensures ∙ rw (first.reader, first.before, first.failures_of) refl in
+    let held = held_at seat (value c.new_stream.result) in
+    let turn : HasTurn limit times opening w held = subst (λ (v : StreamValue). Begins limit times opening request v seat) (sym is) b in
+    let empty_hall : AreSeated limit times opening [] hall =
+    empty_seated limit times opening hall c.in-Some.ensures.places empty.0 empty.1
+    (omega (arith, ap length empty.0, ap length empty.2, hall.room.turns.ok.0, hall.idle.ok.0)) in (
+      w ∷ [],
+      c.requires.first.1,
+      seated_more limit times opening [] hall c.seat.new.self w held empty_hall
+          (subst (λ (n : ℕ). TakesSeat n held hall c.seat.new.self) first.ticket c.seat.ensures) turn,
+    )
+
+pub epoch-requires-clause-limit : goal.epoch-requires-clause-limit
+epoch-requires-clause-limit g c κs within = c.in-Some.ensures.limit ∙ c.requires.limit
+
+pub returns-in-None-clause-answered : goal.returns-in-None-clause-answered
+returns-in-None-clause-answered g c =
+    let at = c.requires.first in c.tell.ensures.told [] at.0 [] at.1 (sym at.2.ticket)

@@ -1,0 +1,40 @@
+use Rattle.std.proofs.Common.{ℕ, ◌≡◌, ◌∙◌, IfSome, Option, Some, ap, subst, sym}
+use Rattle.std.specs.Prelude.{slice_get}
+use Rattle.std.specs.Option.{option_map}
+use Rattle.serve_core.specs.Schedule.{HasStream}
+use Rattle.serve_hub.specs.Seats.{StreamRest}
+use Rattle.serve_work.specs.declared.stop.Stop.{Stop}
+use Rattle.serve_work.specs.Clients.{AllowsStop}
+use Rattle.serve_work.specs.SessionInside.{kept_stop}
+use Rattle.serve_work.proofs.Allowing.{kept_allowed}
+use Rattle.serve_work.proofs.Living.{answered}
+use Rattle.serve_work.proofs.SessionCharges.{charge_told}
+use Rattle.serve_work.proofs.SessionStops.{one_stop}
+use Rattle.serve_work.proofs.live.guests.tell.Goals as goal
+
+pub tell-requires : goal.tell-requires
+tell-requires g c =
+    let can = c.requires.can in
+    let told = can.4 in
+    let desk = c.args.ended.now.book.desk in
+    let number : StreamRest → ℕ = λ rest. rest.number in
+    let is : Some c.in-Some.number ≡ Some told.seat.number =
+    sym c.in-Some.is ∙ c.number.ensures ∙ ap (λ (o : Option StreamRest). option_map number o) told.here in
+    let same : c.in-Some.number ≡ told.seat.number = cc in
+    let counts = c.in-Some-counts.counts in
+    let charged = subst (λ (n : ℕ). HasStream desk n (λ kept. counts.charged ≡ kept.state.charged)) same
+    (charge_told (slice_get desk.streams c.in-Some.number) counts (sym c.in-Some-counts.is ∙ c.counts.ensures)) in
+    let stop = one_stop g.D.Door.times g.R.Source.remaining g.R.Source.failures g.W.Sink.contents g.W.Sink.failures
+    g.W.Sink.is_flushed c.args.guest.stream in
+    record {
+      answer = (
+        can.0,
+        can.1,
+        can.2,
+        can.3,
+        sym told.ticket,
+        answered _ _ _ _ _ _ _ told.stood c.told-served.ensures.ends told.charges told.kept charged
+            (kept_allowed g.D.Door.times (kept_stop c.args.guest.stream) (Some c.told-served.result.stop) c.told-served.ensures.stop
+            (subst (λ (o : Option Stop). IfSome o (AllowsStop g.D.Door.times)) stop told.stood.stop)),
+      );
+    }

@@ -1,0 +1,19 @@
+use Rattle.std.proofs.Common.{[], refl}
+use Rattle.serve_work.specs.Live.{waiting_of}
+use Rattle.serve_work.proofs.live.opening.set_up.Goals as goal
+
+pub tell-requires : goal.tell-requires
+tell-requires g c = record {
+  answer = (
+    [],
+    waiting_of g.W.Sink.contents g.W.Sink.failures c.args.request,
+    [],
+    c.requires.waits,
+    refl,
+    (c.in-Err.ensures.refused, refl, refl, refl),
+  );
+}
+
+pub returns-in-Err-clause-answered : goal.returns-in-Err-clause-answered
+returns-in-Err-clause-answered g c =
+    c.tell.ensures.told [] (waiting_of g.W.Sink.contents g.W.Sink.failures c.args.request) [] c.requires.waits refl

@@ -1,0 +1,38 @@
+use Rattle.std.proofs.Common.{ℕ, ◌≡◌, ◌∙◌, Bool, List, Option, ap, arith, length, map, subst, sym, take}
+use Rattle.serve_core.specs.Retired.{stays}
+use Rattle.serve_hub.specs.Ends.{EndedValue}
+use Rattle.serve_hub.specs.Seats.{StreamRest}
+use Rattle.serve_work.specs.declared.live.guests.Guest.{Guest}
+use Rattle.serve_work.specs.LiveInside.{AreGuests, AreToldBut, at_marks}
+use Rattle.serve_work.proofs.Retiring.{guests_retired, marked_first, told_first}
+use Rattle.serve_work.proofs.live.retirement.without_released.Goals as goal
+
+pub returns-in-Ok-retire : goal.returns-in-Ok-retire
+returns-in-Ok-retire g c =
+    let source = g.R.Source in
+    let sink = g.W.Sink in
+    let ended = c.args.interval.ended in
+    let guests = c.args.interval.guests.items in
+    let f = λ (rest : StreamRest). stays ended.book.desk rest.number in
+    let count : c.len.result ≡ length guests = omega (arith, c.len.ensures, c.args.interval.guests.ok.0) in
+    let marks = c.in-Some.ensures.marks ∙ ap (λ (n : ℕ). map f (take n ended.streams)) count in
+    let kept : c.keep_marked.new.kept.items ≡ at_marks (map f ended.streams) guests =
+    c.keep_marked.ensures
+    ∙ ap (λ (these : List Bool). at_marks these guests) marks
+    ∙ marked_first f ended.streams guests in
+    let told : AreToldBut (map f ended.streams) guests =
+    told_first f ended.streams guests
+    (subst (λ (these : List Bool). AreToldBut these guests) (c.deref.ensures.value ∙ marks)
+    (subst (λ (gs : List (Option (Guest _ _))). AreToldBut c.deref.result.now gs) c.deref-2.ensures.value
+    (c.are_told.ensures c.if-not-are_told.false))) in
+    record {
+      guests = λ ws at.
+          let there = guests_retired source.remaining source.failures sink.contents sink.failures sink.is_flushed
+          g.D.Door.limit g.D.Door.times ended ws
+          guests at told in
+          subst (λ (gs : List (Option (Guest _ _))). AreGuests source.remaining source.failures sink.contents sink.failures
+          sink.is_flushed g.D.Door.limit g.D.Door.times c.in-Ok-retire.retired.ended ws gs) (sym kept)
+          (subst (λ (e : EndedValue). AreGuests source.remaining source.failures sink.contents sink.failures
+          sink.is_flushed g.D.Door.limit g.D.Door.times e ws (at_marks (map f ended.streams) guests))
+          (sym c.in-Ok-retire.ensures.ended) there);
+    }

@@ -1,0 +1,19 @@
+use Rattle.std.proofs.Common.{ap}
+use Rattle.serve_work.specs.Live.{Waiting, waiting_of}
+use Rattle.serve_work.proofs.live.serve_from.Goals as goal
+
+pub first-requires-clause-first : goal.first-requires-clause-first
+first-requires-clause-first g c κs within =
+    let w : Waiting = waiting_of g.W.Sink.contents g.W.Sink.failures c.args.request in
+    let stream = c.in-Some.ensures.stream in (
+      w,
+      c.in-Some.ensures.waits,
+      record {
+        ticket = stream.1;
+        is_request = record { header = c.requires.input.header; is_open = c.requires.input.is_open };
+        streams = stream.0;
+        reader = stream.2;
+        before = ap g.W.Sink.contents stream.3;
+        failures_of = ap g.W.Sink.failures stream.3;
+      },
+    )

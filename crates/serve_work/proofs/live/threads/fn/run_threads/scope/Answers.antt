@@ -1,0 +1,13 @@
+use denote.Param.Send.{sendable}
+use Rattle.std.proofs.Crossing.{crosses}
+use Rattle.serve_hub.proofs.Sharing.{hub_sync}
+use Rattle.serve_work.proofs.Slots.{slot_sync}
+use Rattle.serve_work.proofs.live.threads.fn.run_threads.scope.Goals as goal
+
+pub spawn-requires-send-F : goal.spawn-requires-send-F
+spawn-requires-send-F g c κs within =
+    search (sendable, crosses, hub_sync, slot_sync, c.requires) depth 20
+
+pub spawn-requires-in-loop-watch-send-F : goal.spawn-requires-in-loop-watch-send-F
+spawn-requires-in-loop-watch-send-F g c κs within =
+    search (sendable, crosses, hub_sync, c.requires) depth 20

@@ -1,0 +1,192 @@
+-- What contracts inside the crate say of the streams of a session that come and go.
+use Rattle.std.specs.Prelude.{ℕ, ◌+◌, ◌≡◌, ◌≤◌, ◌<◌, ◌++◌, ⊤, All, Bool, false, List, [], ◌∷◌, Option, Some, None}
+use Rattle.std.specs.Prelude.{IfSome, if◌then◌else◌, length, map, slice_get}
+use Rattle.std.specs.List.{AllZip}
+use Rattle.std.specs.Vec.{vec_capacity, vec_len}
+use Rattle.edf_pool.specs.declared.limits.TheConstants.{MOST_STREAMS}
+use Rattle.serve_core.specs.declared.refusal.Refusal.TheVariants as cores
+use Rattle.serve_core.specs.declared.setup.SetupError.{SetupError}
+use Rattle.serve_core.specs.declared.setup.SetupError.TheVariants as setups
+use Rattle.serve_core.specs.Schedule.{HasStream, ScheduleValue}
+use Rattle.serve_hub.specs.declared.entry.Act.{Act}
+use Rattle.serve_hub.specs.declared.refusal.Refusal.{Refusal}
+use Rattle.serve_hub.specs.declared.refusal.Refusal.TheVariants.{Core}
+use Rattle.serve_hub.specs.Ends.{AreStreamsOf, EndedValue, IsCharged, IsStreamOf}
+use Rattle.serve_hub.specs.Seats.{StreamSeatValue, left_by}
+use Rattle.serve_work.specs.declared.live.guests.Guest.{Guest}
+use Rattle.serve_work.specs.declared.live.opening.FirstStream.{FirstStream}
+use Rattle.serve_work.specs.declared.live.opening.Hall.{Hall}
+use Rattle.serve_work.specs.declared.session.turn.Stream.{Stream}
+use Rattle.serve_work.specs.Clients.{AllowsStop, offers_in}
+use Rattle.serve_work.specs.Live.{AreParts, IsBehind, IsRequest, IsSeatFor, PartValue, RequestValue, Waiting}
+use Rattle.serve_work.specs.Live.{acts_in_parts, start_with}
+use Rattle.serve_work.specs.SessionInside.{HeldValue, StandsAt, StreamValue, held_at, stream_of, stream_stop}
+
+-- where the stream of this request stands with its seat where an epoch opens: the seat has offered no frame
+pub record Begins (limit : ℕ) (times : ℕ → Type 0) (opening : ScheduleValue) (request : RequestValue) (stream : StreamValue)
+    (seat : StreamSeatValue) : Type 0 where
+  pub is_request : IsRequest request
+  pub first : StreamSeatValue
+  pub is_new : IsSeatFor request.spec first
+  pub parts : List PartValue
+  pub are : AreParts limit times parts
+  pub behind : IsBehind seat.number opening parts
+  pub stands : StandsAt stream (start_with request first) (acts_in_parts parts) seat
+  pub no_offers : offers_in seat.calls.list ≡ 0
+  pub no_moments : seat.moments ≡ None
+  pub stop : IfSome (stream_stop stream) (AllowsStop times)
+
+-- and where it came to an end here, perhaps before the released streams were taken out
+pub record Stood (limit : ℕ) (times : ℕ → Type 0) (last : ScheduleValue) (request : RequestValue) (stream : StreamValue)
+    (seat : StreamSeatValue) : Type 0 where
+  pub is_request : IsRequest request
+  pub first : StreamSeatValue
+  pub is_new : IsSeatFor request.spec first
+  pub past : List Act
+  pub part : PartValue
+  pub before : List PartValue
+  pub are : AreParts limit times (part ∷ before)
+  pub behind : IsBehind seat.number last (part ∷ before)
+  pub stands : StandsAt stream (start_with request first) past seat
+  pub calls : past ++ seat.calls.list ≡ acts_in_parts (part ∷ before)
+  pub stop : IfSome (stream_stop stream) (AllowsStop times)
+
+-- the stream of a request that waits, with its seat, where an epoch opens, and where it came to its end
+abbrev pub HasTurn : (limit : ℕ) (times : ℕ → Type 0) (opening : ScheduleValue) → Waiting → HeldValue → Type 0
+HasTurn limit times opening w held = Begins limit times opening w.request held.stream held.seat
+
+abbrev pub HadTurn : (limit : ℕ) (times : ℕ → Type 0) (last : ScheduleValue) → Waiting → HeldValue → Type 0
+HadTurn limit times last w held = Stood limit times last w.request held.stream held.seat
+
+-- the stream of a request that waits, with its seat of the epoch that ended, and of the next one
+abbrev pub IsGuestAt : {R W : Type 0} (value : Stream R W → StreamValue) (limit : ℕ) (times : ℕ → Type 0)
+    (last : ScheduleValue) → Guest R W → StreamSeatValue → Waiting → Type 0
+IsGuestAt value limit times last guest seat w =
+    (guest.ticket ≡ w.ticket) × Stood limit times last w.request (value guest.stream) seat
+
+abbrev pub IsGuestIn : {R W : Type 0} (value : Stream R W → StreamValue) (limit : ℕ) (times : ℕ → Type 0)
+    (opening : ScheduleValue) → Guest R W → StreamSeatValue → Waiting → Type 0
+IsGuestIn value limit times opening guest seat w =
+    (guest.ticket ≡ w.ticket) × Begins limit times opening w.request (value guest.stream) seat
+
+-- each place has a seat, and each stream a request, in the same order
+abbrev pub AllAt : {A B C : Type 0} (P : A → B → C → Type 0) → List (Option A) → List B → List C → Type 0
+AllAt P [] seats [] = ⊤
+AllAt P [] seats (w ∷ ws) = ⊥
+AllAt P (guest ∷ guests) [] ws = ⊥
+AllAt P (None ∷ guests) (seat ∷ seats) ws = AllAt P guests seats ws
+AllAt P (Some guest ∷ guests) (seat ∷ seats) [] = ⊥
+AllAt P (Some guest ∷ guests) (seat ∷ seats) (w ∷ ws) = P guest seat w × AllAt P guests seats ws
+
+-- no stream is left
+abbrev pub AreAllTold : {R W : Type 0} → List (Option (Guest R W)) → Type 0
+AreAllTold guests = All (λ guest. guest ≡ None) guests
+
+-- no item is left at a place that isn't marked
+abbrev pub AreToldBut : {A : Type 0} → List Bool → List (Option A) → Type 0
+AreToldBut {A} marks items = (k : ℕ) (item : Option A) → slice_get marks k ≡ Some false → slice_get items k ≡ Some item
+    → item ≡ None
+
+-- the items that are marked, by their places
+abbrev pub at_marks : {A : Type 0} → List Bool → List A → List A
+at_marks marks [] = []
+at_marks [] (x ∷ xs) = []
+at_marks (mark ∷ marks) (x ∷ xs) = if mark then x ∷ at_marks marks xs else at_marks marks xs
+
+-- the streams with the numbers of their requests
+abbrev pub guests_of : {R W : Type 0} → List ℕ → List (Stream R W) → List (Option (Guest R W))
+guests_of (ticket ∷ tickets) (stream ∷ streams) =
+    Some (record { ticket = ticket; stream = stream }) ∷ guests_of tickets streams
+guests_of tickets streams = []
+
+-- idle seats have no streams
+abbrev pub nobody : {R W : Type 0} → List StreamSeatValue → List (Option (Guest R W))
+nobody [] = []
+nobody (seat ∷ idle) = None ∷ nobody idle
+
+-- the streams of a session between two epochs, by the seats of the one that ended, and their requests, which
+-- wait
+pub record AreGuests {R W : Type 0} (left : R → Option (List ℕ)) (read_failures : R → ℕ)
+    (after : W → Option (List ℕ)) (failures : W → ℕ) (is_flushed : W → Bool) (limit : ℕ)
+    (times : ℕ → Type 0) (ended : EndedValue) (ws : List Waiting) (guests : List (Option (Guest R W))) : Type 0 where
+  pub seats : List StreamSeatValue
+  pub rests : ended.streams ≡ map left_by seats
+  pub few : length seats ≤ MOST_STREAMS
+  pub kept : AreStreamsOf ended.book.desk seats
+  pub charges : All IsCharged ended.book.desk.streams
+  pub of_limit : ended.book.limit ≡ limit
+  pub each : AllAt (IsGuestAt (stream_of left read_failures after failures is_flushed) limit times
+      ended.book.desk) guests seats ws
+
+-- the stream whose seat was handed over at this place can be told, and its request is this one
+pub record CanTell {R W : Type 0} (left : R → Option (List ℕ)) (read_failures : R → ℕ)
+    (after : W → Option (List ℕ)) (failures : W → ℕ) (is_flushed : W → Bool) (limit : ℕ)
+    (times : ℕ → Type 0) (ended : EndedValue) (place : ℕ) (guest : Guest R W) (w : Waiting) : Type 0 where
+  pub ticket : guest.ticket ≡ w.ticket
+  pub seat : StreamSeatValue
+  pub stood : Stood limit times ended.book.desk w.request
+      (stream_of left read_failures after failures is_flushed guest.stream) seat
+  pub here : slice_get ended.streams place ≡ Some (left_by seat)
+  pub kept : HasStream ended.book.desk seat.number (IsStreamOf seat)
+  pub charges : All IsCharged ended.book.desk.streams
+
+-- the memory of an epoch has a place for each stream that there can be
+pub record HasPlaces {L R W : Type 0} (hall : Hall L R W) : Type 0 where
+  pub turns : MOST_STREAMS ≤ vec_capacity hall.room.turns
+  pub tickets : MOST_STREAMS ≤ vec_capacity hall.tickets
+  pub idle : MOST_STREAMS ≤ vec_capacity hall.idle
+  pub no_seats : hall.room.places.seats.items ≡ []
+  pub seats : MOST_STREAMS ≤ vec_capacity hall.room.places.seats
+  pub no_streams : hall.room.places.streams.items ≡ []
+  pub streams : MOST_STREAMS ≤ vec_capacity hall.room.places.streams
+  pub no_guests : hall.guests.items ≡ []
+  pub guests : MOST_STREAMS ≤ vec_capacity hall.guests
+
+-- one stream more has its turn
+pub record TakesSeat {L R W : Type 0} (ticket : ℕ) (held : HeldValue) (old new : Hall L R W) : Type 0 where
+  pub places : HasPlaces new
+  pub turns : new.room.turns.items ≡ old.room.turns.items ++ Some held ∷ []
+  pub len : vec_len new.room.turns ≡ vec_len old.room.turns + 1
+  pub tickets : new.tickets.items ≡ old.tickets.items ++ ticket ∷ []
+  pub many : vec_len new.tickets ≡ vec_len old.tickets + 1
+  pub few : vec_len old.room.turns + vec_len old.idle < MOST_STREAMS
+  pub idle : new.idle ≡ old.idle
+
+-- the streams with their seats, and the numbers of their requests
+abbrev pub helds_of : {R W : Type 0} (value : Stream R W → StreamValue) → List StreamSeatValue
+    → List (Option (Guest R W)) → List HeldValue
+helds_of value (seat ∷ seats) (Some guest ∷ guests) =
+    held_at seat (value guest.stream) ∷ helds_of value seats guests
+helds_of value (seat ∷ seats) (None ∷ guests) = helds_of value seats guests
+helds_of value seats guests = []
+
+abbrev pub tickets_of : {R W : Type 0} → List StreamSeatValue → List (Option (Guest R W)) → List ℕ
+tickets_of (seat ∷ seats) (Some guest ∷ guests) = guest.ticket ∷ tickets_of seats guests
+tickets_of (seat ∷ seats) (None ∷ guests) = tickets_of seats guests
+tickets_of seats guests = []
+
+-- the streams of an epoch that opens, with their seats, and their requests, which wait
+pub record AreSeated {L R W : Type 0} (limit : ℕ) (times : ℕ → Type 0) (opening : ScheduleValue)
+    (ws : List Waiting) (hall : Hall L R W) : Type 0 where
+  pub places : HasPlaces hall
+  pub few : vec_len hall.room.turns + vec_len hall.idle ≤ MOST_STREAMS
+  pub helds : List HeldValue
+  pub turns : hall.room.turns.items ≡ map Some helds
+  pub tickets : hall.tickets.items ≡ map (λ w. w.ticket) ws
+  pub each : AllZip (HasTurn limit times opening) ws helds
+
+-- the first stream of a hub is that of this request
+pub record IsFirst {R W : Type 0} (contents : W → Option (List ℕ)) (failures : W → ℕ) (w : Waiting)
+    (stream : FirstStream R W) : Type 0 where
+  pub ticket : stream.ticket ≡ w.ticket
+  pub is_request : IsRequest w.request
+  pub streams : stream.setup.streams ≡ w.request.spec ∷ []
+  pub reader : stream.reader ≡ w.request.reader
+  pub before : contents stream.writer ≡ w.request.before
+  pub failures_of : failures stream.writer ≡ w.request.failures
+
+-- what the fault of a setup is to its only stream
+abbrev pub refusal_of : SetupError → Refusal
+refusal_of setups.BadLimits = Core cores.BadLimits
+refusal_of (setups.BadBandwidth s) = Core cores.BadBandwidth
+refusal_of (setups.Overload s) = Core cores.Overload

@@ -1,0 +1,60 @@
+//! Where the streams of a session come from that come and go, and where they are told.
+ghost use Rattle.std.specs.Prelude.{ℕ, ◌≡◌, ◌++◌, List, [], ◌∷◌, IfNone, IfSome, IsSomeAnd};
+ghost use Rattle.serve_work.specs.Live.{IsAnswer, IsStanding, Waiting, waiting_of};
+ghost use Rattle.serve_work.specs.Sessions.{IsInput};
+
+use crate::request::{Answer, Request, Standing};
+use y4m_stream::{Sink, Source};
+
+/// What tells whether a request is there, or a question (see [`Door::asks`]).
+pub trait Bell {
+    /// Waits until a request or a question is there. Answers whether one is: no other comes where none is.
+    fn wait(&self) -> bool;
+
+    /// Waits for a request or a question, for at most so many milliseconds, and answers whether one is there.
+    fn is_there(&self, patience: u64) -> bool;
+}
+
+/// Where requests come from, where they are answered, and where it is shown how their streams stand.
+pub trait Door<R: Source, W: Sink>: Bell {
+    /// The most entries of an epoch's journal, by which is told.
+    ghost limit: { ℕ };
+
+    /// The moments that the session's clock may give, by which is told.
+    ghost times: { ℕ → Type 0 };
+
+    /// That these are the requests that it gave and that aren't answered yet, the oldest first.
+    ghost waits: { Self → List Waiting → Type 0 };
+
+    /// The next request, if one is there. It doesn't wait.
+    fn next(&mut self) -> Option<Request<R, W>>
+        ensures input { IfSome result (λ r. IsInput r.spec (r.reader, r.writer)) }
+        ensures given { IfSome result (λ r. (ws : List Waiting) → waits self.old ws
+            → waits self.new (ws ++ waiting_of W.contents W.failures r ∷ [])) }
+        ensures none { IfNone result ((ws : List Waiting) → waits self.old ws → waits self.new ws) };
+
+    /// Is told what came of a request that waits. It waits no longer. The answer is the door's to take: what it
+    /// leaves in its place is dropped.
+    fn tell(&mut self, ticket: u64, answer: &mut Option<Answer<R, W>>)
+        requires answer { (before : List Waiting) × (w : Waiting) × (after : List Waiting)
+            × waits self.old (before ++ w ∷ after) × (w.ticket ≡ ticket)
+            × IsSomeAnd answer.old
+            (IsAnswer R.remaining R.failures W.contents W.failures W.is_flushed limit times w.request) }
+        ensures told { (before : List Waiting) (w : Waiting) (after : List Waiting)
+            → waits self.old (before ++ w ∷ after) → w.ticket ≡ ticket → waits self.new (before ++ after) };
+
+    /// Whether it is to be shown how the streams stand.
+    fn asks(&self) -> bool;
+
+    /// Is shown how the stream of a request that waits stands where an epoch ended. The streams that aren't
+    /// over are shown, in the order of their numbers.
+    fn show(&mut self, ticket: u64, standing: Standing)
+        requires standing { (before : List Waiting) × (w : Waiting) × (after : List Waiting)
+            × waits self.old (before ++ w ∷ after) × (w.ticket ≡ ticket)
+            × IsStanding limit times w.request standing }
+        ensures waits { (ws : List Waiting) → waits self.old ws → waits self.new ws };
+
+    /// All were shown. The moment is that of their hub's clock, and `None` where no stream is served.
+    fn shown(&mut self, moment: Option<u64>)
+        ensures waits { (ws : List Waiting) → waits self.old ws → waits self.new ws };
+}

@@ -1,0 +1,155 @@
+//! A session whose streams come and go.
+//!
+//! It goes from epoch to epoch. Where a request is at the door, or a stream is over, the epoch is ended; the
+//! streams that are over are told then, and those that came are admitted before the next one begins.
+ghost use Rattle.std.specs.Prelude.{ℕ, ◌≡◌, ◌≢◌, List, [], ◌∷◌, IfErr, IfOk};
+ghost use Rattle.serve_work.specs.Live.{IsForm, Waiting, waiting_of};
+ghost use Rattle.serve_work.specs.LiveInside.{AreGuests};
+ghost use Rattle.serve_work.specs.Sessions.{IsInput};
+
+mod admission;
+mod epochs;
+mod guests;
+mod opening;
+mod retirement;
+mod threads;
+
+use crate::door::Door;
+use crate::gate::{Clock, Gate};
+use crate::request::Request;
+use crate::session::SessionFault;
+use epochs::{first, later};
+use guests::{Interval, show_guests, show_none, tell_guests};
+use opening::Form;
+use retirement::without_released;
+use serve_hub::limits::{MOST_ENTRIES, MOST_SEATS};
+use std::alloc::Global;
+use std::marker::Brand;
+use std::sync::Wait;
+use std::sync::ledger::Blank;
+use std::thread::Threads;
+use y4m_stream::{Sink, Source};
+
+/// The fewest entries of an epoch's journal: two for each stream that is admitted where it opens, and those
+/// of a lease.
+const LEAST_LIMIT: usize = 130;
+
+/// Serves the stream of a request, and those that come while any is served.
+fn serve_from<
+    R: Source + Drop + Send,
+    W: Sink + Drop + Send,
+    D: Door<R, W> + Sync,
+    G: Gate + Sync,
+    K: Clock + Sync,
+    T: Threads + Wait + Sync,
+>(
+    rt: &T,
+    alloc: Global,
+    form: Form,
+    request: Request<R, W>,
+    door: &mut D,
+    gate: &G,
+    clock: &K,
+) -> Result<(), SessionFault>
+    requires form { IsForm form.workers form.quantum }
+    requires limit { form.limit ≡ D.limit }
+    requires times { (at : ℕ) → K.gives clock.now at → D.times at }
+    requires waits { D.waits door.old (waiting_of W.contents W.failures request ∷ []) }
+    requires input { IsInput request.spec (request.reader, request.writer) }
+    ensures fault { IfErr result (λ e. e ≢ SessionFault.BadLimit) }
+    ensures answered { IfOk result (λ _. D.waits door.new []) }
+{
+    let Some(stream) = opening::set_up(alloc, form, request, door) else {
+        return Ok(());
+    };
+    let blank = Blank::new(MOST_SEATS);
+    match first::<Brand, R, W, D, G, K, T>(
+        rt, alloc, blank, stream, form.limit, door, gate, clock,
+    )? {
+        None => Ok(()),
+        Some(interval) => go_on(rt, alloc, interval, door, gate, clock),
+    }
+}
+
+/// Goes on from epoch to epoch, until no stream is left.
+fn go_on<
+    R: Source + Drop + Send,
+    W: Sink + Drop + Send,
+    D: Door<R, W> + Sync,
+    G: Gate + Sync,
+    K: Clock + Sync,
+    T: Threads + Wait + Sync,
+>(
+    rt: &T,
+    alloc: Global,
+    interval: Interval<R, W>,
+    door: &mut D,
+    gate: &G,
+    clock: &K,
+) -> Result<(), SessionFault>
+    requires times { (at : ℕ) → K.gives clock.now at → D.times at }
+    requires guests { (ws : List Waiting) × D.waits door.old ws
+        × AreGuests R.remaining R.failures W.contents W.failures W.is_flushed D.limit D.times interval.ended
+        ws interval.guests.items }
+    ensures fault { IfErr result (λ e. e ≢ SessionFault.BadLimit) }
+    ensures answered { IfOk result (λ _. D.waits door.new []) }
+{
+    let mut interval = interval;
+    for _ in rt.forever() {
+        let gives_up = !interval.goes_on;
+        if !tell_guests(door, &interval.ended, &mut interval.guests, gives_up) {
+            return Ok(());
+        }
+        show_guests(door, &interval.ended, &interval.guests);
+        let left = without_released::<R, W, D>(alloc, interval);
+        let blank = Blank::new(MOST_SEATS);
+        interval = later::<Brand, R, W, D, G, K, T>(rt, alloc, blank, left, door, gate, clock)?;
+    }
+    unreachable!()
+}
+
+/// Serves streams that come and go, until none is left and no more requests come.
+///
+/// Each request is told its answer at the door: where it isn't admitted, or when its stream is over.
+pub fn serve_live<
+    R: Source + Drop + Send,
+    W: Sink + Drop + Send,
+    D: Door<R, W> + Sync,
+    G: Gate + Sync,
+    K: Clock + Sync,
+    T: Threads + Wait + Sync,
+>(
+    rt: &T,
+    alloc: Global,
+    workers: u64,
+    quantum: u64,
+    limit: usize,
+    door: &mut D,
+    gate: &G,
+    clock: &K,
+) -> Result<(), SessionFault>
+    requires form { IsForm workers quantum }
+    requires limit { limit ≡ D.limit }
+    requires times { (at : ℕ) → K.gives clock.now at → D.times at }
+    requires nobody { D.waits door.old [] }
+    ensures answered { IfOk result (λ _. D.waits door.new []) }
+{
+    if limit < LEAST_LIMIT || limit > MOST_ENTRIES {
+        return Err(SessionFault::BadLimit);
+    }
+    let form = Form {
+        workers,
+        quantum,
+        limit,
+    };
+    for _ in rt.forever() {
+        if !door.wait() {
+            return Ok(());
+        }
+        show_none::<R, W, D>(door);
+        if let Some(request) = door.next() {
+            serve_from(rt, alloc, form, request, door, gate, clock)?;
+        }
+    }
+    unreachable!()
+}

@@ -1,0 +1,314 @@
+//! The epochs of a session whose streams come and go.
+ghost use Rattle.std.specs.Prelude.{ℕ, ◌≡◌, ◌≢◌, ◌+◌, ◌≤◌, ◌++◌, List, [], ◌∷◌, IfErr, IfNone, IfOk};
+ghost use Rattle.std.specs.Prelude.{IfSome, vec_capacity, vec_len};
+ghost use Rattle.serve_core.specs.Schedule.{opened_schedule};
+ghost use Rattle.serve_core.specs.Setup.{StreamSpec};
+ghost use Rattle.serve_work.specs.Intervals.{HasNoCalls};
+ghost use Rattle.serve_work.specs.Live.{IsSeatFor, Waiting};
+ghost use Rattle.serve_work.specs.LiveInside.{AreGuests, AreSeated, HasPlaces, IsFirst, guests_of};
+ghost use Rattle.serve_work.specs.LiveInside.{nobody};
+
+use crate::door::Door;
+use crate::gate::{Clock, Gate};
+use crate::live::admission::admit_all;
+use crate::live::guests::{Guest, Interval};
+use crate::live::opening::{FirstStream, Hall, Opening, new_stream};
+use crate::live::threads::run_threads;
+use crate::request::Answer;
+use crate::session::SessionFault;
+use crate::session::places::Places;
+use crate::session::room::{Room, slotted, unslotted};
+use crate::session::turn::Stream;
+use serve_core::{Refusal as Core, Setup};
+use serve_hub::limits::MOST_SEATS;
+use serve_hub::{Epoch, Hub, Refusal, StreamSeat};
+use std::alloc::Global;
+use std::sync::Wait;
+use std::sync::ledger::Blank;
+use std::thread::Threads;
+use y4m_stream::{Sink, Source};
+
+/// The streams with the numbers of their requests.
+fn with_tickets<R: Source + Drop, W: Sink + Drop>(
+    guests: &mut Vec<Option<Guest<R, W>>>,
+    tickets: Vec<u64>,
+    streams: Vec<Stream<R, W>>,
+)
+    requires none { guests.old.items ≡ [] }
+    requires room { vec_len streams ≤ vec_capacity guests.old }
+    ensures guests { guests.new.items ≡ guests_of tickets.items streams.items }
+    ensures few { vec_len guests.new ≤ vec_len streams }
+    ensures same_room { vec_capacity guests.new ≡ vec_capacity guests.old }
+{
+    for (ticket, stream) in tickets.into_iter().zip(streams) {
+        guests.push_reserved(Some(Guest { ticket, stream }));
+    }
+}
+
+/// Puts the idle seats behind the others. They have no streams.
+fn with_idle<L: Epoch, R: Source + Drop, W: Sink + Drop>(
+    seats: &mut Vec<StreamSeat<L>>,
+    guests: &mut Vec<Option<Guest<R, W>>>,
+    idle: Vec<StreamSeat<L>>,
+)
+    requires room { vec_len seats.old + vec_len idle ≤ vec_capacity seats.old }
+    requires guests_room { vec_len guests.old + vec_len idle ≤ vec_capacity guests.old }
+    ensures seats { seats.new.items ≡ seats.old.items ++ idle.items }
+    ensures guests { guests.new.items ≡ guests.old.items ++ nobody idle.items }
+{
+    for seat in idle {
+        seats.push_reserved(seat);
+        guests.push_reserved(None);
+    }
+}
+
+/// Admits those who are at the door. Then the streams go on with their seats of this epoch, until it is
+/// ended.
+fn epoch<
+    L: Epoch + Send + Sync,
+    R: Source + Drop + Send,
+    W: Sink + Drop + Send,
+    D: Door<R, W> + Sync,
+    G: Gate + Sync,
+    K: Clock + Sync,
+    T: Threads + Wait + Sync,
+>(
+    rt: &T,
+    alloc: Global,
+    opening: Opening<L, R, W>,
+    door: &mut D,
+    gate: &G,
+    clock: &K,
+) -> Result<Interval<R, W>, SessionFault>
+    requires seated { (ws : List Waiting) × D.waits door.old ws
+        × AreSeated D.limit D.times L.opening ws opening.hall }
+    requires limit { opening.hub.limit ≡ D.limit }
+    requires times { (at : ℕ) → K.gives clock.now at → D.times at }
+    ensures fault { IfErr result (λ e. e ≢ SessionFault.BadLimit) }
+    ensures guests { IfOk result (λ now. (ws : List Waiting) × D.waits door.new ws
+        × AreGuests R.remaining R.failures W.contents W.failures W.is_flushed D.limit D.times now.ended ws
+        now.guests.items) }
+{
+    let Opening {
+        hub,
+        work_seats,
+        mut hall,
+    } = opening;
+    admit_all(rt, alloc, &hub, &mut hall, door);
+    let Hall {
+        room,
+        tickets,
+        idle,
+        mut guests,
+    } = hall;
+    let Room {
+        turns,
+        mut places,
+        mut slots,
+        mut back,
+    } = room;
+    let workers = work_seats.len();
+    slotted(&mut slots, work_seats);
+    let (turns, goes_on) = run_threads::<L, R, W, D, G, K, T>(
+        rt, alloc, &hub, &slots, turns, &*door, gate, clock,
+    );
+    unslotted(slots, &mut back);
+    places.fill(turns);
+    let Places { mut seats, streams } = places;
+    with_tickets(&mut guests, tickets, streams);
+    with_idle(&mut seats, &mut guests, idle);
+    let Ok(ended) = hub.finish(seats, back) else {
+        return Err(SessionFault::Mismatch);
+    };
+    Ok(Interval {
+        ended,
+        guests,
+        workers,
+        goes_on,
+    })
+}
+
+/// A hub of one stream, and its seat.
+fn first_seat<L: Epoch, R: Source + Drop, W: Sink + Drop>(
+    alloc: Global,
+    blank: Blank,
+    setup: Setup,
+    limit: usize,
+) -> Option<(Opening<L, R, W>, StreamSeat<L>)>
+    requires name { blank.name ≡ L.name }
+    requires parts { blank.parts ≡ L.parts }
+    requires enough { blank.parts ≡ MOST_SEATS }
+    requires opening { opened_schedule setup ≡ L.opening }
+    ensures places { IfSome result (λ made. HasPlaces made.0.hall) }
+    ensures empty { IfSome result (λ made. (made.0.hall.room.turns.items ≡ [])
+        × (made.0.hall.tickets.items ≡ []) × (made.0.hall.idle.items ≡ [])) }
+    ensures limit { IfSome result (λ made. made.0.hub.limit ≡ limit) }
+    ensures seat { (spec : StreamSpec) → setup.streams ≡ spec ∷ []
+        → IfSome result (λ made. IsSeatFor spec made.1 × HasNoCalls made.1) }
+{
+    let workers = setup.workers() as usize;
+    let Ok(hall) = Hall::<L, R, W>::new(alloc, workers) else {
+        return None;
+    };
+    let Ok(opened) = Hub::<L>::new(alloc, blank, setup, limit) else {
+        return None;
+    };
+    let (hub, mut seats, work_seats) = opened;
+    match seats.pop() {
+        None => None,
+        Some(seat) => Some((
+            Opening {
+                hub,
+                work_seats,
+                hall,
+            },
+            seat,
+        )),
+    }
+}
+
+/// The first epoch of a hub. Where it can't be opened, the request is told.
+pub(super) fn first<
+    L: Epoch + Send + Sync,
+    R: Source + Drop + Send,
+    W: Sink + Drop + Send,
+    D: Door<R, W> + Sync,
+    G: Gate + Sync,
+    K: Clock + Sync,
+    T: Threads + Wait + Sync,
+>(
+    rt: &T,
+    alloc: Global,
+    blank: Blank,
+    stream: FirstStream<R, W>,
+    limit: usize,
+    door: &mut D,
+    gate: &G,
+    clock: &K,
+) -> Result<Option<Interval<R, W>>, SessionFault>
+    requires name { blank.name ≡ L.name }
+    requires parts { blank.parts ≡ L.parts }
+    requires enough { blank.parts ≡ MOST_SEATS }
+    requires opening { opened_schedule stream.setup ≡ L.opening }
+    requires limit { limit ≡ D.limit }
+    requires times { (at : ℕ) → K.gives clock.now at → D.times at }
+    requires first { (w : Waiting) × D.waits door.old (w ∷ []) × IsFirst W.contents W.failures w stream }
+    ensures fault { IfErr result (λ e. e ≢ SessionFault.BadLimit) }
+    ensures answered { IfOk result (λ o. IfNone o (D.waits door.new [])) }
+    ensures guests { IfOk result (λ o. IfSome o (λ now. (ws : List Waiting) × D.waits door.new ws
+        × AreGuests R.remaining R.failures W.contents W.failures W.is_flushed D.limit D.times now.ended ws
+        now.guests.items)) }
+{
+    let FirstStream {
+        setup,
+        ticket,
+        reader,
+        writer,
+    } = stream;
+    match first_seat::<L, R, W>(alloc, blank, setup, limit) {
+        None => {
+            let refusal = Refusal::Core(Core::NoMemory);
+            door.tell(ticket, &mut Some(Answer::Refused(refusal, reader, writer)));
+            Ok(None)
+        }
+        Some(made) => {
+            let (mut opening, seat) = made;
+            opening.hall.seat(seat, ticket, new_stream(reader, writer));
+            match epoch(rt, alloc, opening, door, gate, clock) {
+                Ok(now) => Ok(Some(now)),
+                Err(fault) => Err(fault),
+            }
+        }
+    }
+}
+
+/// The next epoch of a session. Where none can be opened, the session doesn't go on.
+pub(super) fn later<
+    L: Epoch + Send + Sync,
+    R: Source + Drop + Send,
+    W: Sink + Drop + Send,
+    D: Door<R, W> + Sync,
+    G: Gate + Sync,
+    K: Clock + Sync,
+    T: Threads + Wait + Sync,
+>(
+    rt: &T,
+    alloc: Global,
+    blank: Blank,
+    interval: Interval<R, W>,
+    door: &mut D,
+    gate: &G,
+    clock: &K,
+) -> Result<Interval<R, W>, SessionFault>
+    requires name { blank.name ≡ L.name }
+    requires parts { blank.parts ≡ L.parts }
+    requires enough { blank.parts ≡ MOST_SEATS }
+    requires opening { interval.ended.book.desk ≡ L.opening }
+    requires times { (at : ℕ) → K.gives clock.now at → D.times at }
+    requires guests { (ws : List Waiting) × D.waits door.old ws
+        × AreGuests R.remaining R.failures W.contents W.failures W.is_flushed D.limit D.times interval.ended
+        ws interval.guests.items }
+    ensures fault { IfErr result (λ e. e ≢ SessionFault.BadLimit) }
+    ensures guests { IfOk result (λ now. (ws : List Waiting) × D.waits door.new ws
+        × AreGuests R.remaining R.failures W.contents W.failures W.is_flushed D.limit D.times now.ended ws
+        now.guests.items) }
+{
+    match open_next::<L, R, W, D>(alloc, blank, interval) {
+        Err(interval) => Ok(interval),
+        Ok(opening) => epoch(rt, alloc, opening, door, gate, clock),
+    }
+}
+
+/// Opens the next epoch, with the streams that are left in their seats.
+fn open_next<L: Epoch, R: Source + Drop, W: Sink + Drop, D: Door<R, W>>(
+    alloc: Global,
+    blank: Blank,
+    interval: Interval<R, W>,
+) -> Result<Opening<L, R, W>, Interval<R, W>>
+    requires name { blank.name ≡ L.name }
+    requires parts { blank.parts ≡ L.parts }
+    requires enough { blank.parts ≡ MOST_SEATS }
+    requires opening { interval.ended.book.desk ≡ L.opening }
+    requires guests { (ws : List Waiting)
+        × AreGuests R.remaining R.failures W.contents W.failures W.is_flushed D.limit D.times interval.ended
+        ws interval.guests.items }
+    ensures seated { (ws : List Waiting)
+        → AreGuests R.remaining R.failures W.contents W.failures W.is_flushed D.limit D.times interval.ended
+        ws interval.guests.items
+        → IfOk result (λ opening. AreSeated D.limit D.times L.opening ws opening.hall) }
+    ensures limit { IfOk result (λ opening. opening.hub.limit ≡ interval.ended.book.limit) }
+    ensures back { IfErr result (λ back. (back.ended ≡ interval.ended)
+        × (back.guests.items ≡ interval.guests.items)) }
+{
+    let Interval {
+        ended,
+        guests,
+        workers,
+        ..
+    } = interval;
+    let Ok(mut hall) = Hall::<L, R, W>::new(alloc, workers) else {
+        return Err(Interval {
+            ended,
+            guests,
+            workers,
+            goes_on: false,
+        });
+    };
+    let limit = ended.limit();
+    match Hub::<L>::reopen(alloc, blank, ended, limit) {
+        Err(refused) => Err(Interval {
+            ended: refused.ended,
+            guests,
+            workers,
+            goes_on: false,
+        }),
+        Ok(next) => {
+            hall.seat_all(next.streams, guests);
+            Ok(Opening {
+                hub: next.hub,
+                work_seats: next.workers,
+                hall,
+            })
+        }
+    }
+}

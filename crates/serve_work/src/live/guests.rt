@@ -1,0 +1,214 @@
+//! The streams that a session serves, from epoch to epoch.
+ghost use Rattle.std.specs.Prelude.{◌≡◌, ◌<◌, ◌++◌, List, [], ◌∷◌, None, Some, IsFalse, slice_get};
+ghost use Rattle.std.specs.Prelude.{slice_set, vec_len, ⊤};
+ghost use Rattle.serve_core.specs.Schedule.{HasStream};
+ghost use Rattle.serve_hub.specs.Seats.{StreamRest};
+ghost use Rattle.serve_work.specs.Live.{IsStandingOf, Waiting};
+ghost use Rattle.serve_work.specs.LiveInside.{AreAllTold, AreGuests, CanTell};
+
+use crate::door::Door;
+use crate::request::{Answer, Standing};
+use crate::session::turn::{Stream, told};
+use serve_hub::Ended;
+use y4m_stream::{Sink, Source};
+
+/// A stream with the number of its request.
+#[derive(Drop)]
+pub(super) struct Guest<R: Source, W: Sink> {
+    pub(super) ticket: u64,
+    pub(super) stream: Stream<R, W>,
+}
+
+/// What crosses from one epoch to the next: what is left of the hub, and for each seat, in the order in which
+/// they were handed over, its stream, unless that was told.
+#[derive(Drop)]
+pub(super) struct Interval<R: Source, W: Sink> {
+    pub(super) ended: Ended,
+    pub(super) guests: Vec<Option<Guest<R, W>>>,
+    /// How many workers there are.
+    pub(super) workers: usize,
+    /// Whether another epoch may come.
+    pub(super) goes_on: bool,
+}
+
+/// Tells what a stream came to whose seat was handed over at this place.
+fn tell<R: Source + Drop, W: Sink + Drop, D: Door<R, W>>(
+    door: &mut D,
+    ended: &Ended,
+    place: usize,
+    guest: Guest<R, W>,
+)
+    requires can { (before : List Waiting) × (w : Waiting) × (after : List Waiting)
+        × D.waits door.old (before ++ w ∷ after)
+        × CanTell R.remaining R.failures W.contents W.failures W.is_flushed D.limit D.times ended.now
+        place guest w }
+    ensures told { (before : List Waiting) (w : Waiting) (after : List Waiting)
+        → D.waits door.old (before ++ w ∷ after) → w.ticket ≡ guest.ticket
+        → D.waits door.new (before ++ after) }
+{
+    let Guest { ticket, stream } = guest;
+    let mut served = told(stream);
+    let Some(number) = ended.number(place) else {
+        unreachable!()
+    };
+    let Some(counts) = ended.counts(number) else {
+        unreachable!()
+    };
+    served.charged = counts.charged;
+    door.tell(ticket, &mut Some(Answer::Ended(served)));
+}
+
+/// Tells what came of each stream that is over, or of all. Answers whether any is left.
+pub(super) fn tell_guests<R: Source + Drop, W: Sink + Drop, D: Door<R, W>>(
+    door: &mut D,
+    ended: &Ended,
+    guests: &mut Vec<Option<Guest<R, W>>>,
+    gives_up: bool,
+) -> bool
+    requires guests { (ws : List Waiting) × D.waits door.old ws
+        × AreGuests R.remaining R.failures W.contents W.failures W.is_flushed D.limit D.times ended.now ws
+        guests.old.items }
+    ensures guests { (ws : List Waiting) × D.waits door.new ws
+        × AreGuests R.remaining R.failures W.contents W.failures W.is_flushed D.limit D.times ended.now ws
+        guests.new.items }
+    ensures answered { IsFalse result → D.waits door.new [] }
+{
+    for place in 0..guests.len() {
+        tell_at(door, ended, guests, place, gives_up);
+    }
+    any_left(guests)
+}
+
+/// Tells what came of the stream at this place, if it is over, or given up.
+fn tell_at<R: Source + Drop, W: Sink + Drop, D: Door<R, W>>(
+    door: &mut D,
+    ended: &Ended,
+    guests: &mut Vec<Option<Guest<R, W>>>,
+    place: usize,
+    gives_up: bool,
+)
+    requires within { place < vec_len guests.old }
+    requires guests { (ws : List Waiting) × D.waits door.old ws
+        × AreGuests R.remaining R.failures W.contents W.failures W.is_flushed D.limit D.times ended.now ws
+        guests.old.items }
+    ensures guests { (ws : List Waiting) × D.waits door.new ws
+        × AreGuests R.remaining R.failures W.contents W.failures W.is_flushed D.limit D.times ended.now ws
+        guests.new.items }
+    ensures len { vec_len guests.new ≡ vec_len guests.old }
+{
+    if !is_due(&guests[place], gives_up) {
+        return;
+    }
+    match take_at(guests, place) {
+        None => {}
+        Some(guest) => tell(door, ended, place, guest),
+    }
+}
+
+/// Shows at the door how each stream stands that isn't over, if it is asked there.
+pub(super) fn show_guests<R: Source + Drop, W: Sink + Drop, D: Door<R, W>>(
+    door: &mut D,
+    ended: &Ended,
+    guests: &Vec<Option<Guest<R, W>>>,
+)
+    requires guests { (ws : List Waiting) × D.waits door.old ws
+        × AreGuests R.remaining R.failures W.contents W.failures W.is_flushed D.limit D.times ended.now ws
+        guests.now.items }
+    ensures waits { (ws : List Waiting) → D.waits door.old ws → D.waits door.new ws }
+{
+    if !door.asks() {
+        return;
+    }
+    for place in 0..guests.len() {
+        show_at(door, ended, guests, place);
+    }
+    door.shown(Some(ended.clock()));
+}
+
+/// Tells the door, if it asks, that no stream is served.
+pub(super) fn show_none<R: Source, W: Sink, D: Door<R, W>>(door: &mut D)
+    ensures waits { (ws : List Waiting) → D.waits door.old ws → D.waits door.new ws }
+{
+    if door.asks() {
+        door.shown(None);
+    }
+}
+
+/// Shows how the stream at this place stands, if it isn't over.
+fn show_at<R: Source + Drop, W: Sink + Drop, D: Door<R, W>>(
+    door: &mut D,
+    ended: &Ended,
+    guests: &Vec<Option<Guest<R, W>>>,
+    place: usize,
+)
+    requires within { place < vec_len guests.now }
+    requires guests { (ws : List Waiting) × D.waits door.old ws
+        × AreGuests R.remaining R.failures W.contents W.failures W.is_flushed D.limit D.times ended.now ws
+        guests.now.items }
+    ensures waits { (ws : List Waiting) → D.waits door.old ws → D.waits door.new ws }
+{
+    if let Some(guest) = &guests[place] {
+        if guest.stream.is_waiting() {
+            door.show(guest.ticket, standing_at(ended, place));
+        }
+    }
+}
+
+/// How the stream stands whose seat was handed over at this place.
+fn standing_at(ended: &Ended, place: usize) -> Standing
+    requires { (rest : StreamRest) × (slice_get ended.now.streams place ≡ Some rest)
+        × HasStream ended.now.book.desk rest.number (λ _. ⊤) }
+    ensures { (rest : StreamRest) → slice_get ended.now.streams place ≡ Some rest
+        → HasStream ended.now.book.desk rest.number (IsStandingOf result) }
+{
+    let Some(number) = ended.number(place) else {
+        unreachable!()
+    };
+    let Some(tally) = ended.counts(number) else {
+        unreachable!()
+    };
+    let Some((budget, deadline)) = ended.account(number) else {
+        unreachable!()
+    };
+    Standing {
+        accepted: tally.accepted,
+        finished: tally.finished,
+        collected: tally.collected,
+        charged: tally.charged,
+        budget,
+        deadline,
+    }
+}
+
+/// Takes the stream at this place.
+fn take_at<R: Source, W: Sink>(
+    guests: &mut Vec<Option<Guest<R, W>>>,
+    place: usize,
+) -> Option<Guest<R, W>>
+    requires within { place < vec_len guests.old }
+    ensures taken { slice_get guests.old.items place ≡ Some result }
+    ensures rest { guests.new.items ≡ slice_set guests.old.items place None }
+    ensures len { vec_len guests.new ≡ vec_len guests.old }
+{
+    guests[place].take()
+}
+
+/// Whether a stream is to be told: it is over, or given up.
+fn is_due<R: Source, W: Sink>(guest: &Option<Guest<R, W>>, gives_up: bool) -> bool {
+    match guest {
+        None => false,
+        Some(guest) => gives_up || !guest.stream.is_waiting(),
+    }
+}
+
+/// Whether a stream is left that wasn't told.
+fn any_left<R: Source, W: Sink>(guests: &Vec<Option<Guest<R, W>>>) -> bool
+    ensures { IsFalse result → AreAllTold guests.now.items }
+{
+    for guest in guests {
+        if guest.is_some() {
+            return true;
+        }
+    }
+    false
+}

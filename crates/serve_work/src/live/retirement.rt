@@ -1,0 +1,143 @@
+//! Where released streams are taken out between two epochs.
+ghost use Rattle.std.specs.Prelude.{◌≡◌, ◌+◌, ◌≤◌, ◌++◌, false, List, [], ◌∷◌, None, IfSome, IsTrue};
+ghost use Rattle.std.specs.Prelude.{length, map, take};
+ghost use Rattle.std.specs.Vec.{vec_capacity, vec_len};
+ghost use Rattle.serve_core.specs.Retired.{stays};
+ghost use Rattle.serve_work.specs.Live.{Waiting};
+ghost use Rattle.serve_work.specs.LiveInside.{AreGuests, AreToldBut, at_marks};
+
+use crate::door::Door;
+use crate::live::guests::{Guest, Interval};
+use serve_hub::Ended;
+use std::alloc::Global;
+use y4m_stream::{Sink, Source};
+
+/// Takes the released streams out, if each of them was told. Their numbers are free then, for others. Where
+/// one wasn't, where no stream would be left, or where memory is refused, all stays as it is.
+pub(super) fn without_released<R: Source + Drop, W: Sink + Drop, D: Door<R, W>>(
+    alloc: Global,
+    interval: Interval<R, W>,
+) -> Interval<R, W>
+    ensures guests { (ws : List Waiting)
+        → AreGuests R.remaining R.failures W.contents W.failures W.is_flushed D.limit D.times interval.ended
+        ws interval.guests.items
+        → AreGuests R.remaining R.failures W.contents W.failures W.is_flushed D.limit D.times result.ended ws
+        result.guests.items }
+{
+    let Interval {
+        ended,
+        guests,
+        workers,
+        goes_on,
+    } = interval;
+    let Some(marks) = marks_of(alloc, &ended, guests.len()) else {
+        return Interval {
+            ended,
+            guests,
+            workers,
+            goes_on,
+        };
+    };
+    let Ok(mut kept) = Vec::with_capacity(alloc, guests.len()) else {
+        return Interval {
+            ended,
+            guests,
+            workers,
+            goes_on,
+        };
+    };
+    if !are_told(&marks, &guests) {
+        return Interval {
+            ended,
+            guests,
+            workers,
+            goes_on,
+        };
+    }
+    match ended.retire(alloc) {
+        Err(ended) => Interval {
+            ended,
+            guests,
+            workers,
+            goes_on,
+        },
+        Ok(retired) => {
+            keep_marked(&mut kept, marks, guests);
+            Interval {
+                ended: retired.ended,
+                guests: kept,
+                workers,
+                goes_on,
+            }
+        }
+    }
+}
+
+/// Which of the streams stay whose seats were handed over at these places.
+fn marks_of(alloc: Global, ended: &Ended, count: usize) -> Option<Vec<bool>>
+    ensures marks { IfSome result (λ marks. marks.items
+        ≡ map (λ rest. stays ended.now.book.desk rest.number) (take count ended.now.streams)) }
+    ensures each { IfSome result (λ marks. vec_len marks ≡ count) }
+{
+    let Ok(mut marks) = Vec::with_capacity(alloc, count) else {
+        return None;
+    };
+    for place in 0..count {
+        let Some(number) = ended.number(place) else {
+            return None;
+        };
+        marks.push_reserved(ended.stays(number));
+    }
+    Some(marks)
+}
+
+/// Whether the stream at this place was told, or the place is marked.
+fn is_told<R: Source, W: Sink>(mark: bool, guest: &Option<Guest<R, W>>) -> bool
+    ensures { IsTrue result → mark ≡ false → guest.now ≡ None }
+{
+    mark || guest.is_none()
+}
+
+/// Whether no stream is left at the places that aren't marked.
+fn are_told<R: Source, W: Sink>(marks: &[bool], guests: &[Option<Guest<R, W>>]) -> bool
+    requires each { length guests.now ≤ length marks.now }
+    ensures { IsTrue result → AreToldBut marks.now guests.now }
+{
+    for place in 0..guests.len() {
+        if !is_told(marks[place], &guests[place]) {
+            return false;
+        }
+    }
+    true
+}
+
+/// Puts this one to the others, if it is marked.
+fn keep_one<R: Source + Drop, W: Sink + Drop>(
+    kept: &mut Vec<Option<Guest<R, W>>>,
+    mark: bool,
+    guest: Option<Guest<R, W>>,
+)
+    requires room { vec_len kept.old + 1 ≤ vec_capacity kept.old }
+    ensures kept { kept.new.items ≡ kept.old.items ++ at_marks (mark ∷ []) (guest ∷ []) }
+    ensures few { vec_len kept.new ≤ vec_len kept.old + 1 }
+    ensures same_room { vec_capacity kept.new ≡ vec_capacity kept.old }
+{
+    if mark {
+        kept.push_reserved(guest);
+    }
+}
+
+/// Keeps those at the marked places.
+fn keep_marked<R: Source + Drop, W: Sink + Drop>(
+    kept: &mut Vec<Option<Guest<R, W>>>,
+    marks: Vec<bool>,
+    guests: Vec<Option<Guest<R, W>>>,
+)
+    requires none { kept.old.items ≡ [] }
+    requires room { vec_len guests ≤ vec_capacity kept.old }
+    ensures { kept.new.items ≡ at_marks marks.items guests.items }
+{
+    for (mark, guest) in marks.into_iter().zip(guests) {
+        keep_one(kept, mark, guest);
+    }
+}

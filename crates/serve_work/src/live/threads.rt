@@ -1,0 +1,134 @@
+//! The threads of an epoch whose streams may be joined by others.
+ghost use Rattle.std.specs.Prelude.{◌≡◌, vec_len};
+ghost use Rattle.std.specs.Thread.{IsSend, IsSync};
+ghost use Rattle.serve_work.specs.SessionInside.{AllRun, Runs};
+
+use crate::door::{Bell, Door};
+use crate::gate::{Clock, Gate};
+use crate::session::room::Slot;
+use crate::session::threads::work_in;
+use crate::session::turn::Turn;
+use edf_pool::limits::MOST_STREAMS;
+use serve_hub::{Epoch, Hub};
+use std::alloc::Global;
+use std::sync::Wait;
+use std::thread;
+use std::thread::Threads;
+use y4m_stream::{Sink, Source};
+
+/// For how many milliseconds it is waited at the door before it is looked whether the epoch ends.
+const PATIENCE: u64 = 5;
+
+/// Ends the epoch where a request is at the door. It ends with the epoch.
+fn watch<L: Epoch, B: Bell, T: Wait>(rt: &T, hub: &Hub<L>, door: &B) {
+    for _ in rt.forever() {
+        if hub.is_full(rt) {
+            return;
+        }
+        if door.is_there(PATIENCE) {
+            hub.end_epoch(rt);
+            return;
+        }
+    }
+}
+
+/// Runs each client that waits, in a thread of its own, or on the one that asked for it where it is refused.
+/// Where one is done it ends the epoch.
+fn run_guests<
+    L: Epoch + Send + Sync,
+    R: Source + Drop + Send,
+    W: Sink + Drop + Send,
+    K: Clock + Sync,
+    T: Threads + Wait + Sync,
+>(rt: &T, alloc: Global, hub: &Hub<L>, turns: &mut [Turn<L, R, W>], clock: &K)
+    requires sharing { IsSync T.row × IsSync K.row × IsSync L.row × IsSend L.row }
+    ensures { AllRun (K.gives clock.now) turns.old turns.new }
+{
+    let serve = move |_: usize, turn: &mut Turn<L, R, W>|
+        ensures { Runs (K.gives clock.entry.now) turn.old turn.new }
+    {
+        turn.run(rt, alloc, hub, clock);
+        if turn.is_over() {
+            hub.end_epoch(rt);
+        }
+    };
+    thread::for_each_mut(rt, turns, MOST_STREAMS, &serve);
+}
+
+/// Runs the clients where a worker runs beside them, and ends the epoch when all are done or paused.
+fn run_beside<
+    L: Epoch + Send + Sync,
+    R: Source + Drop + Send,
+    W: Sink + Drop + Send,
+    K: Clock + Sync,
+    T: Threads + Wait + Sync,
+>(
+    rt: &T,
+    alloc: Global,
+    hub: &Hub<L>,
+    turns: Vec<Turn<L, R, W>>,
+    clock: &K,
+    any_works: bool,
+) -> Vec<Turn<L, R, W>>
+    requires sharing { IsSync T.row × IsSync K.row × IsSync L.row × IsSend L.row }
+    ensures count { vec_len result ≡ vec_len turns }
+    ensures run { AllRun (K.gives clock.now) turns.items result.items }
+{
+    if !any_works {
+        hub.end_epoch(rt);
+        return turns;
+    }
+    let mut turns = turns;
+    run_guests(rt, alloc, hub, &mut turns, clock);
+    hub.end_epoch(rt);
+    turns
+}
+
+/// Starts the workers and the watch at the door, runs the clients, and waits until all are back. Where no
+/// worker started, no client runs. Tells whether one did.
+pub(super) fn run_threads<
+    L: Epoch + Send + Sync,
+    R: Source + Drop + Send,
+    W: Sink + Drop + Send,
+    D: Door<R, W> + Sync,
+    G: Gate + Sync,
+    K: Clock + Sync,
+    T: Threads + Wait + Sync,
+>(
+    rt: &T,
+    alloc: Global,
+    hub: &Hub<L>,
+    slots: &[Slot<L>],
+    turns: Vec<Turn<L, R, W>>,
+    door: &D,
+    gate: &G,
+    clock: &K,
+) -> (Vec<Turn<L, R, W>>, bool)
+    ensures count { vec_len result.0 ≡ vec_len turns }
+    ensures run { AllRun (K.gives clock.now) turns.items result.0.items }
+{
+    thread::scope(
+        thread::scope_env(),
+        rt,
+        |scope| -> (Vec<Turn<L, R, W>>, bool)
+            requires { IsSync T.row × IsSync G.row × IsSync K.row × IsSync L.row × IsSend L.row
+                × IsSync D.row × IsSend R.row × IsSend W.row }
+            ensures count { vec_len result.0 ≡ vec_len turns }
+            ensures run { AllRun (K.gives clock.entry.now) turns.items result.0.items }
+        {
+            let mut any_works = false;
+            for slot in slots {
+                if scope.spawn(move || work_in(rt, hub, slot, gate)).is_ok() {
+                    any_works = true;
+                }
+            }
+            for _watch in 0..1 {
+                if scope.spawn(move || watch(rt, hub, door)).is_err() {
+                    break;
+                }
+            }
+            let turns = run_beside(rt, alloc, hub, turns, clock, any_works);
+            (turns, any_works)
+        },
+    )
+}
