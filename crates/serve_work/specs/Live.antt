@@ -11,6 +11,7 @@ use Rattle.serve_core.specs.Schedule.{HasStream, ScheduleValue}
 use Rattle.serve_core.specs.Setup.{StreamSpec}
 use Rattle.serve_core.specs.Streams.{KeptStream}
 use Rattle.serve_hub.specs.declared.entry.Act.{Act}
+use Rattle.serve_hub.specs.declared.limits.TheConstants.{MOST_ENTRIES}
 use Rattle.serve_hub.specs.declared.entry.Entry.{Entry}
 use Rattle.serve_hub.specs.declared.entry.Seat.TheVariants.{Stream}
 use Rattle.serve_hub.specs.declared.refusal.Refusal.{Refusal}
@@ -165,6 +166,12 @@ pub record IsStanding (limit : ℕ) (times : ℕ → Type 0) (request : RequestV
   pub parts : AreParts limit times (part ∷ before)
   pub calls : past ++ seat.calls.list ≡ acts_in_parts (part ∷ before)
   pub stream : HasStream part.last part.number (IsStandingOf standing)
+
+-- how many entries an epoch's journal may have: a close of each of 64 streams, an admission of each, and a lease
+-- with its settlement
+pub record IsLiveLimit (limit : ℕ) : Type 0 where
+  pub least : 130 ≤ limit
+  pub most : limit ≤ MOST_ENTRIES
 
 -- how a session may be formed: how many workers it has, and the most bands of a lease
 pub record IsForm (workers quantum : ℕ) : Type 0 where

@@ -2,8 +2,8 @@
 //!
 //! It goes from epoch to epoch. Where a request is at the door, or a stream is over, the epoch is ended; the
 //! streams that are over are told then, and those that came are admitted before the next one begins.
-ghost use Rattle.std.specs.Prelude.{ℕ, ◌≡◌, ◌≢◌, List, [], ◌∷◌, IfErr, IfOk};
-ghost use Rattle.serve_work.specs.Live.{IsForm, Waiting, waiting_of};
+ghost use Rattle.std.specs.Prelude.{ℕ, ◌≡◌, ◌≢◌, ◌↔◌, List, [], ◌∷◌, IfErr, IfOk, IsErrOf};
+ghost use Rattle.serve_work.specs.Live.{IsForm, IsLiveLimit, Waiting, waiting_of};
 ghost use Rattle.serve_work.specs.LiveInside.{AreGuests};
 ghost use Rattle.serve_work.specs.Sessions.{IsInput};
 
@@ -110,7 +110,8 @@ fn go_on<
 
 /// Serves streams that come and go, until none is left and no more requests come.
 ///
-/// Each request is told its answer at the door: where it isn't admitted, or when its stream is over.
+/// Each request is told its answer at the door: where it isn't admitted, or when its stream is over. A session
+/// that fails lets go of those that wait.
 pub fn serve_live<
     R: Source + Drop + Send,
     W: Sink + Drop + Send,
@@ -133,6 +134,7 @@ pub fn serve_live<
     requires times { (at : ℕ) → K.gives clock.now at → D.times at }
     requires nobody { D.waits door.old [] }
     ensures answered { IfOk result (λ _. D.waits door.new []) }
+    ensures bad_limit { IsErrOf result SessionFault.BadLimit ↔ ¬ IsLiveLimit limit }
 {
     if limit < LEAST_LIMIT || limit > MOST_ENTRIES {
         return Err(SessionFault::BadLimit);

@@ -46,8 +46,8 @@ pub struct Served<R: Source, W: Sink> {
 /// Why a session tells nothing of its streams.
 #[derive(Clone, Copy, Debug, PartialEq, Eq, Error)]
 pub enum SessionFault {
-    /// The journal's limit isn't 16 to 1,048,576, or not at least the number of streams and 2. No frame was
-    /// offered.
+    /// The journal's limit isn't 16, or where streams come and go 130, to 1,048,576, or not at least the
+    /// number of streams and 2. No frame was offered.
     #[error("BadLimit")]
     BadLimit,
     /// Memory was refused, or a worker's thread, in the first epoch. No frame was offered.
