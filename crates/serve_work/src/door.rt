@@ -33,8 +33,8 @@ pub trait Door<R: Source, W: Sink>: Bell {
             → waits self.new (ws ++ waiting_of W.contents W.failures r ∷ [])) }
         ensures none { IfNone result ((ws : List Waiting) → waits self.old ws → waits self.new ws) };
 
-    /// Is told what came of a request that waits. It waits no longer. The answer is the door's to take: what it
-    /// leaves in its place is dropped.
+    /// Is told what came of a request that waits. It waits no longer. The answer is the door's to take: what
+    /// it leaves in its place is dropped.
     fn tell(&mut self, ticket: u64, answer: &mut Option<Answer<R, W>>)
         requires answer { (before : List Waiting) × (w : Waiting) × (after : List Waiting)
             × waits self.old (before ++ w ∷ after) × (w.ticket ≡ ticket)

@@ -15,8 +15,8 @@ use test_tools::streams::{CUT, HEADER, ONE, ONE_INVERTED, THREE, THREE_INVERTED}
 use test_tools::{Room, Tape};
 use y4m_stream::{OverRead, OverWrite, ReadFault, Sink, Source, StreamReader, Wanted, WriteFault};
 
-/// How often a source is asked at most whether it is ready. Then it says so, and its read fails: what it waits
-/// for doesn't come any more, as where another stream had no memory.
+/// How often a source is asked at most whether it is ready. Then it says so, and its read fails: what it
+/// waits for doesn't come any more, as where another stream had no memory.
 const PATIENCE: u64 = 100_000_000;
 
 /// When the bytes of a stream come: so many at first, and then ten at a time, where so many bytes were
