@@ -7,7 +7,7 @@ ghost use Rattle.serve_core.specs.Setup.{IsWithinLimits, costs, steps};
 
 use filters::MOST_COST;
 use frame_view::Geometry;
-use lease::JobSpec;
+use lease::{JobSpec, is_same_spec};
 use std::alloc::AllocError;
 use std::marker::Model;
 use std::sync::Arc;
@@ -93,6 +93,35 @@ impl StreamSpec {
             outbox: self.outbox,
             frames: self.frames,
         })
+    }
+
+    /// Whether the other is the same: in each number, and in what is done to the frames.
+    pub fn is_same(&self, other: &StreamSpec) -> bool
+        ensures { IsTrue result ↔ (self.now ≡ other.now) }
+    {
+        let is_sized = self.geometry == other.geometry;
+        if !is_sized {
+            return false;
+        }
+        if !is_same_spec(&self.job, &other.job) {
+            return false;
+        }
+        if self.maximum != other.maximum {
+            return false;
+        }
+        if self.period != other.period {
+            return false;
+        }
+        if self.queue != other.queue {
+            return false;
+        }
+        if self.outbox != other.outbox {
+            return false;
+        }
+        if self.frames != other.frames {
+            return false;
+        }
+        true
     }
 
     /// What is done to each frame.

@@ -184,6 +184,30 @@ const LIMITS: &[Case<'_>] = &[
     ),
 ];
 
+/// Each differs from `PLAIN` in one of its words alone.
+const OTHERS: &[Served<'_>] = &[
+    Served {
+        size: Pair,
+        ..PLAIN
+    },
+    Served {
+        ops: "hflip",
+        ..PLAIN
+    },
+    Served { rows: 8, ..PLAIN },
+    Served {
+        account: (3, 10),
+        ..PLAIN
+    },
+    Served {
+        account: (2, 11),
+        ..PLAIN
+    },
+    Served { queue: 5, ..PLAIN },
+    Served { outbox: 5, ..PLAIN },
+    Served { frames: 1, ..PLAIN },
+];
+
 /// Compares the first fault of each setup.
 fn are_faulty(rt: &impl Abort, alloc: Global, cases: &[Case<'_>]) -> Result<(), Fail> {
     for (name, workers, quantum, streams, wanted) in cases {
@@ -211,5 +235,18 @@ fn a_chain_is_made_for_the_frames_of_its_stream(rt: HostRuntime) -> Result<(), F
     streams.push(StreamSpec::new(geometry_of(Pair), spec.job().clone()?, 2, 10, 4, 4, 1))?;
     let fault = Setup::new(1, 4, streams).err();
     same(&rt, fault, Some(SetupError::BadLimits));
+    Ok(())
+}
+
+#[test]
+fn what_streams_are_served_with_is_compared(rt: HostRuntime) -> Result<(), Fail> {
+    let alloc = rt.alloc();
+    let spec = spec_of(alloc, &PLAIN)?;
+    same(&rt, spec.is_same(&spec_of(alloc, &PLAIN)?), true);
+    let sized = StreamSpec::new(geometry_of(Pair), spec.job().clone()?, 2, 10, 4, 4, 1 << 24);
+    same(&rt, spec.is_same(&sized), false);
+    for (place, other) in specs_of(alloc, OTHERS)?.iter().enumerate() {
+        same_at(&rt, spec.is_same(other), false, place);
+    }
     Ok(())
 }
