@@ -170,7 +170,8 @@ impl<L: Epoch> StreamSeat<L> {
 
     /// What a frame is refused for whose job wasn't made: where the book would accept it, for want of memory.
     pub(crate) fn refusal(&self, shared: &Shared<L>, at: u64, frame: &Frame) -> Refusal
-        ensures { IsOfferTold self.now at frame.now.geometry result }
+        ensures told { IsOfferTold self.now at frame.now.geometry result }
+        ensures place { result ≢ Torn NoPlace }
     {
         match self.refused_by(shared, at, frame) {
             Some(refusal) => refusal,
