@@ -16,14 +16,15 @@ use Rattle.serve_hub.specs.Ends.{AreFree, AreStreamCalls, ClockReached, ClocksRe
 use Rattle.serve_hub.specs.Journal.{IsJournal}
 use Rattle.serve_hub.specs.Seats.{StreamRest, StreamSeatValue, left_by, opened_rest, seat_over}
 use Rattle.serve_work.specs.declared.live.guests.Guest.{Guest}
+use Rattle.serve_work.specs.declared.live.guests.Ticket.{Ticket}
 use Rattle.serve_work.specs.declared.live.opening.Hall.{Hall}
 use Rattle.serve_work.specs.declared.session.turn.Stream.{Stream}
 use Rattle.serve_work.specs.Clients.{AllowsStop, AreAtMoments, ClientStart, StreamEnds, offers_in}
 use Rattle.serve_work.specs.ClientInside.{KeepsMoments}
-use Rattle.serve_work.specs.Live.{IsBehind, IsPart, IsRequest, IsSeatFor, IsServedSince, PartValue, RequestValue, Waiting}
-use Rattle.serve_work.specs.Live.{acts_in_parts, start_with}
-use Rattle.serve_work.specs.LiveInside.{AllAt, AreAllTold, AreGuests, AreSeated, Begins, CanTell, HadTurn, HasPlaces, HasTurn}
-use Rattle.serve_work.specs.LiveInside.{IsGuestAt, IsGuestIn, Stood, TakesSeat, guests_of, helds_of, nobody, tickets_of}
+use Rattle.serve_work.specs.Live.{IsBehind, IsNewIn, IsOfSpec, IsPart, IsRequest, IsSeatFor, IsServedSince, PartValue}
+use Rattle.serve_work.specs.Live.{RequestValue, Waiting, acts_in_parts, start_with}
+use Rattle.serve_work.specs.LiveInside.{AllAt, AreAllTold, AreAsAsked, AreGuests, AreSeated, Begins, CanTell, HadTurn, HasPlaces}
+use Rattle.serve_work.specs.LiveInside.{HasTurn, IsGuestAt, IsGuestIn, Stood, TakesSeat, guests_of, helds_of, nobody, ticket_of, tickets_of}
 use Rattle.serve_work.specs.Rests.{IsFresh, Unbegun}
 use Rattle.serve_work.specs.Sessions.{AreTimed, IsStreamTold, ServedValue}
 use Rattle.serve_work.specs.SessionInside as sessions
@@ -42,9 +43,10 @@ use Rattle.serve_work.proofs.Timing.{timed}
 
 -- the stream of a request begins with a new seat
 pub began : (limit : ℕ) (times : ℕ → Type 0) (opening : ScheduleValue) (request : RequestValue) (seat : StreamSeatValue)
-    → IsRequest request → IsSeatFor request.spec seat → offers_in seat.calls.list ≡ 0 → seat.moments ≡ None
+    → IsRequest request → IsSeatFor request.spec seat → IsNewIn request.spec seat.number opening → offers_in seat.calls.list ≡ 0
+    → seat.moments ≡ None
     → Begins limit times opening request (sessions.Waiting (Unbegun request.reader request.before request.failures)) seat
-began limit times opening request seat is new none no_moments =
+began limit times opening request seat is new there none no_moments =
     let first : IsFresh seat = record { accepted = new.accepted; kept = new.kept; is_open = new.is_open } in
     record {
       is_request = is;
@@ -52,7 +54,7 @@ began limit times opening request seat is new none no_moments =
       is_new = new;
       parts = [];
       are = tt;
-      behind = tt;
+      behind = there;
       stands = record {
         same_reader = refl;
         same_contents = refl;
@@ -147,7 +149,7 @@ module _ (limit : ℕ) (times : ℕ → Type 0) (opening : ScheduleValue) (book 
           before = b.parts;
           are = (
             is_part new.seat.number (its_times old new b.no_offers b.no_moments on.1 own reached),
-            subst (λ (n : ℕ). IsBehind n opening b.parts) (sym number) b.behind,
+            subst (λ (n : ℕ). IsBehind request.spec n opening b.parts) (sym number) b.behind,
             b.are,
           );
           behind = (0, (refl, refl));
@@ -199,9 +201,9 @@ pub answered : (limit : ℕ) (times : ℕ
     → ((start : ClientStart) (past : List Act) (last : StreamSeatValue) → StandsAt stream start past last
     → StreamEnds start past last served.outcome)
     → All IsCharged desk.streams → HasStream desk seat.number (IsStreamOf seat)
-    → HasStream desk seat.number (λ kept. served.charged ≡ kept.state.charged) → AllowsStop times served.outcome.stop
-    → IsServedSince limit times request served
-answered limit times desk request stream seat served s ends all of charged stop =
+    → HasStream desk seat.number (λ kept. served.charged ≡ kept.state.charged) → HasStream desk seat.number (IsOfSpec request.spec)
+    → AllowsStop times served.outcome.stop → IsServedSince limit times request served
+answered limit times desk request stream seat served s ends all of charged asked stop =
     let start = start_with request s.first in
     let one = served_one start s.past seat served desk all (ends start s.past seat s.stands) of charged in
     record {
@@ -213,6 +215,7 @@ answered limit times desk request stream seat served s ends all of charged stop 
       parts = s.are;
       calls = rw (one.past_of, one.seat_of) s.calls;
       stream = stream_before s.behind.0 s.part.last s.part.number desk seat.number (IsStreamTold served) s.behind.1 one.stream;
+      spec = stream_before s.behind.0 s.part.last s.part.number desk seat.number (IsOfSpec request.spec) s.behind.1 asked;
       stop = stop;
     }
 
@@ -242,17 +245,18 @@ module _ {R W : Type 0} (value : Stream R W → StreamValue) (limit : ℕ) (time
 
   pub guests_at : (ws : List Waiting) (streams : List (Stream R W)) (after : List HeldValue) (idle : List StreamSeatValue)
       → AllZip (HadTurn limit times desk) ws after → map value streams ≡ map (λ held. held.stream) after
-      → AllAt (IsGuestAt value limit times desk) (guests_of (map (λ w. w.ticket) ws) streams ++ nobody idle)
+      → AreAsAsked desk (map left_by (map (λ held. held.seat) after ++ idle)) (guests_of (map ticket_of ws) streams ++ nobody idle)
+      → AllAt (IsGuestAt value limit times desk) (guests_of (map ticket_of ws) streams ++ nobody idle)
       (map (λ held. held.seat) after ++ idle) ws
-  guests_at [] streams [] idle p e = nobody_at idle
-  guests_at [] streams (held ∷ after) idle p e = absurd p
-  guests_at (w ∷ ws) [] [] idle p e = absurd p
-  guests_at (w ∷ ws) [] (held ∷ after) idle p e = absurd (omega (arith, ap length e))
-  guests_at (w ∷ ws) (stream ∷ streams) [] idle p e = absurd p
-  guests_at (w ∷ ws) (stream ∷ streams) (held ∷ after) idle p e =
+  guests_at [] streams [] idle p e asked = nobody_at idle
+  guests_at [] streams (held ∷ after) idle p e asked = absurd p
+  guests_at (w ∷ ws) [] [] idle p e asked = absurd p
+  guests_at (w ∷ ws) [] (held ∷ after) idle p e asked = absurd (omega (arith, ap length e))
+  guests_at (w ∷ ws) (stream ∷ streams) [] idle p e asked = absurd p
+  guests_at (w ∷ ws) (stream ∷ streams) (held ∷ after) idle p e asked =
       let here : value stream ≡ held.stream = ap (λ (vs : List StreamValue). get_or vs 0 (value stream)) e in (
-        (refl, rw here p.0),
-        guests_at ws streams after idle p.1 (ap (λ (vs : List StreamValue). drop 1 vs) e),
+        (refl, rw here p.0, asked 0 (Some (record { ticket = ticket_of w; stream = stream })) refl),
+        guests_at ws streams after idle p.1 (ap (λ (vs : List StreamValue). drop 1 vs) e) (λ place. asked (suc place)),
       )
 
   pub guests_in : (size : ℕ) (guests : List (Option (Guest R W))) (seats : List StreamSeatValue) (ws : List Waiting)
@@ -277,7 +281,7 @@ module _ {R W : Type 0} (value : Stream R W → StreamValue) (limit : ℕ) (time
   seated_of (seat ∷ seats) (Some guest ∷ guests) (w ∷ ws) p = (p.0.1, seated_of seats guests ws p.1)
 
   pub tickets_are : (seats : List StreamSeatValue) (guests : List (Option (Guest R W))) (ws : List Waiting)
-      → AllAt (IsGuestIn value limit times desk) guests seats ws → tickets_of seats guests ≡ map (λ w. w.ticket) ws
+      → AllAt (IsGuestIn value limit times desk) guests seats ws → tickets_of seats guests ≡ map ticket_of ws
   tickets_are [] [] [] p = refl
   tickets_are (seat ∷ seats) [] [] p = refl
   tickets_are seats [] (w ∷ ws) p = absurd p
@@ -285,8 +289,19 @@ module _ {R W : Type 0} (value : Stream R W → StreamValue) (limit : ℕ) (time
   tickets_are (seat ∷ seats) (None ∷ guests) ws p = tickets_are seats guests ws p
   tickets_are (seat ∷ seats) (Some guest ∷ guests) [] p = absurd p
   tickets_are (seat ∷ seats) (Some guest ∷ guests) (w ∷ ws) p =
-      ap (λ (n : ℕ). n ∷ tickets_of seats guests) p.0.0
-      ∙ ap (λ (ts : List ℕ). w.ticket ∷ ts) (tickets_are seats guests ws p.1)
+      ap (λ (ticket : Ticket). ticket ∷ tickets_of seats guests) p.0.0
+      ∙ ap (λ (tickets : List Ticket). ticket_of w ∷ tickets) (tickets_are seats guests ws p.1)
+
+-- one place more was compared
+pub one_asked : {A : Type 0} (P : ℕ → A → Type 0) (items : List A) (n : ℕ) (item : A)
+    → ((k : ℕ) (x : A) → k < n → slice_get items k ≡ Some x → P k x) → P n item → item ≡ get_or items n item
+    → (k : ℕ) (x : A) → k < n + 1 → slice_get items k ≡ Some x → P k x
+one_asked P [] n item before now is k x less e = absurd (cc)
+one_asked P (y ∷ items) zero item before now is zero x less e = let same : y ≡ x = cc in subst (P 0) (is ∙ same) now
+one_asked P (y ∷ items) zero item before now is (suc k) x less e = absurd (omega (arith, less))
+one_asked P (y ∷ items) (suc n) item before now is zero x less e = before 0 x (omega arith) e
+one_asked P (y ∷ items) (suc n) item before now is (suc k) x less e =
+    one_asked (λ j. P (suc j)) items n item (λ j z l. before (suc j) z (omega (arith, l))) now is k x (omega (arith, less)) e
 
 -- a stream at a place, its seat, and its request among those that wait
 pub record At {R W : Type 0} (P : Guest R W → StreamSeatValue → Waiting → Type 0) (guests : List (Option (Guest R W)))
@@ -379,14 +394,14 @@ module _ {R W : Type 0} (P : Guest R W → StreamSeatValue → Waiting → Type 
 
 pub seated_more : {L R W : Type 0} (limit : ℕ) (times : ℕ
     → Type 0) (opening : ScheduleValue) (ws : List Waiting) (old new : Hall L R W) (w : Waiting)
-    (held : HeldValue) → AreSeated limit times opening ws old → TakesSeat w.ticket held old new → HasTurn limit times opening w held
+    (held : HeldValue) → AreSeated limit times opening ws old → TakesSeat (ticket_of w) held old new → HasTurn limit times opening w held
     → AreSeated limit times opening (ws ++ w ∷ []) new
 seated_more limit times opening ws old new w held s t turn = record {
   places = t.places;
   few = omega (arith, t.few, t.len, ap vec_len t.idle);
   helds = s.helds ++ held ∷ [];
   turns = t.turns ∙ ap (λ (ts : List (Option HeldValue)). ts ++ Some held ∷ []) s.turns ∙ sym (map_more Some s.helds held);
-  tickets = t.tickets ∙ ap (λ (ts : List ℕ). ts ++ w.ticket ∷ []) s.tickets ∙ sym (map_more (λ (v : Waiting). v.ticket) ws w);
+  tickets = t.tickets ∙ ap (λ (tickets : List Ticket). tickets ++ ticket_of w ∷ []) s.tickets ∙ sym (map_more ticket_of ws w);
   each = one_turn_more limit times opening ws s.helds w held s.each turn;
 }
 
@@ -424,6 +439,7 @@ module _ {R W : Type 0} (left : R → Option (List ℕ)) (read_failures : R → 
     ticket = at.is.0;
     seat = at.seat;
     stood = at.is.1;
+    asked = at.is.2;
     here = subst (λ (rests : List StreamRest). slice_get rests place ≡ Some (left_by at.seat)) (sym a.rests) at.rest;
     kept = subst (λ (s : StreamSeatValue). HasStream ended.book.desk s.number (IsStreamOf s)) at.here (a.kept place at.seat at.within);
     charges = a.charges;

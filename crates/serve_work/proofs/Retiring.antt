@@ -13,7 +13,7 @@ use Rattle.serve_hub.specs.Retired.{renumbered, rests_kept, retired_end}
 use Rattle.serve_hub.specs.Seats.{StreamRest, StreamSeatValue, left_by}
 use Rattle.serve_work.specs.declared.live.guests.Guest.{Guest}
 use Rattle.serve_work.specs.declared.session.turn.Stream.{Stream}
-use Rattle.serve_work.specs.Live.{RequestValue, Waiting, numbered, start_with}
+use Rattle.serve_work.specs.Live.{IsOfSpec, RequestValue, Waiting, numbered, start_with}
 use Rattle.serve_work.specs.LiveInside.{AllAt, AreGuests, AreToldBut, IsGuestAt, Stood, at_marks}
 use Rattle.serve_work.specs.SessionInside.{StreamValue, stream_of}
 use Rattle.serve_work.proofs.Renumbered.{once_more, stands_numbered}
@@ -185,7 +185,11 @@ module _ {R W : Type 0} (value : Stream R W → StreamValue) (limit : ℕ) (time
       some_picked (IsGuestAt value limit times (retired_schedule desk)) (stays desk seat.number) guest
       (numbered (new_number desk seat.number) seat) w (at_marks (marks seats) guests) (seats_kept desk seats) ws
       (λ e. some_is_there guest (told 0 (Some guest) (ap Some e) refl))
-      (λ e. (p.0.0, retired_one limit times desk w.request (value guest.stream) seat p.0.1 e))
+      (λ e. (
+        p.0.0,
+        retired_one limit times desk w.request (value guest.stream) seat p.0.1 e,
+        subst (λ (o : Option KeptStream). IsSomeAnd o (IsOfSpec w.request.spec)) (sym (number_is desk seat.number e)) p.0.2,
+      ))
       (guests_kept guests seats ws p.1 (λ k. told (suc k)))
 
 -- the streams between two epochs, without those that are released, each of which was told

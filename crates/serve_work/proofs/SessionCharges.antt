@@ -76,14 +76,14 @@ is_there None P p = absurd p
 is_there (Some stream) P p = tt
 
 -- a stream of the desk, of which these are true
-record StreamAt (desk : ScheduleValue) (n : ℕ) (P Q : KeptStream → Type 0) : Type 0 where
-  stream : KeptStream
-  here : slice_get desk.streams n ≡ Some stream
-  first : P stream
-  second : Q stream
-  among : All IsCharged desk.streams → IsCharged stream
+pub record StreamAt (desk : ScheduleValue) (n : ℕ) (P Q : KeptStream → Type 0) : Type 0 where
+  pub stream : KeptStream
+  pub here : slice_get desk.streams n ≡ Some stream
+  pub first : P stream
+  pub second : Q stream
+  pub among : All IsCharged desk.streams → IsCharged stream
 
-stream_at : (desk : ScheduleValue) (n : ℕ) (P Q : KeptStream → Type 0) → HasStream desk n P → HasStream desk n Q → StreamAt desk n P Q
+pub stream_at : (desk : ScheduleValue) (n : ℕ) (P Q : KeptStream → Type 0) → HasStream desk n P → HasStream desk n Q → StreamAt desk n P Q
 stream_at desk n P Q p q = elim (slice_get_cases desk.streams n).1 [
   | inl here ↦ record {
     stream = here.0;

@@ -1,21 +1,24 @@
 -- How the streams of a session are shown.
 use Rattle.std.specs.Prelude.{Bool, IsSomeAnd}
 use Rattle.std.specs.Option.{option_map}
-use Rattle.std.proofs.Common.{ℕ, ◌≡◌, List, Option, Some, None, true, ap}
+use Rattle.std.proofs.Common.{ℕ, ◌≡◌, ◌∙◌, ◌+◌, ◌++◌, List, Option, Some, None, true, ap, arith, sym}
 use Rattle.serve_core.specs.declared.counts.Counts.{Counts}
 use Rattle.serve_core.specs.Schedule.{HasStream, ScheduleValue, account_of, counts_of}
 use Rattle.serve_core.specs.Streams.{KeptStream}
 use Rattle.serve_hub.specs.declared.entry.Act.{Act}
+use Rattle.serve_hub.specs.Ends.{IsStreamOf}
 use Rattle.serve_hub.specs.Seats.{StreamSeatValue}
 use Rattle.serve_work.specs.declared.request.Standing.{Standing}
 use Rattle.serve_work.specs.declared.session.turn.Stream.{Stream}
 use Rattle.serve_work.specs.declared.session.turn.Stream.TheVariants as streams
-use Rattle.serve_work.specs.Clients.{ClientStart}
-use Rattle.serve_work.specs.Live.{IsStanding, IsStandingOf, RequestValue, start_with}
+use Rattle.serve_work.specs.Clients.{ClientStart, collections_in, offers_in}
+use Rattle.serve_work.specs.Live.{IsOfSpec, IsStanding, IsStandingOf, RequestValue, start_with}
 use Rattle.serve_work.specs.LiveInside.{Stood}
-use Rattle.serve_work.specs.Rests.{IsRestOf, RestValue}
+use Rattle.serve_work.specs.Rests.{Begun, IsRestOf, RestValue, Unbegun}
 use Rattle.serve_work.specs.SessionInside.{StandsAt, is_waiting, stream_of}
 use Rattle.serve_work.proofs.Renumbered.{stream_before}
+use Rattle.serve_work.proofs.SessionCharges.{stream_at}
+use Rattle.serve_work.proofs.Tallying.{collections_both, collections_counted}
 
 abbrev pub standing_with : Counts → (budget deadline : ℕ) → Standing
 standing_with counts budget deadline = record {
@@ -45,6 +48,16 @@ shown_as (Some stream) counts budget deadline e f =
       deadline = ap (λ (a : ℕ × ℕ). a.1) account;
     }
 
+-- what a stream's calls say of its seat, where something is left to do
+record Counted (start : ClientStart) (past : List Act) (seat : StreamSeatValue) : Type 0 where
+  offers : offers_in (past ++ seat.calls.list) ≡ seat.accepted
+  before : seat.before ≡ start.seat.before + collections_in past
+
+counted : (start : ClientStart) (past : List Act) (seat : StreamSeatValue) (rest : RestValue) → IsRestOf start past seat rest
+    → Counted start past seat
+counted start past seat (Unbegun reader contents failures) a = record { offers = a.offers; before = a.before }
+counted start past seat (Begun begun) a = record { offers = a.tally.offers; before = a.tally.before }
+
 module _ {R W : Type 0} (left : R → Option (List ℕ)) (read_failures : R → ℕ) (after : W → Option (List ℕ)) (failures : W → ℕ)
     (is_flushed : W → Bool) where
   rest_left : (stream : Stream R W) (start : ClientStart) (past : List Act) (seat : StreamSeatValue) → is_waiting stream ≡ true
@@ -57,9 +70,13 @@ module _ {R W : Type 0} (left : R → Option (List ℕ)) (read_failures : R → 
   pub can_show : (limit : ℕ) (times : ℕ → Type 0) (desk : ScheduleValue) (request : RequestValue) (stream : Stream R W)
       (seat : StreamSeatValue) (standing : Standing)
       → Stood limit times desk request (stream_of left read_failures after failures is_flushed stream) seat
-      → is_waiting stream ≡ true → HasStream desk seat.number (IsStandingOf standing) → IsStanding limit times request standing
-  can_show limit times desk request stream seat standing s waits has =
-      let rest = rest_left stream (start_with request s.first) s.past seat waits s.stands in
+      → is_waiting stream ≡ true → HasStream desk seat.number (IsStreamOf seat) → HasStream desk seat.number (IsOfSpec request.spec)
+      → HasStream desk seat.number (IsStandingOf standing) → IsStanding limit times request standing
+  can_show limit times desk request stream seat standing s waits of asked has =
+      let start = start_with request s.first in
+      let rest = rest_left stream start s.past seat waits s.stands in
+      let count = counted start s.past seat rest.0 rest.1 in
+      let at = stream_at desk seat.number (IsStreamOf seat) (IsStandingOf standing) of has in
       record {
         first = s.first;
         is_new = s.is_new;
@@ -71,5 +88,16 @@ module _ {R W : Type 0} (left : R → Option (List ℕ)) (read_failures : R → 
         before = s.before;
         parts = s.are;
         calls = s.calls;
+        accepted = at.second.accepted ∙ at.first.accepted ∙ sym count.offers;
+        collected = omega (
+          arith,
+          at.second.collected,
+          at.first.collected,
+          count.before,
+          s.is_new.before,
+          collections_both s.past seat.calls.list,
+          collections_counted seat.calls.list,
+        );
         stream = stream_before s.behind.0 s.part.last s.part.number desk seat.number (IsStandingOf standing) s.behind.1 has;
+        spec = stream_before s.behind.0 s.part.last s.part.number desk seat.number (IsOfSpec request.spec) s.behind.1 asked;
       }

@@ -7,8 +7,8 @@ use Rattle.serve_core.specs.declared.refusal.Refusal.TheVariants as cores
 use Rattle.serve_core.specs.declared.limits.TheConstants.{MOST_QUANTUM}
 use Rattle.serve_core.specs.Desk.{desk_state}
 use Rattle.serve_core.specs.Retired.{new_number, retired_schedule, stays}
-use Rattle.serve_core.specs.Schedule.{HasStream, ScheduleValue}
-use Rattle.serve_core.specs.Setup.{StreamSpec}
+use Rattle.serve_core.specs.Schedule.{HasStream, ScheduleValue, opened_schedule}
+use Rattle.serve_core.specs.Setup.{Setup, StreamSpec}
 use Rattle.serve_core.specs.Streams.{KeptStream}
 use Rattle.serve_hub.specs.declared.entry.Act.{Act}
 use Rattle.serve_hub.specs.declared.limits.TheConstants.{MOST_ENTRIES}
@@ -25,7 +25,7 @@ use Rattle.serve_work.specs.declared.request.Answer.{Answer}
 use Rattle.serve_work.specs.declared.request.Answer.TheVariants as answers
 use Rattle.serve_work.specs.declared.request.Request.{Request}
 use Rattle.serve_work.specs.declared.request.Standing.{Standing}
-use Rattle.serve_work.specs.Clients.{AllowsStop, ClientStart}
+use Rattle.serve_work.specs.Clients.{AllowsStop, ClientStart, collections_in, offers_in}
 use Rattle.serve_work.specs.Rests.{IsRestOf, RestValue}
 use Rattle.serve_work.specs.Sessions.{AreTimed, IsServed, IsStreamTold, ServedValue, open_streams, served_of}
 
@@ -117,19 +117,38 @@ IsKeptOver zero last old opening number = (opening ≡ last) × (number ≡ old)
 IsKeptOver (suc times) last old opening number =
     IsTrue (stays last old) × IsKeptOver times (retired_schedule last) (new_number last old) opening number
 
--- an epoch opens where the one before it ended, perhaps without the streams that were released there, and the
--- stream keeps its number, but for these
-abbrev pub IsBehind : (number : ℕ) (opening : ScheduleValue) → List PartValue → Type 0
-IsBehind number opening [] = ⊤
-IsBehind number opening (part ∷ before) = (times : ℕ) × IsKeptOver times part.last part.number opening number
+-- a hub opens here, for a stream of this spec alone
+pub record OpensFor (spec : StreamSpec) (number : ℕ) (opening : ScheduleValue) : Type 0 where
+  pub setup : Setup
+  pub streams : setup.streams ≡ spec ∷ []
+  pub opened : opening ≡ opened_schedule setup
+  pub first : number ≡ 0
 
-abbrev pub AreParts : (limit : ℕ) (times : ℕ → Type 0) → List PartValue → Type 0
-AreParts limit times [] = ⊤
-AreParts limit times (part ∷ before) =
-    IsPart limit times part × IsBehind part.number part.opening before × AreParts limit times before
+-- a stream of this spec is new in the epoch that opens here: its hub opens for it, or it has a number that no
+-- stream has there
+abbrev pub IsNewIn : StreamSpec → (number : ℕ) (opening : ScheduleValue) → Type 0
+IsNewIn spec number opening = OpensFor spec number opening ⊎ (length opening.streams ≤ number)
 
--- the stream of this request was served in epochs from its admission on, by its calls in their journals, and
--- is told as it stood at the end of the last. A clock that gives these times allows its stop
+-- the stream is new in the first of its epochs. Each other one opens where the one before it ended, perhaps
+-- without the streams that were released there, and the stream keeps its number, but for these
+abbrev pub IsBehind : StreamSpec → (number : ℕ) (opening : ScheduleValue) → List PartValue → Type 0
+IsBehind spec number opening [] = IsNewIn spec number opening
+IsBehind spec number opening (part ∷ before) =
+    (times : ℕ) × IsKeptOver times part.last part.number opening number
+
+abbrev pub AreParts : StreamSpec → (limit : ℕ) (times : ℕ → Type 0) → List PartValue → Type 0
+AreParts spec limit times [] = ⊤
+AreParts spec limit times (part ∷ before) =
+    IsPart limit times part × IsBehind spec part.number part.opening before
+    × AreParts spec limit times before
+
+-- the stream is served with this: its chain, its share, its places and its frames
+abbrev pub IsOfSpec : StreamSpec → KeptStream → Type 0
+IsOfSpec spec stream = stream.state.spec ≡ spec
+
+-- the stream of this request was served with what it asked for, in epochs from its admission on, by its calls
+-- in their journals, and is told as it stood at the end of the last. A clock that gives these times allows its
+-- stop
 pub record IsServedSince (limit : ℕ) (times : ℕ → Type 0) (request : RequestValue) (served : ServedValue)
     : Type 0 where
   pub seat : StreamSeatValue
@@ -137,9 +156,10 @@ pub record IsServedSince (limit : ℕ) (times : ℕ → Type 0) (request : Reque
   pub is_served : IsServed (start_with request seat) served
   pub part : PartValue
   pub before : List PartValue
-  pub parts : AreParts limit times (part ∷ before)
+  pub parts : AreParts request.spec limit times (part ∷ before)
   pub calls : is_served.past ++ is_served.seat.calls.list ≡ acts_in_parts (part ∷ before)
   pub stream : HasStream part.last part.number (IsStreamTold served)
+  pub spec : HasStream part.last part.number (IsOfSpec request.spec)
   pub stop : AllowsStop times served.outcome.stop
 
 -- as the stream stands, it is shown
@@ -151,8 +171,9 @@ pub record IsStandingOf (standing : Standing) (stream : KeptStream) : Type 0 whe
   pub budget : standing.budget ≡ stream.state.account.budget
   pub deadline : standing.deadline ≡ stream.state.account.deadline
 
--- something is left to do of the stream of this request, which was served in epochs from its admission on, by
--- its calls in their journals, and is shown as it stood at the end of the last
+-- something is left to do of the stream of this request, which was served with what it asked for, in epochs
+-- from its admission on, by its calls in their journals, and is shown as it stood at the end of the last. As
+-- many of its frames are shown as accepted as these calls offered, and as collected as they collected
 pub record IsStanding (limit : ℕ) (times : ℕ → Type 0) (request : RequestValue) (standing : Standing)
     : Type 0 where
   pub first : StreamSeatValue
@@ -163,9 +184,12 @@ pub record IsStanding (limit : ℕ) (times : ℕ → Type 0) (request : RequestV
   pub left : IsRestOf (start_with request first) past seat rest
   pub part : PartValue
   pub before : List PartValue
-  pub parts : AreParts limit times (part ∷ before)
+  pub parts : AreParts request.spec limit times (part ∷ before)
   pub calls : past ++ seat.calls.list ≡ acts_in_parts (part ∷ before)
+  pub accepted : standing.accepted ≡ offers_in (past ++ seat.calls.list)
+  pub collected : standing.collected ≡ collections_in (past ++ seat.calls.list)
   pub stream : HasStream part.last part.number (IsStandingOf standing)
+  pub spec : HasStream part.last part.number (IsOfSpec request.spec)
 
 -- how many entries an epoch's journal may have: a close of each of 64 streams, an admission of each, and a lease
 -- with its settlement

@@ -1,6 +1,6 @@
 -- What contracts inside the crate say of the streams of a session that come and go.
 use Rattle.std.specs.Prelude.{ℕ, ◌+◌, ◌≡◌, ◌≤◌, ◌<◌, ◌++◌, ⊤, All, Bool, false, List, [], ◌∷◌, Option, Some, None}
-use Rattle.std.specs.Prelude.{IfSome, if◌then◌else◌, length, map, slice_get}
+use Rattle.std.specs.Prelude.{IfSome, IsSomeAnd, if◌then◌else◌, length, map, slice_get}
 use Rattle.std.specs.List.{AllZip}
 use Rattle.std.specs.Vec.{vec_capacity, vec_len}
 use Rattle.edf_pool.specs.declared.limits.TheConstants.{MOST_STREAMS}
@@ -12,14 +12,15 @@ use Rattle.serve_hub.specs.declared.entry.Act.{Act}
 use Rattle.serve_hub.specs.declared.refusal.Refusal.{Refusal}
 use Rattle.serve_hub.specs.declared.refusal.Refusal.TheVariants.{Core}
 use Rattle.serve_hub.specs.Ends.{AreStreamsOf, EndedValue, IsCharged, IsStreamOf}
-use Rattle.serve_hub.specs.Seats.{StreamSeatValue, left_by}
+use Rattle.serve_hub.specs.Seats.{StreamRest, StreamSeatValue, left_by}
 use Rattle.serve_work.specs.declared.live.guests.Guest.{Guest}
+use Rattle.serve_work.specs.declared.live.guests.Ticket.{Ticket}
 use Rattle.serve_work.specs.declared.live.opening.FirstStream.{FirstStream}
 use Rattle.serve_work.specs.declared.live.opening.Hall.{Hall}
 use Rattle.serve_work.specs.declared.session.turn.Stream.{Stream}
 use Rattle.serve_work.specs.Clients.{AllowsStop, offers_in}
-use Rattle.serve_work.specs.Live.{AreParts, IsBehind, IsRequest, IsSeatFor, PartValue, RequestValue, Waiting}
-use Rattle.serve_work.specs.Live.{acts_in_parts, start_with}
+use Rattle.serve_work.specs.Live.{AreParts, IsBehind, IsOfSpec, IsRequest, IsSeatFor, PartValue, RequestValue}
+use Rattle.serve_work.specs.Live.{Waiting, acts_in_parts, start_with}
 use Rattle.serve_work.specs.SessionInside.{HeldValue, StandsAt, StreamValue, held_at, stream_of, stream_stop}
 
 -- where the stream of this request stands with its seat where an epoch opens: the seat has offered no frame
@@ -29,8 +30,8 @@ pub record Begins (limit : ℕ) (times : ℕ → Type 0) (opening : ScheduleValu
   pub first : StreamSeatValue
   pub is_new : IsSeatFor request.spec first
   pub parts : List PartValue
-  pub are : AreParts limit times parts
-  pub behind : IsBehind seat.number opening parts
+  pub are : AreParts request.spec limit times parts
+  pub behind : IsBehind request.spec seat.number opening parts
   pub stands : StandsAt stream (start_with request first) (acts_in_parts parts) seat
   pub no_offers : offers_in seat.calls.list ≡ 0
   pub no_moments : seat.moments ≡ None
@@ -45,8 +46,8 @@ pub record Stood (limit : ℕ) (times : ℕ → Type 0) (last : ScheduleValue) (
   pub past : List Act
   pub part : PartValue
   pub before : List PartValue
-  pub are : AreParts limit times (part ∷ before)
-  pub behind : IsBehind seat.number last (part ∷ before)
+  pub are : AreParts request.spec limit times (part ∷ before)
+  pub behind : IsBehind request.spec seat.number last (part ∷ before)
   pub stands : StandsAt stream (start_with request first) past seat
   pub calls : past ++ seat.calls.list ≡ acts_in_parts (part ∷ before)
   pub stop : IfSome (stream_stop stream) (AllowsStop times)
@@ -58,16 +59,22 @@ HasTurn limit times opening w held = Begins limit times opening w.request held.s
 abbrev pub HadTurn : (limit : ℕ) (times : ℕ → Type 0) (last : ScheduleValue) → Waiting → HeldValue → Type 0
 HadTurn limit times last w held = Stood limit times last w.request held.stream held.seat
 
--- the stream of a request that waits, with its seat of the epoch that ended, and of the next one
+-- what is kept of a request beside its stream
+abbrev pub ticket_of : Waiting → Ticket
+ticket_of w = record { number = w.ticket; spec = w.request.spec }
+
+-- the stream of a request that waits, with its seat of the epoch that ended, and of the next one. It is served
+-- with what the request asked for
 abbrev pub IsGuestAt : {R W : Type 0} (value : Stream R W → StreamValue) (limit : ℕ) (times : ℕ → Type 0)
     (last : ScheduleValue) → Guest R W → StreamSeatValue → Waiting → Type 0
 IsGuestAt value limit times last guest seat w =
-    (guest.ticket ≡ w.ticket) × Stood limit times last w.request (value guest.stream) seat
+    (guest.ticket ≡ ticket_of w) × Stood limit times last w.request (value guest.stream) seat
+    × HasStream last seat.number (IsOfSpec w.request.spec)
 
 abbrev pub IsGuestIn : {R W : Type 0} (value : Stream R W → StreamValue) (limit : ℕ) (times : ℕ → Type 0)
     (opening : ScheduleValue) → Guest R W → StreamSeatValue → Waiting → Type 0
 IsGuestIn value limit times opening guest seat w =
-    (guest.ticket ≡ w.ticket) × Begins limit times opening w.request (value guest.stream) seat
+    (guest.ticket ≡ ticket_of w) × Begins limit times opening w.request (value guest.stream) seat
 
 -- each place has a seat, and each stream a request, in the same order
 abbrev pub AllAt : {A B C : Type 0} (P : A → B → C → Type 0) → List (Option A) → List B → List C → Type 0
@@ -93,8 +100,21 @@ at_marks marks [] = []
 at_marks [] (x ∷ xs) = []
 at_marks (mark ∷ marks) (x ∷ xs) = if mark then x ∷ at_marks marks xs else at_marks marks xs
 
--- the streams with the numbers of their requests
-abbrev pub guests_of : {R W : Type 0} → List ℕ → List (Stream R W) → List (Option (Guest R W))
+-- the stream at this place, if there is one, is served with what is kept of its request
+abbrev pub IsAsAsked : {R W : Type 0} → ScheduleValue → List StreamRest → (place : ℕ) → Option (Guest R W)
+    → Type 0
+IsAsAsked desk rests place None = ⊤
+IsAsAsked desk rests place (Some guest) =
+    IsSomeAnd (slice_get rests place) (λ rest. HasStream desk rest.number (IsOfSpec guest.ticket.spec))
+
+abbrev pub AreAsAsked : {R W : Type 0} → ScheduleValue → List StreamRest → List (Option (Guest R W))
+    → Type 0
+AreAsAsked {R} {W} desk rests guests =
+    (place : ℕ) (guest : Option (Guest R W)) → slice_get guests place ≡ Some guest
+    → IsAsAsked desk rests place guest
+
+-- the streams with what is kept of their requests
+abbrev pub guests_of : {R W : Type 0} → List Ticket → List (Stream R W) → List (Option (Guest R W))
 guests_of (ticket ∷ tickets) (stream ∷ streams) =
     Some (record { ticket = ticket; stream = stream }) ∷ guests_of tickets streams
 guests_of tickets streams = []
@@ -122,10 +142,11 @@ pub record AreGuests {R W : Type 0} (left : R → Option (List ℕ)) (read_failu
 pub record CanTell {R W : Type 0} (left : R → Option (List ℕ)) (read_failures : R → ℕ)
     (after : W → Option (List ℕ)) (failures : W → ℕ) (is_flushed : W → Bool) (limit : ℕ)
     (times : ℕ → Type 0) (ended : EndedValue) (place : ℕ) (guest : Guest R W) (w : Waiting) : Type 0 where
-  pub ticket : guest.ticket ≡ w.ticket
+  pub ticket : guest.ticket ≡ ticket_of w
   pub seat : StreamSeatValue
   pub stood : Stood limit times ended.book.desk w.request
       (stream_of left read_failures after failures is_flushed guest.stream) seat
+  pub asked : HasStream ended.book.desk seat.number (IsOfSpec w.request.spec)
   pub here : slice_get ended.streams place ≡ Some (left_by seat)
   pub kept : HasStream ended.book.desk seat.number (IsStreamOf seat)
   pub charges : All IsCharged ended.book.desk.streams
@@ -143,7 +164,7 @@ pub record HasPlaces {L R W : Type 0} (hall : Hall L R W) : Type 0 where
   pub guests : MOST_STREAMS ≤ vec_capacity hall.guests
 
 -- one stream more has its turn
-pub record TakesSeat {L R W : Type 0} (ticket : ℕ) (held : HeldValue) (old new : Hall L R W) : Type 0 where
+pub record TakesSeat {L R W : Type 0} (ticket : Ticket) (held : HeldValue) (old new : Hall L R W) : Type 0 where
   pub places : HasPlaces new
   pub turns : new.room.turns.items ≡ old.room.turns.items ++ Some held ∷ []
   pub len : vec_len new.room.turns ≡ vec_len old.room.turns + 1
@@ -152,7 +173,7 @@ pub record TakesSeat {L R W : Type 0} (ticket : ℕ) (held : HeldValue) (old new
   pub few : vec_len old.room.turns + vec_len old.idle < MOST_STREAMS
   pub idle : new.idle ≡ old.idle
 
--- the streams with their seats, and the numbers of their requests
+-- the streams with their seats, and what is kept of their requests
 abbrev pub helds_of : {R W : Type 0} (value : Stream R W → StreamValue) → List StreamSeatValue
     → List (Option (Guest R W)) → List HeldValue
 helds_of value (seat ∷ seats) (Some guest ∷ guests) =
@@ -160,7 +181,7 @@ helds_of value (seat ∷ seats) (Some guest ∷ guests) =
 helds_of value (seat ∷ seats) (None ∷ guests) = helds_of value seats guests
 helds_of value seats guests = []
 
-abbrev pub tickets_of : {R W : Type 0} → List StreamSeatValue → List (Option (Guest R W)) → List ℕ
+abbrev pub tickets_of : {R W : Type 0} → List StreamSeatValue → List (Option (Guest R W)) → List Ticket
 tickets_of (seat ∷ seats) (Some guest ∷ guests) = guest.ticket ∷ tickets_of seats guests
 tickets_of (seat ∷ seats) (None ∷ guests) = tickets_of seats guests
 tickets_of seats guests = []
@@ -172,13 +193,13 @@ pub record AreSeated {L R W : Type 0} (limit : ℕ) (times : ℕ → Type 0) (op
   pub few : vec_len hall.room.turns + vec_len hall.idle ≤ MOST_STREAMS
   pub helds : List HeldValue
   pub turns : hall.room.turns.items ≡ map Some helds
-  pub tickets : hall.tickets.items ≡ map (λ w. w.ticket) ws
+  pub tickets : hall.tickets.items ≡ map ticket_of ws
   pub each : AllZip (HasTurn limit times opening) ws helds
 
 -- the first stream of a hub is that of this request
 pub record IsFirst {R W : Type 0} (contents : W → Option (List ℕ)) (failures : W → ℕ) (w : Waiting)
     (stream : FirstStream R W) : Type 0 where
-  pub ticket : stream.ticket ≡ w.ticket
+  pub ticket : stream.ticket ≡ ticket_of w
   pub is_request : IsRequest w.request
   pub streams : stream.setup.streams ≡ w.request.spec ∷ []
   pub reader : stream.reader ≡ w.request.reader

@@ -2,7 +2,7 @@
 //!
 //! It goes from epoch to epoch. Where a request is at the door, or a stream is over, the epoch is ended; the
 //! streams that are over are told then, and those that came are admitted before the next one begins.
-ghost use Rattle.std.specs.Prelude.{ℕ, ◌≡◌, ◌≢◌, ◌↔◌, List, [], ◌∷◌, IfErr, IfOk, IsErrOf};
+ghost use Rattle.std.specs.Prelude.{ℕ, ◌≡◌, ◌↔◌, ◌⊎◌, List, [], ◌∷◌, IfErr, IfOk, IsErrOf};
 ghost use Rattle.serve_work.specs.Live.{IsForm, IsLiveLimit, Waiting, waiting_of};
 ghost use Rattle.serve_work.specs.LiveInside.{AreGuests};
 ghost use Rattle.serve_work.specs.Sessions.{IsInput};
@@ -56,7 +56,7 @@ fn serve_from<
     requires times { (at : ℕ) → K.gives clock.now at → D.times at }
     requires waits { D.waits door.old (waiting_of W.contents W.failures request ∷ []) }
     requires input { IsInput request.spec (request.reader, request.writer) }
-    ensures fault { IfErr result (λ e. e ≢ SessionFault.BadLimit) }
+    ensures fault { IfErr result (λ e. e ≡ SessionFault.Mismatch) }
     ensures answered { IfOk result (λ _. D.waits door.new []) }
 {
     let Some(stream) = opening::set_up(alloc, form, request, door) else {
@@ -91,7 +91,7 @@ fn go_on<
     requires guests { (ws : List Waiting) × D.waits door.old ws
         × AreGuests R.remaining R.failures W.contents W.failures W.is_flushed D.limit D.times interval.ended
         ws interval.guests.items }
-    ensures fault { IfErr result (λ e. e ≢ SessionFault.BadLimit) }
+    ensures fault { IfErr result (λ e. e ≡ SessionFault.Mismatch) }
     ensures answered { IfOk result (λ _. D.waits door.new []) }
 {
     let mut interval = interval;
@@ -135,6 +135,7 @@ pub fn serve_live<
     requires nobody { D.waits door.old [] }
     ensures answered { IfOk result (λ _. D.waits door.new []) }
     ensures bad_limit { IsErrOf result SessionFault.BadLimit ↔ ¬ IsLiveLimit limit }
+    ensures fault { IfErr result (λ e. (e ≡ SessionFault.BadLimit) ⊎ (e ≡ SessionFault.Mismatch)) }
 {
     if limit < LEAST_LIMIT || limit > MOST_ENTRIES {
         return Err(SessionFault::BadLimit);

@@ -50,10 +50,12 @@ pub enum SessionFault {
     /// number of streams and 2. No frame was offered.
     #[error("BadLimit")]
     BadLimit,
-    /// Memory was refused, or a worker's thread, in the first epoch. No frame was offered.
+    /// Memory was refused, or a worker's thread, in the first epoch. No frame was offered. A session whose
+    /// streams come and go never ends so: it tells a stream for which there is no memory.
     #[error("NoMemory")]
     NoMemory,
-    /// The journal isn't what the seats and the hub tell.
+    /// The journal isn't what the seats and the hub tell, or a stream that came isn't served with what its
+    /// request asked for.
     #[error("Mismatch")]
     Mismatch,
 }

@@ -1,18 +1,41 @@
 //! Streams that are admitted where an epoch opens.
-ghost use Rattle.std.specs.Prelude.{◌++◌, List, [], ◌∷◌};
-ghost use Rattle.serve_work.specs.Live.{Waiting, waiting_of};
+ghost use Rattle.std.specs.Prelude.{◌≡◌, ◌≤◌, ◌++◌, List, [], ◌∷◌, IfErr, IfOk, length};
+ghost use Rattle.serve_hub.specs.Calls.{Admits};
+ghost use Rattle.serve_work.specs.Live.{AllowsRefusal, Waiting, waiting_of};
 ghost use Rattle.serve_work.specs.LiveInside.{AreSeated};
 ghost use Rattle.serve_work.specs.Sessions.{IsInput};
 
 use crate::door::Door;
+use crate::live::guests::Ticket;
 use crate::live::opening::{Hall, new_stream};
 use crate::request::{Answer, Request};
 use edf_pool::limits::MOST_STREAMS;
-use serve_core::Refusal as Core;
-use serve_hub::{Epoch, Hub, Refusal};
+use serve_core::{Refusal as Core, StreamSpec};
+use serve_hub::{Epoch, Hub, Refusal, StreamSeat};
 use std::alloc::Global;
 use std::sync::Wait;
 use y4m_stream::{Sink, Source};
+
+/// The seat of a stream that is admitted, with its spec once more, or why it isn't.
+fn admitted<L: Epoch, T: Wait>(
+    rt: &T,
+    alloc: Global,
+    hub: &Hub<L>,
+    spec: StreamSpec,
+) -> Result<(StreamSeat<L>, StreamSpec), Refusal>
+    ensures seat { IfOk result (λ made. Admits spec made.0) }
+    ensures behind { IfOk result (λ made. length L.opening.streams ≤ made.0.number) }
+    ensures same { IfOk result (λ made. made.1 ≡ spec) }
+    ensures refused { IfErr result (AllowsRefusal spec) }
+{
+    let Ok(same) = spec.try_clone() else {
+        return Err(Refusal::Core(Core::NoMemory));
+    };
+    match hub.admit(rt, alloc, spec) {
+        Ok(seat) => Ok((seat, same)),
+        Err(refused) => Err(refused.refusal),
+    }
+}
 
 /// Admits the stream of a request, or tells why not.
 fn admit<L: Epoch, R: Source + Drop, W: Sink + Drop, D: Door<R, W>, T: Wait>(
@@ -41,11 +64,14 @@ fn admit<L: Epoch, R: Source + Drop, W: Sink + Drop, D: Door<R, W>, T: Wait>(
         door.tell(ticket, &mut Some(Answer::Refused(refusal, reader, writer)));
         return;
     }
-    match hub.admit(rt, alloc, spec) {
-        Ok(seat) => hall.seat(seat, ticket, new_stream(reader, writer)),
-        Err(refused) => {
-            let answer = Answer::Refused(refused.refusal, reader, writer);
-            door.tell(ticket, &mut Some(answer));
+    match admitted(rt, alloc, hub, spec) {
+        Ok(made) => {
+            let (seat, spec) = made;
+            let number = ticket;
+            hall.seat(seat, Ticket { number, spec }, new_stream(reader, writer));
+        }
+        Err(refusal) => {
+            door.tell(ticket, &mut Some(Answer::Refused(refusal, reader, writer)));
         }
     }
 }

@@ -1,5 +1,5 @@
 //! The epochs of a session whose streams come and go.
-ghost use Rattle.std.specs.Prelude.{ℕ, ◌≡◌, ◌≢◌, ◌+◌, ◌≤◌, ◌++◌, List, [], ◌∷◌, IfErr, IfNone, IfOk};
+ghost use Rattle.std.specs.Prelude.{ℕ, ◌≡◌, ◌+◌, ◌≤◌, ◌++◌, List, [], ◌∷◌, IfErr, IfNone, IfOk};
 ghost use Rattle.std.specs.Prelude.{IfSome, vec_capacity, vec_len};
 ghost use Rattle.serve_core.specs.Schedule.{opened_schedule};
 ghost use Rattle.serve_core.specs.Setup.{StreamSpec};
@@ -11,7 +11,7 @@ ghost use Rattle.serve_work.specs.LiveInside.{nobody};
 use crate::door::Door;
 use crate::gate::{Clock, Gate};
 use crate::live::admission::admit_all;
-use crate::live::guests::{Guest, Interval};
+use crate::live::guests::{Guest, Interval, Ticket, are_as_asked};
 use crate::live::opening::{FirstStream, Hall, Opening, new_stream};
 use crate::live::threads::run_threads;
 use crate::request::Answer;
@@ -28,10 +28,10 @@ use std::sync::ledger::Blank;
 use std::thread::Threads;
 use y4m_stream::{Sink, Source};
 
-/// The streams with the numbers of their requests.
+/// The streams with what is kept of their requests.
 fn with_tickets<R: Source + Drop, W: Sink + Drop>(
     guests: &mut Vec<Option<Guest<R, W>>>,
-    tickets: Vec<u64>,
+    tickets: Vec<Ticket>,
     streams: Vec<Stream<R, W>>,
 )
     requires none { guests.old.items ≡ [] }
@@ -84,7 +84,7 @@ fn epoch<
         × AreSeated D.limit D.times L.opening ws opening.hall }
     requires limit { opening.hub.limit ≡ D.limit }
     requires times { (at : ℕ) → K.gives clock.now at → D.times at }
-    ensures fault { IfErr result (λ e. e ≢ SessionFault.BadLimit) }
+    ensures fault { IfErr result (λ e. e ≡ SessionFault.Mismatch) }
     ensures guests { IfOk result (λ now. (ws : List Waiting) × D.waits door.new ws
         × AreGuests R.remaining R.failures W.contents W.failures W.is_flushed D.limit D.times now.ended ws
         now.guests.items) }
@@ -120,6 +120,9 @@ fn epoch<
     let Ok(ended) = hub.finish(seats, back) else {
         return Err(SessionFault::Mismatch);
     };
+    if !are_as_asked(&ended, &guests) {
+        return Err(SessionFault::Mismatch);
+    }
     Ok(Interval {
         ended,
         guests,
@@ -144,7 +147,7 @@ fn first_seat<L: Epoch, R: Source + Drop, W: Sink + Drop>(
         × (made.0.hall.tickets.items ≡ []) × (made.0.hall.idle.items ≡ [])) }
     ensures limit { IfSome result (λ made. made.0.hub.limit ≡ limit) }
     ensures seat { (spec : StreamSpec) → setup.streams ≡ spec ∷ []
-        → IfSome result (λ made. IsSeatFor spec made.1 × HasNoCalls made.1) }
+        → IfSome result (λ made. IsSeatFor spec made.1 × HasNoCalls made.1 × (made.1.number ≡ 0)) }
 {
     let workers = setup.workers() as usize;
     let Ok(hall) = Hall::<L, R, W>::new(alloc, workers) else {
@@ -193,7 +196,7 @@ pub(super) fn first<
     requires limit { limit ≡ D.limit }
     requires times { (at : ℕ) → K.gives clock.now at → D.times at }
     requires first { (w : Waiting) × D.waits door.old (w ∷ []) × IsFirst W.contents W.failures w stream }
-    ensures fault { IfErr result (λ e. e ≢ SessionFault.BadLimit) }
+    ensures fault { IfErr result (λ e. e ≡ SessionFault.Mismatch) }
     ensures answered { IfOk result (λ o. IfNone o (D.waits door.new [])) }
     ensures guests { IfOk result (λ o. IfSome o (λ now. (ws : List Waiting) × D.waits door.new ws
         × AreGuests R.remaining R.failures W.contents W.failures W.is_flushed D.limit D.times now.ended ws
@@ -208,7 +211,10 @@ pub(super) fn first<
     match first_seat::<L, R, W>(alloc, blank, setup, limit) {
         None => {
             let refusal = Refusal::Core(Core::NoMemory);
-            door.tell(ticket, &mut Some(Answer::Refused(refusal, reader, writer)));
+            door.tell(
+                ticket.number,
+                &mut Some(Answer::Refused(refusal, reader, writer)),
+            );
             Ok(None)
         }
         Some(made) => {
@@ -248,7 +254,7 @@ pub(super) fn later<
     requires guests { (ws : List Waiting) × D.waits door.old ws
         × AreGuests R.remaining R.failures W.contents W.failures W.is_flushed D.limit D.times interval.ended
         ws interval.guests.items }
-    ensures fault { IfErr result (λ e. e ≢ SessionFault.BadLimit) }
+    ensures fault { IfErr result (λ e. e ≡ SessionFault.Mismatch) }
     ensures guests { IfOk result (λ now. (ws : List Waiting) × D.waits door.new ws
         × AreGuests R.remaining R.failures W.contents W.failures W.is_flushed D.limit D.times now.ended ws
         now.guests.items) }

@@ -1,21 +1,29 @@
 //! The streams that a session serves, from epoch to epoch.
-ghost use Rattle.std.specs.Prelude.{◌≡◌, ◌<◌, ◌++◌, List, [], ◌∷◌, None, Some, IsFalse, slice_get};
-ghost use Rattle.std.specs.Prelude.{slice_set, vec_len, ⊤};
+ghost use Rattle.std.specs.Prelude.{◌≡◌, ◌<◌, ◌++◌, List, [], ◌∷◌, None, Some, IsFalse, IsTrue};
+ghost use Rattle.std.specs.Prelude.{slice_get, slice_set, vec_len, ⊤};
 ghost use Rattle.serve_core.specs.Schedule.{HasStream};
 ghost use Rattle.serve_hub.specs.Seats.{StreamRest};
 ghost use Rattle.serve_work.specs.Live.{IsStandingOf, Waiting};
-ghost use Rattle.serve_work.specs.LiveInside.{AreAllTold, AreGuests, CanTell};
+ghost use Rattle.serve_work.specs.LiveInside.{AreAllTold, AreAsAsked, AreGuests, CanTell, IsAsAsked};
 
 use crate::door::Door;
 use crate::request::{Answer, Standing};
 use crate::session::turn::{Stream, told};
+use serve_core::StreamSpec;
 use serve_hub::Ended;
 use y4m_stream::{Sink, Source};
 
-/// A stream with the number of its request.
+/// What is kept of a request beside its stream: its number, and what the stream is to be served with.
+#[derive(Drop)]
+pub(super) struct Ticket {
+    pub(super) number: u64,
+    pub(super) spec: StreamSpec,
+}
+
+/// A stream with what is kept of its request.
 #[derive(Drop)]
 pub(super) struct Guest<R: Source, W: Sink> {
-    pub(super) ticket: u64,
+    pub(super) ticket: Ticket,
     pub(super) stream: Stream<R, W>,
 }
 
@@ -31,6 +39,38 @@ pub(super) struct Interval<R: Source, W: Sink> {
     pub(super) goes_on: bool,
 }
 
+/// Whether each stream is served with what its request asked for, as the book tells that is left. No contract
+/// can name what is under a hub's lock, so it is compared here.
+pub(super) fn are_as_asked<R: Source, W: Sink>(
+    ended: &Ended,
+    guests: &Vec<Option<Guest<R, W>>>,
+) -> bool
+    ensures { IsTrue result → AreAsAsked ended.now.book.desk ended.now.streams guests.now.items }
+{
+    for place in 0..guests.len() {
+        if !is_as_asked(ended, place, &guests[place]) {
+            return false;
+        }
+    }
+    true
+}
+
+/// Whether the stream at this place is, if there is one.
+fn is_as_asked<R: Source, W: Sink>(ended: &Ended, place: usize, guest: &Option<Guest<R, W>>) -> bool
+    ensures { IsTrue result → IsAsAsked ended.now.book.desk ended.now.streams place guest.now }
+{
+    let Some(guest) = guest else {
+        return true;
+    };
+    let Some(number) = ended.number(place) else {
+        return false;
+    };
+    match ended.spec(number) {
+        None => false,
+        Some(spec) => spec.is_same(&guest.ticket.spec),
+    }
+}
+
 /// Tells what a stream came to whose seat was handed over at this place.
 fn tell<R: Source + Drop, W: Sink + Drop, D: Door<R, W>>(
     door: &mut D,
@@ -43,7 +83,7 @@ fn tell<R: Source + Drop, W: Sink + Drop, D: Door<R, W>>(
         × CanTell R.remaining R.failures W.contents W.failures W.is_flushed D.limit D.times ended.now
         place guest w }
     ensures told { (before : List Waiting) (w : Waiting) (after : List Waiting)
-        → D.waits door.old (before ++ w ∷ after) → w.ticket ≡ guest.ticket
+        → D.waits door.old (before ++ w ∷ after) → w.ticket ≡ guest.ticket.number
         → D.waits door.new (before ++ after) }
 {
     let Guest { ticket, stream } = guest;
@@ -55,7 +95,7 @@ fn tell<R: Source + Drop, W: Sink + Drop, D: Door<R, W>>(
         unreachable!()
     };
     served.charged = counts.charged;
-    door.tell(ticket, &mut Some(Answer::Ended(served)));
+    door.tell(ticket.number, &mut Some(Answer::Ended(served)));
 }
 
 /// Tells what came of each stream that is over, or of all. Answers whether any is left.
@@ -149,7 +189,7 @@ fn show_at<R: Source + Drop, W: Sink + Drop, D: Door<R, W>>(
 {
     if let Some(guest) = &guests[place] {
         if guest.stream.is_waiting() {
-            door.show(guest.ticket, standing_at(ended, place));
+            door.show(guest.ticket.number, standing_at(ended, place));
         }
     }
 }

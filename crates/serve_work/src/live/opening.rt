@@ -5,12 +5,12 @@ ghost use Rattle.std.specs.List.{AllByRecursion};
 ghost use Rattle.y4m_stream.specs.declared.reader.Phase.TheVariants.{Open};
 ghost use Rattle.serve_work.specs.Live.{AllowsRefusal, IsForm, waiting_of};
 ghost use Rattle.serve_work.specs.LiveInside as rules;
-ghost use Rattle.serve_work.specs.LiveInside.{HasPlaces, TakesSeat, helds_of, tickets_of};
+ghost use Rattle.serve_work.specs.LiveInside.{HasPlaces, TakesSeat, helds_of, ticket_of, tickets_of};
 ghost use Rattle.serve_work.specs.Rests.{Unbegun};
 ghost use Rattle.serve_work.specs.SessionInside.{IsReady, Waiting, held_at, stream_of};
 
 use crate::door::Door;
-use crate::live::guests::Guest;
+use crate::live::guests::{Guest, Ticket};
 use crate::request::{Answer, Request};
 use crate::rest::ClientRest;
 use crate::session::room::Room;
@@ -33,7 +33,7 @@ pub(super) struct Form {
 #[derive(Drop)]
 pub(super) struct FirstStream<R: Source, W: Sink> {
     pub(super) setup: Setup,
-    pub(super) ticket: u64,
+    pub(super) ticket: Ticket,
     pub(super) reader: StreamReader<R>,
     pub(super) writer: W,
 }
@@ -47,17 +47,21 @@ fn only(alloc: Global, spec: StreamSpec) -> Result<Vec<StreamSpec>, AllocError>
     Ok(specs)
 }
 
-/// A setup of one stream.
-fn setup_of(alloc: Global, form: Form, spec: StreamSpec) -> Result<Setup, Refusal>
+/// A setup of one stream, and its spec once more.
+fn setup_of(alloc: Global, form: Form, spec: StreamSpec) -> Result<(Setup, StreamSpec), Refusal>
     requires form { IsForm form.workers form.quantum }
-    ensures setup { IfOk result (λ setup. setup.streams ≡ spec ∷ []) }
+    ensures setup { IfOk result (λ made. made.0.streams ≡ spec ∷ []) }
+    ensures same { IfOk result (λ made. made.1 ≡ spec) }
     ensures refused { IfErr result (AllowsRefusal spec) }
 {
+    let Ok(same) = spec.try_clone() else {
+        return Err(Refusal::Core(Core::NoMemory));
+    };
     let Ok(specs) = only(alloc, spec) else {
         return Err(Refusal::Core(Core::NoMemory));
     };
     match Setup::new(form.workers, form.quantum, specs) {
-        Ok(setup) => Ok(setup),
+        Ok(setup) => Ok((setup, same)),
         Err(fault) => Err(refusal_of(fault)),
     }
 }
@@ -83,7 +87,8 @@ pub(super) fn set_up<R: Source + Drop, W: Sink + Drop, D: Door<R, W>>(
     requires form { IsForm form.workers form.quantum }
     requires waits { D.waits door.old (waiting_of W.contents W.failures request ∷ []) }
     ensures stream { IfSome result (λ stream. (stream.setup.streams ≡ request.spec ∷ [])
-        × (stream.ticket ≡ request.ticket) × (stream.reader ≡ request.reader)
+        × (stream.ticket ≡ ticket_of (waiting_of W.contents W.failures request))
+        × (stream.reader ≡ request.reader)
         × (stream.writer ≡ request.writer)) }
     ensures waits { IfSome result (λ _. D.waits door.new (waiting_of W.contents W.failures request ∷ [])) }
     ensures answered { IfNone result (D.waits door.new []) }
@@ -95,12 +100,16 @@ pub(super) fn set_up<R: Source + Drop, W: Sink + Drop, D: Door<R, W>>(
         writer,
     } = request;
     match setup_of(alloc, form, spec) {
-        Ok(setup) => Some(FirstStream {
-            setup,
-            ticket,
-            reader,
-            writer,
-        }),
+        Ok(made) => {
+            let (setup, spec) = made;
+            let number = ticket;
+            Some(FirstStream {
+                setup,
+                ticket: Ticket { number, spec },
+                reader,
+                writer,
+            })
+        }
         Err(refusal) => {
             door.tell(ticket, &mut Some(Answer::Refused(refusal, reader, writer)));
             None
@@ -112,7 +121,7 @@ pub(super) fn set_up<R: Source + Drop, W: Sink + Drop, D: Door<R, W>>(
 #[derive(Drop)]
 pub(super) struct Hall<L: Epoch, R: Source, W: Sink> {
     pub(super) room: Room<L, R, W>,
-    pub(super) tickets: Vec<u64>,
+    pub(super) tickets: Vec<Ticket>,
     /// The seats whose streams were told.
     pub(super) idle: Vec<StreamSeat<L>>,
     /// The places for the streams at the epoch's end.
@@ -134,7 +143,7 @@ impl<L: Epoch, R: Source + Drop, W: Sink + Drop> Hall<L, R, W> {
     }
 
     /// One stream more, with its seat.
-    pub(super) fn seat(&mut self, seat: StreamSeat<L>, ticket: u64, stream: Stream<R, W>)
+    pub(super) fn seat(&mut self, seat: StreamSeat<L>, ticket: Ticket, stream: Stream<R, W>)
         requires places { HasPlaces self.old }
         requires few { vec_len self.old.room.turns + vec_len self.old.idle < MOST_STREAMS }
         requires many { vec_len self.old.tickets ≤ vec_len self.old.room.turns }

@@ -1,6 +1,7 @@
-use Rattle.std.proofs.Common.{◌++◌, [], ◌∷◌, Some, append-nil, ap, arith, inl, length, refl, subst, sym}
+use Rattle.std.proofs.Common.{◌++◌, [], ◌∷◌, Some, append-nil, ap, arith, inl, inr, length, refl, subst, sym}
+use Rattle.serve_core.specs.Setup.{StreamSpec}
 use Rattle.serve_work.specs.Live.{IsRequest, RequestValue, Waiting, request_of, waiting_of}
-use Rattle.serve_work.specs.LiveInside.{Begins, HasTurn}
+use Rattle.serve_work.specs.LiveInside.{Begins, HasTurn, TakesSeat, ticket_of}
 use Rattle.serve_work.specs.Rests.{Unbegun}
 use Rattle.serve_work.specs.SessionInside as sessions
 use Rattle.serve_work.specs.SessionInside.{IsReadyAt, StreamValue, held_at, stream_of}
@@ -34,7 +35,7 @@ seat-requires-clause-many g c =
       arith,
       zip_length (HasTurn g.D.Door.limit g.D.Door.times g.L.Epoch.opening) at.0 at.2.helds at.2.each,
       ap length at.2.tickets,
-      same_length (λ (w : Waiting). w.ticket) at.0,
+      same_length ticket_of at.0,
       ap length at.2.turns,
       same_length Some at.2.helds,
       hall.tickets.ok.0,
@@ -43,11 +44,11 @@ seat-requires-clause-many g c =
 
 pub seat-requires-clause-ready : goal.seat-requires-clause-ready
 seat-requires-clause-ready g c =
-    let seat = c.in-Ok.seat in
+    let seat = c.in-Ok.made.0 in
     let request : RequestValue = request_of g.W.Sink.contents g.W.Sink.failures c.args.request in
     let is : IsRequest request = record { header = c.requires.input.header; is_open = c.requires.input.is_open } in
     let a = admitted c.args.request.spec seat c.in-Ok.ensures.seat in
-    let b = began g.D.Door.limit g.D.Door.times g.L.Epoch.opening request seat is a.0 a.1 a.2 in
+    let b = began g.D.Door.limit g.D.Door.times g.L.Epoch.opening request seat is a.0 (inr c.in-Ok.ensures.behind) a.1 a.2 in
     subst (λ (v : StreamValue). IsReadyAt v seat) (sym c.new_stream.ensures)
     (may_go g.D.Door.limit g.D.Door.times g.L.Epoch.opening request
     (sessions.Waiting (Unbegun request.reader request.before request.failures)) seat b)
@@ -56,25 +57,27 @@ pub tell-requires-in-Err : goal.tell-requires-in-Err
 tell-requires-in-Err g c =
     let w : Waiting = waiting_of g.W.Sink.contents g.W.Sink.failures c.args.request in
     let at = c.requires.seated in
-    record { answer = (at.0, w, [], at.1, refl, (inl c.in-Err.ensures.refused.1, refl, refl, refl)) }
+    record { answer = (at.0, w, [], at.1, refl, (c.in-Err.ensures.refused, refl, refl, refl)) }
 
 pub returns-in-Ok : goal.returns-in-Ok
 returns-in-Ok g c =
-    let seat = c.in-Ok.seat in
+    let seat = c.in-Ok.made.0 in
     let value = stream_of g.R.Source.remaining g.R.Source.failures g.W.Sink.contents g.W.Sink.failures g.W.Sink.is_flushed in
     let w : Waiting = waiting_of g.W.Sink.contents g.W.Sink.failures c.args.request in
     let is : IsRequest w.request = record { header = c.requires.input.header; is_open = c.requires.input.is_open } in
     let a = admitted c.args.request.spec seat c.in-Ok.ensures.seat in
-    let b = began g.D.Door.limit g.D.Door.times g.L.Epoch.opening w.request seat is a.0 a.1 a.2 in
-    let turn : HasTurn g.D.Door.limit g.D.Door.times g.L.Epoch.opening w (held_at seat (value c.new_stream.result)) =
+    let b = began g.D.Door.limit g.D.Door.times g.L.Epoch.opening w.request seat is a.0 (inr c.in-Ok.ensures.behind) a.1 a.2 in
+    let held = held_at seat (value c.new_stream.result) in
+    let turn : HasTurn g.D.Door.limit g.D.Door.times g.L.Epoch.opening w held =
     subst (λ (v : StreamValue). Begins g.D.Door.limit g.D.Door.times g.L.Epoch.opening w.request v seat) (sym c.new_stream.ensures) b in
     let at = c.requires.seated in
     record {
       seated = (
         at.0 ++ w ∷ [],
         at.1,
-        seated_more g.D.Door.limit g.D.Door.times g.L.Epoch.opening at.0 c.args.hall.now c.seat.new.self w
-            (held_at seat (value c.new_stream.result)) at.2 c.seat.ensures turn,
+        seated_more g.D.Door.limit g.D.Door.times g.L.Epoch.opening at.0 c.args.hall.now c.seat.new.self w held at.2
+            (subst (λ (spec : StreamSpec). TakesSeat (record { number = w.ticket; spec = spec }) held c.args.hall.now c.seat.new.self)
+            c.in-Ok.ensures.same c.seat.ensures) turn,
       );
     }
 

@@ -1,10 +1,11 @@
-use Rattle.std.proofs.Common.{ℕ, ◌≡◌, ◌≤◌, ◌++◌, ◌∙◌, List, Option, Some, ap, arith, length, map, subst, sym}
+use Rattle.std.proofs.Common.{◌≡◌, ◌≤◌, ◌++◌, ◌∙◌, List, Option, Some, ap, arith, length, map, subst, sym}
 use Rattle.std.specs.Prelude.{reverse, vec_len}
 use Rattle.std.proofs.Common.{length-append}
 use Rattle.serve_hub.specs.Ends.{AreStreamCalls, AreStreamsOf, ClocksReached}
-use Rattle.serve_hub.specs.Seats.{StreamSeatValue, left_by}
+use Rattle.serve_hub.specs.Seats.{StreamRest, StreamSeatValue, left_by}
 use Rattle.serve_work.specs.declared.live.guests.Guest.{Guest}
-use Rattle.serve_work.specs.LiveInside.{AllAt, IsGuestAt, guests_of, nobody}
+use Rattle.serve_work.specs.declared.live.guests.Ticket.{Ticket}
+use Rattle.serve_work.specs.LiveInside.{AllAt, AreAsAsked, IsGuestAt, guests_of, nobody}
 use Rattle.serve_work.specs.SessionInside.{HeldValue, stream_of}
 use Rattle.serve_work.proofs.Living.{all_had, guests_at}
 use Rattle.serve_work.proofs.SessionTurns.{same_length}
@@ -99,12 +100,17 @@ returns-clause-guests g c =
     let streams = c.fill.new.self.streams.items in
     let guests = c.with_idle.ensures.guests
     ∙ ap (λ (gs : List (Option (Guest _ _))). gs ++ nobody idle) (c.with_tickets.ensures.guests
-    ∙ ap (λ (tickets : List ℕ). guests_of tickets streams) seated.tickets) in (
+    ∙ ap (λ (tickets : List Ticket). guests_of tickets streams) seated.tickets) in
+    let rests = c.in-Ok.ensures.left ∙ ap (map left_by) own in
+    let asked = subst (λ (gs : List (Option (Guest _ _))). AreAsAsked ended.book.desk
+    (map left_by (map (λ (held : HeldValue). held.seat) ran.0 ++ idle)) gs) guests
+    (subst (λ (rests : List StreamRest). AreAsAsked ended.book.desk rests c.with_idle.new.guests.items) rests
+    (c.are_as_asked.ensures c.if-not-are_as_asked.false)) in (
       ws,
       c.admit_all.ensures.seated.1,
       record {
         seats = map (λ (held : HeldValue). held.seat) ran.0 ++ idle;
-        rests = c.in-Ok.ensures.left ∙ ap (map left_by) own;
+        rests = rests;
         few = omega (
           arith,
           length-append (map (λ (held : HeldValue). held.seat) ran.0) idle,
@@ -121,6 +127,6 @@ returns-clause-guests g c =
         of_limit = of_limit;
         each = subst (λ (gs : List (Option (Guest _ _))). AllAt (IsGuestAt value limit times ended.book.desk) gs
             (map (λ (held : HeldValue). held.seat) ran.0 ++ idle) ws) (sym guests)
-            (guests_at value limit times ended.book.desk ws streams ran.0 idle had (c.fill.ensures.streams ran.0 ran.1));
+            (guests_at value limit times ended.book.desk ws streams ran.0 idle had (c.fill.ensures.streams ran.0 ran.1) asked);
       },
     )

@@ -1,6 +1,7 @@
-use Rattle.std.proofs.Common.{ℕ, ◌≡◌, ◌∙◌, [], ◌∷◌, ap, arith, inr, length, refl, subst, sym}
+use Rattle.std.proofs.Common.{◌≡◌, ◌∙◌, [], ◌∷◌, ap, arith, inl, inr, length, refl, subst, sym}
 use Rattle.serve_work.specs.Clients.{offers_in}
-use Rattle.serve_work.specs.Live.{RequestValue, Waiting}
+use Rattle.serve_work.specs.declared.live.guests.Ticket.{Ticket}
+use Rattle.serve_work.specs.Live.{IsNewIn, RequestValue, Waiting}
 use Rattle.serve_work.specs.LiveInside.{AreSeated, Begins, HasTurn, TakesSeat}
 use Rattle.serve_work.specs.Rests.{Unbegun}
 use Rattle.serve_work.specs.SessionInside as sessions
@@ -13,7 +14,14 @@ tell-requires g c =
     let at = c.requires.first in
     let first = at.2 in
     record {
-      answer = ([], at.0, [], at.1, sym first.ticket, (inr refl, first.reader, first.before, first.failures_of));
+      answer = (
+        [],
+        at.0,
+        [],
+        at.1,
+        sym (ap (λ (t : Ticket). t.number) first.ticket),
+        (inr refl, first.reader, first.before, first.failures_of),
+      );
     }
 
 pub new_stream-requires : goal.new_stream-requires
@@ -30,7 +38,9 @@ seat-requires g c =
     let request : RequestValue = c.requires.first.0.request in
     let new = c.in-Some.ensures.seat request.spec first.streams in
     let none = ap offers_in new.1.0 in
-    let b = began g.D.Door.limit g.D.Door.times g.L.Epoch.opening request seat first.is_request new.0 none new.1.1 in
+    let there : IsNewIn request.spec seat.number g.L.Epoch.opening =
+    inl (record { setup = c.args.stream.setup; streams = first.streams; opened = sym c.requires.opening; first = new.2 }) in
+    let b = began g.D.Door.limit g.D.Door.times g.L.Epoch.opening request seat first.is_request new.0 there none new.1.1 in
     let rest = sessions.Waiting (Unbegun request.reader request.before request.failures) in
     let is : _ ≡ rest = c.new_stream.ensures ∙ rw (first.reader, first.before, first.failures_of) refl in
     record {
@@ -55,7 +65,9 @@ epoch-requires-clause-seated g c κs within =
     let request : RequestValue = w.request in
     let new = c.in-Some.ensures.seat request.spec first.streams in
     let none = ap offers_in new.1.0 in
-    let b = began limit times opening request seat first.is_request new.0 none new.1.1 in
+    let there : IsNewIn request.spec seat.number g.L.Epoch.opening =
+    inl (record { setup = c.args.stream.setup; streams = first.streams; opened = sym c.requires.opening; first = new.2 }) in
+    let b = began limit times opening request seat first.is_request new.0 there none new.1.1 in
     let rest = sessions.Waiting (Unbegun request.reader request.before request.failures) in
     let is : value c.new_stream.result ≡ rest = c.new_stream.ensures ∙ rw (first.reader, first.before, first.failures_of) refl in
     let held = held_at seat (value c.new_stream.result) in
@@ -66,7 +78,7 @@ epoch-requires-clause-seated g c κs within =
       w ∷ [],
       c.requires.first.1,
       seated_more limit times opening [] hall c.seat.new.self w held empty_hall
-          (subst (λ (n : ℕ). TakesSeat n held hall c.seat.new.self) first.ticket c.seat.ensures) turn,
+          (subst (λ (t : Ticket). TakesSeat t held hall c.seat.new.self) first.ticket c.seat.ensures) turn,
     )
 
 pub epoch-requires-clause-limit : goal.epoch-requires-clause-limit
@@ -74,4 +86,4 @@ epoch-requires-clause-limit g c κs within = c.in-Some.ensures.limit ∙ c.requi
 
 pub returns-in-None-clause-answered : goal.returns-in-None-clause-answered
 returns-in-None-clause-answered g c =
-    let at = c.requires.first in c.tell.ensures.told [] at.0 [] at.1 (sym at.2.ticket)
+    let at = c.requires.first in c.tell.ensures.told [] at.0 [] at.1 (sym (ap (λ (t : Ticket). t.number) at.2.ticket))

@@ -11,8 +11,8 @@ returns-in-Some-clause-seat g c = λ spec is.
     let limit = c.args.limit in
     let first : StreamSeatValue = seat_over limit (opened_rest 0 spec) in
     let all : c.in-Ok-new.opened.1.items ≡ first ∷ [] = c.in-Ok-new.ensures.streams ∙ ap (opened_streams limit 0) is in
-    subst (λ (s : StreamSeatValue). IsSeatFor spec s × HasNoCalls s)
-    (sym (popped_one _ _ _ _ all c.in-Some.ensures.items)) (opened limit 0 spec, (refl, refl))
+    subst (λ (s : StreamSeatValue). IsSeatFor spec s × HasNoCalls s × (s.number ≡ 0))
+    (sym (popped_one _ _ _ _ all c.in-Some.ensures.items)) (opened limit 0 spec, (refl, refl), refl)
 
 pub returns-in-Some-clause-limit : goal.returns-in-Some-clause-limit
 returns-in-Some-clause-limit g c = ap (λ (hub : HubValue). hub.limit) c.in-Ok-new.ensures.hub

@@ -3,6 +3,7 @@ use Rattle.std.specs.Prelude.{slice_get, ⊤}
 use Rattle.serve_core.proofs.Items.Lists.{slice_get_here}
 use Rattle.serve_hub.specs.Ends.{IsStreamOf}
 use Rattle.serve_hub.specs.Seats.{left_by}
+use Rattle.serve_work.specs.declared.live.guests.Ticket.{Ticket}
 use Rattle.serve_work.specs.LiveInside.{IsGuestAt}
 use Rattle.serve_work.specs.SessionInside.{stream_of}
 use Rattle.serve_work.proofs.Living.{can_tell, guest_at}
@@ -49,9 +50,10 @@ show-requires g c =
         at.w,
         at.after,
         subst (g.D.Door.waits c.args.door.now) at.split a.1,
-        sym at.is.0,
+        sym (ap (λ (t : Ticket). t.number) at.is.0),
         can_show source.remaining source.failures sink.contents sink.failures sink.is_flushed g.D.Door.limit g.D.Door.times desk
             at.w.request c.in-Some.guest.stream told.seat c.standing_at.result told.stood
-            (sym c.is_waiting.ensures ∙ c.if-is_waiting.true) (c.standing_at.ensures (left_by told.seat) told.here),
+            (sym c.is_waiting.ensures ∙ c.if-is_waiting.true) told.kept told.asked
+            (c.standing_at.ensures (left_by told.seat) told.here),
       );
     }

@@ -3,6 +3,7 @@ use Rattle.std.specs.Prelude.{slice_get}
 use Rattle.std.specs.Option.{option_map}
 use Rattle.serve_core.specs.Schedule.{HasStream}
 use Rattle.serve_hub.specs.Seats.{StreamRest}
+use Rattle.serve_work.specs.declared.live.guests.Ticket.{Ticket}
 use Rattle.serve_work.specs.declared.stop.Stop.{Stop}
 use Rattle.serve_work.specs.Clients.{AllowsStop}
 use Rattle.serve_work.specs.SessionInside.{kept_stop}
@@ -32,8 +33,8 @@ tell-requires g c =
         can.1,
         can.2,
         can.3,
-        sym told.ticket,
-        answered _ _ _ _ _ _ _ told.stood c.told-served.ensures.ends told.charges told.kept charged
+        sym (ap (λ (t : Ticket). t.number) told.ticket),
+        answered _ _ _ _ _ _ _ told.stood c.told-served.ensures.ends told.charges told.kept charged told.asked
             (kept_allowed g.D.Door.times (kept_stop c.args.guest.stream) (Some c.told-served.result.stop) c.told-served.ensures.stop
             (subst (λ (o : Option Stop). IfSome o (AllowsStop g.D.Door.times)) stop told.stood.stop)),
       );

@@ -1,5 +1,6 @@
 use Rattle.std.proofs.Common.{◌∙◌, ◌++◌, List, Option, Some, ap, subst, sym}
 use Rattle.serve_work.specs.declared.live.guests.Guest.{Guest}
+use Rattle.serve_work.specs.declared.live.guests.Ticket.{Ticket}
 use Rattle.serve_work.specs.LiveInside.{AreGuests, IsGuestAt}
 use Rattle.serve_work.specs.SessionInside.{stream_of}
 use Rattle.serve_work.proofs.Living.{can_tell, guest_at, nobody_leaves, with_guests}
@@ -37,7 +38,8 @@ returns-in-Some-clause-guests g c =
     let at = guest_at (IsGuestAt value g.D.Door.limit g.D.Door.times c.args.ended.now.book.desk) guests a.2.seats a.0
     c.args.place c.in-Some.guest
     a.2.each (c.take_at.ensures.taken ∙ ap Some c.in-Some.is) in
-    let told = c.tell.ensures.told at.before at.w at.after (subst (g.D.Door.waits c.args.door.now) at.split a.1) (sym at.is.0) in (
+    let told = c.tell.ensures.told at.before at.w at.after (subst (g.D.Door.waits c.args.door.now) at.split a.1)
+    (sym (ap (λ (t : Ticket). t.number) at.is.0)) in (
       at.before ++ at.after,
       told,
       subst (λ (gs : List (Option (Guest _ _))). AreGuests source.remaining source.failures sink.contents sink.failures
