@@ -1,6 +1,7 @@
 pub mod Known
 pub mod Reading
 pub mod Puts
+pub mod PutsOn
 pub mod MoreFrames
 pub mod Ahead
 pub mod Serving

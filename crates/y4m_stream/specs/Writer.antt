@@ -1,6 +1,6 @@
 -- What callers see of a stream's writer, and what its calls do.
-use Rattle.std.specs.Prelude.{◌≡◌, ℕ, ◌+◌, ◌<◌, ◌⊎◌, List, [], ◌∷◌, ◌++◌, length, take, Option, Result, Ok}
-use Rattle.std.specs.Prelude.{Err, MatchResult, Bool, true, false}
+use Rattle.std.specs.Prelude.{◌≡◌, ℕ, ◌+◌, ◌<◌, ◌≤◌, ◌⊎◌, List, [], ◌∷◌, ◌++◌, length, take, Option}
+use Rattle.std.specs.Prelude.{Result, Ok, Err, MatchResult, Bool, true, false}
 use Rattle.std.specs.Io.KnownBytes.{Appends}
 use Rattle.frame_view.specs.declared.geometry.Geometry.{Geometry}
 use Rattle.y4m_header.specs.declared.chroma.Chroma.{Chroma}
@@ -9,6 +9,9 @@ use Rattle.filters.specs.Chain.{ChainValue, format_of, last_format}
 use Rattle.y4m_header.specs.StreamText.{FrameText, text_of}
 use Rattle.y4m_stream.specs.declared.fault.WriteFault.{WriteFault}
 use Rattle.y4m_stream.specs.declared.fault.WriteFault.TheVariants.{Device, Failed}
+use Rattle.y4m_stream.specs.declared.put.Put.{Put}
+use Rattle.y4m_stream.specs.declared.put.Way.{Way}
+use Rattle.y4m_stream.specs.declared.put.Way.TheVariants.{Done, More, Fails}
 use Rattle.y4m_stream.specs.Failures.{one_more}
 
 -- what the sink holds, where that is known; the size of the frames; what went out since the writer was
@@ -20,6 +23,8 @@ pub record WriterState : Type 0 where
   pub chroma : Chroma
   pub frames : ℕ
   pub bytes : ℕ
+  -- how many of these are of an image that was begun and isn't whole yet
+  pub part : ℕ
   pub failed : Bool
   pub failures : ℕ
 
@@ -42,6 +47,25 @@ abbrev pub PutsText : {T : Type 0} → Option (List ℕ) → Option (List ℕ) �
 PutsText old new text answer =
     MatchResult answer (λ _. Appends old new text) (λ n. (n < length text) × Appends old new (take n text))
 
+-- how far a text was written, by how writing on went
+abbrev pub IsFar : Way → ℕ → ℕ → Type 0
+IsFar Done written len = written ≡ len
+IsFar More written len = written < len
+IsFar Fails written len = written < len
+
+-- a write failed in the call exactly where it is told so
+abbrev pub failures_by : Way → ℕ → ℕ
+failures_by Done n = n
+failures_by More n = n
+failures_by Fails n = one_more n
+
+-- where so many bytes of the text had gone out, from its front, so many have now
+pub record PutsOn (old new : Option (List ℕ)) (text : List ℕ) (from : ℕ) (put : Put) : Type 0 where
+  pub later : from ≤ put.written
+  pub far : IsFar put.way put.written (length text)
+  pub front : (before : Option (List ℕ)) → Appends before old (take from text)
+      → Appends before new (take put.written text)
+
 -- n bytes of the text went out, from its front, and not all; the fault counts them and those that went out
 -- before
 pub record CutsShort (old new : Option (List ℕ)) (text : List ℕ) (before : ℕ)
@@ -60,6 +84,7 @@ pub record IsOpenedFor (header : HeaderValue) (contents : Option (List ℕ)) (fa
   pub chroma : opened.chroma ≡ header.chroma
   pub frames : opened.frames ≡ 0
   pub bytes : opened.bytes ≡ length header.line + 1
+  pub none : opened.part ≡ 0
   pub writing : opened.failed ≡ false
   pub no_failure : opened.failures ≡ failures
 
@@ -99,6 +124,35 @@ pub record FailsToPut (old new : WriterState) (frame : FrameText) (fault : Write
 abbrev pub PutsOpen : {T : Type 0} → WriterState → WriterState → FrameText → Result T WriteFault → Type 0
 PutsOpen old new frame (Ok x) = PutsFrame old new frame
 PutsOpen old new frame (Err fault) = FailsToPut old new frame fault
+
+-- a front of the image's text went out behind the first of these states, and not all
+pub record IsWithin (before now : WriterState) (image : FrameText) : Type 0 where
+  pub writing : before.failed ≡ false
+  pub none : before.part ≡ 0
+  pub partly : now.part < length (text_of image)
+  pub front : Appends before.contents now.contents (take now.part (text_of image))
+  pub stays : now ≡ record before { contents = now.contents; bytes = before.bytes + now.part; part = now.part }
+
+-- what writing on with an image does that was begun behind the first of these states
+abbrev pub PutsMore : WriterState → WriterState → FrameText → Result Bool WriteFault → Type 0
+PutsMore before new image (Ok true) = PutsFrame before new image
+PutsMore before new image (Ok false) = IsWithin before new image
+PutsMore before new image (Err fault) = FailsToPut before new image fault
+
+-- what a writer counts where it writes on with an image, whatever went out before
+abbrev pub CountsMore : WriterState → WriterState → FrameText → Result Bool WriteFault → Type 0
+CountsMore old new image (Ok true) =
+    new ≡ record old { contents = new.contents; frames = old.frames + 1; bytes = new.bytes; part = 0 }
+CountsMore old new image (Ok false) =
+    (new.part < length (text_of image))
+    × (new ≡ record old { contents = new.contents; bytes = new.bytes; part = new.part })
+CountsMore old new image (Err fault) = new ≡ record old {
+  contents = new.contents;
+  bytes = new.bytes;
+  part = new.part;
+  failed = true;
+  failures = new.failures;
+}
 
 -- what putting a frame does: it writes, or it answers that the writer has failed
 pub record Puts {T : Type 0} (old new : WriterState) (frame : FrameText)

@@ -1,31 +1,36 @@
 // A writer of frames, which fails for good at its first fault.
-ghost use Rattle.std.specs.Prelude.{◌≡◌, ◌<◌, ◌^◌, ◌↔◌, [], ◌∷◌, ◌++◌, Err, IfOk, IfErr, OnOk, true, false};
+ghost use Rattle.std.specs.Prelude.{◌≡◌, ◌≢◌, ◌<◌, ◌^◌, ◌↔◌, [], ◌∷◌, ◌++◌, Ok, Err, IfOk, IfErr, IfNone, OnOk};
+ghost use Rattle.std.specs.Prelude.{length, true, false};
 ghost use Rattle.std.specs.Io.KnownBytes.{Keeps};
 ghost use Rattle.y4m_stream.specs.Failures.{one_more};
 ghost use Rattle.y4m_stream.specs.Reader.{frame_text_of};
-ghost use Rattle.y4m_stream.specs.Writer.{CutsShort, FlushesOrFails, IsOfSize, IsOpenedFor, Puts};
+ghost use Rattle.y4m_stream.specs.Writer.{CountsMore, CutsShort, FlushesOrFails, IsOfSize, IsOpenedFor};
+ghost use Rattle.y4m_stream.specs.Writer.{IsWithin, Puts, PutsMore, WriterState};
 ghost use Rattle.y4m_header.specs.declared.limits.TheConstants.{MOST_FRAMES};
+ghost use Rattle.y4m_header.specs.StreamText.{text_of};
 ghost use Rattle.y4m_stream.specs.Writer.{write_failures_told};
 
 use crate::device::Sink;
 use crate::fault::WriteFault;
-use crate::put::{put_frame, put_line};
+use crate::put::{Way, put_frame, put_frame_on, put_line};
 use frame_view::{Frame, Geometry};
 use std::marker::Model;
 use y4m_header::Header;
 
 /// The frames of a stream, written one after another.
 ///
-/// Each call writes all of its text, one piece for a line and one for a frame's data: nothing is kept back
-/// between calls, and no memory is taken. No write or flush that failed is tried again: after its first fault
-/// every call answers `Failed`, and `finish` gives the sink back. It tells its sink of each frame that went
-/// out whole, and counts the frames and the bytes that went out.
+/// Each call but `put_on` writes all of its text, one piece for a line and one for a frame's data: nothing is
+/// kept back between calls, and no memory is taken. No write or flush that failed is tried again: after its
+/// first fault every call answers `Failed`, and `finish` gives the sink back. It tells its sink of each frame
+/// that went out whole, and counts the frames and the bytes that went out.
 #[derive(Drop)]
 pub struct StreamWriter<W: Sink> {
     sink: W,
     geometry: Geometry,
     frames: u64,
     bytes: u64,
+    /// How many of these are of an image that was begun and isn't whole yet.
+    part: usize,
     failed: bool,
 }
 
@@ -44,12 +49,13 @@ impl<W: Sink> Model for StreamWriter<W> {
       chroma = a.geometry.chroma;
       frames = a.frames;
       bytes = a.bytes;
+      part = a.part;
       failed = a.failed;
       failures = W.failures a.sink;
     } };
 
-    ghost invariant = { λ a. (a.failed ≡ false → a.bytes ≤ LINE_LIMIT + 2 ^ 27 * a.frames)
-        × (a.frames ≤ MOST_FRAMES) };
+    ghost invariant = { λ a. (a.failed ≡ false → a.bytes ≤ LINE_LIMIT + 2 ^ 27 * a.frames + a.part)
+        × (a.frames ≤ MOST_FRAMES) × (a.part ≤ 2 ^ 27) };
 }
 
 impl<W: Sink> StreamWriter<W> {
@@ -66,6 +72,7 @@ impl<W: Sink> StreamWriter<W> {
                 geometry: Geometry::of(header),
                 frames: 0,
                 bytes: header.line().len() as u64 + 1,
+                part: 0,
                 failed: false,
             }),
             Err(n) => Err((sink, WriteFault::Device(n as u64))),
@@ -96,6 +103,52 @@ impl<W: Sink> StreamWriter<W> {
                 Err(WriteFault::Device(self.bytes))
             }
         }
+    }
+
+    /// Writes on with a frame, behind what went out of it before, if anything did: where it has a patience, in at
+    /// most two writes, each of which waits at most so many milliseconds; else to its end. It answers whether
+    /// the frame went out whole.
+    ///
+    /// Until it has, each call is for the same frame. After a fault each later call answers
+    /// `WriteFault::Failed`, as those of `put` do.
+    pub fn put_on(&mut self, frame: &Frame, patience: Option<u64>) -> Result<bool, WriteFault>
+        requires size { IsOfSize self.old frame.now.geometry }
+        requires few { self.old.frames < MOST_FRAMES }
+        requires part { self.old.part < length (text_of (frame_text_of frame.now)) }
+        ensures more { (before : WriterState) → IsWithin before self.old (frame_text_of frame.now)
+            → PutsMore before self.new (frame_text_of frame.now) result }
+        ensures counted { CountsMore self.old self.new (frame_text_of frame.now) result }
+        ensures failed { self.old.failed ≡ true → (result ≡ Err WriteFault.Failed) × (self.new ≡ self.old) }
+        ensures decided { IfNone patience (result ≢ Ok false) }
+    {
+        if self.failed {
+            return Err(WriteFault::Failed);
+        }
+        let from = self.part;
+        let put = put_frame_on(&mut self.sink, frame.line(), frame.data(), from, patience);
+        self.bytes += (put.written - from) as u64;
+        self.part = 0;
+        match put.way {
+            Way::Done => {
+                self.frames += 1;
+                Ok(true)
+            }
+            Way::More => {
+                self.part = put.written;
+                Ok(false)
+            }
+            Way::Fails => {
+                self.failed = true;
+                Err(WriteFault::Device(self.bytes))
+            }
+        }
+    }
+
+    /// How many bytes went out of a frame that was begun and isn't whole yet.
+    pub fn part(&self) -> usize
+        ensures { result ≡ self.now.part }
+    {
+        self.part
     }
 
     /// How many frames went out since the writer was opened.

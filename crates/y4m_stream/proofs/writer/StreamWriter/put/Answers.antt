@@ -5,7 +5,7 @@ not_false : true ≡ false → ⊥
 not_false is = search rules
 
 pub invariant_of-self-in-Err : goal.invariant_of-self-in-Err
-invariant_of-self-in-Err g c = (λ writing. absurd (not_false writing), c.self.invariant.1)
+invariant_of-self-in-Err g c = (λ writing. absurd (not_false writing), c.self.invariant.1, c.self.invariant.2)
 
 pub returns-in-Err : goal.returns-in-Err
 returns-in-Err g c =
