@@ -16,6 +16,7 @@ mod hostile;
 mod memory;
 mod operations;
 mod overlapped;
+mod parts;
 mod prefixes;
 mod reader;
 mod readiness;

@@ -1,0 +1,5 @@
+use Rattle.y4m_stream.specs.Writer.{IsOfSize}
+use Rattle.y4m_stream_tests.proofs.tests.parts.put_by_parts.Given as goal
+
+abbrev pub invariant-loop : goal.invariant-loop
+invariant-loop g l = IsOfSize l.writer l.frame.geometry
