@@ -40,7 +40,7 @@ module _ (Gives : ℕ → Type 0) where
   unread_allowed Torn old new u = tt
 
   pub collection_allowed : (halt : Halt) (back : Arc Frame Global) → IsOfCollection halt → AllowsFed Gives (fed_of halt back)
-  collection_allowed Full back own = tt
+  collection_allowed (Full image) back own = tt
   collection_allowed (Stopped Whole) back own = tt
   collection_allowed (Stopped (Read fault)) back own = tt
   collection_allowed (Stopped (Write fault)) back own = tt
@@ -48,7 +48,7 @@ module _ (Gives : ℕ → Type 0) where
   collection_allowed (Stopped Torn) back own = tt
 
   pub delivery_allowed : (halt : Halt) → IsOfDelivery halt → AllowsFed Gives (fed_before halt)
-  delivery_allowed Full own = tt
+  delivery_allowed (Full image) own = tt
   delivery_allowed (Stopped Whole) own = tt
   delivery_allowed (Stopped (Read fault)) own = tt
   delivery_allowed (Stopped (Write fault)) own = tt
@@ -102,22 +102,22 @@ flushed_stop (Refused cause) flush told f is = ap Some (sym f) ∙ is
 flushed_stop Torn flush told f is = ap Some (sym f) ∙ is
 
 pub given_up_stop : (course : CourseValue) → IsNoNewEnd (course_stop course) (Some (stop_given_up course))
-given_up_stop (Feeding in_hand) is = absurd (cc)
+given_up_stop (Feeding in_hand image) is = absurd (cc)
 given_up_stop (Holding in_hand held) is = is
-given_up_stop (Draining Whole) is = absurd (cc)
-given_up_stop (Draining (Read fault)) is = is
-given_up_stop (Draining (Write fault)) is = is
-given_up_stop (Draining (Refused cause)) is = is
-given_up_stop (Draining Torn) is = is
+given_up_stop (Draining Whole image) is = absurd (cc)
+given_up_stop (Draining (Read fault) image) is = is
+given_up_stop (Draining (Write fault) image) is = is
+given_up_stop (Draining (Refused cause) image) is = is
+given_up_stop (Draining Torn image) is = is
 given_up_stop (Discarding stop) is = is
 
 -- a client that is given up tells the fault that it keeps
 pub given_up_kept : (course : CourseValue) → TellsKept (course_stop course) (stop_given_up course)
-given_up_kept (Feeding in_hand) = refl
+given_up_kept (Feeding in_hand image) = refl
 given_up_kept (Holding in_hand held) = λ fault. refl
-given_up_kept (Draining Whole) = λ fault. absurd (fault refl)
-given_up_kept (Draining (Read f)) = λ fault. refl
-given_up_kept (Draining (Write f)) = λ fault. refl
-given_up_kept (Draining (Refused cause)) = λ fault. refl
-given_up_kept (Draining Torn) = λ fault. refl
+given_up_kept (Draining Whole image) = λ fault. absurd (fault refl)
+given_up_kept (Draining (Read f) image) = λ fault. refl
+given_up_kept (Draining (Write f) image) = λ fault. refl
+given_up_kept (Draining (Refused cause) image) = λ fault. refl
+given_up_kept (Draining Torn image) = λ fault. refl
 given_up_kept (Discarding stop) = λ fault. refl

@@ -1,19 +1,23 @@
 -- How a stream goes on from one epoch to the next.
-use Rattle.std.proofs.Common.{◌≡◌, ◌⊎◌, ◌+◌, ◌++◌, ◌≤◌, ℕ, List, [], Option, IfSome, IsSome, ap, append-nil, arith, inl, inr}
-use Rattle.std.proofs.Common.{refl, subst, sym, ◌∙◌}
+use Rattle.std.proofs.Common.{◌≡◌, ◌⊎◌, ◌+◌, ◌++◌, ◌≤◌, ℕ, List, [], Option, None, Some, IfSome, IsSome, ap, append-nil, arith}
+use Rattle.std.proofs.Common.{inl, inr, refl, subst, sym, ◌∙◌}
+use Rattle.filters.specs.Chain.{ChainValue}
 use Rattle.filters.specs.ChainImage.{FrameValue}
 use Rattle.y4m_header.specs.StreamText.{FrameText}
 use Rattle.y4m_stream.specs.Reader.{ReaderState, data_len_of}
 use Rattle.y4m_stream.specs.Writer.{WriterState}
+use Rattle.serve_core.specs.declared.collected.Collected.{Collected}
 use Rattle.serve_hub.specs.declared.entry.Act.{Act}
 use Rattle.serve_hub.specs.Seats.{StreamSeatValue}
 use Rattle.serve_work.specs.declared.stop.Stop.{Stop}
 use Rattle.serve_work.specs.Clients.{ClientEnds, ClientOutcome, ClientStart, ClientStopsAt, CutsHeader}
 use Rattle.serve_work.specs.Clients.{WroteNothing, collections_in, offers_in}
-use Rattle.serve_work.specs.ClientInside.{Feeds, IsCounted, IsUseful, Moves, Passes, Serves, Stays, texts_of}
+use Rattle.serve_work.specs.ClientInside.{Feeds, HasInHand, IsCounted, IsUseful, Moves, Passes, Serves, Stays, texts_of}
+use Rattle.serve_work.specs.Hands.{IsBegunPair, counted_with, with_kept}
+use Rattle.serve_work.proofs.Hands.{IsReopened-kept}
 use Rattle.serve_work.specs.Epochs.{IsReopened, NewStreamIsUnbegun, StreamsCross}
 use Rattle.serve_work.specs.Rests.{Begun, CourseValue, Discarding, Draining, Feeding, Holding, IsAt, IsFresh}
-use Rattle.serve_work.specs.Rests.{IsRestOf, Outset, RestValue, Unbegun, as_open}
+use Rattle.serve_work.specs.Rests.{IsRestOf, Outset, RestValue, Unbegun, as_open, course_image}
 use Rattle.serve_work.proofs.Staying.{Stays-same, Stays-trans}
 use Rattle.serve_work.proofs.Tallying.{collections_both, collections_counted}
 use Rattle.serve_work.proofs.Stopping.{moves_until, read_by, until_moves}
@@ -83,11 +87,35 @@ module _ (past : List Act) (old new : StreamSeatValue) (r : IsReopened old new) 
         count = r.accepted ∙ a.count;
       }
 
+  HasInHand-across : (reader reader' : ReaderState) (first : StreamSeatValue) (writer writer' : WriterState)
+      (in_hand : Option FrameText) → HasInHand reader reader' first old writer writer' in_hand
+      → HasInHand reader reader' first new writer writer' in_hand
+  HasInHand-across reader reader' first writer writer' in_hand a = record {
+    before = a.before;
+    frames = a.frames;
+    passed = Passes-across reader a.before first writer writer' a.frames a.passed;
+    holds = a.holds;
+    is_open = a.is_open;
+  }
+
+-- what a stream's seat came to, its seat of the next epoch has come to
+module _ (past : List Act) (old new : StreamSeatValue) (r : IsReopened old new) where
+  abbrev more : List Act
+  more = past ++ old.calls.list
+
+  all_same : more ++ new.calls.list ≡ past ++ old.calls.list
+  all_same = same_calls past old new r
+
+  begun_across : (pair : Collected) (before writer : WriterState) → IsBegunPair old.chain pair before writer
+      → IsBegunPair new.chain pair before writer
+  begun_across pair before writer begun =
+      subst (λ (chain : ChainValue). IsBegunPair chain pair before writer) (sym r.chain) begun
+
   Serves-across : (stop : Stop) (reader reader' : ReaderState) (first : StreamSeatValue) (writer writer' : WriterState)
-      → Serves past stop reader reader' first old writer writer' → Serves later stop reader reader' first new writer writer'
+      → Serves past stop reader reader' first old writer writer' → Serves more stop reader reader' first new writer writer'
   Serves-across stop reader reader' first writer writer' a = record {
     frames = a.frames;
-    read = read_by past later stop reader reader' first old new a.frames same_calls a.read;
+    read = read_by past more stop reader reader' first old new a.frames all_same a.read;
     count = r.accepted ∙ a.count;
     sent = a.sent;
     torn = λ is. subst IsSome (sym r.torn) (a.torn is);
@@ -97,14 +125,14 @@ module _ (past : List Act) (old new : StreamSeatValue) (r : IsReopened old new) 
   }
 
   IsAt-across : (course : CourseValue) (o : Outset) (reader : ReaderState) (writer : WriterState) → IsAt course past o reader old writer
-      → IsAt course later o reader new writer
-  IsAt-across (Feeding in_hand) o reader writer a = record {
-    before = a.before;
-    frames = a.frames;
-    passed = Passes-across o.reader a.before o.seat o.writer writer a.frames a.passed;
-    holds = a.holds;
-    is_open = a.is_open;
-  }
+      → IsAt course more o reader new writer
+  IsAt-across (Feeding in_hand None) o reader writer a = HasInHand-across past old new r o.reader reader o.seat o.writer writer in_hand a
+  IsAt-across (Feeding in_hand (Some pair)) o reader writer a = (
+    a.0,
+    begun_across pair a.0 writer a.1,
+    HasInHand-across past (with_kept pair old) (with_kept pair new) (IsReopened-kept pair old new r) o.reader reader o.seat o.writer a.0
+        in_hand a.2,
+  )
   IsAt-across (Holding in_hand held) o reader writer a = record {
     before = a.before;
     frames = a.frames;
@@ -118,10 +146,15 @@ module _ (past : List Act) (old new : StreamSeatValue) (r : IsReopened old new) 
     holds = a.holds;
     is_open = a.is_open;
   }
-  IsAt-across (Draining stop) o reader writer a = (a.0, Feeds-across stop o.reader reader o.seat o.writer writer a.0 a.1)
+  IsAt-across (Draining stop None) o reader writer a =
+      (a.0, Feeds-across past old new r stop o.reader reader o.seat o.writer writer a.0 a.1)
+  IsAt-across (Draining stop (Some pair)) o reader writer a =
+      let later = Feeds-across past (with_kept pair old) (with_kept pair new) (IsReopened-kept pair old new r) stop o.reader reader o.seat
+      o.writer a.1.0 a.0 a.1.2 in
+      (a.0, (a.1.0, begun_across pair a.1.0 writer a.1.1, later))
   IsAt-across (Discarding stop) o reader writer a = (a.0, Serves-across stop o.reader reader o.seat o.writer writer a.1)
 
-  rest_across : (start : ClientStart) (rest : RestValue) → IsRestOf start past old rest → IsRestOf start later new rest
+  rest_across : (start : ClientStart) (rest : RestValue) → IsRestOf start past old rest → IsRestOf start more new rest
   rest_across start (Unbegun reader contents failures) a = record {
     same_reader = a.same_reader;
     same_contents = a.same_contents;
@@ -130,8 +163,8 @@ module _ (past : List Act) (old new : StreamSeatValue) (r : IsReopened old new) 
     first = a.first;
     fresh = record { accepted = r.accepted ∙ a.fresh.accepted; kept = r.kept ∙ a.fresh.kept; is_open = r.is_closed ∙ a.fresh.is_open };
     stays = Stays-trans start.seat old new a.stays (reopened_stays old new r);
-    offers = counted_across a.offers;
-    before = before_across start.seat.before a.before;
+    offers = counted_across past old new r a.offers;
+    before = before_across past old new r start.seat.before a.before;
   }
   rest_across start (Begun begun) a = record {
     shown = a.shown;
@@ -144,10 +177,11 @@ module _ (past : List Act) (old new : StreamSeatValue) (r : IsReopened old new) 
     tally = record {
       number = r.number ∙ a.tally.number;
       chain = r.chain ∙ a.tally.chain;
-      offers = counted_across a.tally.offers;
-      images = omega (arith, a.tally.images, ap collections_in same_calls);
-      before = before_across start.seat.before a.tally.before;
-      torn = λ none. torn_across (λ n. start.seat.before + begun.writer.frames ≤ n) (a.tally.torn none);
+      offers = counted_across past old new r a.tally.offers;
+      images = omega (arith, a.tally.images, ap collections_in all_same);
+      before = before_across past old new r start.seat.before a.tally.before;
+      torn = λ none. torn_across past old new r
+          (λ n. start.seat.before + (counted_with (course_image begun.course) begun.writer).frames ≤ n) (a.tally.torn none);
     };
     accepted = a.accepted ∙ sym r.accepted;
     collected = rw (r.accepted, r.kept) a.collected;
@@ -168,7 +202,7 @@ module _ (past : List Act) (old new : StreamSeatValue) (r : IsReopened old new) 
         most = start.seat.frames;
         rest = rest;
         left = end.left;
-        calls = later ++ new.calls.list;
+        calls = more ++ new.calls.list;
       })
   stops_across start end rest (inl a) = inl a
   stops_across start end rest (inr (inl a)) = inr (inl a)
@@ -179,9 +213,9 @@ module _ (past : List Act) (old new : StreamSeatValue) (r : IsReopened old new) 
     rest = rest;
     left = end.left;
     calls = calls;
-  })) (sym same_calls) a))
+  })) (sym all_same) a))
 
-  end_across : (start : ClientStart) (end : ClientOutcome) → ClientEnds start past old end → ClientEnds start later new end
+  end_across : (start : ClientStart) (end : ClientOutcome) → ClientEnds start past old end → ClientEnds start more new end
   end_across start end a = record {
     frames = a.frames;
     rest = a.rest;
@@ -198,10 +232,10 @@ module _ (past : List Act) (old new : StreamSeatValue) (r : IsReopened old new) 
     number = r.number ∙ a.number;
     chain = r.chain ∙ a.chain;
     accepted = r.accepted ∙ a.accepted;
-    offers = ap offers_in same_calls ∙ a.offers;
-    collections = omega (arith, a.collections, ap collections_in same_calls);
-    before = before_across start.seat.before a.before;
-    torn = λ none. torn_across (λ n. start.seat.before + end.delivered ≤ n) (a.torn none);
+    offers = ap offers_in all_same ∙ a.offers;
+    collections = omega (arith, a.collections, ap collections_in all_same);
+    before = before_across past old new r start.seat.before a.before;
+    torn = λ none. torn_across past old new r (λ n. start.seat.before + end.delivered ≤ n) (a.torn none);
     told = λ is. subst IsSome (sym r.torn) (a.told is);
   }
 

@@ -1,7 +1,9 @@
 pub mod Allowing
 pub mod Crossing
 pub mod Ending
+pub mod Finishing
 pub mod Fronts
+pub mod Hands
 pub mod Intervals
 pub mod Journals
 pub mod Living

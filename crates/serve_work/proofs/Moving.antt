@@ -1,6 +1,6 @@
 -- How frames move through a seat to a writer.
 use Rattle.std.proofs.Common.{◌≡◌, ℕ, ◌+◌, ◌≤◌, List, [], ◌∷◌, ◌++◌, length, false, refl, sym, ap, ◌∙◌}
-use Rattle.std.proofs.Common.{append_assoc, append-nil, length-append, arith, subst}
+use Rattle.std.proofs.Common.{append_assoc, append-nil, length-append, arith, subst, Result, Ok, Err}
 use Rattle.std.proofs.KnownBytes.{Appends-trans, Appends-nil}
 use Rattle.std.proofs.lemmas.List.{map-append, length-map}
 use Rattle.frame_view.specs.declared.frame.Frame.{Frame}
@@ -25,7 +25,9 @@ use Rattle.serve_work.specs.declared.stop.Halt.TheVariants.{Full, Stopped}
 use Rattle.serve_work.specs.declared.stop.Stop.{Stop}
 use Rattle.serve_work.specs.declared.stop.Stop.TheVariants.{Whole, Read, Write, Refused, Torn}
 use Rattle.serve_work.specs.ClientInside.{Accounted, Cuts, HaltsWith}
-use Rattle.serve_work.specs.ClientInside.{Moves, StopsWith, texts_of}
+use Rattle.serve_work.specs.ClientInside.{Moves, MovesOrHalts, StopsWith, texts_of}
+use Rattle.serve_work.specs.Hands.{IsBegunPair, with_kept}
+use Rattle.serve_work.proofs.Hands.{Behind-map}
 use Rattle.serve_work.proofs.Staying.{Collects-stays, Puts-writes, Stays-same, Stays-trans, Writes-trans}
 use Rattle.serve_work.proofs.Staying.{stays_chain, stays_closed, stays_frames, text_of_value}
 
@@ -94,26 +96,53 @@ Moves-accept seat seat' writer frame n a = rw a.seat (record {
   writer_stays = refl;
 })
 
-pub Moves-give : (seat seat' : StreamSeatValue) (writer writer' : WriterState) (pair : Collected) → Gives pair seat seat'
-    → PutsFrame writer writer' (frame_text_of pair.image) → Moves seat seat' writer writer' []
-Moves-give seat seat' writer writer' pair given put =
-    let image = frame_text_of pair.image in
+-- a frame was collected, which the seat still kept
+pub Moves-kept : (seat seat' : StreamSeatValue) (writer : WriterState) (pair : Collected) → Gives pair seat seat'
+    → Moves seat (with_kept pair seat') writer writer []
+Moves-kept seat seat' writer pair given =
+    let stays = Collects-stays pair seat seat' given.collects in
     record {
-      sent = record { line = (source_in pair).line; samples = (source_in pair).samples } ∷ [];
-      images = image ∷ [];
+      sent = [];
+      images = [];
       order = append-nil (texts_of seat.kept) ∙ ap texts_of given.oldest;
-      made = (image_text pair seat seat' given, tt);
-      wrote = rw (append-nil (text_of image)) put.appended;
-      bytes = ap (λ (w : WriterState). w.bytes) put.counted ∙ rw (append-nil (text_of image)) refl;
-      frames = ap (λ (w : WriterState). w.frames) put.counted;
+      made = tt;
+      wrote = Appends-nil writer.contents;
+      bytes = omega arith;
+      frames = omega arith;
       count = ap (λ (s : StreamSeatValue). s.accepted) given.collects.seat ∙ omega arith;
       within = λ few. rw (
         ap (λ (s : StreamSeatValue). s.accepted) given.collects.seat,
         ap (λ (s : StreamSeatValue). s.frames)
             given.collects.seat,
       ) few;
-      seat_stays = Collects-stays pair seat seat' given.collects;
-      writer_stays = Puts-writes writer writer' image put;
+      seat_stays = record {
+        number = stays.number;
+        chain = stays.chain;
+        frames = stays.frames;
+        is_closed = stays.is_closed;
+        torn = stays.torn;
+      };
+      writer_stays = refl;
+    }
+
+-- the image that was in hand went out whole
+pub Moves-finish : (pair : Collected) (seat : StreamSeatValue) (before writer writer' : WriterState)
+    → IsBegunPair seat.chain pair before writer → PutsFrame before writer' (frame_text_of pair.image)
+    → Moves (with_kept pair seat) seat before writer' []
+Moves-finish pair seat before writer writer' begun put =
+    let image = frame_text_of pair.image in
+    record {
+      sent = record { line = (source_in pair).line; samples = (source_in pair).samples } ∷ [];
+      images = image ∷ [];
+      order = append-nil (texts_of (source_in pair ∷ seat.kept));
+      made = (begun.made, tt);
+      wrote = rw (append-nil (text_of image)) put.appended;
+      bytes = ap (λ (w : WriterState). w.bytes) put.counted ∙ rw (append-nil (text_of image)) refl;
+      frames = ap (λ (w : WriterState). w.frames) put.counted;
+      count = omega arith;
+      within = λ few. few;
+      seat_stays = record { number = refl; chain = refl; frames = refl; is_closed = refl; torn = refl };
+      writer_stays = Puts-writes before writer' image put;
     }
 
 pub Moves-trans : (seat mid seat' : StreamSeatValue) (writer between writer' : WriterState) (xs ys : List FrameText)
@@ -141,17 +170,19 @@ Moves-trans seat mid seat' writer between writer' xs ys a b = record {
   writer_stays = Writes-trans writer between writer' a.writer_stays b.writer_stays;
 }
 
-pub Cuts-give : (seat seat' : StreamSeatValue) (writer writer' : WriterState) (pair : Collected) (fault : WriteFault)
-    → Gives pair seat seat' → FailsToPut writer writer' (frame_text_of pair.image) fault → Cuts seat writer writer' [] fault
-Cuts-give seat seat' writer writer' pair fault given cut = record {
-  mid = seat;
-  between = writer;
-  moved = Moves-none seat seat writer writer refl refl;
+-- it didn't
+pub Cuts-finish : (pair : Collected) (seat : StreamSeatValue) (before writer writer' : WriterState) (fault : WriteFault)
+    → IsBegunPair seat.chain pair before writer → FailsToPut before writer' (frame_text_of pair.image) fault
+    → Cuts (with_kept pair seat) before writer' [] fault
+Cuts-finish pair seat before writer writer' fault begun cut = record {
+  mid = with_kept pair seat;
+  between = before;
+  moved = Moves-none (with_kept pair seat) (with_kept pair seat) before before refl refl;
   next = record { line = (source_in pair).line; samples = (source_in pair).samples };
-  lost = texts_of seat'.kept;
+  lost = texts_of seat.kept;
   image = frame_text_of pair.image;
-  oldest = ap texts_of given.oldest;
-  made = image_text pair seat seat' given;
+  oldest = refl;
+  made = begun.made;
   cut = cut;
 }
 
@@ -184,9 +215,17 @@ StopsWith-later Torn seat mid seat' writer between writer' xs ys a b = (
 
 pub HaltsWith-later : (halt : Halt) (seat mid seat' : StreamSeatValue) (writer between writer' : WriterState) (xs ys : List FrameText)
     → Moves seat mid writer between xs → HaltsWith halt mid seat' between writer' ys → HaltsWith halt seat seat' writer writer' (xs ++ ys)
-HaltsWith-later Full seat mid seat' writer between writer' xs ys a b = Moves-trans seat mid seat' writer between writer' xs ys a b
+HaltsWith-later (Full image) seat mid seat' writer between writer' xs ys a b =
+    Behind-map image seat' writer' (λ s w. Moves mid s between w ys) (λ s w. Moves seat s writer w (xs ++ ys))
+    (λ s w stood moved. Moves-trans seat mid s writer between w xs ys a moved) b
 HaltsWith-later (Stopped stop) seat mid seat' writer between writer' xs ys a b =
     StopsWith-later stop seat mid seat' writer between writer' xs ys a b
+
+pub MovesOrHalts-later : {T : Type 0} (result : Result T Halt) (seat mid seat' : StreamSeatValue) (writer between writer' : WriterState)
+    → Moves seat mid writer between [] → MovesOrHalts result mid seat' between writer' [] → MovesOrHalts result seat seat' writer writer' []
+MovesOrHalts-later (Ok t) seat mid seat' writer between writer' a b = Moves-trans seat mid seat' writer between writer' [] [] a b
+MovesOrHalts-later (Err halt) seat mid seat' writer between writer' a b =
+    HaltsWith-later halt seat mid seat' writer between writer' [] [] a b
 
 -- what went out and what is kept are together what was accepted
 pub Accounted-later : (seat seat' : StreamSeatValue) (writer writer' : WriterState) (xs : List FrameText)
@@ -208,6 +247,7 @@ Accounted-later seat seat' writer writer' xs a p = record {
   most = rw (stays_frames seat seat' a.seat_stays) p.most;
   is_open = stays_closed seat seat' a.seat_stays ∙ p.is_open;
   writing = ap (λ (w : WriterState). w.failed) a.writer_stays ∙ p.writing;
+  none = ap (λ (w : WriterState). w.part) a.writer_stays ∙ p.none;
 }
 
 -- there are no more frames than a writer may put
@@ -238,6 +278,10 @@ size_later seat seat' writer writer' xs a p = rw (stays_chain seat seat' a.seat_
 pub writing_later : (seat seat' : StreamSeatValue) (writer writer' : WriterState) (xs : List FrameText) → Moves seat seat' writer writer' xs
     → writer.failed ≡ false → writer'.failed ≡ false
 writing_later seat seat' writer writer' xs a p = ap (λ (w : WriterState). w.failed) a.writer_stays ∙ p
+
+pub none_later : (seat seat' : StreamSeatValue) (writer writer' : WriterState) (xs : List FrameText) → Moves seat seat' writer writer' xs
+    → writer.part ≡ 0 → writer'.part ≡ 0
+none_later seat seat' writer writer' xs a p = ap (λ (w : WriterState). w.part) a.writer_stays ∙ p
 
 -- a seat that stayed as it was
 pub Moves-at : (seat mid at : StreamSeatValue) (writer between : WriterState) → at ≡ mid → Moves seat mid writer between []

@@ -1,6 +1,6 @@
 -- What an offer is to a client.
 use Rattle.std.proofs.Common.{◌≡◌, ℕ, [], ◌∷◌, false, refl, ap, ◌∙◌, subst}
-use Rattle.std.proofs.Common.{IsTrue, ◌≢◌, ◌⊎◌, ◌++◌, None, Some, inl, inr, arith, sym}
+use Rattle.std.proofs.Common.{IsTrue, ◌≢◌, ◌⊎◌, ◌++◌, Option, None, Some, inl, inr, arith, sym}
 use Rattle.std.specs.declared.alloc.Global.{Global}
 use Rattle.std.specs.declared.sync.Arc.{Arc}
 use Rattle.std.specs.Arc.{arc_value}
@@ -11,14 +11,13 @@ use Rattle.y4m_stream.specs.Reader.{frame_text_of}
 use Rattle.y4m_stream.specs.Writer.{IsWriterFor, WriterState}
 use Rattle.serve_core.specs.declared.refusal.Refusal as core
 use Rattle.serve_core.specs.declared.refusal.Refusal.TheVariants as cores
+use Rattle.serve_core.specs.declared.collected.Collected.{Collected}
 use Rattle.serve_hub.specs.declared.refusal.Refusal.{Refusal}
 use Rattle.serve_hub.specs.declared.refusal.Refusal.TheVariants as hub
 use Rattle.serve_hub.specs.declared.refusal.Came.TheVariants as came
 use Rattle.serve_hub.specs.Calls.{Accepts, AcceptsOther, AllowsOffer, IsOfferTold, noted}
 use Rattle.serve_hub.specs.Seats.{StreamSeatValue, collected_by}
 use Rattle.serve_work.specs.declared.stop.Cause.TheVariants.{TooManyFrames}
-use Rattle.serve_work.specs.declared.feeding.Fed.{Fed}
-use Rattle.serve_work.specs.declared.feeding.Fed.TheVariants as feds
 use Rattle.serve_work.specs.declared.feeding.Offered.{Offered}
 use Rattle.serve_work.specs.declared.feeding.Offered.TheVariants as offered
 use Rattle.serve_work.specs.declared.stop.Cause.{Cause}
@@ -28,11 +27,14 @@ use Rattle.serve_work.specs.declared.stop.Stop.{Stop}
 use Rattle.serve_work.specs.declared.stop.Stop.TheVariants.{Whole, Read, Write, Refused, Torn}
 use Rattle.serve_work.specs.Clients.{HasOtherNumber, IsDrained}
 use Rattle.serve_work.specs.ClientInside.{AcceptsTorn, GivesUp, HaltsWith, IsOfCollection, IsOffered}
-use Rattle.serve_work.specs.ClientInside.{IsSizedFed, KeepsFrame, Moves, Refuses, StopsWith, TalliesSeat, Unfed, fed_of, stop_of}
+use Rattle.serve_work.specs.ClientInside.{IsLeft, IsSizedFed, KeepsFrame, Moves, Refuses, StopsWith, TalliesSeat, Unfed, fed_before}
+use Rattle.serve_work.specs.ClientInside.{fed_image, fed_of, image_in, stop_of}
+use Rattle.serve_work.specs.Hands.{Behind}
 use Rattle.serve_work.proofs.Staying.{GivesUp-torn, GivesUp-trans, stays_chain, stays_closed, stays_frames}
 use Rattle.serve_work.proofs.Tallying.{TalliesSeat-accept, TalliesSeat-torn, collected_more, counted_later, other_number}
 use Rattle.serve_work.proofs.Tallying.{seat_same, some_torn}
-use Rattle.serve_work.proofs.Moving.{Moves-accept, Moves-none, Moves-trans, StopsWith-later, size_later}
+use Rattle.serve_work.proofs.Moving.{HaltsWith-later, Moves-accept, Moves-none, Moves-trans, StopsWith-later}
+use Rattle.serve_work.proofs.Passing.{sized_behind}
 use Rattle.serve_work.proofs.Refusing.{seat_stop}
 
 clash : IsTrue false → ⊥
@@ -180,12 +182,14 @@ collection_stopped stop seat mid seat' writer between writer' a up own drained i
     })
 
 -- a frame that comes back, the journal being full
-pub kept_frame : (back : Arc Frame Global) (frame : Frame) (seat mid seat' : StreamSeatValue) (writer between writer' : WriterState)
-    → arc_value back ≡ frame → Moves seat mid writer between [] → GivesUp seat mid → Moves mid seat' between writer' [] → GivesUp mid seat'
-    → KeepsFrame back frame seat seat' writer writer'
-kept_frame back frame seat mid seat' writer between writer' same a up b stays = record {
+pub kept_frame : (back : Arc Frame Global) (image : Option Collected) (frame : Frame) (seat mid seat' : StreamSeatValue)
+    (writer between writer' : WriterState)
+    → arc_value back ≡ frame → Moves seat mid writer between [] → GivesUp seat mid
+    → Behind image seat' writer' (λ s w. Moves mid s between w []) → GivesUp mid seat'
+    → KeepsFrame back image frame seat seat' writer writer'
+kept_frame back image frame seat mid seat' writer between writer' same a up b stays = record {
   same = same;
-  moved = Moves-trans seat mid seat' writer between writer' [] [] a b;
+  moved = HaltsWith-later (Full image) seat mid seat' writer between writer' [] [] a b;
   stays = GivesUp-trans seat mid seat' up stays;
 }
 
@@ -195,20 +199,29 @@ pub collection_halted : (halt : Halt) (back : Arc Frame Global) (frame : Frame) 
     → arc_value back ≡ frame → Moves seat mid writer between [] → GivesUp seat mid → IsOfCollection halt
     → (halt ≡ Stopped Whole → IsDrained mid × (seat' ≡ mid)) → seat.is_closed ≡ false → HaltsWith halt mid seat' between writer' []
     → GivesUp mid seat' → Unfed (fed_of halt back) frame seat seat' writer writer'
-collection_halted Full back frame seat mid seat' writer between writer' same a up own drained is_open moved stays =
-    kept_frame back frame seat mid seat' writer between writer' same a up moved stays
+collection_halted (Full image) back frame seat mid seat' writer between writer' same a up own drained is_open moved stays =
+    kept_frame back image frame seat mid seat' writer between writer' same a up moved stays
 collection_halted (Stopped stop) back frame seat mid seat' writer between writer' same a up own drained is_open moved stays =
     inl (collection_stopped stop seat mid seat' writer between writer' a up own drained is_open moved stays)
 
+-- the image in hand stays in hand
+pub fed_image_of : (halt : Halt) (back : Arc Frame Global) → fed_image (fed_of halt back) ≡ image_in halt
+fed_image_of (Full image) back = refl
+fed_image_of (Stopped stop) back = refl
+
+pub fed_image_before : (halt : Halt) → fed_image (fed_before halt) ≡ image_in halt
+fed_image_before (Full image) = refl
+fed_image_before (Stopped stop) = refl
+
 -- what is in hand is of the seat's chain
-pub sized_fed : (fed : Fed) (frame : Frame) (seat seat' : StreamSeatValue) (writer writer' : WriterState)
-    → frame.geometry ≡ seat.chain.geometry
-    → IsWriterFor seat.chain writer → Unfed fed frame seat seat' writer writer' → IsSizedFed seat.chain writer' fed
-sized_fed (feds.Stopped stop) frame seat seat' writer writer' sized size k = tt
-sized_fed (feds.Held stop) frame seat seat' writer writer' sized size k = tt
-sized_fed (feds.Paused None) frame seat seat' writer writer' sized size k = absurd k
-sized_fed (feds.Paused (Some back)) frame seat seat' writer writer' sized size k = (
-  ap (λ (f : Frame). f.geometry) k.same ∙ sized,
-  subst (λ (c : ChainValue). IsWriterFor c writer') (stays_chain seat seat' k.moved.seat_stays)
-      (size_later seat seat' writer writer' [] k.moved size),
+pub halted_sized : (halt : Halt) (back : Arc Frame Global) (frame : Frame) (seat mid seat' : StreamSeatValue)
+    (writer between writer' : WriterState)
+    → arc_value back ≡ frame → Moves seat mid writer between [] → HaltsWith halt mid seat' between writer' []
+    → IsLeft mid.chain writer' halt → frame.geometry ≡ seat.chain.geometry → IsWriterFor seat.chain writer
+    → IsSizedFed seat.chain writer' (fed_of halt back)
+halted_sized (Full image) back frame seat mid seat' writer between writer' same a b left sized size = (
+  ap (λ (f : Frame). f.geometry) same ∙ sized,
+  sized_behind image seat seat' writer writer' (HaltsWith-later (Full image) seat mid seat' writer between writer' [] [] a b) size,
+  subst (λ (c : ChainValue). IsLeft c writer' (Full image)) (stays_chain seat mid a.seat_stays) left,
 )
+halted_sized (Stopped stop) back frame seat mid seat' writer between writer' same a b left sized size = tt

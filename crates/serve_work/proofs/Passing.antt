@@ -17,6 +17,7 @@ use Rattle.y4m_stream.specs.declared.reader.Phase.TheVariants.{Open}
 use Rattle.y4m_stream.specs.Reader.{IsOfHeader, MeetsEnd, ReaderState, TakesFrame, data_len_of, frame_text_of}
 use Rattle.y4m_stream.specs.Writer.{IsWriterFor, WriterState}
 use Rattle.y4m_stream.proofs.MoreFrames.{frames_text-push}
+use Rattle.serve_core.specs.declared.collected.Collected.{Collected}
 use Rattle.serve_hub.specs.declared.entry.Act.{Act}
 use Rattle.serve_hub.specs.Seats.{StreamSeatValue, collected_by}
 use Rattle.serve_work.specs.declared.stop.Cause.TheVariants.{TooManyFrames, ClockEnd, NoMemory}
@@ -29,7 +30,9 @@ use Rattle.serve_work.specs.declared.stop.Stop.TheVariants.{Whole, Read, Write, 
 use Rattle.serve_work.specs.Clients.{ClientProgress, ClientStopsAt, reads_at}
 use Rattle.serve_work.specs.ClientInside.{AcceptsTorn, Feeds, FeedsOn, GivesUp, HaltsWith, HasInHand, HasPassed, Holds, IsCounted}
 use Rattle.serve_work.specs.ClientInside.{IsOfDelivery, IsOfSeat, IsSizedFed, IsUnread, Moves, Offers, Passes, Refuses, StopsReading, Takes}
-use Rattle.serve_work.specs.ClientInside.{TalliesSeat, Unfed, fed_before, text_in}
+use Rattle.serve_work.specs.ClientInside.{IsLeft, TalliesSeat, Unfed, fed_before, text_in}
+use Rattle.serve_work.specs.Hands.{Behind}
+use Rattle.serve_work.proofs.Hands.{Behind-any, Behind-map, stood_size}
 use Rattle.serve_work.proofs.Staying.{stays_chain, stays_frames}
 use Rattle.serve_work.proofs.Tallying.{counted_later, some_torn}
 use Rattle.serve_work.proofs.Moving.{Moves-none, Moves-trans, StopsWith-later, frames_text-append, size_later}
@@ -202,6 +205,24 @@ module _ (reader mid : ReaderState) (seat between : StreamSeatValue) (writer v :
         count = ap (λ (s : StreamSeatValue). s.accepted) torn.noted ∙ moved.count;
       })
 
+  -- images go out, and a frame is in hand
+  in_hand_behind : (in_hand : Option FrameText) (reader' : ReaderState) (seat' : StreamSeatValue) (writer' : WriterState)
+      → Holds mid reader' in_hand → reader'.phase ≡ Open → Moves between seat' v writer' []
+      → HasInHand reader reader' seat seat' writer writer' in_hand
+  in_hand_behind in_hand reader' seat' writer' holds is_open moved = record {
+    before = mid;
+    frames = frames;
+    passed = record {
+      each = so_far.each;
+      taken = so_far.taken;
+      moved = rw (append-nil frames) at (Moves-trans seat between seat' writer v writer' frames [] so_far.moved moved);
+      header = so_far.header;
+      no_failure = so_far.no_failure;
+    };
+    holds = holds;
+    is_open = is_open;
+  }
+
   -- the frame in hand wasn't accepted as it should be
   pub Feeds-unfed : (past : List Act) (fed : Fed) (reader' : ReaderState) (seat' : StreamSeatValue) (writer' : WriterState) (frame : Frame)
       → IsCounted past between
@@ -212,20 +233,12 @@ module _ (reader mid : ReaderState) (seat between : StreamSeatValue) (writer v :
   Feeds-unfed past (feds.Stopped stop) reader' seat' writer' frame counted one same (inr torn) =
       Feeds-torn past stop reader' seat' writer' (frame_text_of frame) counted one torn
   Feeds-unfed past (feds.Held stop) reader' seat' writer' frame counted one same k = absurd k
-  Feeds-unfed past (feds.Paused None) reader' seat' writer' frame counted one same k = absurd k
-  Feeds-unfed past (feds.Paused (Some back)) reader' seat' writer' frame counted one same k = record {
-    before = mid;
-    frames = frames;
-    passed = record {
-      each = so_far.each;
-      taken = so_far.taken;
-      moved = rw (append-nil frames) at (Moves-trans seat between seat' writer v writer' frames [] so_far.moved k.moved);
-      header = so_far.header;
-      no_failure = so_far.no_failure;
-    };
-    holds = (subst (λ (f : Frame). TakesFrame mid reader' (frame_text_of f)) (sym k.same) one, same);
-    is_open = one.stays_open;
-  }
+  Feeds-unfed past (feds.Paused None image) reader' seat' writer' frame counted one same k = absurd k
+  Feeds-unfed past (feds.Paused (Some back) image) reader' seat' writer' frame counted one same k =
+      let taken = subst (λ (f : Frame). TakesFrame mid reader' (frame_text_of f)) (sym k.same) one in
+      Behind-map image seat' writer' (λ s w. Moves between s v w [])
+      (λ s w. HasInHand reader reader' seat s writer w (text_in (Some back)))
+      (λ s w stood moved. in_hand_behind (text_in (Some back)) reader' s w (taken, same) one.stays_open moved) k.moved
 
   -- a frame that was read and offered
   pub passed_once : {T : Type 0} (result : Result T Fed) (reader' : ReaderState) (seat' : StreamSeatValue) (writer' : WriterState)
@@ -250,19 +263,9 @@ module _ (reader mid : ReaderState) (seat between : StreamSeatValue) (writer v :
   pub fed_broken : (past : List Act) (halt : Halt) (seat' : StreamSeatValue) (writer' : WriterState) → mid.phase ≡ Open
       → IsOfDelivery halt → GivesUp between seat' → HaltsWith halt between seat' v writer' []
       → FeedsOn (fed_before halt) past reader mid seat seat' writer writer'
-  fed_broken past Full seat' writer' is_open own stays moved = record {
-    before = mid;
-    frames = frames;
-    passed = record {
-      each = so_far.each;
-      taken = so_far.taken;
-      moved = rw (append-nil frames) at (Moves-trans seat between seat' writer v writer' frames [] so_far.moved moved);
-      header = so_far.header;
-      no_failure = so_far.no_failure;
-    };
-    holds = refl;
-    is_open = is_open;
-  }
+  fed_broken past (Full image) seat' writer' is_open own stays moved =
+      Behind-map image seat' writer' (λ s w. Moves between s v w []) (λ s w. HasInHand reader mid seat s writer w None)
+      (λ s w stood m. in_hand_behind None mid s w refl is_open m) moved
   fed_broken past (Stopped stop) seat' writer' is_open own stays moved = record {
     frames = frames;
     mid = between;
@@ -275,10 +278,17 @@ module _ (reader mid : ReaderState) (seat between : StreamSeatValue) (writer v :
   }
 
 -- no frame is in hand, and the writer is for the chain still
+pub sized_behind : (image : Option Collected) (seat seat' : StreamSeatValue) (writer writer' : WriterState)
+    → Behind image seat' writer' (λ s w. Moves seat s writer w []) → IsWriterFor seat.chain writer → IsWriterFor seat.chain writer'
+sized_behind image seat seat' writer writer' moved size =
+    Behind-any image seat' writer' (λ s w. Moves seat s writer w []) (IsWriterFor seat.chain writer')
+    (λ s w stood m. stood_size seat' s writer' w stood seat.chain (sized_still seat s writer w m size)) moved
+
 pub sized_before : (halt : Halt) (seat seat' : StreamSeatValue) (writer writer' : WriterState) → HaltsWith halt seat seat' writer writer' []
-    → IsWriterFor seat.chain writer → IsSizedFed seat.chain writer' (fed_before halt)
-sized_before Full seat seat' writer writer' moved size = (tt, sized_still seat seat' writer writer' moved size)
-sized_before (Stopped stop) seat seat' writer writer' moved size = tt
+    → IsLeft seat.chain writer' halt → IsWriterFor seat.chain writer → IsSizedFed seat.chain writer' (fed_before halt)
+sized_before (Full image) seat seat' writer writer' moved left size =
+    (tt, sized_behind image seat seat' writer writer' moved size, left)
+sized_before (Stopped stop) seat seat' writer writer' moved left size = tt
 
 -- more frames follow those that were taken
 pub Takes-behind : (reader mid reader' : ReaderState) (frames more : List FrameText) → Takes reader mid frames → Takes mid reader' more
@@ -366,7 +376,10 @@ module _ (reader mid : ReaderState) (seat between : StreamSeatValue) (writer v :
   pub FeedsOn-behind : (past : List Act) (fed : Fed) (reader' : ReaderState) (seat' : StreamSeatValue) (writer' : WriterState)
       → FeedsOn fed past mid reader' between seat' v writer' → FeedsOn fed past reader reader' seat seat' writer writer'
   FeedsOn-behind past (feds.Stopped stop) reader' seat' writer' b = Feeds-behind past stop reader' seat' writer' b
-  FeedsOn-behind past (feds.Paused in_hand) reader' seat' writer' b = HasInHand-behind (text_in in_hand) reader' seat' writer' b
+  FeedsOn-behind past (feds.Paused in_hand image) reader' seat' writer' b =
+      Behind-map image seat' writer' (λ s w. HasInHand mid reader' between s v w (text_in in_hand))
+      (λ s w. HasInHand reader reader' seat s writer w (text_in in_hand))
+      (λ s w stood h. HasInHand-behind (text_in in_hand) reader' s w h) b
   FeedsOn-behind past (feds.Held stop) reader' seat' writer' b = record {
     frames = frames ++ b.frames;
     mid = b.mid;

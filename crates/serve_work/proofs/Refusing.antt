@@ -2,6 +2,7 @@
 use Rattle.std.proofs.Common.{◌≡◌, List, [], refl, sym, ap, ◌∙◌}
 use Rattle.std.proofs.Common.{Option, None, Some, MatchOption, ◌≢◌, IsTrue, false, subst}
 use Rattle.std.proofs.Common.{IfOk, IfErr, IsSome, Ok, Err, Result, arith}
+use Rattle.filters.specs.Chain.{ChainValue}
 use Rattle.y4m_stream.specs.Writer.{WriterState}
 use Rattle.serve_core.specs.declared.collected.Collected.{Collected}
 use Rattle.serve_core.specs.declared.refusal.Refusal as core
@@ -18,9 +19,11 @@ use Rattle.serve_work.specs.declared.stop.Stop.{Stop}
 use Rattle.serve_work.specs.declared.stop.Stop.TheVariants.{Whole, Read, Write, Refused, Torn}
 use Rattle.serve_work.specs.Clients.{IsDrained}
 use Rattle.serve_work.specs.ClientInside.{GivesUp, HaltsWith, IsOfCollection, IsOfDelivery, IsOfSeat, IsUseful}
-use Rattle.serve_work.specs.ClientInside.{TalliesSeat, halt_of, stop_of}
+use Rattle.serve_work.specs.ClientInside.{IsLeft, Tallies, TalliesSeat, halt_of, image_in, stop_of}
+use Rattle.serve_work.specs.Hands.{counted_with}
 use Rattle.serve_work.proofs.Staying.{GivesUp-torn}
-use Rattle.serve_work.proofs.Tallying.{Collects-up, TalliesSeat-collect, TalliesSeat-same, TalliesSeat-torn, seat_same, some_torn}
+use Rattle.serve_work.proofs.Tallying.{Collects-up, Tallies-seat, TalliesSeat-collect, TalliesSeat-same, TalliesSeat-torn, seat_same}
+use Rattle.serve_work.proofs.Tallying.{some_torn}
 use Rattle.serve_work.proofs.Moving.{Moves-none}
 
 -- what a refused collection is to a client
@@ -87,6 +90,23 @@ pub collect_refused : (e : CollectRefused) (old new : StreamSeatValue) (writer :
     → IsCollectRefused e old new → IsRefusedAs (halt_of e.refusal) old new writer
 collect_refused e old new writer not m = refused_pair e.pair e old new writer not m
 
+-- no image is in hand
+pub refused_image : (e : Refusal) → image_in (halt_of e) ≡ None
+refused_image (hub.Core e) = refl
+refused_image hub.HistoryFull = refl
+refused_image hub.StrayLease = refl
+refused_image (hub.Torn c) = refl
+
+pub refused_left : (e : Refusal) (chain : ChainValue) (writer : WriterState) → IsLeft chain writer (halt_of e)
+refused_left (hub.Core e) chain writer = tt
+refused_left hub.HistoryFull chain writer = tt
+refused_left hub.StrayLease chain writer = tt
+refused_left (hub.Torn c) chain writer = tt
+
+pub refused_tally : (e : Refusal) (old new : StreamSeatValue) (writer : WriterState) → TalliesSeat old new
+    → Tallies old new writer (counted_with (image_in (halt_of e)) writer)
+refused_tally e old new writer t = rw (refused_image e) (Tallies-seat old new writer writer t refl)
+
 -- a refusal leaves all but what the seat keeps, and notes
 refusal_up : (e : Refusal) (old new : StreamSeatValue) → new ≡ after_refusal e old → GivesUp old new
 refusal_up (hub.Core e) old new same = rw same refl
@@ -146,7 +166,7 @@ not_closed e = cc
 
 pub of_delivery : (halt : Halt) (old new : StreamSeatValue) (writer : WriterState) → IsRefusedAs halt old new writer
     → old.is_closed ≡ false → IsOfDelivery halt
-of_delivery Full old new writer r is_open = tt
+of_delivery (Full image) old new writer r is_open = tt
 of_delivery (Stopped stop) old new writer r is_open =
     spoilt_by stop r.own (λ is. not_closed (subst IsTrue is_open (r.drained (ap Stopped is)).0.closed))
 

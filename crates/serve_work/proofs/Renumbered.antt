@@ -1,6 +1,6 @@
 -- A stream stands where it stood where its seats have another number.
 use Rattle.std.specs.Prelude.{IsSomeAnd, IsTrue}
-use Rattle.std.proofs.Common.{ℕ, zero, suc, ◌⊎◌, ◌++◌, List, Option, inl, inr, refl, ap, ◌∙◌, subst}
+use Rattle.std.proofs.Common.{ℕ, zero, suc, ◌⊎◌, ◌++◌, List, Option, None, Some, inl, inr, refl, ap, ◌∙◌, subst}
 use Rattle.y4m_header.specs.StreamText.{FrameText}
 use Rattle.y4m_stream.specs.Reader.{ReaderState, data_len_of}
 use Rattle.y4m_stream.specs.Writer.{WriterState}
@@ -13,7 +13,8 @@ use Rattle.serve_hub.specs.Seats.{StreamSeatValue}
 use Rattle.serve_work.specs.declared.stop.Stop.{Stop}
 use Rattle.serve_work.specs.Clients.{ClientEnds, ClientOutcome, ClientStart, ClientStopsAt, CutsHeader, WroteImages}
 use Rattle.serve_work.specs.Clients.{WroteNothing}
-use Rattle.serve_work.specs.ClientInside.{Feeds, IsUseful, Moves, Passes, Serves, StopsReading}
+use Rattle.serve_work.specs.ClientInside.{Feeds, HasInHand, IsUseful, Moves, Passes, Serves, StopsReading}
+use Rattle.serve_work.specs.Hands.{with_kept}
 use Rattle.serve_work.specs.Live.{IsKeptOver, numbered}
 use Rattle.serve_work.specs.Rests.{Begun, CourseValue, Discarding, Draining, Feeding, Holding, IsAt, IsFresh}
 use Rattle.serve_work.specs.Rests.{IsRestOf, RestValue, Unbegun, as_open}
@@ -92,17 +93,25 @@ module _ (n : ℕ) where
   Fresh-numbered : (seat : StreamSeatValue) → IsFresh seat → IsFresh (numbered n seat)
   Fresh-numbered seat a = record { accepted = a.accepted; kept = a.kept; is_open = a.is_open }
 
-  IsAt-numbered : (course : CourseValue) (past : List Act) (first : StreamSeatValue) (reader reader' : ReaderState)
-      (writer writer' : WriterState) (seat : StreamSeatValue)
-      → IsAt course past (record { reader = reader; seat = first; writer = writer }) reader' seat writer'
-      → IsAt course past (record { reader = reader; seat = numbered n first; writer = writer }) reader' (numbered n seat) writer'
-  IsAt-numbered (Feeding in_hand) past first reader reader' writer writer' seat a = record {
+  HasInHand-numbered : (in_hand : Option FrameText) (first seat : StreamSeatValue) (reader reader' : ReaderState)
+      (writer writer' : WriterState) → HasInHand reader reader' first seat writer writer' in_hand
+      → HasInHand reader reader' (numbered n first) (numbered n seat) writer writer' in_hand
+  HasInHand-numbered in_hand first seat reader reader' writer writer' a = record {
     before = a.before;
     frames = a.frames;
     passed = Passes-numbered reader a.before first seat writer writer' a.frames a.passed;
     holds = a.holds;
     is_open = a.is_open;
   }
+
+  IsAt-numbered : (course : CourseValue) (past : List Act) (first : StreamSeatValue) (reader reader' : ReaderState)
+      (writer writer' : WriterState) (seat : StreamSeatValue)
+      → IsAt course past (record { reader = reader; seat = first; writer = writer }) reader' seat writer'
+      → IsAt course past (record { reader = reader; seat = numbered n first; writer = writer }) reader' (numbered n seat) writer'
+  IsAt-numbered (Feeding in_hand None) past first reader reader' writer writer' seat a =
+      HasInHand-numbered in_hand first seat reader reader' writer writer' a
+  IsAt-numbered (Feeding in_hand (Some pair)) past first reader reader' writer writer' seat a =
+      (a.0, a.1, HasInHand-numbered in_hand first (with_kept pair seat) reader reader' writer a.0 a.2)
   IsAt-numbered (Holding in_hand held) past first reader reader' writer writer' seat a = record {
     before = a.before;
     frames = a.frames;
@@ -116,8 +125,10 @@ module _ (n : ℕ) where
     holds = a.holds;
     is_open = a.is_open;
   }
-  IsAt-numbered (Draining stop) past first reader reader' writer writer' seat a =
+  IsAt-numbered (Draining stop None) past first reader reader' writer writer' seat a =
       (a.0, Feeds-numbered past stop reader reader' first (as_open seat) writer writer' a.0 a.1)
+  IsAt-numbered (Draining stop (Some pair)) past first reader reader' writer writer' seat a =
+      (a.0, (a.1.0, a.1.1, Feeds-numbered past stop reader reader' first (as_open (with_kept pair seat)) writer a.1.0 a.0 a.1.2))
   IsAt-numbered (Discarding stop) past first reader reader' writer writer' seat a =
       (a.0, Serves-numbered past stop reader reader' first seat writer writer' a.1)
 

@@ -15,7 +15,7 @@ use Rattle.serve_work.specs.declared.stop.Halt.TheVariants.{Stopped}
 use Rattle.serve_work.specs.declared.stop.Stop.{Stop}
 use Rattle.serve_work.specs.declared.stop.Stop.TheVariants.{Whole, Read, Write, Refused, Torn}
 use Rattle.serve_work.specs.Clients.{ClientProgress, ClientStopsAt, GivesUpAt, HasMoreOrEnds, StreamStopsAt, reads_at}
-use Rattle.serve_work.specs.ClientInside.{Breaks, Feeds, HasInHand, Holds, IsFirst, IsNoWrite, IsOfCollection, IsSent, IsUseful}
+use Rattle.serve_work.specs.ClientInside.{Breaks, Feeds, GivesUp, HasInHand, Holds, IsFirst, IsNoWrite, IsOfCollection, IsSent, IsUseful}
 use Rattle.serve_work.specs.ClientInside.{SendsWhole, Serves, ServesTo, StopsReading, StopsReadingAt, StopsWith, Takes}
 use Rattle.serve_work.specs.Rests.{IsOutset, Outset, Spoils}
 use Rattle.serve_work.proofs.Staying.{stays_frames}
@@ -126,25 +126,33 @@ read_in_hand (Some frame) past reader before reader' seat seat' frames a one ahe
   reads = one.0.no_failure ∙ a.no_failure;
 }
 
+-- an image didn't go out, and a frame may be in hand
+pub spoilt_behind : (stop : Stop) (o : Outset) (in_hand : Option FrameText) (reader : ReaderState) (mid seat : StreamSeatValue)
+    (between writer : WriterState) → IsOutset o → HasInHand o.reader reader o.seat mid o.writer between in_hand
+    → StopsWith stop mid seat between writer [] → GivesUp mid seat → (IsUseful stop → ⊥) → Spoils stop o reader seat writer in_hand
+spoilt_behind stop o in_hand reader mid seat between writer is at moved stays spoilt =
+    let all : StopsWith stop o.seat seat o.writer writer at.frames = rw (append-nil at.frames) at
+    (StopsWith-later stop o.seat mid seat o.writer between writer at.frames [] at.passed.moved moved) in
+    record {
+      before = at.before;
+      frames = at.frames;
+      read = takes_of o.reader at.before o.seat mid o.writer between at.frames at.passed;
+      count = ap (λ (s : StreamSeatValue). s.accepted) stays ∙ at.passed.moved.count;
+      most = ap (λ (s : StreamSeatValue). s.frames) stays ∙ at.passed.moved.seat_stays.frames;
+      is_closed = ap (λ (s : StreamSeatValue). s.is_closed) stays ∙ at.passed.moved.seat_stays.is_closed;
+      torn = λ is. stopped_torn stop mid seat between writer [] is moved;
+      sent = sent_until o.seat o.writer at.frames is.fresh.kept is.writing stop stop seat writer (λ f e. e) all;
+      spoilt = spoilt;
+      holds = at.holds;
+      is_open = at.is_open;
+    }
+
 -- a fault of a delivery is held from here on
 pub spoilt_from : (stop : Stop) (o : Outset) (reader' : ReaderState) (seat' : StreamSeatValue) (writer' : WriterState) → IsOutset o
     → Breaks stop o.reader reader' o.seat seat' o.writer writer' → Spoils stop o reader' seat' writer' None
 spoilt_from stop o reader' seat' writer' is b =
-    let all : StopsWith stop o.seat seat' o.writer writer' b.frames = rw (append-nil b.frames) at
-    (StopsWith-later stop o.seat b.mid seat' o.writer b.between writer' b.frames [] b.passed.moved b.moved) in
-    record {
-      before = reader';
-      frames = b.frames;
-      read = takes_of o.reader reader' o.seat b.mid o.writer b.between b.frames b.passed;
-      count = ap (λ (s : StreamSeatValue). s.accepted) b.stays ∙ b.passed.moved.count;
-      most = ap (λ (s : StreamSeatValue). s.frames) b.stays ∙ b.passed.moved.seat_stays.frames;
-      is_closed = ap (λ (s : StreamSeatValue). s.is_closed) b.stays ∙ b.passed.moved.seat_stays.is_closed;
-      torn = λ is. stopped_torn stop b.mid seat' b.between writer' [] is b.moved;
-      sent = sent_until o.seat o.writer b.frames is.fresh.kept is.writing stop stop seat' writer' (λ f e. e) all;
-      spoilt = b.spoilt;
-      holds = refl;
-      is_open = b.is_open;
-    }
+    spoilt_behind stop o None reader' b.mid seat' b.between writer' is
+    (record { before = reader'; frames = b.frames; passed = b.passed; holds = refl; is_open = b.is_open }) b.moved b.stays b.spoilt
 
 -- where a fault is held
 module _ (held : Stop) (o : Outset) (reader : ReaderState) (seat : StreamSeatValue) (writer : WriterState) where

@@ -8,6 +8,7 @@ use Rattle.y4m_stream.specs.declared.fault.WriteFault.{WriteFault}
 use Rattle.y4m_stream.specs.Reader.{ReaderState, data_len_of}
 use Rattle.y4m_stream.specs.Writer.{IsWriterFor, WriterState}
 use Rattle.y4m_header.specs.declared.limits.TheConstants.{MOST_FRAMES}
+use Rattle.serve_core.specs.declared.collected.Collected.{Collected}
 use Rattle.serve_hub.specs.declared.entry.Act.{Act}
 use Rattle.serve_hub.specs.declared.entry.Act.TheVariants as acts
 use Rattle.serve_hub.specs.declared.refusal.Refusal.{Refusal}
@@ -22,7 +23,10 @@ use Rattle.serve_work.specs.Clients.{ClientProgress, ClientStopsAt, HasOtherNumb
 use Rattle.serve_work.specs.ClientInside.{Accounted, BreaksOff, Cuts, Feeds, IsFirst, IsNoWrite, IsOfCollection, IsSent, IsUseful}
 use Rattle.serve_work.specs.ClientInside.{KeepsMoments, MayClose, Moves, SendsWhole, Serves, StopsReading, StopsWith, TalliesSeat, texts_of}
 use Rattle.serve_work.specs.Rests.{as_open}
-use Rattle.serve_work.proofs.Tallying.{TalliesSeat-torn, collections_both, none_accepted, offers_both, seat_same, torn_still}
+use Rattle.serve_work.specs.Hands.{Behind}
+use Rattle.serve_work.proofs.Hands.{Behind-map, stood_tally}
+use Rattle.serve_work.proofs.Tallying.{TalliesSeat-torn, TalliesSeat-trans, collections_both, none_accepted, offers_both, seat_same}
+use Rattle.serve_work.proofs.Tallying.{torn_still}
 use Rattle.serve_work.proofs.Moving.{Accounted-later, Moves-none, Moves-trans, StopsWith-later, few_of, size_later}
 
 -- what went out
@@ -298,6 +302,9 @@ module _ (past : List Act) (stop : Stop) (reader reader' : ReaderState) (seat mi
   pub drain_writing : Accounted seat writer → between.failed ≡ false
   drain_writing before = (Accounted-later seat mid writer between a.frames drain_moved before).writing
 
+  pub drain_none : Accounted seat writer → between.part ≡ 0
+  drain_none before = (Accounted-later seat mid writer between a.frames drain_moved before).none
+
 -- all was read, and then the collection stopped
 module _ (past : List Act) (reader reader' : ReaderState) (seat mid : StreamSeatValue) (frames : List FrameText)
     (a : StopsReading past Whole reader reader' seat mid frames) where
@@ -412,6 +419,18 @@ Feeds-drained past stop reader reader' seat closed drained writer between writer
       moved = until_moves stop seat (as_open drained) writer writer' a.frames useful all;
       count = all.count;
     }
+
+-- the journal is full, and an image may be in hand
+pub Feeds-paused : (past : List Act) (stop : Stop) (reader reader' : ReaderState) (seat closed drained : StreamSeatValue)
+    (writer between writer' : WriterState) (image : Option Collected)
+    → IsUseful stop → Feeds past stop reader reader' seat (as_open closed) writer between
+    → Behind image drained writer' (λ s w. Moves closed s between w []) → TalliesSeat closed drained
+    → Behind image drained writer' (λ s w. Feeds past stop reader reader' seat (as_open s) writer w)
+Feeds-paused past stop reader reader' seat closed drained writer between writer' image useful a b tally =
+    Behind-map image drained writer' (λ s w. Moves closed s between w [])
+    (λ s w. Feeds past stop reader reader' seat (as_open s) writer w)
+    (λ s w stood moved. Feeds-drained past stop reader reader' seat closed s writer between w useful a moved
+    (TalliesSeat-trans closed drained s tally (stood_tally drained s writer' w stood))) b
 
 -- what a client serves
 

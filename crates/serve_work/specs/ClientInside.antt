@@ -18,6 +18,7 @@ use Rattle.y4m_stream.specs.Reader.{FailsAtFrame, ReaderState, TakesFrame, data_
 use Rattle.y4m_stream.specs.Served.{AreImages, IsImageText}
 use Rattle.y4m_stream.specs.Writer.{FailsToPut, IsWriterFor, WriterState}
 use Rattle.serve_core.specs.declared.refusal.Refusal.TheVariants as cores
+use Rattle.serve_core.specs.declared.collected.Collected.{Collected}
 use Rattle.serve_core.specs.Streams.{IsImageOf}
 use Rattle.serve_hub.specs.declared.entry.Act.{Act}
 use Rattle.serve_hub.specs.declared.refusal.Refusal.{Refusal}
@@ -36,6 +37,7 @@ use Rattle.serve_work.specs.declared.stop.Stop.{Stop}
 use Rattle.serve_work.specs.declared.stop.Stop.TheVariants.{Whole, Read, Write, Refused, Torn}
 use Rattle.serve_work.specs.Clients.{AllowsStop, AreAtMoments, ClientProgress, ClientStopsAt, HasOtherNumber}
 use Rattle.serve_work.specs.Clients.{IsDrained, collections_in, offers_in, reads_at}
+use Rattle.serve_work.specs.Hands.{Behind, CanPutOn, IsPairOf}
 
 -- a refusal that isn't that of a full journal
 abbrev pub stop_of : Refusal → Stop
@@ -47,7 +49,7 @@ stop_of e = Torn
 
 -- why a client goes no further
 abbrev pub halt_of : Refusal → Halt
-halt_of HistoryFull = Full
+halt_of HistoryFull = Full None
 halt_of e = Stopped (stop_of e)
 
 -- after it a client still collects and writes
@@ -82,7 +84,7 @@ IsOfSeat Torn = ⊤
 -- why no image was collected and written: the journal is full, none is left, or a stop by a seat or the
 -- writer
 abbrev pub IsOfCollection : Halt → Type 0
-IsOfCollection Full = ⊤
+IsOfCollection (Full image) = ⊤
 IsOfCollection (Stopped Whole) = ⊤
 IsOfCollection (Stopped (Read fault)) = ⊥
 IsOfCollection (Stopped (Refused cause)) = ⊥
@@ -92,8 +94,30 @@ IsOfCollection (Stopped Torn) = ⊤
 -- why an image of an open stream isn't collected and written: the journal is full, or a stop by a seat or the
 -- writer, behind which nothing more is written
 abbrev pub IsOfDelivery : Halt → Type 0
-IsOfDelivery Full = ⊤
+IsOfDelivery (Full image) = ⊤
 IsOfDelivery (Stopped stop) = IsUseful stop → ⊥
+
+-- why an image wasn't written: the journal is full, or the writer failed
+abbrev pub IsOfWriting : Halt → Type 0
+IsOfWriting (Full image) = ⊤
+IsOfWriting (Stopped Whole) = ⊥
+IsOfWriting (Stopped (Read fault)) = ⊥
+IsOfWriting (Stopped (Refused cause)) = ⊥
+IsOfWriting (Stopped (Write fault)) = ⊤
+IsOfWriting (Stopped Torn) = ⊥
+
+-- the image in hand, if there is one
+abbrev pub image_in : Halt → Option Collected
+image_in (Full image) = image
+image_in (Stopped stop) = None
+
+-- an image in hand is of the chain, and the writer can go on with it
+abbrev pub IsLeft : ChainValue → WriterState → Halt → Type 0
+IsLeft chain writer halt = IfSome (image_in halt) (λ pair. IsPairOf chain pair × CanPutOn writer pair)
+
+-- it is this one
+abbrev pub LeavesInHand : Collected → WriterState → Halt → Type 0
+LeavesInHand pair writer halt = IfSome (image_in halt) (λ left. (left ≡ pair) × CanPutOn writer left)
 
 -- the frames that a seat keeps, as a stream has them
 abbrev pub texts_of : List FrameValue → List FrameText
@@ -131,13 +155,14 @@ pub record Stays (old new : StreamSeatValue) : Type 0 where
   pub is_closed : new.is_closed ≡ old.is_closed
   pub torn : new.torn ≡ old.torn
 
--- the frames that were accepted are those whose images went out and those that the seat keeps
+-- the frames that were accepted are those whose images went out, each whole, and those that the seat keeps
 pub record Accounted (seat : StreamSeatValue) (writer : WriterState) : Type 0 where
   pub balanced : writer.frames + length seat.kept ≡ seat.accepted
   pub within : seat.accepted ≤ seat.frames
   pub most : seat.frames ≤ MOST_FRAMES
   pub is_open : seat.is_closed ≡ false
   pub writing : writer.failed ≡ false
+  pub none : writer.part ≡ 0
 
 -- calls were added to the seat's, among them each offer and each collection that was accepted; where no offer
 -- was, the moments of the first and the latest stay. What it noted of a Torn stays; where it is told so first, no
@@ -231,10 +256,12 @@ StopsWith (Write fault) seat seat' writer writer' accepted = Cuts seat writer wr
 StopsWith Torn seat seat' writer writer' accepted =
     (mid : StreamSeatValue) × Moves seat mid writer writer' accepted × IsSome seat'.torn
 
--- what has moved where a client goes no further
+-- what has moved where a client goes no further; where an image is in hand, what had moved before that was
+-- begun
 abbrev pub HaltsWith : Halt → StreamSeatValue → StreamSeatValue → WriterState → WriterState
     → List FrameText → Type 0
-HaltsWith Full seat seat' writer writer' accepted = Moves seat seat' writer writer' accepted
+HaltsWith (Full image) seat seat' writer writer' accepted =
+    Behind image seat' writer' (λ s w. Moves seat s writer w accepted)
 HaltsWith (Stopped stop) seat seat' writer writer' accepted =
     StopsWith stop seat seat' writer writer' accepted
 
@@ -283,31 +310,37 @@ pub record AcceptsTorn (stop : Stop) (frame : FrameText) (seat seat' : StreamSea
   pub moved : Moves seat mid writer writer' (frame ∷ [])
   pub noted : seat' ≡ as_torn mid
 
--- the frame comes back, since the journal is full
-pub record KeepsFrame (back : Arc Frame Global) (frame : Frame) (seat seat' : StreamSeatValue)
-    (writer writer' : WriterState) : Type 0 where
+-- the frame comes back, since the journal is full, and an image may be in hand
+pub record KeepsFrame (back : Arc Frame Global) (image : Option Collected) (frame : Frame)
+    (seat seat' : StreamSeatValue) (writer writer' : WriterState) : Type 0 where
   pub same : arc_value back ≡ frame
-  pub moved : Moves seat seat' writer writer' []
+  pub moved : Behind image seat' writer' (λ s w. Moves seat s writer w [])
   pub stays : GivesUp seat seat'
 
 -- what a frame comes to that isn't accepted as it should be
 abbrev pub Unfed : Fed → Frame → StreamSeatValue → StreamSeatValue → WriterState → WriterState → Type 0
-Unfed (feds.Paused None) frame seat seat' writer writer' = ⊥
-Unfed (feds.Paused (Some back)) frame seat seat' writer writer' =
-    KeepsFrame back frame seat seat' writer writer'
+Unfed (feds.Paused None image) frame seat seat' writer writer' = ⊥
+Unfed (feds.Paused (Some back) image) frame seat seat' writer writer' =
+    KeepsFrame back image frame seat seat' writer writer'
 Unfed (feds.Held stop) frame seat seat' writer writer' = ⊥
 Unfed (feds.Stopped stop) frame seat seat' writer writer' =
     Refuses stop seat seat' writer writer' ⊎ AcceptsTorn stop (frame_text_of frame) seat seat' writer writer'
 
 -- why no more frames are offered, where no place was made for the one in hand
 abbrev pub fed_of : Halt → Arc Frame Global → Fed
-fed_of Full back = feds.Paused (Some back)
+fed_of (Full image) back = feds.Paused (Some back) image
 fed_of (Stopped stop) back = feds.Stopped stop
 
 -- why no frame is read, where an image wasn't collected and written
 abbrev pub fed_before : Halt → Fed
-fed_before Full = feds.Paused None
+fed_before (Full image) = feds.Paused None image
 fed_before (Stopped stop) = feds.Held stop
+
+-- the image in hand, if there is one
+abbrev pub fed_image : Fed → Option Collected
+fed_image (feds.Paused in_hand image) = image
+fed_image (feds.Held stop) = None
+fed_image (feds.Stopped stop) = None
 
 -- the frame was accepted, or it wasn't as it should be
 abbrev pub Offers : {T : Type 0} → Result T Fed → Frame → StreamSeatValue → StreamSeatValue → WriterState
@@ -407,11 +440,12 @@ pub record Feeds (past : List Act) (stop : Stop) (reader reader' : ReaderState) 
   pub moved : StopsWith stop seat seat' writer writer' frames
   pub count : seat'.accepted ≡ seat.accepted + length frames
 
--- the client stopped feeding, or the journal is full, or it holds a fault of a delivery
+-- the client stopped feeding, or the journal is full, and an image may be in hand, or it holds a fault of a
+-- delivery
 abbrev pub FeedsOn : Fed → List Act → ReaderState → ReaderState → StreamSeatValue → StreamSeatValue
     → WriterState → WriterState → Type 0
-FeedsOn (feds.Paused in_hand) past reader reader' seat seat' writer writer' =
-    HasInHand reader reader' seat seat' writer writer' (text_in in_hand)
+FeedsOn (feds.Paused in_hand image) past reader reader' seat seat' writer writer' =
+    Behind image seat' writer' (λ s w. HasInHand reader reader' seat s writer w (text_in in_hand))
 FeedsOn (feds.Held stop) past reader reader' seat seat' writer writer' =
     Breaks stop reader reader' seat seat' writer writer'
 FeedsOn (feds.Stopped stop) past reader reader' seat seat' writer writer' =
@@ -423,13 +457,15 @@ IsSized chain in_hand = IfSome in_hand (λ f. (arc_value f).geometry ≡ chain.g
 
 -- the clock that gives these moments allows the stop, if there is one
 abbrev pub AllowsFed : (Gives : ℕ → Type 0) → Fed → Type 0
-AllowsFed Gives (feds.Paused in_hand) = ⊤
+AllowsFed Gives (feds.Paused in_hand image) = ⊤
 AllowsFed Gives (feds.Held stop) = AllowsStop Gives stop
 AllowsFed Gives (feds.Stopped stop) = AllowsStop Gives stop
 
--- the frame that is left in hand, and the writer, are for this chain
+-- the frame that is left in hand, and the writer, are for this chain, and so is the image in hand, with which
+-- the writer can go on
 abbrev pub IsSizedFed : ChainValue → WriterState → Fed → Type 0
-IsSizedFed chain writer (feds.Paused in_hand) = IsSized chain in_hand × IsWriterFor chain writer
+IsSizedFed chain writer (feds.Paused in_hand image) =
+    IsSized chain in_hand × IsWriterFor chain writer × IsLeft chain writer (Full image)
 IsSizedFed chain writer (feds.Held stop) = ⊤
 IsSizedFed chain writer (feds.Stopped stop) = ⊤
 

@@ -1,6 +1,7 @@
 pub mod Clients
 pub mod ClientInside
 pub mod Epochs
+pub mod Hands
 pub mod Holding
 pub mod Intervals
 pub mod Laws

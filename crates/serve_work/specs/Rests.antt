@@ -22,33 +22,38 @@ use Rattle.serve_work.specs.declared.serving.Step.TheVariants as steps
 use Rattle.serve_work.specs.declared.stop.Stop.{Stop}
 use Rattle.serve_work.specs.declared.stop.Stop.TheVariants.{Refused, Torn, Whole}
 use Rattle.serve_work.specs.declared.stop.Cause.TheVariants.{NoMemory}
+use Rattle.serve_core.specs.declared.collected.Collected.{Collected}
 use Rattle.serve_work.specs.Clients.{ClientStart, collections_in}
+use Rattle.serve_work.specs.Hands.{Behind, CanPutOn, IsBegunPair, IsPairOf, counted_with, with_kept}
 use Rattle.serve_work.specs.ClientInside.{Accounted, AreBuffersFor, Feeds, HasInHand, Holds, IsCounted, IsSent, IsSized}
 use Rattle.serve_work.specs.ClientInside.{IsUseful, Serves, Stays, Takes, text_in}
 
 -- what a client does next
 pub data CourseValue : Type 0 where
-  -- it offers the frame that it has in hand, if there is one, and reads on
-  Feeding : (in_hand : Option FrameText) → CourseValue
-  -- the same, but an image couldn't be delivered, for this reason, and no more are written
+  -- it writes on with the image in hand, if there is one; offers the frame in hand, if there is one, and
+  -- reads on
+  Feeding : (in_hand : Option FrameText) (image : Option Collected) → CourseValue
+  -- it offers the frame in hand, if there is one, and reads on, but an image couldn't be delivered, for this
+  -- reason, and no more are written
   Holding : (in_hand : Option FrameText) (held : Stop) → CourseValue
-  -- no more frames are read, for this reason; it writes the images that are left
-  Draining : (stop : Stop) → CourseValue
-  -- the same, but it throws the images away
+  -- no more frames are read, for this reason; it writes on with the image in hand, if there is one, and
+  -- writes the images that are left
+  Draining : (stop : Stop) (image : Option Collected) → CourseValue
+  -- no more frames are read, for this reason, and it throws the images away
   Discarding : (stop : Stop) → CourseValue
 
 abbrev pub course_of : code.Course → CourseValue
-course_of (courses.Feeding in_hand) = Feeding (text_in in_hand)
+course_of (courses.Feeding in_hand image) = Feeding (text_in in_hand) image
 course_of (courses.Holding in_hand held) = Holding (text_in in_hand) held
-course_of (courses.Draining stop) = Draining stop
+course_of (courses.Draining stop image) = Draining stop image
 course_of (courses.Discarding stop) = Discarding stop
 
 -- why a client stops that doesn't go on: for the fault that it keeps, and else for want of memory
 abbrev pub stop_given_up : CourseValue → Stop
-stop_given_up (Feeding in_hand) = Refused NoMemory
+stop_given_up (Feeding in_hand image) = Refused NoMemory
 stop_given_up (Holding in_hand held) = held
-stop_given_up (Draining Whole) = Refused NoMemory
-stop_given_up (Draining stop) = stop
+stop_given_up (Draining Whole image) = Refused NoMemory
+stop_given_up (Draining stop image) = stop
 stop_given_up (Discarding stop) = stop
 
 abbrev pub stop_in : code.Course → Stop
@@ -56,14 +61,29 @@ stop_in course = stop_given_up (course_of course)
 
 -- the stop that a client keeps, if it keeps one
 abbrev pub course_stop : CourseValue → Option Stop
-course_stop (Feeding in_hand) = None
+course_stop (Feeding in_hand image) = None
 course_stop (Holding in_hand held) = Some held
-course_stop (Draining stop) = Some stop
+course_stop (Draining stop image) = Some stop
 course_stop (Discarding stop) = Some stop
 
 abbrev pub course_stop_before : Option code.Course → Option Stop
 course_stop_before None = None
 course_stop_before (Some course) = course_stop (course_of course)
+
+-- the image that it has in hand, if there is one
+abbrev pub course_image : CourseValue → Option Collected
+course_image (Feeding in_hand image) = image
+course_image (Holding in_hand held) = None
+course_image (Draining stop image) = image
+course_image (Discarding stop) = None
+
+abbrev pub image_before : Option code.Course → Option Collected
+image_before None = None
+image_before (Some course) = course_image (course_of course)
+
+abbrev pub step_image : Step → Option Collected
+step_image (steps.Paused course) = course_image (course_of course)
+step_image (steps.Done stop) = None
 
 -- the stop that it keeps where it paused, or that it tells
 abbrev pub step_stop : Step → Option Stop
@@ -130,13 +150,15 @@ pub record Spoils (held : Stop) (o : Outset) (reader : ReaderState) (seat : Stre
   pub holds : Holds before reader in_hand
   pub is_open : reader.phase ≡ Open
 
--- how far a client came from its outset, by what it does next
+-- how far a client came from its outset, by what it does next; where an image is in hand, how far it had come
+-- before that was begun
 abbrev pub IsAt : CourseValue → List Act → Outset → ReaderState → StreamSeatValue → WriterState → Type 0
-IsAt (Feeding in_hand) past o reader seat writer =
-    HasInHand o.reader reader o.seat seat o.writer writer in_hand
+IsAt (Feeding in_hand image) past o reader seat writer =
+    Behind image seat writer (λ s w. HasInHand o.reader reader o.seat s o.writer w in_hand)
 IsAt (Holding in_hand held) past o reader seat writer = Spoils held o reader seat writer in_hand
-IsAt (Draining stop) past o reader seat writer =
-    IsUseful stop × Feeds past stop o.reader reader o.seat (as_open seat) o.writer writer
+IsAt (Draining stop image) past o reader seat writer =
+    IsUseful stop × Behind image seat writer (λ s w.
+    Feeds past stop o.reader reader o.seat (as_open s) o.writer w)
 IsAt (Discarding stop) past o reader seat writer =
     (stop ≢ Whole) × Serves past stop o.reader reader o.seat seat o.writer writer
 
@@ -161,6 +183,7 @@ pub record IsOutset (o : Outset) : Type 0 where
   pub fresh : IsFresh o.seat
   pub writing : o.writer.failed ≡ false
   pub none : o.writer.frames ≡ 0
+  pub whole : o.writer.part ≡ 0
 
 -- a client writes no image on this course
 abbrev pub IsSilent : Option code.Course → Type 0
@@ -192,14 +215,34 @@ pub record CanHold (in_hand : Option (Arc Frame Global)) (held : Stop) (reader :
 pub record CanDrain (seat : StreamSeatValue) (writer : WriterState) : Type 0 where
   pub few : writer.frames + length seat.kept ≤ MOST_FRAMES
   pub writing : writer.failed ≡ false
+  pub none : writer.part ≡ 0
   pub size : IsWriterFor seat.chain writer
+
+-- what it needs where the image of this pair is in hand
+pub record CanFeedBehind (in_hand : Option (Arc Frame Global)) (pair : Collected) (reader : ReaderState)
+    (seat : StreamSeatValue) (writer : WriterState) (buffers : Buffers) : Type 0 where
+  pub before : WriterState
+  pub begun : IsBegunPair seat.chain pair before writer
+  pub can : CanFeed in_hand reader (with_kept pair seat) before buffers
+  pub sized : IsPairOf seat.chain pair
+  pub left : CanPutOn writer pair
+
+pub record CanDrainBehind (pair : Collected) (seat : StreamSeatValue) (writer : WriterState) : Type 0 where
+  pub before : WriterState
+  pub begun : IsBegunPair seat.chain pair before writer
+  pub can : CanDrain (with_kept pair seat) before
+  pub left : CanPutOn writer pair
 
 abbrev pub CanGoOn : Option code.Course → ReaderState → StreamSeatValue → WriterState → Buffers → Type 0
 CanGoOn None reader seat writer buffers = CanFeed None reader seat writer buffers
-CanGoOn (Some (courses.Feeding in_hand)) reader seat writer buffers =
+CanGoOn (Some (courses.Feeding in_hand None)) reader seat writer buffers =
     CanFeed in_hand reader seat writer buffers
+CanGoOn (Some (courses.Feeding in_hand (Some pair))) reader seat writer buffers =
+    CanFeedBehind in_hand pair reader seat writer buffers
 CanGoOn (Some (courses.Holding in_hand held)) reader seat writer buffers = CanHold in_hand held reader seat
-CanGoOn (Some (courses.Draining stop)) reader seat writer buffers = CanDrain seat writer
+CanGoOn (Some (courses.Draining stop None)) reader seat writer buffers = CanDrain seat writer
+CanGoOn (Some (courses.Draining stop (Some pair))) reader seat writer buffers =
+    CanDrainBehind pair seat writer
 CanGoOn (Some (courses.Discarding stop)) reader seat writer buffers = stop ≢ Whole
 
 -- the frame in hand is for a chain whose frames are the reader's
@@ -208,19 +251,22 @@ pub record IsInHandOf (reader : ReaderState) (in_hand : Option (Arc Frame Global
   pub header : IsOfHeader reader.header chain.geometry
   pub sized : IsSized chain in_hand
 
--- the memory that a client holds which reads on, and the frame in hand, are for a chain of these sizes
+-- the memory that a client holds which reads on, and the frame and the image in hand, are for a chain of
+-- these sizes
 pub record HasMemory (reader : ReaderState) (writer : WriterState) (buffers : Buffers)
-    (in_hand : Option (Arc Frame Global)) : Type 0 where
+    (in_hand : Option (Arc Frame Global)) (image : Option Collected) : Type 0 where
   pub chain : ChainValue
   pub header : IsOfHeader reader.header chain.geometry
   pub size : IsWriterFor chain writer
   pub memory : AreBuffersFor chain buffers
   pub sized : IsSized chain in_hand
+  pub left : IfSome image (λ pair. IsPairOf chain pair × CanPutOn writer pair)
 
 abbrev pub HasMemoryFor : ReaderState → WriterState → Buffers → code.Course → Type 0
-HasMemoryFor reader writer buffers (courses.Feeding in_hand) = HasMemory reader writer buffers in_hand
+HasMemoryFor reader writer buffers (courses.Feeding in_hand image) =
+    HasMemory reader writer buffers in_hand image
 HasMemoryFor reader writer buffers (courses.Holding in_hand held) = IsInHandOf reader in_hand
-HasMemoryFor reader writer buffers (courses.Draining stop) = ⊤
+HasMemoryFor reader writer buffers (courses.Draining stop image) = IfSome image (CanPutOn writer)
 HasMemoryFor reader writer buffers (courses.Discarding stop) = ⊤
 
 abbrev pub HasMemoryAt : ReaderState → WriterState → Buffers → Step → Type 0
@@ -261,9 +307,9 @@ pub record IsBegun (start : ClientStart) (past : List Act) (seat : StreamSeatVal
   pub at : IsAt begun.course past (record { reader = start.reader; seat = start.seat; writer = opened })
       begun.reader seat begun.writer
   pub same_header : begun.reader.header ≡ start.reader.header
-  pub tally : IsTallied past start.seat seat begun.writer
+  pub tally : IsTallied past start.seat seat (counted_with (course_image begun.course) begun.writer)
   pub accepted : begun.accepted ≡ seat.accepted
-  -- the seat keeps the others
+  -- the seat keeps the others; an image in hand is of one that was collected
   pub collected : begun.collected ≡ seat.accepted - length seat.kept
 
 -- the header line was written, and the client goes on from here
@@ -277,7 +323,7 @@ pub record IsRunning (course : Option code.Course) (start : ClientStart) (past :
   pub before : IsBefore course past (record { reader = start.reader; seat = start.seat; writer = opened })
       reader seat writer
   pub same_header : reader.header ≡ start.reader.header
-  pub tally : IsTallied past start.seat seat writer
+  pub tally : IsTallied past start.seat seat (counted_with (image_before course) writer)
 
 -- this is left to do of the stream that began so: its seat of this epoch is this one, and its seats of the
 -- epochs before made these calls

@@ -1,9 +1,11 @@
 //! A client whose header line was written, where the journal is full.
 ghost use Rattle.serve_hub.specs.declared.entry.Act.{Act};
 ghost use Rattle.serve_hub.specs.Seats.{StreamSeatValue};
-ghost use Rattle.std.specs.Prelude.{List, Some};
+ghost use Rattle.filters.specs.Chain.{ChainValue};
+ghost use Rattle.std.specs.Prelude.{IfSome, List, Some};
 ghost use Rattle.serve_work.specs.Clients.{ClientStart, StreamEnds};
 ghost use Rattle.serve_work.specs.ClientInside.{IsNoNewEnd, TellsKept};
+ghost use Rattle.serve_work.specs.Hands.{CanPutOn, EndsImage};
 ghost use Rattle.serve_work.specs.Rests.{IsBegun, course_stop};
 ghost use Rattle.serve_work.specs.Sessions.{outcome_of};
 
@@ -11,6 +13,7 @@ use crate::buffers::Buffers;
 use crate::clients::flushed;
 use crate::course::Course;
 use crate::session::Served;
+use serve_core::Collected;
 use std::marker::Model;
 use y4m_stream::{Sink, Source, StreamReader, StreamWriter};
 
@@ -41,8 +44,19 @@ impl<R: Source, W: Sink> Model for Begun<R, W> {
     ghost invariant = { λ a. HasMemoryFor a.reader a.writer a.buffers a.course };
 }
 
+/// Writes an image in hand to its end, if there is one, however long that takes. The stream stops for another
+/// reason, so a fault of this isn't told.
+fn end_image<W: Sink>(writer: &mut StreamWriter<W>, image: Option<Collected>)
+    requires { IfSome image (CanPutOn writer.old) }
+    ensures { (chain : ChainValue) → EndsImage image chain writer.old writer.new }
+{
+    if let Some(pair) = image {
+        let _ = writer.put_on(&pair.image, None);
+    }
+}
+
 impl<R: Source + Drop, W: Sink> Begun<R, W> {
-    /// The end of the stream where no epoch comes any more.
+    /// The end of the stream where no epoch comes any more. An image in hand is written to its end first.
     pub(crate) fn give_up(self) -> Served<R, W>
         ensures ends { (start : ClientStart) (past : List Act) (seat : StreamSeatValue)
             → IsBegun start past seat self → StreamEnds start past seat
@@ -52,12 +66,13 @@ impl<R: Source + Drop, W: Sink> Begun<R, W> {
     {
         let Begun {
             reader,
-            writer,
+            mut writer,
             course,
             accepted,
             ..
         } = self;
-        let stop = course.given_up();
+        let (stop, image) = course.given_up();
+        end_image(&mut writer, image);
         let delivered = writer.frames();
         let (writer, flush) = writer.finish();
         Served {

@@ -1,34 +1,40 @@
 //! What a client does next, from epoch to epoch.
 ghost use Rattle.std.specs.Prelude.{◌≡◌};
-ghost use Rattle.serve_work.specs.Rests.{stop_in};
+ghost use Rattle.serve_work.specs.Rests.{course_image, course_of, stop_in};
 
 use crate::stop::{Cause, Stop};
 use frame_view::Frame;
+use serve_core::Collected;
 use std::sync::Arc;
 
 /// What a client does next, once its header line was written.
 #[derive(Drop)]
 pub(crate) enum Course {
-    /// It offers the frame that it has in hand, if there is one, and reads on.
-    Feeding(Option<Arc<Frame>>),
-    /// The same, but an image couldn't be delivered, for this reason, and no more are written.
+    /// It writes on with the image in hand, if there is one; offers the frame in hand, if there is one, and
+    /// reads on.
+    Feeding(Option<Arc<Frame>>, Option<Collected>),
+    /// It offers the frame in hand, if there is one, and reads on, but an image couldn't be delivered, for this
+    /// reason, and no more are written.
     Holding(Option<Arc<Frame>>, Stop),
-    /// It reads no more, for this reason, and writes the images that are left.
-    Draining(Stop),
-    /// The same, and it throws the images away.
+    /// It reads no more, for this reason. It writes on with the image in hand, if there is one, and writes
+    /// those that are left.
+    Draining(Stop, Option<Collected>),
+    /// It reads no more, for this reason, and throws the images away.
     Discarding(Stop),
 }
 
 impl Course {
-    /// Why a client stops that doesn't go on: for the fault that it keeps, and else for want of memory.
-    pub(crate) fn given_up(self) -> Stop
-        ensures { result ≡ stop_in self }
+    /// Why a client stops that doesn't go on: for the fault that it keeps, and else for want of memory; and
+    /// the image in hand, if there is one.
+    pub(crate) fn given_up(self) -> (Stop, Option<Collected>)
+        ensures stop { result.0 ≡ stop_in self }
+        ensures image { result.1 ≡ course_image (course_of self) }
     {
         match self {
-            Course::Feeding(_) => Stop::Refused(Cause::NoMemory),
-            Course::Holding(_, held) => held,
-            Course::Draining(stop) => stop.or(Stop::Refused(Cause::NoMemory)),
-            Course::Discarding(stop) => stop,
+            Course::Feeding(_, image) => (Stop::Refused(Cause::NoMemory), image),
+            Course::Holding(_, held) => (held, None),
+            Course::Draining(stop, image) => (stop.or(Stop::Refused(Cause::NoMemory)), image),
+            Course::Discarding(stop) => (stop, None),
         }
     }
 }

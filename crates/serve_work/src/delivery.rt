@@ -7,17 +7,20 @@ ghost use Rattle.serve_work.specs.declared.stop.Halt.TheVariants as halts;
 ghost use Rattle.serve_work.specs.declared.stop.Stop.TheVariants as stops;
 ghost use Rattle.serve_work.specs.Clients.{IsDrained};
 ghost use Rattle.serve_hub.specs.Calls.{Gives, IsCollectRefused};
-ghost use Rattle.serve_work.specs.ClientInside.{AreBuffersFor, GivesUp, HaltsWith, IsOfCollection, MovesOrHalts};
-ghost use Rattle.serve_work.specs.ClientInside.{IsOfDelivery, Tallies, TalliesSeat};
+ghost use Rattle.serve_work.specs.ClientInside.{AreBuffersFor, GivesUp, HaltsWith, IsLeft, IsOfCollection};
+ghost use Rattle.serve_work.specs.ClientInside.{IsOfDelivery, MovesOrHalts, Tallies, TalliesSeat, image_in};
+ghost use Rattle.serve_work.specs.Hands.{counted_with, image_at};
 
 use crate::buffers::Buffers;
-use crate::stop::{Halt, Stop};
+use crate::hand::finish;
+use crate::stop::Halt;
 use serve_core::{Collected, Refusal as Core};
 use serve_hub::{CollectRefused, Epoch, Hub, Refusal, StreamSeat};
 use std::sync::Wait;
 use y4m_stream::{Sink, StreamWriter};
 
-/// Collects an image and writes it. It stops at `Whole` where nothing is left to collect.
+/// Collects an image and writes it. It stops at `Whole` where nothing is left to collect. Where the journal is
+/// full before all of the image went out, that is in hand.
 pub(crate) fn deliver<L: Epoch, W: Sink, T: Wait>(
     rt: &T,
     hub: &Hub<L>,
@@ -27,20 +30,20 @@ pub(crate) fn deliver<L: Epoch, W: Sink, T: Wait>(
     requires size { IsWriterFor seat.old.chain writer.old }
     requires few { writer.old.frames + length seat.old.kept ≤ MOST_FRAMES }
     requires writing { writer.old.failed ≡ false }
+    requires none { writer.old.part ≡ 0 }
     ensures answer { MovesOrHalts result seat.old seat.new writer.old writer.new [] }
     ensures source { IfOk result (λ pair. (source_in pair).geometry ≡ seat.old.chain.geometry) }
     ensures image { IfOk result (λ pair. IsImageOf seat.old.chain pair.image) }
     ensures drained { IfErr result (λ halt. halt ≡ halts.Stopped stops.Whole
         → IsDrained seat.old × (seat.new ≡ seat.old)) }
     ensures own { IfErr result IsOfCollection }
-    ensures tally { Tallies seat.old seat.new writer.old writer.new }
+    ensures left { IfErr result (IsLeft seat.old.chain writer.new) }
+    ensures tally { Tallies seat.old seat.new writer.old
+        (counted_with (image_at image_in result) writer.new) }
     ensures kept { GivesUp seat.old seat.new }
 {
     match hub.collect(rt, seat) {
-        Ok(pair) => match writer.put(&pair.image) {
-            Ok(()) => Ok(pair),
-            Err(fault) => Err(Halt::Stopped(Stop::Write(fault))),
-        },
+        Ok(pair) => finish(rt, hub, writer, pair),
         Err(refused) => Err(Halt::of(refused.refusal)),
     }
 }
@@ -74,19 +77,22 @@ fn deliver_early<L: Epoch, W: Sink, T: Wait>(
     requires size { IsWriterFor seat.old.chain writer.old }
     requires few { writer.old.frames + length seat.old.kept ≤ MOST_FRAMES }
     requires writing { writer.old.failed ≡ false }
+    requires none { writer.old.part ≡ 0 }
     requires open { seat.old.is_closed ≡ false }
     ensures answer { MovesOrHalts result seat.old seat.new writer.old writer.new [] }
     ensures source { IfOk result (λ next. IfSome next (λ pair.
         (source_in pair).geometry ≡ seat.old.chain.geometry)) }
     ensures image { IfOk result (λ next. IfSome next (λ pair. IsImageOf seat.old.chain pair.image)) }
     ensures own { IfErr result IsOfDelivery }
-    ensures tally { Tallies seat.old seat.new writer.old writer.new }
+    ensures left { IfErr result (IsLeft seat.old.chain writer.new) }
+    ensures tally { Tallies seat.old seat.new writer.old
+        (counted_with (image_at image_in result) writer.new) }
     ensures kept { GivesUp seat.old seat.new }
 {
     match collect_early(rt, hub, seat, ahead) {
-        Ok(pair) => match writer.put(&pair.image) {
-            Ok(()) => Ok(Some(pair)),
-            Err(fault) => Err(Halt::Stopped(Stop::Write(fault))),
+        Ok(pair) => match finish(rt, hub, writer, pair) {
+            Ok(pair) => Ok(Some(pair)),
+            Err(halt) => Err(halt),
         },
         Err(refused) => match refused.refusal {
             Refusal::Core(Core::Empty) => Ok(None),
@@ -107,11 +113,14 @@ pub(crate) fn deliver_ready<L: Epoch, W: Sink, T: Wait>(
     requires size { IsWriterFor seat.old.chain writer.old }
     requires few { writer.old.frames + length seat.old.kept ≤ MOST_FRAMES }
     requires writing { writer.old.failed ≡ false }
+    requires none { writer.old.part ≡ 0 }
     requires open { seat.old.is_closed ≡ false }
     requires buffers { AreBuffersFor seat.old.chain buffers.old }
     ensures answer { MovesOrHalts result seat.old seat.new writer.old writer.new [] }
     ensures own { IfErr result IsOfDelivery }
-    ensures tally { Tallies seat.old seat.new writer.old writer.new }
+    ensures left { IfErr result (IsLeft seat.old.chain writer.new) }
+    ensures tally { Tallies seat.old seat.new writer.old
+        (counted_with (image_at image_in result) writer.new) }
     ensures kept { GivesUp seat.old seat.new }
     ensures buffers { AreBuffersFor seat.old.chain buffers.new }
 {
@@ -135,10 +144,12 @@ pub(crate) fn drain<L: Epoch, W: Sink, T: Wait>(
     requires size { IsWriterFor seat.old.chain writer.old }
     requires few { writer.old.frames + length seat.old.kept ≤ MOST_FRAMES }
     requires writing { writer.old.failed ≡ false }
+    requires none { writer.old.part ≡ 0 }
     ensures answer { HaltsWith result seat.old seat.new writer.old writer.new [] }
     ensures drained { result ≡ halts.Stopped stops.Whole → IsDrained seat.new }
     ensures own { IsOfCollection result }
-    ensures tally { Tallies seat.old seat.new writer.old writer.new }
+    ensures left { IsLeft seat.old.chain writer.new result }
+    ensures tally { Tallies seat.old seat.new writer.old (counted_with (image_in result) writer.new) }
     ensures kept { GivesUp seat.old seat.new }
 {
     for _ in rt.forever() {

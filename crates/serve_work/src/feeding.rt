@@ -10,7 +10,8 @@ ghost use Rattle.y4m_stream.specs.Writer.{IsWriterFor};
 ghost use Rattle.serve_work.specs.ClientInside.{AllowsFed, AreBuffersFor, Accounted, FeedsOn, HasPassed};
 ghost use Rattle.serve_work.specs.ClientInside.{Holds, IsCounted, IsOffered, IsSized, IsSizedFed, IsUnread};
 ghost use Rattle.serve_work.specs.ClientInside.{KeepsMoments, Offers, OffersAt, Tallies, fed_before};
-ghost use Rattle.serve_work.specs.ClientInside.{fed_of, text_in};
+ghost use Rattle.serve_work.specs.ClientInside.{fed_image, fed_of, text_in};
+ghost use Rattle.serve_work.specs.Hands.{counted_with, image_at};
 
 use crate::buffers::Buffers;
 use crate::delivery::{deliver, deliver_ready};
@@ -18,7 +19,7 @@ use crate::gate::Clock;
 use crate::input::{Input, await_input, reads_ahead};
 use crate::stop::{Cause, Halt, Stop};
 use frame_view::Frame;
-use serve_core::Refusal as Core;
+use serve_core::{Collected, Refusal as Core};
 use serve_hub::{Epoch, Hub, OfferRefused, OverRefused, Refusal, StreamSeat};
 use std::alloc::Global;
 use std::sync::{Arc, Wait};
@@ -39,8 +40,9 @@ pub(crate) enum Offered {
 /// Why no more frames are read and offered.
 #[derive(Drop)]
 pub(crate) enum Fed {
-    /// The journal is full. The frame in hand, if there is one, is still to be offered.
-    Paused(Option<Arc<Frame>>),
+    /// The journal is full. The frame in hand, if there is one, is still to be offered; the image in hand, if
+    /// there is one, isn't written whole yet.
+    Paused(Option<Arc<Frame>>, Option<Collected>),
     /// An image couldn't be delivered, for this reason. No frame is in hand.
     Held(Stop),
     Stopped(Stop),
@@ -52,7 +54,7 @@ impl Fed {
         ensures { result ≡ fed_of halt in_hand }
     {
         match halt {
-            Halt::Full => Fed::Paused(Some(in_hand)),
+            Halt::Full(image) => Fed::Paused(Some(in_hand), image),
             Halt::Stopped(stop) => Fed::Stopped(stop),
         }
     }
@@ -62,7 +64,7 @@ impl Fed {
         ensures { result ≡ fed_before halt }
     {
         match halt {
-            Halt::Full => Fed::Paused(None),
+            Halt::Full(image) => Fed::Paused(None, image),
             Halt::Stopped(stop) => Fed::Held(stop),
         }
     }
@@ -204,7 +206,8 @@ fn accept<L: Epoch, W: Sink, K: Clock, T: Wait>(
     ensures answer { Offers result (arc_value frame) seat.old seat.new writer.old writer.new }
     ensures back { IfErr result (IsSizedFed seat.old.chain writer.new) }
     ensures buffers { AreBuffersFor seat.old.chain buffers.new }
-    ensures tally { Tallies seat.old seat.new writer.old writer.new }
+    ensures tally { Tallies seat.old seat.new writer.old
+        (counted_with (image_at fed_image result) writer.new) }
     ensures moments { KeepsMoments (K.gives clock.now) seat.old seat.new }
     ensures stop { IfErr result (AllowsFed (K.gives clock.now)) }
 {
@@ -216,7 +219,7 @@ fn accept<L: Epoch, W: Sink, K: Clock, T: Wait>(
             Offered::Stopped(stop) => return Err(Fed::Stopped(stop)),
             Offered::JournalFull(back, image) => {
                 buffers.keep_image(image);
-                return Err(Fed::Paused(Some(back)));
+                return Err(Fed::Paused(Some(back), None));
             }
             Offered::QueueFull(back, image) => {
                 frame = back;
@@ -250,7 +253,8 @@ fn feed_once<L: Epoch, R: Source + Drop, W: Sink, K: Clock, T: Wait>(
     ensures passed { OnOk result (HasPassed reader.old reader.new seat.old seat.new writer.old writer.new) }
     ensures answer { IfErr result (λ fed. (past : List Act) → IsCounted past seat.old
         → FeedsOn fed past reader.old reader.new seat.old seat.new writer.old writer.new) }
-    ensures tally { Tallies seat.old seat.new writer.old writer.new }
+    ensures tally { Tallies seat.old seat.new writer.old
+        (counted_with (image_at fed_image result) writer.new) }
     ensures moments { KeepsMoments (K.gives clock.now) seat.old seat.new }
     ensures stop { IfErr result (AllowsFed (K.gives clock.now)) }
     ensures buffers { AreBuffersFor seat.old.chain buffers.new }
@@ -265,7 +269,7 @@ fn feed_once<L: Epoch, R: Source + Drop, W: Sink, K: Clock, T: Wait>(
     match await_input(rt, hub, reader) {
         Input::Ready => {}
         Input::Silent => return Ok(()),
-        Input::JournalFull => return Err(Fed::Paused(None)),
+        Input::JournalFull => return Err(Fed::Paused(None, None)),
     }
     let memory = buffers.take_source();
     match read_into(alloc, reader, memory) {
@@ -294,7 +298,7 @@ fn feed_on<L: Epoch, R: Source + Drop, W: Sink, K: Clock, T: Wait>(
     requires buffers { AreBuffersFor seat.old.chain buffers.old }
     ensures answer { (past : List Act) → IsCounted past seat.old
         → FeedsOn result past reader.old reader.new seat.old seat.new writer.old writer.new }
-    ensures tally { Tallies seat.old seat.new writer.old writer.new }
+    ensures tally { Tallies seat.old seat.new writer.old (counted_with (fed_image result) writer.new) }
     ensures moments { KeepsMoments (K.gives clock.now) seat.old seat.new }
     ensures stop { AllowsFed (K.gives clock.now) result }
     ensures buffers { AreBuffersFor seat.old.chain buffers.new }
@@ -331,7 +335,7 @@ pub(crate) fn feed<L: Epoch, R: Source + Drop, W: Sink, K: Clock, T: Wait>(
     ensures answer { (past : List Act) (before : ReaderState) → IsCounted past seat.old
         → Holds before reader.old (text_in in_hand)
         → FeedsOn result past before reader.new seat.old seat.new writer.old writer.new }
-    ensures tally { Tallies seat.old seat.new writer.old writer.new }
+    ensures tally { Tallies seat.old seat.new writer.old (counted_with (fed_image result) writer.new) }
     ensures moments { KeepsMoments (K.gives clock.now) seat.old seat.new }
     ensures stop { AllowsFed (K.gives clock.now) result }
     ensures buffers { AreBuffersFor seat.old.chain buffers.new }

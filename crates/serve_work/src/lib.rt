@@ -13,6 +13,7 @@ mod delivery;
 pub mod door;
 mod feeding;
 pub mod gate;
+mod hand;
 mod holding;
 mod input;
 pub mod laws;

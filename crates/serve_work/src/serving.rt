@@ -8,18 +8,22 @@ ghost use Rattle.serve_work.specs.declared.buffers.Buffers.{Buffers};
 ghost use Rattle.serve_work.specs.Clients.{AllowsStop};
 ghost use Rattle.serve_work.specs.ClientInside.{HasInHand, IsCounted, IsNoNewEnd, KeepsAllowed, KeepsMoments};
 ghost use Rattle.serve_work.specs.ClientInside.{MayClose, Serves, Tallies, TalliesSeat, text_in};
-ghost use Rattle.serve_work.specs.Rests.{CanDrain, CanFeed, CanGoOn, CanHold, Comes, Draining, HasMemoryAt};
-ghost use Rattle.serve_work.specs.Rests.{IsAt, IsBefore, IsOutset, IsSilent, Outset, Spoils};
-ghost use Rattle.serve_work.specs.Rests.{course_stop_before, step_stop};
+ghost use Rattle.serve_work.specs.Hands.{counted_with};
+ghost use Rattle.serve_work.specs.Rests.{CanDrain, CanDrainBehind, CanFeed, CanFeedBehind, CanGoOn, CanHold};
+ghost use Rattle.serve_work.specs.Rests.{Comes, Draining, Feeding, HasMemoryAt, IsAt, IsBefore, IsOutset};
+ghost use Rattle.serve_work.specs.Rests.{IsSilent, Outset, Spoils, course_stop_before, image_before, step_image};
+ghost use Rattle.serve_work.specs.Rests.{step_stop};
 
 use crate::buffers::Buffers;
 use crate::course::Course;
 use crate::delivery::{discard, drain};
 use crate::feeding::{Fed, feed};
 use crate::gate::Clock;
+use crate::hand::finish;
 use crate::holding::{Onward, hold};
 use crate::stop::{Halt, Stop};
 use frame_view::Frame;
+use serve_core::Collected;
 use serve_hub::{Epoch, Hub, Refusal, StreamSeat};
 use std::alloc::Global;
 use std::sync::{Arc, Wait};
@@ -61,6 +65,7 @@ fn discard_left<L: Epoch, T: Wait>(
     ensures stop { step_stop result ≡ Some stop }
     ensures memory { (reader : ReaderState) (writer : WriterState) (buffers : Buffers)
         → HasMemoryAt reader writer buffers result }
+    ensures none { step_image result ≡ None }
 {
     if discard(rt, hub, seat) {
         Step::Paused(Course::Discarding(stop))
@@ -80,6 +85,7 @@ fn spoil_left<L: Epoch, T: Wait>(rt: &T, hub: &Hub<L>, seat: &mut StreamSeat<L>,
     ensures stop { step_stop result ≡ Some stop }
     ensures memory { (reader : ReaderState) (writer : WriterState) (buffers : Buffers)
         → HasMemoryAt reader writer buffers result }
+    ensures none { step_image result ≡ None }
 {
     let _ = close_torn(rt, hub, seat);
     discard_left(rt, hub, seat, stop)
@@ -107,6 +113,7 @@ fn hold_left<L: Epoch, R: Source + Drop, K: Clock, T: Wait>(
     ensures stop { KeepsAllowed (K.gives clock.now) (Some held) (step_stop result) }
     ensures memory { (writer : WriterState) (buffers : Buffers)
         → HasMemoryAt reader.new writer buffers result }
+    ensures none { step_image result ≡ None }
     ensures header { reader.new.header ≡ reader.old.header }
 {
     match hold(rt, alloc, hub, seat, reader, clock, in_hand) {
@@ -126,16 +133,16 @@ fn drain_left<L: Epoch, W: Sink, T: Wait>(
 ) -> Step
     requires can { CanDrain seat.old writer.old }
     ensures answer { (past : List Act) (o : Outset) (reader : ReaderState) → IsOutset o
-        → IsAt (Draining stop) past o reader seat.old writer.old
+        → IsAt (Draining stop None) past o reader seat.old writer.old
         → Comes result past o reader seat.new writer.new }
-    ensures tally { Tallies seat.old seat.new writer.old writer.new }
+    ensures tally { Tallies seat.old seat.new writer.old (counted_with (step_image result) writer.new) }
     ensures accepted { seat.new.accepted ≡ seat.old.accepted }
     ensures stop { IsNoNewEnd (Some stop) (step_stop result) }
     ensures memory { (reader : ReaderState) (buffers : Buffers)
         → HasMemoryAt reader writer.new buffers result }
 {
     match drain(rt, hub, seat, writer) {
-        Halt::Full => Step::Paused(Course::Draining(stop)),
+        Halt::Full(image) => Step::Paused(Course::Draining(stop, image)),
         Halt::Stopped(last) => {
             let told = stop.or(last);
             if last.is_spoilt() {
@@ -144,6 +151,33 @@ fn drain_left<L: Epoch, W: Sink, T: Wait>(
                 Step::Done(told)
             }
         }
+    }
+}
+
+/// Writes on with an image in hand, and then goes on as `drain_left` does.
+fn drain_behind<L: Epoch, W: Sink, T: Wait>(
+    rt: &T,
+    hub: &Hub<L>,
+    seat: &mut StreamSeat<L>,
+    writer: &mut StreamWriter<W>,
+    stop: Stop,
+    pair: Collected,
+) -> Step
+    requires can { CanDrainBehind pair seat.old writer.old }
+    ensures answer { (past : List Act) (o : Outset) (reader : ReaderState) → IsOutset o
+        → IsAt (Draining stop (Some pair)) past o reader seat.old writer.old
+        → Comes result past o reader seat.new writer.new }
+    ensures tally { Tallies seat.old seat.new (counted_with (Some pair) writer.old)
+        (counted_with (step_image result) writer.new) }
+    ensures accepted { seat.new.accepted ≡ seat.old.accepted }
+    ensures stop { IsNoNewEnd (Some stop) (step_stop result) }
+    ensures memory { (reader : ReaderState) (buffers : Buffers)
+        → HasMemoryAt reader writer.new buffers result }
+{
+    match finish(rt, hub, writer, pair) {
+        Ok(_) => drain_left(rt, hub, seat, writer, stop),
+        Err(Halt::Full(image)) => Step::Paused(Course::Draining(stop, image)),
+        Err(Halt::Stopped(last)) => discard_left(rt, hub, seat, stop.or(last)),
     }
 }
 
@@ -164,7 +198,7 @@ fn feed_left<L: Epoch, R: Source + Drop, W: Sink, K: Clock, T: Wait>(
     ensures answer { (past : List Act) (o : Outset) → IsOutset o → IsCounted past seat.old
         → HasInHand o.reader reader.old o.seat seat.old o.writer writer.old (text_in in_hand)
         → Comes result past o reader.new seat.new writer.new }
-    ensures tally { Tallies seat.old seat.new writer.old writer.new }
+    ensures tally { Tallies seat.old seat.new writer.old (counted_with (step_image result) writer.new) }
     ensures moments { KeepsMoments (K.gives clock.now) seat.old seat.new }
     ensures stop { IfSome (step_stop result) (AllowsStop (K.gives clock.now)) }
     ensures memory { HasMemoryAt reader.new writer.new buffers.new result }
@@ -173,7 +207,7 @@ fn feed_left<L: Epoch, R: Source + Drop, W: Sink, K: Clock, T: Wait>(
     match feed(
         rt, alloc, hub, seat, reader, writer, buffers, clock, in_hand,
     ) {
-        Fed::Paused(in_hand) => Step::Paused(Course::Feeding(in_hand)),
+        Fed::Paused(in_hand, image) => Step::Paused(Course::Feeding(in_hand, image)),
         Fed::Held(stop) => hold_left(rt, alloc, hub, seat, reader, clock, None, stop),
         Fed::Stopped(stop) => {
             let is_torn = close_torn(rt, hub, seat);
@@ -185,6 +219,44 @@ fn feed_left<L: Epoch, R: Source + Drop, W: Sink, K: Clock, T: Wait>(
                 drain_left(rt, hub, seat, writer, stop)
             }
         }
+    }
+}
+
+/// Writes on with an image in hand, and then goes on as `feed_left` does. Where that fails, the fault is
+/// held.
+fn feed_behind<L: Epoch, R: Source + Drop, W: Sink, K: Clock, T: Wait>(
+    rt: &T,
+    alloc: Global,
+    hub: &Hub<L>,
+    seat: &mut StreamSeat<L>,
+    reader: &mut StreamReader<R>,
+    writer: &mut StreamWriter<W>,
+    buffers: &mut Buffers,
+    clock: &K,
+    in_hand: Option<Arc<Frame>>,
+    pair: Collected,
+) -> Step
+    requires header { IsOfHeader reader.old.header seat.old.chain.geometry }
+    requires can { CanFeedBehind in_hand pair reader.old seat.old writer.old buffers.old }
+    ensures answer { (past : List Act) (o : Outset) → IsOutset o → IsCounted past seat.old
+        → IsAt (Feeding (text_in in_hand) (Some pair)) past o reader.old seat.old writer.old
+        → Comes result past o reader.new seat.new writer.new }
+    ensures tally { Tallies seat.old seat.new (counted_with (Some pair) writer.old)
+        (counted_with (step_image result) writer.new) }
+    ensures moments { KeepsMoments (K.gives clock.now) seat.old seat.new }
+    ensures stop { IfSome (step_stop result) (AllowsStop (K.gives clock.now)) }
+    ensures memory { HasMemoryAt reader.new writer.new buffers.new result }
+    ensures header { reader.new.header ≡ reader.old.header }
+{
+    match finish(rt, hub, writer, pair) {
+        Ok(pair) => {
+            buffers.keep(pair);
+            feed_left(
+                rt, alloc, hub, seat, reader, writer, buffers, clock, in_hand,
+            )
+        }
+        Err(Halt::Full(image)) => Step::Paused(Course::Feeding(in_hand, image)),
+        Err(Halt::Stopped(stop)) => hold_left(rt, alloc, hub, seat, reader, clock, in_hand, stop),
     }
 }
 
@@ -206,8 +278,9 @@ pub(crate) fn serve<L: Epoch, R: Source + Drop, W: Sink, K: Clock, T: Wait>(
     ensures answer { (past : List Act) (o : Outset) → IsOutset o → IsCounted past seat.old
         → IsBefore course past o reader.old seat.old writer.old
         → Comes result past o reader.new seat.new writer.new }
-    ensures tally { Tallies seat.old seat.new writer.old writer.new }
-    ensures silent { IsSilent course → writer.new ≡ writer.old }
+    ensures tally { Tallies seat.old seat.new (counted_with (image_before course) writer.old)
+        (counted_with (step_image result) writer.new) }
+    ensures silent { IsSilent course → (step_image result ≡ None) × (writer.new ≡ writer.old) }
     ensures moments { KeepsMoments (K.gives clock.now) seat.old seat.new }
     ensures stop { KeepsAllowed (K.gives clock.now) (course_stop_before course) (step_stop result) }
     ensures memory { HasMemoryAt reader.new writer.new buffers.new result }
@@ -215,15 +288,21 @@ pub(crate) fn serve<L: Epoch, R: Source + Drop, W: Sink, K: Clock, T: Wait>(
 {
     match course {
         None => feed_left(rt, alloc, hub, seat, reader, writer, buffers, clock, None),
-        Some(Course::Feeding(in_hand)) => {
-            feed_left(
+        Some(Course::Feeding(in_hand, image)) => match image {
+            None => feed_left(
                 rt, alloc, hub, seat, reader, writer, buffers, clock, in_hand,
-            )
-        }
+            ),
+            Some(pair) => feed_behind(
+                rt, alloc, hub, seat, reader, writer, buffers, clock, in_hand, pair,
+            ),
+        },
         Some(Course::Holding(in_hand, held)) => {
             hold_left(rt, alloc, hub, seat, reader, clock, in_hand, held)
         }
-        Some(Course::Draining(stop)) => drain_left(rt, hub, seat, writer, stop),
+        Some(Course::Draining(stop, image)) => match image {
+            None => drain_left(rt, hub, seat, writer, stop),
+            Some(pair) => drain_behind(rt, hub, seat, writer, stop, pair),
+        },
         Some(Course::Discarding(stop)) => discard_left(rt, hub, seat, stop),
     }
 }

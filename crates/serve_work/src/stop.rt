@@ -2,7 +2,7 @@
 ghost use Rattle.std.specs.Prelude.{◌≡◌, ◌↔◌, IsFalse};
 ghost use Rattle.serve_work.specs.ClientInside.{IsFirst, IsUseful, halt_of, stop_of};
 
-use serve_core::Refusal as Core;
+use serve_core::{Collected, Refusal as Core};
 use serve_hub::Refusal;
 use std::fmt;
 use thiserror::Error;
@@ -91,10 +91,10 @@ impl Stop {
 }
 
 /// Why a client goes no further.
-#[derive(Clone, Copy, Debug, PartialEq, Eq)]
+#[derive(Drop)]
 pub(crate) enum Halt {
-    /// The journal is full.
-    Full,
+    /// The journal is full. The image in hand, if there is one, isn't written whole yet.
+    Full(Option<Collected>),
     Stopped(Stop),
 }
 
@@ -104,7 +104,7 @@ impl Halt {
         ensures { result ≡ halt_of refusal }
     {
         match refusal {
-            Refusal::HistoryFull => Halt::Full,
+            Refusal::HistoryFull => Halt::Full(None),
             refusal => Halt::Stopped(Stop::of(refusal)),
         }
     }

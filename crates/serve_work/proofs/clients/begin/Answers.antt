@@ -61,7 +61,7 @@ run-requires-clause-can g c =
     let opened = c.in-Ok-open.ensures.opened in
     can_begin c.requires.counted.0 c.args.reader c.args.seat c.in-Ok-open.output c.in-Ok.buffers c.requires.fresh c.requires.most
     c.requires.open
-    opened.writing opened.frames c.requires.counted.1
+    opened.writing opened.none opened.frames c.requires.counted.1
     (opened_size c.args.seat.chain c.args.reader.header _ _ _ c.in-Ok-open.output own opened) c.in-Ok.ensures.buffers
 
 pub returns-clause-turn : goal.returns-clause-turn

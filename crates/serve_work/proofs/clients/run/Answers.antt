@@ -12,9 +12,9 @@ returns-in-Done-clause-turn g c = λ start past running.
     let o = outset_of start running.shown running.opened running.first running.is_opened in
     let serves = c.in-Done.ensures.answer past first o running.tally.offers running.before in
     c.end.ensures.ends start past running.shown running.opened running.header running.is_opened running.first serves
-    (tallied_later past start.seat c.args.seat c.serve.new.seat c.args.writer c.serve.new.writer running.tally
-    (untorn_or_silent c.args.course past first c.args.reader c.args.seat c.args.writer c.serve.new.writer running.before
-    c.serve.ensures.silent) c.serve.ensures.tally)
+    (tallied_later past start.seat c.args.seat c.serve.new.seat _ c.serve.new.writer running.tally
+    (untorn_or_silent c.args.course past first c.args.reader c.args.seat c.args.writer c.serve.new.writer _ running.before
+    c.in-Done.ensures.silent) c.in-Done.ensures.tally)
 
 pub returns-in-Paused-clause-turn : goal.returns-in-Paused-clause-turn
 returns-in-Paused-clause-turn g c = λ start past running.
@@ -28,9 +28,9 @@ returns-in-Paused-clause-turn g c = λ start past running.
       first = running.first;
       at = c.in-Paused.ensures.answer past first o running.tally.offers running.before;
       same_header = c.serve.ensures.header ∙ running.same_header;
-      tally = tallied_later past start.seat c.args.seat c.serve.new.seat c.args.writer c.serve.new.writer running.tally
-          (untorn_or_silent c.args.course past first c.args.reader c.args.seat c.args.writer c.serve.new.writer running.before
-          c.serve.ensures.silent) c.serve.ensures.tally;
+      tally = tallied_later past start.seat c.args.seat c.serve.new.seat _ _ running.tally
+          (untorn_or_silent c.args.course past first c.args.reader c.args.seat c.args.writer c.serve.new.writer _ running.before
+          c.in-Paused.ensures.silent) c.in-Paused.ensures.tally;
       accepted = c.accepted-accepted.ensures;
       collected = omega (arith, c.saturating_sub.ensures, c.accepted-accepted.ensures, c.kept.ensures);
     }

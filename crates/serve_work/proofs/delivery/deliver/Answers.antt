@@ -1,20 +1,56 @@
-use Rattle.std.proofs.Common.{refl}
-use Rattle.serve_work.proofs.Tallying.{Tallies-seat}
-use Rattle.serve_work.proofs.Moving.{Cuts-give, Moves-give}
-use Rattle.serve_work.proofs.Refusing.{collect_refused, collected}
+use Rattle.std.proofs.Common.{◌≡◌}
+use Rattle.serve_core.specs.Streams.{IsImageOf, source_in}
+use Rattle.serve_work.specs.ClientInside.{IsOfCollection, IsOfWriting}
+use Rattle.serve_work.proofs.Finishing.{back_is, begun_now, can_put_on, err_map, left_of, tally_finish, writing_collects}
+use Rattle.serve_work.proofs.Finishing.{writing_unfinished}
+use Rattle.serve_work.proofs.Moving.{Moves-kept, MovesOrHalts-later}
+use Rattle.serve_work.proofs.Refusing.{collect_refused, collected, refused_left, refused_tally}
 use Rattle.serve_work.proofs.delivery.deliver.Goals as goal
 
-pub returns-in-Ok-put-clause-answer : goal.returns-in-Ok-put-clause-answer
-returns-in-Ok-put-clause-answer g c =
-    Moves-give _ _ _ _ _ c.in-Ok.ensures.given (c.in-Ok-put.ensures.is_open c.requires.writing)
+pub finish-requires : goal.finish-requires
+finish-requires g c =
+    can_put_on c.in-Ok.pair c.args.seat.now c.collect.new.seat c.args.writer.now c.in-Ok.ensures.given c.requires.size c.requires.few
+    c.requires.none
 
-pub returns-in-Err-put-clause-answer : goal.returns-in-Err-put-clause-answer
-returns-in-Err-put-clause-answer g c =
-    Cuts-give _ _ _ _ _ _ c.in-Ok.ensures.given (c.in-Err-put.ensures.is_open c.requires.writing)
+pub returns-in-Ok-clause-answer : goal.returns-in-Ok-clause-answer
+returns-in-Ok-clause-answer g c =
+    let given = c.in-Ok.ensures.given in
+    MovesOrHalts-later c.finish.result _ _ _ _ _ _ (Moves-kept _ _ c.args.writer.now c.in-Ok.pair given)
+    (c.finish.ensures.answer c.collect.new.seat c.args.writer.now
+    (begun_now c.in-Ok.pair c.args.seat.now c.collect.new.seat c.args.writer.now given c.requires.writing c.requires.none))
+
+pub returns-in-Ok-clause-source : goal.returns-in-Ok-clause-source
+returns-in-Ok-clause-source g c =
+    back_is (λ pair. (source_in pair).geometry ≡ c.args.seat.now.chain.geometry) c.finish.result c.in-Ok.pair c.finish.ensures.back
+    c.in-Ok.ensures.given.source
+
+pub returns-in-Ok-clause-image : goal.returns-in-Ok-clause-image
+returns-in-Ok-clause-image g c =
+    back_is (λ pair. IsImageOf c.args.seat.now.chain pair.image) c.finish.result c.in-Ok.pair c.finish.ensures.back
+    c.in-Ok.ensures.given.size
+
+pub returns-in-Ok-clause-drained : goal.returns-in-Ok-clause-drained
+returns-in-Ok-clause-drained g c =
+    err_map IsOfWriting _ c.finish.result (λ halt own. writing_unfinished _ halt own) c.finish.ensures.own
+
+pub returns-in-Ok-clause-own : goal.returns-in-Ok-clause-own
+returns-in-Ok-clause-own g c = err_map IsOfWriting IsOfCollection c.finish.result writing_collects c.finish.ensures.own
+
+pub returns-in-Ok-clause-left : goal.returns-in-Ok-clause-left
+returns-in-Ok-clause-left g c =
+    left_of c.finish.result c.in-Ok.pair c.args.seat.now c.collect.new.seat c.finish.new.writer c.in-Ok.ensures.given c.finish.ensures.left
+
+pub returns-in-Ok-clause-tally : goal.returns-in-Ok-clause-tally
+returns-in-Ok-clause-tally g c =
+    tally_finish c.in-Ok.pair _ _ _ _ c.in-Ok.ensures.given.collects c.finish.ensures.count
 
 pub returns-in-Err-clause-answer : goal.returns-in-Err-clause-answer
 returns-in-Err-clause-answer g c = rw c.of.ensures (collect_refused _ _ _ _ c.in-Err.ensures.waited c.in-Err.ensures.refused).moved
 
+pub returns-in-Err-clause-left : goal.returns-in-Err-clause-left
+returns-in-Err-clause-left g c = rw c.of.ensures (refused_left c.in-Err.refused.refusal _ _)
+
 pub returns-in-Err-clause-tally : goal.returns-in-Err-clause-tally
 returns-in-Err-clause-tally g c =
-    Tallies-seat _ _ _ _ (collected _ _ _ c.collect.ensures.given c.collect.ensures.refused).tally refl
+    rw c.of.ensures (refused_tally c.in-Err.refused.refusal _ _ _
+    (collected _ _ _ c.collect.ensures.given c.collect.ensures.refused).tally)

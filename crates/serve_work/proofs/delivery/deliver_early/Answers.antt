@@ -1,19 +1,53 @@
-use Rattle.std.proofs.Common.{◌≡◌, ◌≢◌, arith, refl, rules}
+use Rattle.std.proofs.Common.{◌≡◌, ◌≢◌, [], arith, refl, rules}
 use Rattle.std.proofs.lemmas.Grind.{common_steps}
 use Rattle.serve_core.specs.declared.refusal.Refusal.TheVariants as cores
 use Rattle.serve_hub.specs.declared.refusal.Refusal.TheVariants as hub
+use Rattle.serve_work.proofs.Finishing.{begun_now, can_put_on, left_halt, tally_finish, writing_delivers}
 use Rattle.serve_work.proofs.Tallying.{Tallies-seat}
-use Rattle.serve_work.proofs.Moving.{Cuts-give, Moves-give, Moves-none}
-use Rattle.serve_work.proofs.Refusing.{collect_refused, collected, none_there, of_delivery}
+use Rattle.serve_work.proofs.Moving.{HaltsWith-later, Moves-kept, Moves-none, Moves-trans}
+use Rattle.serve_work.proofs.Refusing.{collect_refused, collected, none_there, of_delivery, refused_left, refused_tally}
 use Rattle.serve_work.proofs.delivery.deliver_early.Goals as goal
 
-pub returns-in-Ok-put-clause-answer : goal.returns-in-Ok-put-clause-answer
-returns-in-Ok-put-clause-answer g c =
-    Moves-give _ _ _ _ _ c.in-Ok.ensures.given (c.in-Ok-put.ensures.is_open c.requires.writing)
+pub finish-requires : goal.finish-requires
+finish-requires g c =
+    can_put_on c.in-Ok.pair c.args.seat.now c.collect_early.new.seat c.args.writer.now c.in-Ok.ensures.given c.requires.size c.requires.few
+    c.requires.none
+
+pub returns-in-Ok-finish-clause-answer : goal.returns-in-Ok-finish-clause-answer
+returns-in-Ok-finish-clause-answer g c =
+    let given = c.in-Ok.ensures.given in
+    Moves-trans _ _ _ _ _ _ [] [] (Moves-kept _ _ c.args.writer.now c.in-Ok.pair given)
+    (c.in-Ok-finish.ensures.answer c.collect_early.new.seat c.args.writer.now
+    (begun_now c.in-Ok.pair c.args.seat.now c.collect_early.new.seat c.args.writer.now given c.requires.writing c.requires.none))
+
+pub returns-in-Ok-finish-clause-source : goal.returns-in-Ok-finish-clause-source
+returns-in-Ok-finish-clause-source g c = rw c.in-Ok-finish.ensures.back c.in-Ok.ensures.given.source
+
+pub returns-in-Ok-finish-clause-image : goal.returns-in-Ok-finish-clause-image
+returns-in-Ok-finish-clause-image g c = rw c.in-Ok-finish.ensures.back c.in-Ok.ensures.given.size
+
+pub returns-in-Ok-finish-clause-tally : goal.returns-in-Ok-finish-clause-tally
+returns-in-Ok-finish-clause-tally g c =
+    tally_finish c.in-Ok.pair _ _ _ _ c.in-Ok.ensures.given.collects c.in-Ok-finish.ensures.count
 
 pub returns-in-Ok-clause-answer : goal.returns-in-Ok-clause-answer
 returns-in-Ok-clause-answer g c =
-    Cuts-give _ _ _ _ _ _ c.in-Ok.ensures.given (c.in-Err-put.ensures.is_open c.requires.writing)
+    let given = c.in-Ok.ensures.given in
+    HaltsWith-later c.in-Err-finish.halt _ _ _ _ _ _ [] [] (Moves-kept _ _ c.args.writer.now c.in-Ok.pair given)
+    (c.in-Err-finish.ensures.answer c.collect_early.new.seat c.args.writer.now
+    (begun_now c.in-Ok.pair c.args.seat.now c.collect_early.new.seat c.args.writer.now given c.requires.writing c.requires.none))
+
+pub returns-in-Ok-clause-own : goal.returns-in-Ok-clause-own
+returns-in-Ok-clause-own g c = writing_delivers c.in-Err-finish.halt c.in-Err-finish.ensures.own
+
+pub returns-in-Ok-clause-left : goal.returns-in-Ok-clause-left
+returns-in-Ok-clause-left g c =
+    left_halt c.in-Err-finish.halt c.in-Ok.pair c.args.seat.now c.collect_early.new.seat c.finish.new.writer c.in-Ok.ensures.given
+    c.in-Err-finish.ensures.left
+
+pub returns-in-Ok-clause-tally : goal.returns-in-Ok-clause-tally
+returns-in-Ok-clause-tally g c =
+    tally_finish c.in-Ok.pair _ _ _ _ c.in-Ok.ensures.given.collects c.in-Err-finish.ensures.count
 
 pub returns-in-Core-Empty-clause-answer : goal.returns-in-Core-Empty-clause-answer
 returns-in-Core-Empty-clause-answer g c =
@@ -35,6 +69,10 @@ returns-clause-own g c =
     rw c.of.ensures (of_delivery _ c.args.seat.now c.collect_early.new.seat c.args.writer.now
     (collect_refused _ _ _ _ not c.in-Err.ensures.refused) c.requires.open)
 
+pub returns-clause-left : goal.returns-clause-left
+returns-clause-left g c = rw c.of.ensures (refused_left c.in-Err.refused.refusal _ _)
+
 pub returns-clause-tally : goal.returns-clause-tally
 returns-clause-tally g c =
-    Tallies-seat _ _ _ _ (collected _ _ _ c.collect_early.ensures.given c.collect_early.ensures.refused).tally refl
+    rw c.of.ensures (refused_tally c.in-Err.refused.refusal _ _ _
+    (collected _ _ _ c.collect_early.ensures.given c.collect_early.ensures.refused).tally)

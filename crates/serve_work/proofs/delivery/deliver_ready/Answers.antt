@@ -2,7 +2,7 @@ use Rattle.std.proofs.Common.{◌≡◌, ◌∙◌, [], refl}
 use Rattle.serve_core.specs.Streams.{IsImageOf, source_in}
 use Rattle.serve_work.proofs.Staying.{GivesUp-trans, stays_chain, stays_closed}
 use Rattle.serve_work.proofs.Tallying.{Tallies-none, Tallies-trans}
-use Rattle.serve_work.proofs.Moving.{HaltsWith-later, Moves-none, Moves-trans, few_later, size_later, writing_later}
+use Rattle.serve_work.proofs.Moving.{HaltsWith-later, Moves-none, Moves-trans, few_later, none_later, size_later, writing_later}
 use Rattle.serve_work.proofs.delivery.deliver_ready.Goals as goal
 
 pub loop-init : goal.loop-init
@@ -20,6 +20,7 @@ deliver_early-requires g c =
       size = size_later _ _ _ _ [] moved c.requires.size;
       few = few_later _ _ _ _ moved c.requires.few;
       writing = writing_later _ _ _ _ [] moved c.requires.writing;
+      none = none_later _ _ _ _ [] moved c.requires.none;
       «open» = stays_closed c.args.seat.now c.loop.seat moved.seat_stays ∙ c.requires.open;
     }
 
@@ -28,6 +29,17 @@ returns-in-Ok-None-clause-answer g c = Moves-trans _ _ _ _ _ _ [] [] c.loop.inva
 
 pub returns-in-Err-clause-answer : goal.returns-in-Err-clause-answer
 returns-in-Err-clause-answer g c = HaltsWith-later _ _ _ _ _ _ _ [] [] c.loop.invariant.moved c.in-Err.ensures.answer
+
+pub returns-in-Ok-None-clause-tally : goal.returns-in-Ok-None-clause-tally
+returns-in-Ok-None-clause-tally g c =
+    Tallies-trans _ _ _ _ _ _ c.loop.invariant.moved.seat_stays.torn c.loop.invariant.tally c.in-Ok-None.ensures.tally
+
+pub returns-in-Err-clause-left : goal.returns-in-Err-clause-left
+returns-in-Err-clause-left g c = rw (stays_chain c.args.seat.now c.loop.seat c.loop.invariant.moved.seat_stays) at c.in-Err.ensures.left
+
+pub returns-in-Err-clause-tally : goal.returns-in-Err-clause-tally
+returns-in-Err-clause-tally g c =
+    Tallies-trans _ _ _ _ _ _ c.loop.invariant.moved.seat_stays.torn c.loop.invariant.tally c.in-Err.ensures.tally
 
 pub loop-preserved : goal.loop-preserved
 loop-preserved g c =
@@ -39,10 +51,6 @@ loop-preserved g c =
     record {
       moved = Moves-trans _ _ _ _ _ _ [] [] so_far.moved next.ensures.answer;
       up = GivesUp-trans c.args.seat.now c.loop.seat c.deliver_early.new.seat so_far.up c.deliver_early.ensures.kept;
-      tally = Tallies-trans _ _ _ _ _ _ so_far.moved.seat_stays.torn so_far.tally c.deliver_early.ensures.tally;
+      tally = Tallies-trans _ _ _ _ _ _ so_far.moved.seat_stays.torn so_far.tally next.ensures.tally;
       buffers = c.keep.ensures.sized c.args.seat.now.chain so_far.buffers (rw chain at source) (rw chain at image);
     }
-
-pub returns-in-Err-clause-tally : goal.returns-in-Err-clause-tally
-returns-in-Err-clause-tally g c =
-    Tallies-trans _ _ _ _ _ _ c.loop.invariant.moved.seat_stays.torn c.loop.invariant.tally c.deliver_early.ensures.tally

@@ -1,7 +1,7 @@
 use Rattle.std.proofs.Common.{[], refl}
-use Rattle.serve_work.proofs.Staying.{GivesUp-trans}
+use Rattle.serve_work.proofs.Staying.{GivesUp-trans, stays_chain}
 use Rattle.serve_work.proofs.Tallying.{Tallies-none, Tallies-trans}
-use Rattle.serve_work.proofs.Moving.{HaltsWith-later, Moves-none, Moves-trans, few_later, size_later, writing_later}
+use Rattle.serve_work.proofs.Moving.{HaltsWith-later, Moves-none, Moves-trans, few_later, none_later, size_later, writing_later}
 use Rattle.serve_work.proofs.delivery.drain.Goals as goal
 
 pub loop-init : goal.loop-init
@@ -16,13 +16,19 @@ deliver-requires-clause-few g c = few_later _ _ _ _ c.loop.invariant.moved c.req
 pub deliver-requires-clause-writing : goal.deliver-requires-clause-writing
 deliver-requires-clause-writing g c = writing_later _ _ _ _ [] c.loop.invariant.moved c.requires.writing
 
+pub deliver-requires-clause-none : goal.deliver-requires-clause-none
+deliver-requires-clause-none g c = none_later _ _ _ _ [] c.loop.invariant.moved c.requires.none
+
+pub returns-in-Err-clause-left : goal.returns-in-Err-clause-left
+returns-in-Err-clause-left g c = rw (stays_chain c.args.seat.now c.loop.seat c.loop.invariant.moved.seat_stays) at c.in-Err.ensures.left
+
 pub loop-preserved : goal.loop-preserved
 loop-preserved g c =
     let so_far = c.loop.invariant in
     record {
       moved = Moves-trans _ _ _ _ _ _ [] [] so_far.moved c.in-Ok.ensures.answer;
       up = GivesUp-trans c.args.seat.now c.loop.seat c.deliver.new.seat so_far.up c.deliver.ensures.kept;
-      tally = Tallies-trans _ _ _ _ _ _ so_far.moved.seat_stays.torn so_far.tally c.deliver.ensures.tally;
+      tally = Tallies-trans _ _ _ _ _ _ so_far.moved.seat_stays.torn so_far.tally c.in-Ok.ensures.tally;
     }
 
 pub loop-preserved-in-Ok : goal.loop-preserved-in-Ok
@@ -31,7 +37,7 @@ loop-preserved-in-Ok g c =
     record {
       moved = Moves-trans _ _ _ _ _ _ [] [] so_far.moved c.in-Ok.ensures.answer;
       up = GivesUp-trans c.args.seat.now c.loop.seat c.deliver.new.seat so_far.up c.deliver.ensures.kept;
-      tally = Tallies-trans _ _ _ _ _ _ so_far.moved.seat_stays.torn so_far.tally c.deliver.ensures.tally;
+      tally = Tallies-trans _ _ _ _ _ _ so_far.moved.seat_stays.torn so_far.tally c.in-Ok.ensures.tally;
     }
 
 pub returns-in-Err-clause-answer : goal.returns-in-Err-clause-answer
@@ -42,7 +48,7 @@ returns-in-Err-clause-drained g c = λ is. let left = c.in-Err.ensures.drained i
 
 pub returns-in-Err-clause-tally : goal.returns-in-Err-clause-tally
 returns-in-Err-clause-tally g c =
-    Tallies-trans _ _ _ _ _ _ c.loop.invariant.moved.seat_stays.torn c.loop.invariant.tally c.deliver.ensures.tally
+    Tallies-trans _ _ _ _ _ _ c.loop.invariant.moved.seat_stays.torn c.loop.invariant.tally c.in-Err.ensures.tally
 
 pub returns-in-Err-clause-kept : goal.returns-in-Err-clause-kept
 returns-in-Err-clause-kept g c = GivesUp-trans c.args.seat.now c.loop.seat c.deliver.new.seat c.loop.invariant.up c.deliver.ensures.kept

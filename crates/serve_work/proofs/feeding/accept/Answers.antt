@@ -1,13 +1,14 @@
 use Rattle.std.proofs.Common.{◌≡◌, [], IfSome, refl, ◌∙◌}
 use Rattle.std.specs.Arc.{arc_value}
 use Rattle.serve_core.specs.Streams.{IsImageOf}
-use Rattle.serve_work.specs.ClientInside.{AreBuffersFor}
+use Rattle.serve_work.specs.ClientInside.{AreBuffersFor, image_in}
+use Rattle.serve_work.specs.Hands.{counted_with}
 use Rattle.serve_work.proofs.Allowing.{collection_allowed, offered_allowed}
 use Rattle.serve_work.proofs.Staying.{GivesUp-at, GivesUp-trans, stays_chain, stays_closed}
 use Rattle.serve_work.proofs.Tallying.{KeepsMoments-same, KeepsMoments-trans, Tallies-none, Tallies-still, Tallies-trans}
 use Rattle.serve_work.proofs.Tallying.{none_given, offers_at}
 use Rattle.serve_work.proofs.Moving.{Accounted-later, Moves-at, Moves-none, Moves-trans, few_of}
-use Rattle.serve_work.proofs.Offering.{collection_halted, offer_stopped, offered_tally}
+use Rattle.serve_work.proofs.Offering.{collection_halted, fed_image_of, halted_sized, offer_stopped, offered_tally}
 use Rattle.serve_work.proofs.feeding.accept.Goals as goal
 
 pub loop-init : goal.loop-init
@@ -55,6 +56,34 @@ deliver-requires-clause-few g c =
     c.loop.invariant.moved in
     few_of _ _ (Accounted-later _ _ _ _ [] moved c.requires.accounted)
 
+pub deliver-requires-clause-none : goal.deliver-requires-clause-none
+deliver-requires-clause-none g c =
+    let moved = Moves-at c.args.seat.now c.loop.seat c.offer_once.new.seat c.args.writer.now c.loop.writer c.in-QueueFull.ensures.answer.2
+    c.loop.invariant.moved in
+    (Accounted-later _ _ _ _ [] moved c.requires.accounted).none
+
+pub returns-in-Err-clause-back : goal.returns-in-Err-clause-back
+returns-in-Err-clause-back g c =
+    let seat = c.args.seat.now in
+    let at = c.offer_once.new.seat in
+    let so_far = c.loop.invariant in
+    let moved = Moves-at seat c.loop.seat at c.args.writer.now c.loop.writer c.in-QueueFull.ensures.answer.2 so_far.moved in
+    let up = GivesUp-at seat c.loop.seat at c.in-QueueFull.ensures.answer.2 so_far.up in
+    rw c.of.ensures (halted_sized c.in-Err.halt c.in-QueueFull.back (arc_value c.args.frame) seat at c.deliver.new.seat
+    c.args.writer.now c.loop.writer c.deliver.new.writer (c.in-QueueFull.ensures.answer.0 ∙ so_far.frame) moved
+    c.in-Err.ensures.answer c.in-Err.ensures.left c.requires.frame c.requires.size)
+
+pub returns-in-Err-clause-tally : goal.returns-in-Err-clause-tally
+returns-in-Err-clause-tally g c =
+    let seat = c.args.seat.now in
+    let at = c.offer_once.new.seat in
+    let writer = c.args.writer.now in
+    let moved = Moves-at seat c.loop.seat at writer c.loop.writer c.in-QueueFull.ensures.answer.2 c.loop.invariant.moved in
+    let all = Tallies-trans seat at c.deliver.new.seat writer c.loop.writer (counted_with (image_in c.in-Err.halt) c.deliver.new.writer)
+    moved.seat_stays.torn (Tallies-still seat c.loop.seat at writer c.loop.writer c.loop.invariant.tally
+    (offered_tally _ _ _ _ _ c.offer_once.ensures.answer)) c.in-Err.ensures.tally in
+    rw (c.of.ensures, fed_image_of c.in-Err.halt c.in-QueueFull.back) all
+
 pub loop-preserved : goal.loop-preserved
 loop-preserved g c =
     let gives = g.K.Clock.gives c.args.clock.now in
@@ -75,7 +104,7 @@ loop-preserved g c =
       frame = c.in-QueueFull.ensures.answer.0 ∙ so_far.frame;
       tally = Tallies-trans seat at c.deliver.new.seat c.args.writer.now c.loop.writer c.deliver.new.writer moved.seat_stays.torn
           (Tallies-still seat c.loop.seat at c.args.writer.now c.loop.writer so_far.tally
-          (offered_tally _ _ _ _ _ c.offer_once.ensures.answer)) c.deliver.ensures.tally;
+          (offered_tally _ _ _ _ _ c.offer_once.ensures.answer)) c.in-Ok.ensures.tally;
       moments = KeepsMoments-trans gives seat at c.deliver.new.seat
           (KeepsMoments-trans gives seat c.loop.seat at so_far.moments
           (offers_at gives c.moment.result c.loop.seat at c.moment.ensures c.offer_once.ensures.moment))
@@ -142,13 +171,3 @@ returns-in-Err-clause-moments g c =
     (KeepsMoments-trans gives c.args.seat.now c.loop.seat at c.loop.invariant.moments
     (offers_at gives c.moment.result c.loop.seat at c.moment.ensures c.offer_once.ensures.moment))
     (none_given gives at c.deliver.new.seat c.deliver.ensures.tally.seat c.deliver.ensures.kept)
-
-pub returns-in-Err-clause-tally : goal.returns-in-Err-clause-tally
-returns-in-Err-clause-tally g c =
-    let so_far = c.loop.invariant in
-    let seat = c.args.seat.now in
-    let at = c.offer_once.new.seat in
-    let moved = Moves-at seat c.loop.seat at c.args.writer.now c.loop.writer c.in-QueueFull.ensures.answer.2 so_far.moved in
-    Tallies-trans seat at c.deliver.new.seat c.args.writer.now c.loop.writer c.deliver.new.writer moved.seat_stays.torn
-    (Tallies-still seat c.loop.seat at c.args.writer.now c.loop.writer so_far.tally
-    (offered_tally _ _ _ _ _ c.offer_once.ensures.answer)) c.deliver.ensures.tally

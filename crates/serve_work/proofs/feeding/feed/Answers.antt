@@ -51,7 +51,7 @@ returns-in-Ok-clause-answer g c = λ past before counted h.
 
 pub returns-in-Ok-clause-tally : goal.returns-in-Ok-clause-tally
 returns-in-Ok-clause-tally g c =
-    Tallies-trans _ _ _ _ _ _ c.in-Ok.ensures.answer.seat_stays.torn c.accept.ensures.tally c.feed_on-in-Ok.ensures.tally
+    Tallies-trans _ _ _ _ _ _ c.in-Ok.ensures.answer.seat_stays.torn c.in-Ok.ensures.tally c.feed_on-in-Ok.ensures.tally
 
 pub returns-in-Ok-clause-buffers : goal.returns-in-Ok-clause-buffers
 returns-in-Ok-clause-buffers g c =

@@ -36,7 +36,7 @@ loop-preserved g c =
     record {
       passed = HasPassed-behind c.args.reader.now c.loop.reader c.args.seat.now c.loop.seat c.args.writer.now c.loop.writer so_far.frames
           so_far.passed c.feed_once.new.reader c.feed_once.new.seat c.feed_once.new.writer c.in-Ok.ensures.passed;
-      tally = Tallies-trans _ _ _ _ _ _ so_far.passed.moved.seat_stays.torn c.loop.invariant.tally c.feed_once.ensures.tally;
+      tally = Tallies-trans _ _ _ _ _ _ so_far.passed.moved.seat_stays.torn c.loop.invariant.tally c.in-Ok.ensures.tally;
       moments = KeepsMoments-trans _ _ _ _ c.loop.invariant.moments c.feed_once.ensures.moments;
       buffers = rw chain at c.feed_once.ensures.buffers;
     }
@@ -50,7 +50,7 @@ returns-in-Err g c =
           FeedsOn-behind c.args.reader.now c.loop.reader c.args.seat.now c.loop.seat c.args.writer.now c.loop.writer so_far.frames
           so_far.passed past c.in-Err.fed c.feed_once.new.reader c.feed_once.new.seat c.feed_once.new.writer
           (c.in-Err.ensures.answer past (counted_later past c.args.seat.now c.loop.seat c.loop.invariant.tally.seat counted));
-      tally = Tallies-trans _ _ _ _ _ _ so_far.passed.moved.seat_stays.torn c.loop.invariant.tally c.feed_once.ensures.tally;
+      tally = Tallies-trans _ _ _ _ _ _ so_far.passed.moved.seat_stays.torn c.loop.invariant.tally c.in-Err.ensures.tally;
       moments = KeepsMoments-trans _ _ _ _ c.loop.invariant.moments c.feed_once.ensures.moments;
       stop = c.in-Err.ensures.stop;
       buffers = rw chain at c.feed_once.ensures.buffers;

@@ -7,6 +7,7 @@ use Rattle.serve_work.proofs.Staying.{stays_chain}
 use Rattle.serve_work.proofs.Moving.{Accounted-later, few_of, one_size, size_later}
 use Rattle.serve_work.proofs.Passing.{Feeds-end, Feeds-unread, Passes-none, Passes-still, fed_broken, fed_once, passed_once, sized_before}
 use Rattle.serve_work.proofs.Passing.{sized_memory, sized_still}
+use Rattle.serve_work.proofs.Offering.{fed_image_before}
 use Rattle.serve_work.proofs.Tallying.{KeepsMoments-trans, Tallies-trans, none_given}
 use Rattle.serve_work.proofs.feeding.feed_once.Goals as goal
 
@@ -33,7 +34,14 @@ returns-in-Err-read_into-clause-stop g c =
 pub returns-in-Err-clause-frame : goal.returns-in-Err-clause-frame
 returns-in-Err-clause-frame g c =
     rw c.halted.ensures (sized_before c.in-Err.halt c.args.seat.now c.deliver_ready.new.seat c.args.writer.now c.deliver_ready.new.writer
-    c.in-Err.ensures.answer c.requires.size)
+    c.in-Err.ensures.answer c.in-Err.ensures.left c.requires.size)
+
+pub returns-in-Err-clause-tally : goal.returns-in-Err-clause-tally
+returns-in-Err-clause-tally g c = rw (c.halted.ensures, fed_image_before c.in-Err.halt) c.in-Err.ensures.tally
+
+pub returns-in-Ok-Some-clause-tally : goal.returns-in-Ok-Some-clause-tally
+returns-in-Ok-Some-clause-tally g c =
+    Tallies-trans _ _ _ _ _ _ c.in-Ok.ensures.answer.seat_stays.torn c.in-Ok.ensures.tally c.accept.ensures.tally
 
 pub returns-in-Silent-clause-passed : goal.returns-in-Silent-clause-passed
 returns-in-Silent-clause-passed g c = record {
@@ -54,7 +62,7 @@ returns-in-JournalFull-clause-answer g c = λ past counted. record {
 }
 
 pub returns-in-JournalFull-clause-frame : goal.returns-in-JournalFull-clause-frame
-returns-in-JournalFull-clause-frame g c = (tt, sized_still _ _ _ _ c.in-Ok.ensures.answer c.requires.size)
+returns-in-JournalFull-clause-frame g c = (tt, sized_still _ _ _ _ c.in-Ok.ensures.answer c.requires.size, tt)
 
 pub read_into-requires-clause-size : goal.read_into-requires-clause-size
 read_into-requires-clause-size g c =
@@ -152,7 +160,3 @@ returns-in-Ok-Some-clause-moments g c =
     let gives = g.K.Clock.gives c.args.clock.now in
     KeepsMoments-trans gives _ _ _ (none_given gives _ _ c.deliver_ready.ensures.tally.seat c.deliver_ready.ensures.kept)
     c.accept.ensures.moments
-
-pub returns-in-Ok-Some-clause-tally : goal.returns-in-Ok-Some-clause-tally
-returns-in-Ok-Some-clause-tally g c =
-    Tallies-trans _ _ _ _ _ _ c.in-Ok.ensures.answer.seat_stays.torn c.deliver_ready.ensures.tally c.accept.ensures.tally

@@ -3,17 +3,27 @@ use Rattle.serve_hub.specs.Seats.{StreamSeatValue}
 use Rattle.serve_work.specs.declared.stop.Halt.TheVariants.{Stopped}
 use Rattle.serve_work.specs.ClientInside.{IsNoNewEnd}
 use Rattle.serve_work.proofs.Allowing.{drained_stop}
-use Rattle.serve_work.proofs.Tallying.{Tallies-still}
-use Rattle.serve_work.proofs.Stopping.{Feeds-drained, Serves-drained}
+use Rattle.serve_work.proofs.Hands.{left_can, tally_behind}
+use Rattle.serve_work.proofs.Stopping.{Feeds-paused, Serves-drained}
 use Rattle.serve_work.proofs.serving.drain_left.Goals as goal
 
 pub returns-in-Full-clause-answer : goal.returns-in-Full-clause-answer
 returns-in-Full-clause-answer g c = λ past o reader is at. (
   at.0,
-  Feeds-drained past c.args.stop o.reader reader o.seat c.args.seat.now c.drain.new.seat o.writer c.args.writer.now c.drain.new.writer at.0
-      at.1
-      c.in-Full.ensures.answer c.drain.ensures.tally.seat,
+  Feeds-paused past c.args.stop o.reader reader o.seat c.args.seat.now c.drain.new.seat o.writer c.args.writer.now c.drain.new.writer
+      c.in-Full.image at.0 at.1 c.in-Full.ensures.answer c.drain.ensures.tally.seat,
 )
+
+pub returns-in-Full-clause-tally : goal.returns-in-Full-clause-tally
+returns-in-Full-clause-tally g c = c.in-Full.ensures.tally
+
+pub returns-in-Full-clause-memory : goal.returns-in-Full-clause-memory
+returns-in-Full-clause-memory g c = λ reader buffers.
+    left_can c.in-Full.image c.args.seat.now.chain c.drain.new.writer c.in-Full.ensures.left
+
+pub returns-then-is_spoilt-clause-tally : goal.returns-then-is_spoilt-clause-tally
+returns-then-is_spoilt-clause-tally g c =
+    tally_behind _ _ _ _ _ _ c.in-Stopped.ensures.tally c.discard_left.ensures.tally c.discard_left.ensures.none
 
 pub returns-then-is_spoilt-clause-answer : goal.returns-then-is_spoilt-clause-answer
 returns-then-is_spoilt-clause-answer g c = λ past o reader is at.
@@ -55,6 +65,3 @@ returns-then-is_spoilt-clause-stop g c =
 pub returns-else-is_spoilt-clause-stop : goal.returns-else-is_spoilt-clause-stop
 returns-else-is_spoilt-clause-stop g c =
     drained_stop c.args.stop c.in-Stopped.last c.or-told.result c.in-Stopped.ensures.own c.or-told.ensures
-
-pub returns-then-is_spoilt-clause-tally : goal.returns-then-is_spoilt-clause-tally
-returns-then-is_spoilt-clause-tally g c = Tallies-still _ _ _ _ _ c.drain.ensures.tally c.discard_left.ensures.tally

@@ -7,7 +7,8 @@ use Rattle.serve_work.proofs.Allowing.{first_allowed, kept_allowed, same_allowed
 use Rattle.serve_work.proofs.Tallying.{KeepsMoments-trans, Tallies-still, Tallies-trans, TalliesSeat-trans, counted_later, none_accepted}
 use Rattle.serve_work.proofs.Resting.{fed_from}
 use Rattle.serve_work.proofs.Spoiling.{spoilt_from}
-use Rattle.serve_work.proofs.Stopping.{Feeds-closed, Serves-spoilt, Serves-torn, close_moments, drain_few}
+use Rattle.serve_work.proofs.Hands.{tally_behind}
+use Rattle.serve_work.proofs.Stopping.{Feeds-closed, Serves-spoilt, Serves-torn, close_moments, drain_few, drain_none}
 use Rattle.serve_work.proofs.Stopping.{drain_size, drain_writing, first_fault, moves_until}
 use Rattle.serve_work.proofs.serving.feed_left.Goals as goal
 
@@ -24,6 +25,8 @@ drain_left-requires g c =
             c.args.writer.now c.feed.new.writer useful fed close can.accounted;
         writing = drain_writing can.past stop can.before c.feed.new.reader c.args.seat.now c.feed.new.seat c.close_torn-is_torn.new.seat
             c.args.writer.now c.feed.new.writer useful fed close can.accounted;
+        none = drain_none can.past stop can.before c.feed.new.reader c.args.seat.now c.feed.new.seat c.close_torn-is_torn.new.seat
+            c.args.writer.now c.feed.new.writer useful fed close can.accounted;
         size = drain_size can.past stop can.before c.feed.new.reader c.args.seat.now c.feed.new.seat c.close_torn-is_torn.new.seat
             c.args.writer.now c.feed.new.writer useful fed close can.size;
       };
@@ -31,7 +34,8 @@ drain_left-requires g c =
 
 pub returns-in-Paused-clause-answer : goal.returns-in-Paused-clause-answer
 returns-in-Paused-clause-answer g c = λ past o is counted at.
-    fed_from (feds.Paused c.in-Paused.in_hand) (text_in c.args.in_hand) past o c.args.reader.now c.feed.new.reader c.args.seat.now
+    fed_from (feds.Paused c.in-Paused.in_hand c.in-Paused.image) (text_in c.args.in_hand) past o c.args.reader.now c.feed.new.reader
+    c.args.seat.now
     c.feed.new.seat
     c.args.writer.now
     c.feed.new.writer at (λ before h. c.in-Paused.ensures.answer past before counted h)
@@ -43,6 +47,7 @@ returns-in-Paused-clause-memory g c = record {
   size = c.in-Paused.ensures.frame.1;
   memory = c.feed.ensures.buffers;
   sized = c.in-Paused.ensures.frame.0;
+  left = c.in-Paused.ensures.frame.2;
 }
 
 pub hold_left-requires : goal.hold_left-requires
@@ -70,7 +75,7 @@ returns-in-Held-clause-answer g c = λ past o is counted at.
 
 pub returns-in-Held-clause-tally : goal.returns-in-Held-clause-tally
 returns-in-Held-clause-tally g c =
-    Tallies-still _ _ _ _ _ c.feed.ensures.tally c.hold_left.ensures.tally
+    tally_behind _ _ _ _ _ _ c.in-Held.ensures.tally c.hold_left.ensures.tally c.hold_left.ensures.none
 
 pub returns-in-Held-clause-memory : goal.returns-in-Held-clause-memory
 returns-in-Held-clause-memory g c = c.hold_left.ensures.memory c.feed.new.writer c.feed.new.buffers
@@ -92,8 +97,8 @@ returns-then-is_spoilt-clause-answer g c = λ past o is counted at.
 
 pub returns-then-is_spoilt-clause-tally : goal.returns-then-is_spoilt-clause-tally
 returns-then-is_spoilt-clause-tally g c =
-    Tallies-still _ _ _ _ _ c.feed.ensures.tally
-    (TalliesSeat-trans _ _ _ c.close_torn-is_torn.ensures.tally c.discard_left.ensures.tally)
+    tally_behind _ _ _ _ _ _ c.in-Stopped.ensures.tally
+    (TalliesSeat-trans _ _ _ c.close_torn-is_torn.ensures.tally c.discard_left.ensures.tally) c.discard_left.ensures.none
 
 pub returns-then-is_spoilt-clause-memory : goal.returns-then-is_spoilt-clause-memory
 returns-then-is_spoilt-clause-memory g c = c.discard_left.ensures.memory c.feed.new.reader c.feed.new.writer c.feed.new.buffers
@@ -121,7 +126,7 @@ returns-else-is_torn-clause-tally g c =
     let moved = moves_until c.in-Stopped.stop c.args.seat.now c.feed.new.seat c.args.writer.now c.feed.new.writer fed.frames
     (c.is_spoilt.ensures.useful.0 c.if-is_spoilt.false) fed.moved in
     Tallies-trans _ _ _ _ _ _ (c.close_torn-is_torn.ensures.untorn c.if-is_torn.false ∙ moved.seat_stays.torn)
-    (Tallies-still _ _ _ _ _ c.feed.ensures.tally c.close_torn-is_torn.ensures.tally) c.drain_left.ensures.tally
+    (Tallies-still _ _ _ _ _ c.in-Stopped.ensures.tally c.close_torn-is_torn.ensures.tally) c.drain_left.ensures.tally
 
 pub returns-else-is_torn-clause-memory : goal.returns-else-is_torn-clause-memory
 returns-else-is_torn-clause-memory g c = c.drain_left.ensures.memory c.feed.new.reader c.feed.new.buffers
@@ -177,8 +182,9 @@ returns-then-is_torn-clause-answer g c = λ past o is counted at.
 
 pub returns-then-is_torn-clause-tally : goal.returns-then-is_torn-clause-tally
 returns-then-is_torn-clause-tally g c =
-    Tallies-still _ _ _ _ _ c.feed.ensures.tally
+    tally_behind _ _ _ _ _ _ c.in-Stopped.ensures.tally
     (TalliesSeat-trans _ _ _ c.close_torn-is_torn.ensures.tally c.discard_left-then-is_torn.ensures.tally)
+    c.discard_left-then-is_torn.ensures.none
 
 pub returns-then-is_torn-clause-memory : goal.returns-then-is_torn-clause-memory
 returns-then-is_torn-clause-memory g c = c.discard_left-then-is_torn.ensures.memory c.feed.new.reader c.feed.new.writer c.feed.new.buffers

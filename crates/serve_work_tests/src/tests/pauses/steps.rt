@@ -7,9 +7,10 @@ ghost use Rattle.serve_hub.specs.Seats.{left_by, seat_over};
 ghost use Rattle.serve_work.specs.Rests.{IsRest, reader_in};
 
 use super::shy::{Bell, Framed, Shy};
+use super::slow::{Output, Tries, output};
 use crate::tests::lists::{both, one_of, sole, two_of};
 use crate::tests::sessions::{hub_of, setup_over};
-use crate::tests::{PLAIN, Still, same_at, stream_of, writer_of};
+use crate::tests::{PLAIN, Still, same_at, stream_of};
 use frame_view::{Frame, Geometry};
 use lease::{Job, Lease, Scratch};
 use serve_core::{Setup, StreamSpec};
@@ -25,7 +26,7 @@ use std::sync::{Arc, Wait};
 use test_tools::{Room, frame_of};
 use y4m_header::Header;
 use y4m_stream::reader::Phase;
-use y4m_stream::{OverWrite, Source, StreamReader};
+use y4m_stream::{Source, StreamReader};
 
 /// What is done in an epoch, and what the client comes to in its turn.
 #[derive(Clone, Copy)]
@@ -39,15 +40,18 @@ pub(super) struct Step {
     pub(super) busy: u64,
     /// Whether the source isn't ready.
     pub(super) is_silent: bool,
+    /// How many bytes the sink takes of images at once. Those behind them are on their way.
+    pub(super) takes: u64,
     pub(super) after: After,
 }
 
-/// Nothing is done, and the source is ready.
+/// Nothing is done, and the source and the sink are ready.
 pub(super) const LOUD: Step = Step {
     finished: 0,
     is_forged: false,
     busy: 0,
     is_silent: false,
+    takes: u64::MAX,
     after: After::Paused(0, 0, 0),
 };
 
@@ -74,12 +78,12 @@ pub(super) struct Case<'a> {
 
 /// A hub that ended, and what is left to do of its first stream.
 #[derive(Drop)]
-struct Paused<R: Source> {
+struct Paused<'a, R: Source> {
     ended: Ended,
-    rest: ClientRest<R, OverWrite<Room>>,
+    rest: ClientRest<R, Output<'a>>,
 }
 
-impl<R: Source> Model for Paused<R> {
+impl<'a, R: Source> Model for Paused<'a, R> {
     ghost use Rattle.std.specs.Prelude.{◌≡◌, [], ◌∷◌};
     ghost use Rattle.y4m_stream.specs.Reader.{IsOfHeader};
     ghost use Rattle.serve_hub.specs.Ends.{EndedValue};
@@ -97,14 +101,14 @@ impl<R: Source> Model for Paused<R> {
 
 /// What a stream came to.
 #[derive(Drop)]
-enum Came<R: Source> {
-    Paused(Paused<R>),
+enum Came<'a, R: Source> {
+    Paused(Paused<'a, R>),
     /// It stopped for this reason, with so many frames accepted and images delivered, its seat notes this of
     /// a Torn, and this was written.
     Ended(Stop, u64, u64, Option<u64>, Vec<u8>),
 }
 
-impl<R: Source + Drop> Came<R> {
+impl<'a, R: Source + Drop> Came<'a, R> {
     fn after(&self) -> After {
         match self {
             Came::Paused(Paused { rest, .. }) => {
@@ -285,16 +289,16 @@ fn end_epoch<L: Epoch>(
 }
 
 /// An epoch, in which the client has its turn.
-fn epoch<L: Epoch, R: Source + Drop, T: Abort + Wait>(
+fn epoch<'a, L: Epoch, R: Source + Drop, T: Abort + Wait>(
     rt: &T,
     alloc: Global,
     hub: Hub<L>,
     seat: StreamSeat<L>,
     other: StreamSeat<L>,
     worker: WorkSeat<L>,
-    rest: ClientRest<R, OverWrite<Room>>,
+    rest: ClientRest<R, Output<'a>>,
     step: Step,
-) -> Came<R>
+) -> Came<'a, R>
     requires header { IsOfHeader (reader_in rest).header seat.chain.geometry }
     requires rest { IsRest seat rest }
 {
@@ -303,7 +307,7 @@ fn epoch<L: Epoch, R: Source + Drop, T: Abort + Wait>(
     match client(rt, alloc, &hub, seat, rest, &Still(0)) {
         ClientTurn::Ended(end) => {
             let torn = end.seat.torn();
-            let written = end.writer.into_inner().taken;
+            let written = end.writer.sink.into_inner().room.taken;
             Came::Ended(end.stop, end.accepted, end.delivered, torn, written)
         }
         ClientTurn::Paused(seat, rest, _) => {
@@ -314,15 +318,15 @@ fn epoch<L: Epoch, R: Source + Drop, T: Abort + Wait>(
 }
 
 /// The first epoch of a stream.
-fn first_epoch<L: Epoch, R: Source + Drop, T: Abort + Wait>(
+fn first_epoch<'a, L: Epoch, R: Source + Drop, T: Abort + Wait>(
     rt: &T,
     alloc: Global,
     blank: Blank,
     setup: Setup,
     reader: StreamReader<R>,
-    room: usize,
+    sink: Output<'a>,
     step: Step,
-) -> Came<R>
+) -> Came<'a, R>
     requires name { blank.name ≡ L.name }
     requires parts { blank.parts ≡ L.parts }
     requires enough { blank.parts ≡ 80 }
@@ -331,7 +335,7 @@ fn first_epoch<L: Epoch, R: Source + Drop, T: Abort + Wait>(
         × (setup.streams ≡ stream ∷ other ∷ []) × IsOfHeader reader.header stream.chain.geometry }
     requires open { reader.phase ≡ Phase.Open }
 {
-    let rest = ClientRest::new(reader, writer_of(rt, alloc, room));
+    let rest = ClientRest::new(reader, sink);
     let (hub, streams, workers) = hub_of::<L>(rt, alloc, blank, setup, 16);
     let (seat, other) = both(rt, streams);
     epoch(rt, alloc, hub, seat, other, sole(rt, workers), rest, step)
@@ -352,13 +356,13 @@ fn reopened<L: Epoch>(rt: &impl Abort, alloc: Global, blank: Blank, ended: Ended
 }
 
 /// The next epoch of a stream.
-fn next_epoch<L: Epoch, R: Source + Drop, T: Abort + Wait>(
+fn next_epoch<'a, L: Epoch, R: Source + Drop, T: Abort + Wait>(
     rt: &T,
     alloc: Global,
     blank: Blank,
-    paused: Paused<R>,
+    paused: Paused<'a, R>,
     step: Step,
-) -> Came<R>
+) -> Came<'a, R>
     requires name { blank.name ≡ L.name }
     requires parts { blank.parts ≡ L.parts }
     requires enough { blank.parts ≡ 80 }
@@ -380,25 +384,25 @@ fn next_epoch<L: Epoch, R: Source + Drop, T: Abort + Wait>(
 }
 
 /// The first epoch of the stream of this source.
-fn begin<R: Source + Drop, T: Abort + Wait>(
+fn begin<'a, R: Source + Drop, T: Abort + Wait>(
     rt: &T,
     alloc: Global,
     source: R,
-    room: usize,
+    sink: Output<'a>,
     step: Step,
-) -> Came<R> {
+) -> Came<'a, R> {
     let reader = StreamReader::open(alloc, source).expect(rt, "no reader");
     let setup = pair_of(rt, alloc, reader.header());
-    first_epoch::<Brand, _, _>(rt, alloc, Blank::new(80), setup, reader, room, step)
+    first_epoch::<Brand, _, _>(rt, alloc, Blank::new(80), setup, reader, sink, step)
 }
 
 /// The epoch after one in which the client paused.
-fn resume<R: Source + Drop, T: Abort + Wait>(
+fn resume<'a, R: Source + Drop, T: Abort + Wait>(
     rt: &T,
     alloc: Global,
-    came: Came<R>,
+    came: Came<'a, R>,
     step: Step,
-) -> Came<R> {
+) -> Came<'a, R> {
     match came {
         Came::Paused(paused) => {
             next_epoch::<Brand, _, _>(rt, alloc, Blank::new(80), paused, step)
@@ -412,14 +416,16 @@ fn resume<R: Source + Drop, T: Abort + Wait>(
 fn go_on<R: Source + Drop, T: Abort + Wait>(
     rt: &T,
     alloc: Global,
-    first: Came<R>,
+    first: Came<'_, R>,
     bell: &Bell,
+    tries: &Tries,
     later: &[Step],
     name: &str,
 ) -> (Option<u64>, Vec<u8>) {
     let mut came = first;
     for step in later {
         bell.ring(!step.is_silent);
+        tries.allow(step.takes);
         came = resume(rt, alloc, came, *step);
         came.is_after(rt, step.after, name);
     }
@@ -428,16 +434,18 @@ fn go_on<R: Source + Drop, T: Abort + Wait>(
 
 /// Serves the stream of a case, epoch by epoch.
 pub(super) fn follow<T: Abort + Wait>(rt: &T, alloc: Global, case: &Case<'_>) {
-    let bell = Bell::new();
+    let (bell, tries) = (Bell::new(), Tries::new());
     let source = Shy {
         source: Framed::over(case.input),
         bell: &bell,
     };
     let (first, later) = case.steps.split_first().expect(rt, "no epoch");
     bell.ring(!first.is_silent);
-    let came = begin(rt, alloc, source, case.room, *first);
+    tries.allow(first.takes);
+    let room = Room::new(alloc, case.room).expect(rt, "no room");
+    let came = begin(rt, alloc, source, output(room, &tries), *first);
     came.is_after(rt, first.after, case.name);
-    let (torn, written) = go_on(rt, alloc, came, &bell, later, case.name);
+    let (torn, written) = go_on(rt, alloc, came, &bell, &tries, later, case.name);
     same_at(rt, torn, case.torn, case.name);
     same_at(rt, written.as_slice(), case.written, case.name);
 }
