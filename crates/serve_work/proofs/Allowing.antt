@@ -1,5 +1,5 @@
 -- Which stops a clock allows.
-use Rattle.std.proofs.Common.{◌≡◌, ℕ, Option, IfSome, Some, None, Result, Ok, Err, refl, sym, ap, ◌∙◌, subst}
+use Rattle.std.proofs.Common.{◌≡◌, ◌≢◌, ◌⊎◌, ℕ, Option, IfSome, Some, None, Result, Ok, Err, inl, inr, refl, sym, ap, ◌∙◌, subst}
 use Rattle.std.specs.declared.alloc.Global.{Global}
 use Rattle.std.specs.declared.sync.Arc.{Arc}
 use Rattle.frame_view.specs.declared.frame.Frame.{Frame}
@@ -15,7 +15,8 @@ use Rattle.serve_work.specs.declared.stop.Stop.TheVariants.{Whole, Read, Write, 
 use Rattle.serve_work.specs.Clients.{AllowsStop}
 use Rattle.serve_work.specs.ClientInside.{AllowsFed, Flushes, IsFirst, IsNoNewEnd, IsOfCollection, IsOfDelivery, IsOffered, IsUnread}
 use Rattle.serve_work.specs.ClientInside.{KeepsAllowed, TellsKept, fed_before, fed_of}
-use Rattle.serve_work.specs.Rests.{CourseValue, Discarding, Draining, Feeding, Holding, course_stop, stop_given_up}
+use Rattle.serve_work.specs.Hands.{IsOfEnding}
+use Rattle.serve_work.specs.Rests.{CourseValue, Discarding, Draining, Feeding, Holding, course_image, course_stop, stop_kept}
 
 module _ (Gives : ℕ → Type 0) where
   -- a refusal of an offer at a moment that the clock gave
@@ -101,23 +102,66 @@ flushed_stop (Write fault) flush told f is = ap Some (sym f) ∙ is
 flushed_stop (Refused cause) flush told f is = ap Some (sym f) ∙ is
 flushed_stop Torn flush told f is = ap Some (sym f) ∙ is
 
-pub given_up_stop : (course : CourseValue) → IsNoNewEnd (course_stop course) (Some (stop_given_up course))
-given_up_stop (Feeding in_hand image) is = absurd (cc)
-given_up_stop (Holding in_hand held) is = is
-given_up_stop (Draining Whole image) is = absurd (cc)
-given_up_stop (Draining (Read fault) image) is = is
-given_up_stop (Draining (Write fault) image) is = is
-given_up_stop (Draining (Refused cause) image) is = is
-given_up_stop (Draining Torn image) is = is
-given_up_stop (Discarding stop) is = is
+-- the first of two stops, where it is a fault
+pub first_kept : (stop later first : Stop) → stop ≢ Whole → IsFirst stop later first → first ≡ stop
+first_kept Whole later first fault is = absurd (fault refl)
+first_kept (Read f) later first fault is = is
+first_kept (Write f) later first fault is = is
+first_kept (Refused cause) later first fault is = is
+first_kept Torn later first fault is = is
+
+memory_stop : (first told : Stop) → IsFirst first (Refused NoMemory) told → IsNoNewEnd (Some first) (Some told)
+memory_stop Whole told behind is =
+    let both : Refused NoMemory ≡ Refused ClockEnd = sym behind ∙ the_stop told (Refused ClockEnd) is in absurd (cc)
+memory_stop (Read fault) told behind is = ap Some (sym behind) ∙ is
+memory_stop (Write fault) told behind is = ap Some (sym behind) ∙ is
+memory_stop (Refused cause) told behind is = ap Some (sym behind) ∙ is
+memory_stop Torn told behind is = ap Some (sym behind) ∙ is
+
+ending_collects : (ended : Stop) → IsOfEnding ended → IsOfCollection (Stopped ended)
+ending_collects Whole own = tt
+ending_collects (Read fault) own = absurd own
+ending_collects (Write fault) own = tt
+ending_collects (Refused cause) own = absurd own
+ending_collects Torn own = absurd own
+
+kept_end : (course : CourseValue) → Some (stop_kept course) ≡ Some (Refused ClockEnd) → course_stop course ≡ Some (Refused ClockEnd)
+kept_end (Feeding in_hand image) is = absurd (cc)
+kept_end (Holding in_hand held) is = is
+kept_end (Draining stop image) is = is
+kept_end (Discarding stop) is = is
+
+-- a stop of a client that is given up: the fault that it kept, else that of its image in hand, else want of memory
+module _ (ended first told : Stop) (behind : IsFirst first (Refused NoMemory) told) where
+  pub given_for_none : ended ≡ Whole → first ≡ ended → told ≡ Refused NoMemory
+  given_for_none well is = subst (λ (s : Stop). IsFirst s (Refused NoMemory) told) (is ∙ well) behind
+
+  pub given_for_fault : (stop : Stop) → stop ≢ Whole → first ≡ stop → told ≡ stop
+  given_for_fault stop fault is = first_kept stop (Refused NoMemory) told fault
+      (subst (λ (s : Stop). IsFirst s (Refused NoMemory) told) is behind)
+
+pub given_up_stop : (course : CourseValue) (ended first told : Stop) → IsOfEnding ended → IsFirst (stop_kept course) ended first
+    → IsFirst first (Refused NoMemory) told → IsNoNewEnd (course_stop course) (Some told)
+given_up_stop course ended first told own now behind is =
+    kept_end course (drained_stop (stop_kept course) ended first (ending_collects ended own) now (memory_stop first told behind is))
+
+fed_kept : (ended first told : Stop) → IsOfEnding ended → first ≡ ended → IsFirst first (Refused NoMemory) told
+    → (told ≡ Refused NoMemory) ⊎ ((fault : WriteFault) × (told ≡ Write fault))
+fed_kept Whole first told own now behind = inl (given_for_none Whole first told behind refl now)
+fed_kept (Read fault) first told own now behind = absurd own
+fed_kept (Write fault) first told own now behind = inr (fault, given_for_fault (Write fault) first told behind (Write fault) (λ is. cc) now)
+fed_kept (Refused cause) first told own now behind = absurd own
+fed_kept Torn first told own now behind = absurd own
 
 -- a client that is given up tells the fault that it keeps
-pub given_up_kept : (course : CourseValue) → TellsKept (course_stop course) (stop_given_up course)
-given_up_kept (Feeding in_hand image) = refl
-given_up_kept (Holding in_hand held) = λ fault. refl
-given_up_kept (Draining Whole image) = λ fault. absurd (fault refl)
-given_up_kept (Draining (Read f) image) = λ fault. refl
-given_up_kept (Draining (Write f) image) = λ fault. refl
-given_up_kept (Draining (Refused cause) image) = λ fault. refl
-given_up_kept (Draining Torn image) = λ fault. refl
-given_up_kept (Discarding stop) = λ fault. refl
+pub given_up_kept : (course : CourseValue) (ended first told : Stop) → IsOfEnding ended → (course_image course ≡ None → ended ≡ Whole)
+    → IsFirst (stop_kept course) ended first → IsFirst first (Refused NoMemory) told
+    → TellsKept (course_stop course) (course_image course) told
+given_up_kept (Feeding in_hand None) ended first told own none now behind = given_for_none ended first told behind (none refl) now
+given_up_kept (Feeding in_hand (Some pair)) ended first told own none now behind = fed_kept ended first told own now behind
+given_up_kept (Holding in_hand held) ended first told own none now behind = λ fault.
+    given_for_fault ended first told behind held fault (first_kept held ended first fault now)
+given_up_kept (Draining stop image) ended first told own none now behind = λ fault.
+    given_for_fault ended first told behind stop fault (first_kept stop ended first fault now)
+given_up_kept (Discarding stop) ended first told own none now behind = λ fault.
+    given_for_fault ended first told behind stop fault (first_kept stop ended first fault now)

@@ -16,6 +16,7 @@ use Rattle.y4m_stream.specs.Reader.{ReaderState, data_len_of}
 use Rattle.y4m_stream.specs.Served.{IsHeaderOfImages, served_header}
 use Rattle.y4m_stream.specs.Writer.{FlushesOrFails, IsOpenedFor, IsWriterFor, WriterState, write_failures_at, write_failures_told}
 use Rattle.y4m_stream.proofs.Puts.{put_both}
+use Rattle.serve_core.specs.declared.collected.Collected.{Collected}
 use Rattle.serve_hub.specs.declared.entry.Act.{Act}
 use Rattle.serve_hub.specs.Seats.{StreamSeatValue, collected_by}
 use Rattle.serve_work.specs.declared.stop.Cause.TheVariants.{NoMemory}
@@ -95,10 +96,13 @@ module _ {T : Type 0} where
       inr (subst (λ s. GivesUpAt s at) (sym (stop_stays stop flush told e (λ is. subst (λ s. GivesUpAt s at) is a))) a)
 
   -- a fault that was kept is told behind the flush too
-  pub told_kept : (kept : Option Stop) (stop : Stop) (flush : Result T WriteFault) (told : Stop) → Flushes stop flush told
-      → TellsKept kept stop → TellsKept kept told
-  told_kept None stop flush told e k = stop_stays stop flush told e (λ is. absurd (cc)) ∙ k
-  told_kept (Some s) stop flush told e k = λ fault. stop_stays stop flush told e (λ is. fault (sym (k fault) ∙ is)) ∙ k fault
+  pub told_kept : (kept : Option Stop) (image : Option Collected) (stop : Stop) (flush : Result T WriteFault) (told : Stop)
+      → Flushes stop flush told → TellsKept kept image stop → TellsKept kept image told
+  told_kept None None stop flush told e k = stop_stays stop flush told e (λ is. absurd (cc)) ∙ k
+  told_kept None (Some pair) stop flush told e (inl k) = inl (stop_stays stop flush told e (λ is. absurd (cc)) ∙ k)
+  told_kept None (Some pair) stop flush told e (inr k) =
+      inr (k.0, stop_stays stop flush told e (λ is. let both : Write k.0 ≡ Whole = sym k.1 ∙ is in absurd (cc)) ∙ k.1)
+  told_kept (Some s) image stop flush told e k = λ fault. stop_stays stop flush told e (λ is. fault (sym (k fault) ∙ is)) ∙ k fault
 
   reads_flushed : (stop : Stop) (flush : Result T WriteFault) (told : Stop) (n : ℕ) → Flushes stop flush told
       → reads_at told n ≡ reads_at stop n

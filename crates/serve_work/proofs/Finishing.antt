@@ -1,6 +1,6 @@
 -- What becomes of an image in hand.
 use Rattle.std.proofs.Common.{◌≡◌, ◌≢◌, ℕ, ◌+◌, ◌≤◌, ◌<◌, ◌∷◌, length, Option, Some, None, Result, Ok, Err, Bool, true, false}
-use Rattle.std.proofs.Common.{inl, inr, IfOk, IfErr, IfSome, take, refl, sym, ap, ◌∙◌, arith, subst, length-append}
+use Rattle.std.proofs.Common.{inl, IfOk, IfErr, IfSome, take, refl, sym, ap, ◌∙◌, arith, subst, length-append}
 use Rattle.std.proofs.KnownBytes.{Appends-nil}
 use Rattle.filters.specs.Chain.{ChainValue}
 use Rattle.y4m_header.specs.StreamText.{FrameText, text_of}
@@ -10,7 +10,6 @@ use Rattle.y4m_stream.specs.Writer.{CountsMore, IsWithin, IsWriterFor, PutsMore,
 use Rattle.std.specs.Io.KnownBytes.{Appends}
 use Rattle.y4m_stream.specs.declared.fault.WriteFault.{WriteFault}
 use Rattle.serve_core.specs.declared.collected.Collected.{Collected}
-use Rattle.serve_core.specs.Streams.{source_in}
 use Rattle.serve_hub.specs.Calls.{Collects, Gives}
 use Rattle.serve_hub.specs.Seats.{StreamSeatValue, collected_by}
 use Rattle.serve_work.specs.declared.stop.Halt.{Halt}
@@ -146,8 +145,10 @@ full_can None pair writer left = tt
 full_can (Some p) pair writer left = left.1
 
 -- an image in hand was written to its end
-pub ended_by : (pair : Collected) (before writer : WriterState) (result : Result Bool WriteFault) → result ≢ Ok false
-    → PutsMore before writer (frame_text_of pair.image) result → EndsPair pair before writer
-ended_by pair before writer (Ok true) decided put = inl put
-ended_by pair before writer (Ok false) decided put = absurd (decided refl)
-ended_by pair before writer (Err fault) decided cut = inr (fault, cut)
+abbrev pub answer : Bool → Result Bool WriteFault
+answer whole = Ok whole
+
+pub ended_well : (pair : Collected) (before writer : WriterState) (whole : Bool) → answer whole ≢ answer false
+    → PutsMore before writer (frame_text_of pair.image) (answer whole) → EndsPair pair Whole before writer
+ended_well pair before writer true decided put = inl (refl, put)
+ended_well pair before writer false decided put = absurd (decided refl)

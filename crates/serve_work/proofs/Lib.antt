@@ -3,6 +3,7 @@ pub mod Crossing
 pub mod Ending
 pub mod Finishing
 pub mod Fronts
+pub mod GivingUp
 pub mod Hands
 pub mod Intervals
 pub mod Journals

@@ -1,6 +1,6 @@
 -- What an offer is to a client.
 use Rattle.std.proofs.Common.{◌≡◌, ℕ, [], ◌∷◌, false, refl, ap, ◌∙◌, subst}
-use Rattle.std.proofs.Common.{IsTrue, ◌≢◌, ◌⊎◌, ◌++◌, Option, None, Some, inl, inr, arith, sym}
+use Rattle.std.proofs.Common.{IsTrue, ◌≢◌, ◌⊎◌, ◌++◌, Option, inl, inr, arith, sym}
 use Rattle.std.specs.declared.alloc.Global.{Global}
 use Rattle.std.specs.declared.sync.Arc.{Arc}
 use Rattle.std.specs.Arc.{arc_value}

@@ -1,5 +1,5 @@
 -- What a refused collection is to a client.
-use Rattle.std.proofs.Common.{◌≡◌, List, [], refl, sym, ap, ◌∙◌}
+use Rattle.std.proofs.Common.{◌≡◌, [], refl, sym, ap, ◌∙◌}
 use Rattle.std.proofs.Common.{Option, None, Some, MatchOption, ◌≢◌, IsTrue, false, subst}
 use Rattle.std.proofs.Common.{IfOk, IfErr, IsSome, Ok, Err, Result, arith}
 use Rattle.filters.specs.Chain.{ChainValue}

@@ -1,5 +1,5 @@
 -- How a client goes on from where it paused.
-use Rattle.std.proofs.Common.{All, ◌≡◌, ℕ, ◌≤◌, List, [], ◌++◌, length, Option, IfSome, None, Some, refl, sym, ap}
+use Rattle.std.proofs.Common.{All, ◌≡◌, ℕ, ◌≤◌, List, [], length, Option, IfSome, None, Some, refl, sym, ap}
 use Rattle.std.proofs.Common.{◌∙◌, ◌+◌, ◌⊎◌, append-nil, arith, subst, inl, inr, false}
 use Rattle.std.proofs.KnownBytes.{Appends-nil, Consumes-nil}
 use Rattle.std.proofs.lemmas.List.Elements.{All-nil}
@@ -13,36 +13,31 @@ use Rattle.y4m_header.specs.Header.{HeaderValue}
 use Rattle.y4m_header.specs.StreamText.{FrameText, IsFrameOf}
 use Rattle.y4m_header.specs.declared.limits.TheConstants.{MOST_FRAMES}
 use Rattle.y4m_stream.specs.declared.reader.Phase.TheVariants.{Open}
-use Rattle.y4m_stream.specs.Front.{IsReadAhead}
 use Rattle.y4m_stream.specs.Reader.{IsOfHeader, ReaderState, data_len_of}
 use Rattle.y4m_stream.specs.Served.{IsHeaderOfImages}
 use Rattle.y4m_stream.specs.Writer.{IsOpenedFor, IsWriterFor, WriterState}
-use Rattle.y4m_stream.specs.declared.fault.WriteFault.{WriteFault}
 use Rattle.serve_core.specs.declared.collected.Collected.{Collected}
 use Rattle.serve_hub.specs.declared.entry.Act.{Act}
-use Rattle.serve_hub.specs.Seats.{CallsValue, StreamSeatValue, collected_by}
+use Rattle.serve_hub.specs.Seats.{StreamSeatValue, collected_by}
 use Rattle.serve_work.specs.declared.buffers.Buffers.{Buffers}
 use Rattle.serve_work.specs.declared.feeding.Fed.{Fed}
 use Rattle.serve_work.specs.declared.course.Course as code
 use Rattle.serve_work.specs.declared.course.Course.TheVariants as courses
-use Rattle.serve_work.specs.declared.stop.Cause.TheVariants.{NoMemory}
 use Rattle.serve_work.specs.declared.stop.Stop.{Stop}
-use Rattle.serve_work.specs.declared.stop.Stop.TheVariants.{Whole, Read, Write, Refused, Torn}
-use Rattle.serve_work.specs.Clients.{ClientStart, StreamStopsAt}
-use Rattle.serve_work.specs.ClientInside.{Accounted, AreBuffersFor, Feeds, FeedsOn, HasInHand, Holds, IsCounted, IsSent, IsSized, IsUseful}
-use Rattle.serve_work.specs.ClientInside.{Moves, Serves, ServesTo, Stays, StopsReading, StopsReadingAt, StopsWith, Tallies}
+use Rattle.serve_work.specs.Clients.{ClientStart}
+use Rattle.serve_work.specs.ClientInside.{Accounted, AreBuffersFor, Feeds, FeedsOn, HasInHand, Holds, IsCounted, IsSized, IsUseful}
+use Rattle.serve_work.specs.ClientInside.{Moves, Stays, Tallies}
 use Rattle.serve_work.specs.ClientInside.{text_in, texts_of}
-use Rattle.serve_work.specs.Hands.{EndsImage, EndsPair, IsBegunPair, IsPairOf, counted_with, with_kept}
-use Rattle.serve_work.specs.Rests.{BegunValue, CanDrain, CanFeed, CanGoOn, CourseValue, Feeding, Draining, Discarding, HasMemoryFor}
-use Rattle.serve_work.specs.Rests.{Holding, IsAt, IsBefore, IsBegun, IsFresh, IsOutset, IsRunning, IsSilent, IsTallied, IsUnbegun, Outset}
-use Rattle.serve_work.specs.Rests.{as_open, course_image, course_of, image_before, stop_given_up}
+use Rattle.serve_work.specs.Hands.{IsPairOf, counted_with, with_kept}
+use Rattle.serve_work.specs.Rests.{BegunValue, CanDrain, CanFeed, CanGoOn, HasMemoryFor}
+use Rattle.serve_work.specs.Rests.{IsAt, IsBefore, IsBegun, IsFresh, IsOutset, IsRunning, IsSilent, IsTallied, IsUnbegun, Outset}
+use Rattle.serve_work.specs.Rests.{as_open, course_of, image_before}
 use Rattle.serve_work.proofs.Hands.{stood_pair, stood_size}
 use Rattle.serve_work.proofs.Tallying.{collections_both, collections_counted, counted_later, if_later, if_more}
-use Rattle.serve_work.proofs.Moving.{Accounted-later, Cuts-finish, Moves-finish, Moves-trans, StopsWith-later, few_of, one_size}
+use Rattle.serve_work.proofs.Moving.{Accounted-later, Moves-trans, few_of, one_size}
 use Rattle.serve_work.proofs.Moving.{size_later}
-use Rattle.serve_work.proofs.Passing.{FeedsOn-behind, takes_of}
-use Rattle.serve_work.proofs.Spoiling.{held_told, held_up, read_in_hand}
-use Rattle.serve_work.proofs.Stopping.{moves_until, read_by, sends_whole, sent_until}
+use Rattle.serve_work.proofs.Passing.{FeedsOn-behind}
+use Rattle.serve_work.proofs.Stopping.{moves_until}
 
 -- what is tallied over the epochs
 pub tallied_later : (past : List Act) (first seat seat' : StreamSeatValue) (writer writer' : WriterState) → IsTallied past first seat writer
@@ -89,40 +84,6 @@ untorn_or_silent (Some (courses.Draining stop (Some pair))) past o reader seat w
     inl (λ none. (moves_until stop o.seat (as_open (with_kept pair seat)) o.writer at.1.0 a.frames at.0 a.moved).seat_stays.torn ∙ none)
 untorn_or_silent (Some (courses.Discarding stop)) past o reader seat writer writer' image' at silent =
     inr (rw ((silent tt).0, (silent tt).1) refl)
-
--- and where an image in hand was written to its end
-fewer : (past : List Act) (first seat : StreamSeatValue) (writer writer' : WriterState) → writer'.frames ≤ writer.frames + 1
-    → IsTallied past first seat (record writer { frames = writer.frames + 1 }) → IsTallied past first seat writer'
-fewer past first seat writer writer' less a = record {
-  number = a.number;
-  chain = a.chain;
-  offers = a.offers;
-  images = omega (arith, less, a.images);
-  before = a.before;
-  torn = λ none.
-      if_more (λ n. first.before + (writer.frames + 1) ≤ n) (λ n. first.before + writer'.frames ≤ n) seat.torn
-      (λ n few. omega (arith, few, less)) (a.torn none);
-}
-
-ended_frames : (pair : Collected) (chain : ChainValue) (before writer writer' : WriterState) → IsBegunPair chain pair before writer
-    → EndsPair pair before writer' → writer'.frames ≤ writer.frames + 1
-ended_frames pair chain before writer writer' begun (inl put) =
-    omega (arith, ap (λ (w : WriterState). w.frames) put.counted, ap (λ (w : WriterState). w.frames) begun.within.stays)
-ended_frames pair chain before writer writer' begun (inr cut) =
-    omega (arith, ap (λ (w : WriterState). w.frames) cut.1.failed, ap (λ (w : WriterState). w.frames) begun.within.stays)
-
-pub tallied_ended : (course : CourseValue) (past : List Act) (first : StreamSeatValue) (o : Outset) (reader : ReaderState)
-    (seat : StreamSeatValue) (writer writer' : WriterState) → IsAt course past o reader seat writer
-    → EndsImage (course_image course) seat.chain writer writer'
-    → IsTallied past first seat (counted_with (course_image course) writer) → IsTallied past first seat writer'
-tallied_ended (Feeding in_hand None) past first o reader seat writer writer' at same a = rw same a
-tallied_ended (Feeding in_hand (Some pair)) past first o reader seat writer writer' at ends a =
-    fewer past first seat writer writer' (ended_frames pair seat.chain at.0 writer writer' at.1 (ends at.0 at.1)) a
-tallied_ended (Holding in_hand held) past first o reader seat writer writer' at same a = rw same a
-tallied_ended (Draining stop None) past first o reader seat writer writer' at same a = rw same a
-tallied_ended (Draining stop (Some pair)) past first o reader seat writer writer' at ends a =
-    fewer past first seat writer writer' (ended_frames pair seat.chain at.1.0 writer writer' at.1.1 (ends at.1.0 at.1.1)) a
-tallied_ended (Discarding stop) past first o reader seat writer writer' at same a = rw same a
 
 -- memory for one chain is memory for another whose frames and images have the same sizes
 abbrev AreSources : Geometry → Buffers → Type 0
@@ -382,134 +343,3 @@ in_hand_moved in_hand reader reader' first mid seat writer between writer' at mo
   holds = at.holds;
   is_open = at.is_open;
 }
-
--- what a client served, a stream was served
-serves_more : (past : List Act) (stop : Stop) (o : Outset) (reader : ReaderState) (seat : StreamSeatValue) (writer : WriterState)
-    → Serves past stop o.reader reader o.seat seat o.writer writer
-    → ServesTo StreamStopsAt past stop o.reader reader o.seat seat o.writer writer
-serves_more past stop o reader seat writer a = record {
-  frames = a.frames;
-  read = record { rest = a.read.rest; each = a.read.each; taken = a.read.taken; stops = inl a.read.stops; reads = a.read.reads };
-  count = a.count;
-  sent = a.sent;
-  torn = a.torn;
-  whole = a.whole;
-}
-
--- a client that is given up was served that far
-
--- in the midst of its input, with a frame in hand if there is one
-module _ (past : List Act) (o : Outset) (is : IsOutset o) (reader : ReaderState) where
-  fed_up : (in_hand : Option FrameText) (mid seat : StreamSeatValue) (between writer : WriterState) → IsReadAhead reader.rest reader.left
-      → (at : HasInHand o.reader reader o.seat mid o.writer between in_hand) → seat.accepted ≡ mid.accepted
-      → IsSent (Refused NoMemory) o.seat.chain at.frames o.writer writer
-      → ServesTo StreamStopsAt past (Refused NoMemory) o.reader reader o.seat seat o.writer writer
-  fed_up in_hand mid seat between writer ahead at same sent = record {
-    frames = at.frames;
-    read = read_in_hand in_hand past o.reader at.before reader o.seat seat at.frames
-        (takes_of o.reader at.before o.seat mid o.writer between at.frames at.passed) at.holds ahead;
-    count = same ∙ at.passed.moved.count;
-    sent = sent;
-    torn = λ is. absurd (cc);
-    whole = λ is. absurd (cc);
-  }
-
-  -- behind its input
-  stops_up : (stop : Stop) (seat : StreamSeatValue) (frames : List FrameText) → IsUseful stop
-      → StopsReading past stop o.reader reader o.seat seat frames
-      → StopsReadingAt StreamStopsAt past (stop_given_up (Draining stop None)) o.reader reader o.seat seat frames
-  stops_up Whole seat frames useful a =
-      record { rest = a.rest; each = a.each; taken = a.taken; stops = inr (inl a.stops); reads = a.reads }
-  stops_up (Read fault) seat frames useful a =
-      record { rest = a.rest; each = a.each; taken = a.taken; stops = inl a.stops; reads = a.reads }
-  stops_up (Refused cause) seat frames useful a =
-      record { rest = a.rest; each = a.each; taken = a.taken; stops = inl a.stops; reads = a.reads }
-  stops_up (Write fault) seat frames useful a = absurd useful
-  stops_up Torn seat frames useful a = absurd useful
-
-  same_told : (stop : Stop) (image : Option Collected) → stop_given_up (Draining stop None) ≡ stop_given_up (Draining stop image)
-  same_told Whole image = refl
-  same_told (Read fault) image = refl
-  same_told (Refused cause) image = refl
-  same_told (Write fault) image = refl
-  same_told Torn image = refl
-
-  not_told : (stop : Stop) → IsUseful stop → stop_given_up (Draining stop None) ≡ Whole → ⊥
-  not_told Whole useful is = cc
-  not_told (Read fault) useful is = cc
-  not_told (Refused cause) useful is = cc
-  not_told (Write fault) useful is = useful
-  not_told Torn useful is = useful
-
-  not_torn : (stop : Stop) → IsUseful stop → stop_given_up (Draining stop None) ≡ Torn → ⊥
-  not_torn Whole useful is = cc
-  not_torn (Read fault) useful is = cc
-  not_torn (Refused cause) useful is = cc
-  not_torn (Write fault) useful is = useful
-  not_torn Torn useful is = useful
-
-  drained_up : (stop : Stop) (mid seat : StreamSeatValue) (writer : WriterState) (frames : List FrameText) → IsUseful stop
-      → seat.calls ≡ mid.calls → StopsReading past stop o.reader reader o.seat mid frames
-      → seat.accepted ≡ o.seat.accepted + length frames
-      → IsSent (stop_given_up (Draining stop None)) o.seat.chain frames o.writer writer
-      → ServesTo StreamStopsAt past (stop_given_up (Draining stop None)) o.reader reader o.seat seat o.writer writer
-  drained_up stop mid seat writer frames useful same a count sent =
-      let read = read_by past past stop o.reader reader o.seat mid seat frames (ap (λ (c : CallsValue). past ++ c.list) same) a in
-      record {
-        frames = frames;
-        read = stops_up stop seat frames useful read;
-        count = count;
-        sent = sent;
-        torn = λ is. absurd (not_torn stop useful is);
-        whole = λ is. absurd (not_told stop useful is);
-      }
-
-  no_write : (stop : Stop) → IsUseful stop → (f : WriteFault) → stop_given_up (Draining stop None) ≡ Write f → ⊥
-  no_write Whole useful f same = cc
-  no_write (Read fault) useful f same = cc
-  no_write (Refused cause) useful f same = cc
-  no_write (Write fault) useful f same = useful
-  no_write Torn useful f same = useful
-
-  -- what went out, where the image in hand was written to its end
-  sent_pair : (stop : Stop) (pair : Collected) (seat : StreamSeatValue) (before writer writer' : WriterState) (frames : List FrameText)
-      → ((f : WriteFault) → stop ≡ Write f → ⊥) → IsBegunPair seat.chain pair before writer
-      → Moves o.seat (with_kept pair seat) o.writer before frames → EndsPair pair before writer'
-      → IsSent stop o.seat.chain frames o.writer writer'
-  sent_pair stop pair seat before writer writer' frames other begun moved (inl put) =
-      let all : Moves o.seat seat o.writer writer' frames = rw (append-nil frames) at
-      (Moves-trans o.seat (with_kept pair seat) seat o.writer before writer' frames [] moved
-      (Moves-finish pair seat before writer writer' begun put)) in
-      inl (sends_whole o.seat o.writer frames is.fresh.kept is.writing seat writer' all, other)
-  sent_pair stop pair seat before writer writer' frames other begun moved (inr cut) =
-      let all : StopsWith (Write cut.0) o.seat seat o.writer writer' frames = rw (append-nil frames) at
-      (StopsWith-later (Write cut.0) o.seat (with_kept pair seat) seat o.writer before writer' frames [] moved
-      (Cuts-finish pair seat before writer writer' cut.0 begun cut.1)) in
-      sent_until o.seat o.writer frames is.fresh.kept is.writing stop (Write cut.0) seat writer' (λ f same. absurd (other f same)) all
-
-  pub given_up : (course : CourseValue) (seat : StreamSeatValue) (writer writer' : WriterState) → IsReadAhead reader.rest reader.left
-      → IsAt course past o reader seat writer → EndsImage (course_image course) seat.chain writer writer'
-      → ServesTo StreamStopsAt past (stop_given_up course) o.reader reader o.seat seat o.writer writer'
-  given_up (Feeding in_hand None) seat writer writer' ahead at same =
-      rw same (fed_up in_hand seat seat writer writer ahead at refl
-      (inl (sends_whole o.seat o.writer at.frames is.fresh.kept is.writing seat writer at.passed.moved, λ f is. absurd (cc))))
-  given_up (Feeding in_hand (Some pair)) seat writer writer' ahead at ends =
-      fed_up in_hand (with_kept pair seat) seat at.0 writer' ahead at.2 refl
-      (sent_pair (Refused NoMemory) pair seat at.0 writer writer' at.2.frames (λ f is. absurd (cc)) at.1 at.2.passed.moved (ends at.0 at.1))
-  given_up (Holding None held) seat writer writer' ahead at same = rw same (held_up held o reader seat writer past at ahead)
-  given_up (Holding (Some frame) held) seat writer writer' ahead at same =
-      rw same (serves_more past held o reader seat writer (held_told held o reader seat writer frame past at))
-  given_up (Draining stop None) seat writer writer' ahead at same =
-      let a = at.1 in
-      let moved = moves_until stop o.seat (as_open seat) o.writer writer a.frames at.0 a.moved in
-      rw same (drained_up stop (as_open seat) seat writer a.frames at.0 refl a.read a.count
-      (inl (sends_whole o.seat o.writer a.frames is.fresh.kept is.writing (as_open seat) writer moved, no_write stop at.0)))
-  given_up (Draining stop (Some pair)) seat writer writer' ahead at ends =
-      let a = at.1.2 in
-      let kept = as_open (with_kept pair seat) in
-      let moved = moves_until stop o.seat kept o.writer at.1.0 a.frames at.0 a.moved in
-      subst (λ (told : Stop). ServesTo StreamStopsAt past told o.reader reader o.seat seat o.writer writer') (same_told stop (Some pair))
-      (drained_up stop kept seat writer' a.frames at.0 refl a.read a.count
-      (sent_pair (stop_given_up (Draining stop None)) pair (as_open seat) at.1.0 writer writer' a.frames (no_write stop at.0) at.1.1 moved
-      (ends at.1.0 at.1.1)))
-  given_up (Discarding stop) seat writer writer' ahead at same = rw same (serves_more past stop o reader seat writer at.1)

@@ -1,7 +1,7 @@
 -- What a client's frames come to: those that are accepted, why there are no more, and what went out.
 use Rattle.std.proofs.Common.{ℕ, ◌≡◌, ◌≢◌, ◌+◌, ◌⊎◌, ◌≤◌, List, [], ◌∷◌, ◌++◌, length, refl, sym, ap, ◌∙◌}
 use Rattle.std.proofs.Common.{append-nil, append_assoc, arith, subst, inl, inr, false, Result, Ok, Err, OnOk}
-use Rattle.std.proofs.Common.{IfErr, IfSome, IsSome, None, Option}
+use Rattle.std.proofs.Common.{IfErr, IfSome, IsSome, Option}
 use Rattle.filters.specs.ChainImage.{FrameValue}
 use Rattle.y4m_header.specs.StreamText.{FrameText}
 use Rattle.y4m_stream.specs.declared.fault.WriteFault.{WriteFault}

@@ -524,10 +524,13 @@ abbrev pub Serves : List Act → Stop → ReaderState → ReaderState → Stream
     → WriterState → WriterState → Type 0
 Serves = ServesTo ClientStopsAt
 
--- a stop that was kept is told, if it is a fault, and want of memory where none was kept
-abbrev pub TellsKept : Option Stop → Stop → Type 0
-TellsKept None told = told ≡ Refused causes.NoMemory
-TellsKept (Some stop) told = stop ≢ Whole → told ≡ stop
+-- a stop that was kept is told, if it is a fault; where none was kept, want of memory, or a fault of the image
+-- in hand
+abbrev pub TellsKept : Option Stop → Option Collected → Stop → Type 0
+TellsKept None None told = told ≡ Refused causes.NoMemory
+TellsKept None (Some pair) told =
+    (told ≡ Refused causes.NoMemory) ⊎ ((fault : WriteFault) × (told ≡ Write fault))
+TellsKept (Some stop) image told = stop ≢ Whole → told ≡ stop
 
 -- the stop, or the fault of the flush where all went well before
 abbrev pub Flushes : {T : Type 0} → Stop → Result T WriteFault → Stop → Type 0

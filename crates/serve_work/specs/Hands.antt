@@ -1,5 +1,5 @@
 -- An image in hand: one that was begun, where a client pauses.
-use Rattle.std.specs.Prelude.{ℕ, ◌≡◌, ◌+◌, ◌<◌, ◌⊎◌, ◌∷◌, length, Option, Some, None, Result, Ok, Err}
+use Rattle.std.specs.Prelude.{◌≡◌, ◌+◌, ◌<◌, ◌⊎◌, ◌∷◌, ⊤, length, Option, Some, None, Result, Ok, Err}
 use Rattle.filters.specs.Chain.{ChainValue}
 use Rattle.y4m_header.specs.StreamText.{text_of}
 use Rattle.y4m_header.specs.declared.limits.TheConstants.{MOST_FRAMES}
@@ -10,6 +10,8 @@ use Rattle.y4m_stream.specs.declared.fault.WriteFault.{WriteFault}
 use Rattle.serve_core.specs.declared.collected.Collected.{Collected}
 use Rattle.serve_core.specs.Streams.{IsImageOf, source_in}
 use Rattle.serve_hub.specs.Seats.{StreamSeatValue}
+use Rattle.serve_work.specs.declared.stop.Stop.{Stop}
+use Rattle.serve_work.specs.declared.stop.Stop.TheVariants.{Whole, Read, Write, Refused, Torn}
 
 -- the pair is a frame and its image by this chain, and a front of the image went out since the writer was so
 pub record IsBegunPair (chain : ChainValue) (pair : Collected) (before now : WriterState) : Type 0 where
@@ -49,14 +51,22 @@ pub record CanPutOn (writer : WriterState) (pair : Collected) : Type 0 where
   pub few : writer.frames < MOST_FRAMES
   pub part : writer.part < length (text_of (frame_text_of pair.image))
 
--- the image of the pair was written to its end, or that failed
-abbrev pub EndsPair : Collected → WriterState → WriterState → Type 0
-EndsPair pair before writer =
-    PutsFrame before writer (frame_text_of pair.image)
-    ⊎ ((fault : WriteFault) × FailsToPut before writer (frame_text_of pair.image) fault)
+-- what writing an image to its end comes to
+abbrev pub IsOfEnding : Stop → Type 0
+IsOfEnding Whole = ⊤
+IsOfEnding (Read fault) = ⊥
+IsOfEnding (Write fault) = ⊤
+IsOfEnding (Refused cause) = ⊥
+IsOfEnding Torn = ⊥
+
+-- the image of the pair was written to its end, or that failed, and so it is told
+abbrev pub EndsPair : Collected → Stop → WriterState → WriterState → Type 0
+EndsPair pair ended before writer =
+    (ended ≡ Whole) × PutsFrame before writer (frame_text_of pair.image)
+    ⊎ ((fault : WriteFault) × (ended ≡ Write fault) × FailsToPut before writer (frame_text_of pair.image) fault)
 
 -- the same of an image in hand, if there is one
-abbrev pub EndsImage : Option Collected → ChainValue → WriterState → WriterState → Type 0
-EndsImage None chain writer writer' = writer' ≡ writer
-EndsImage (Some pair) chain writer writer' =
-    (before : WriterState) → IsBegunPair chain pair before writer → EndsPair pair before writer'
+abbrev pub EndsImage : Option Collected → ChainValue → Stop → WriterState → WriterState → Type 0
+EndsImage None chain ended writer writer' = (ended ≡ Whole) × (writer' ≡ writer)
+EndsImage (Some pair) chain ended writer writer' =
+    (before : WriterState) → IsBegunPair chain pair before writer → EndsPair pair ended before writer'

@@ -20,8 +20,7 @@ use Rattle.serve_work.specs.declared.course.Course.TheVariants as courses
 use Rattle.serve_work.specs.declared.serving.Step.{Step}
 use Rattle.serve_work.specs.declared.serving.Step.TheVariants as steps
 use Rattle.serve_work.specs.declared.stop.Stop.{Stop}
-use Rattle.serve_work.specs.declared.stop.Stop.TheVariants.{Refused, Torn, Whole}
-use Rattle.serve_work.specs.declared.stop.Cause.TheVariants.{NoMemory}
+use Rattle.serve_work.specs.declared.stop.Stop.TheVariants.{Torn, Whole}
 use Rattle.serve_core.specs.declared.collected.Collected.{Collected}
 use Rattle.serve_work.specs.Clients.{ClientStart, collections_in}
 use Rattle.serve_work.specs.Hands.{Behind, CanPutOn, IsBegunPair, IsPairOf, counted_with, with_kept}
@@ -48,16 +47,12 @@ course_of (courses.Holding in_hand held) = Holding (text_in in_hand) held
 course_of (courses.Draining stop image) = Draining stop image
 course_of (courses.Discarding stop) = Discarding stop
 
--- why a client stops that doesn't go on: for the fault that it keeps, and else for want of memory
-abbrev pub stop_given_up : CourseValue → Stop
-stop_given_up (Feeding in_hand image) = Refused NoMemory
-stop_given_up (Holding in_hand held) = held
-stop_given_up (Draining Whole image) = Refused NoMemory
-stop_given_up (Draining stop image) = stop
-stop_given_up (Discarding stop) = stop
-
-abbrev pub stop_in : code.Course → Stop
-stop_in course = stop_given_up (course_of course)
+-- the fault that a client keeps, or Whole
+abbrev pub stop_kept : CourseValue → Stop
+stop_kept (Feeding in_hand image) = Whole
+stop_kept (Holding in_hand held) = held
+stop_kept (Draining stop image) = stop
+stop_kept (Discarding stop) = stop
 
 -- the stop that a client keeps, if it keeps one
 abbrev pub course_stop : CourseValue → Option Stop
@@ -112,6 +107,10 @@ reader_in (Begun begun) = begun.reader
 abbrev pub rest_stop : RestValue → Option Stop
 rest_stop (Unbegun reader contents failures) = None
 rest_stop (Begun begun) = course_stop begun.course
+
+abbrev pub rest_image : RestValue → Option Collected
+rest_image (Unbegun reader contents failures) = None
+rest_image (Begun begun) = course_image begun.course
 
 abbrev pub accepted_in : RestValue → ℕ
 accepted_in (Unbegun reader contents failures) = 0

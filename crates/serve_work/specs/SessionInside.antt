@@ -1,10 +1,11 @@
 -- What contracts inside the crate say of the streams of a session, from epoch to epoch.
 use Rattle.std.specs.Prelude.{ℕ, ◌≡◌, ◌<◌, ⊤, All, Bool, true, false, IsFalse, List, [], ◌∷◌, ◌++◌, Option}
-use Rattle.std.specs.Prelude.{Some, IfSome, IsSomeAnd, IsTrue, map, slice_index_or}
+use Rattle.std.specs.Prelude.{None, Some, IfSome, IsSomeAnd, IsTrue, map, slice_index_or}
 use Rattle.std.specs.List.{AllByRecursion, AllZip}
 use Rattle.y4m_stream.specs.declared.reader.Phase.TheVariants.{Open}
 use Rattle.y4m_stream.specs.Reader.{IsOfHeader, ReaderState}
 use Rattle.serve_core.specs.Schedule.{HasStream, ScheduleValue}
+use Rattle.serve_core.specs.declared.collected.Collected.{Collected}
 use Rattle.serve_hub.specs.declared.entry.Act.{Act}
 use Rattle.serve_hub.specs.declared.entry.Entry.{Entry}
 use Rattle.serve_hub.specs.Seats.{StreamSeatValue}
@@ -18,7 +19,7 @@ use Rattle.serve_work.specs.declared.session.turn.Stream.TheVariants as streams
 use Rattle.serve_work.specs.declared.stop.Stop.{Stop}
 use Rattle.serve_work.specs.Clients.{AllowsStop, ClientEnds, ClientOutcome, ClientStart, StreamEnds}
 use Rattle.serve_work.specs.ClientInside.{IsNoNewEnd, KeepsAllowed, KeepsMoments, TellsKept}
-use Rattle.serve_work.specs.Rests.{IsRest, IsRestOf, RestValue, Unbegun, reader_in, rest_stop}
+use Rattle.serve_work.specs.Rests.{IsRest, IsRestOf, RestValue, Unbegun, reader_in, rest_image, rest_stop}
 use Rattle.serve_work.specs.Sessions.{acts_in, outcome_of}
 
 -- a stream of a session, whatever the epoch: what is left to do of it, or what it came to
@@ -50,6 +51,11 @@ stream_stop (Over outcome) = Some outcome.stop
 abbrev pub kept_stop : {R W : Type 0} → Stream R W → Option Stop
 kept_stop (streams.Waiting rest) = rest_stop rest
 kept_stop (streams.Over served) = Some served.stop
+
+-- the image that a stream's client has in hand, if there is one
+abbrev pub kept_image : {R W : Type 0} → Stream R W → Option Collected
+kept_image (streams.Waiting rest) = rest_image rest
+kept_image (streams.Over served) = None
 
 -- the clock allows each of these stops
 abbrev pub AreAllowed : (Gives : ℕ → Type 0) → List (Option Stop) → Type 0
@@ -182,7 +188,7 @@ IsOver left read_failures after failures is_flushed stream served =
     → StandsAt (stream_of left read_failures after failures is_flushed stream) start past seat
     → StreamEnds start past seat (outcome_of left read_failures after failures is_flushed served))
     × IsNoNewEnd (kept_stop stream) (Some served.stop)
-    × TellsKept (kept_stop stream) served.stop
+    × TellsKept (kept_stop stream) (kept_image stream) served.stop
 
 abbrev pub AreOver : {R W : Type 0} (left : R → Option (List ℕ)) (read_failures : R → ℕ)
     (after : W → Option (List ℕ)) (failures : W → ℕ) (is_flushed : W → Bool) → List (Stream R W)

@@ -2,17 +2,19 @@
 ghost use Rattle.serve_hub.specs.declared.entry.Act.{Act};
 ghost use Rattle.serve_hub.specs.Seats.{StreamSeatValue};
 ghost use Rattle.filters.specs.Chain.{ChainValue};
-ghost use Rattle.std.specs.Prelude.{IfSome, List, Some};
+ghost use Rattle.std.specs.Prelude.{◌≡◌, IfNone, IfSome, List, Some};
 ghost use Rattle.serve_work.specs.Clients.{ClientStart, StreamEnds};
 ghost use Rattle.serve_work.specs.ClientInside.{IsNoNewEnd, TellsKept};
-ghost use Rattle.serve_work.specs.Hands.{CanPutOn, EndsImage};
-ghost use Rattle.serve_work.specs.Rests.{IsBegun, course_stop};
+ghost use Rattle.serve_work.specs.declared.stop.Stop.TheVariants as stops;
+ghost use Rattle.serve_work.specs.Hands.{CanPutOn, EndsImage, IsOfEnding};
+ghost use Rattle.serve_work.specs.Rests.{IsBegun, course_image, course_stop};
 ghost use Rattle.serve_work.specs.Sessions.{outcome_of};
 
 use crate::buffers::Buffers;
 use crate::clients::flushed;
 use crate::course::Course;
 use crate::session::Served;
+use crate::stop::{Cause, Stop};
 use serve_core::Collected;
 use std::marker::Model;
 use y4m_stream::{Sink, Source, StreamReader, StreamWriter};
@@ -44,25 +46,32 @@ impl<R: Source, W: Sink> Model for Begun<R, W> {
     ghost invariant = { λ a. HasMemoryFor a.reader a.writer a.buffers a.course };
 }
 
-/// Writes an image in hand to its end, if there is one, however long that takes. The stream stops for another
-/// reason, so a fault of this isn't told.
-fn end_image<W: Sink>(writer: &mut StreamWriter<W>, image: Option<Collected>)
+/// Writes an image in hand to its end, if there is one, however long that takes. It answers `Whole`, or the
+/// fault of the write.
+fn end_image<W: Sink>(writer: &mut StreamWriter<W>, image: Option<Collected>) -> Stop
     requires { IfSome image (CanPutOn writer.old) }
-    ensures { (chain : ChainValue) → EndsImage image chain writer.old writer.new }
+    ensures ended { (chain : ChainValue) → EndsImage image chain result writer.old writer.new }
+    ensures own { IsOfEnding result }
+    ensures none { IfNone image (result ≡ stops.Whole) }
 {
-    if let Some(pair) = image {
-        let _ = writer.put_on(&pair.image, None);
+    let Some(pair) = image else {
+        return Stop::Whole;
+    };
+    match writer.put_on(&pair.image, None) {
+        Ok(_) => Stop::Whole,
+        Err(fault) => Stop::Write(fault),
     }
 }
 
 impl<R: Source + Drop, W: Sink> Begun<R, W> {
-    /// The end of the stream where no epoch comes any more. An image in hand is written to its end first.
+    /// The end of the stream where no epoch comes any more. An image in hand is written to its end first. It
+    /// stops for the fault that it keeps, else for that of this write, and else for want of memory.
     pub(crate) fn give_up(self) -> Served<R, W>
         ensures ends { (start : ClientStart) (past : List Act) (seat : StreamSeatValue)
             → IsBegun start past seat self → StreamEnds start past seat
             (outcome_of R.remaining R.failures W.contents W.failures W.is_flushed result) }
         ensures stop { IsNoNewEnd (course_stop self.course) (Some result.stop) }
-        ensures kept { TellsKept (course_stop self.course) result.stop }
+        ensures kept { TellsKept (course_stop self.course) (course_image self.course) result.stop }
     {
         let Begun {
             reader,
@@ -71,8 +80,9 @@ impl<R: Source + Drop, W: Sink> Begun<R, W> {
             accepted,
             ..
         } = self;
-        let (stop, image) = course.given_up();
-        end_image(&mut writer, image);
+        let (kept, image) = course.kept();
+        let ended = end_image(&mut writer, image);
+        let stop = kept.or(ended).or(Stop::Refused(Cause::NoMemory));
         let delivered = writer.frames();
         let (writer, flush) = writer.finish();
         Served {

@@ -1,8 +1,8 @@
 //! What a client does next, from epoch to epoch.
 ghost use Rattle.std.specs.Prelude.{◌≡◌};
-ghost use Rattle.serve_work.specs.Rests.{course_image, course_of, stop_in};
+ghost use Rattle.serve_work.specs.Rests.{course_image, course_of, stop_kept};
 
-use crate::stop::{Cause, Stop};
+use crate::stop::Stop;
 use frame_view::Frame;
 use serve_core::Collected;
 use std::sync::Arc;
@@ -24,16 +24,15 @@ pub(crate) enum Course {
 }
 
 impl Course {
-    /// Why a client stops that doesn't go on: for the fault that it keeps, and else for want of memory; and
-    /// the image in hand, if there is one.
-    pub(crate) fn given_up(self) -> (Stop, Option<Collected>)
-        ensures stop { result.0 ≡ stop_in self }
+    /// The fault that a client keeps, or `Whole`; and the image in hand, if there is one.
+    pub(crate) fn kept(self) -> (Stop, Option<Collected>)
+        ensures stop { result.0 ≡ stop_kept (course_of self) }
         ensures image { result.1 ≡ course_image (course_of self) }
     {
         match self {
-            Course::Feeding(_, image) => (Stop::Refused(Cause::NoMemory), image),
+            Course::Feeding(_, image) => (Stop::Whole, image),
             Course::Holding(_, held) => (held, None),
-            Course::Draining(stop, image) => (stop.or(Stop::Refused(Cause::NoMemory)), image),
+            Course::Draining(stop, image) => (stop, image),
             Course::Discarding(stop) => (stop, None),
         }
     }

@@ -5,7 +5,7 @@ ghost use Rattle.serve_hub.specs.Seats.{StreamSeatValue};
 ghost use Rattle.serve_work.specs.Clients.{ClientStart, StreamEnds};
 ghost use Rattle.serve_work.specs.ClientInside.{IsNoNewEnd, TellsKept};
 ghost use Rattle.serve_work.specs.Rests.{IsRestOf, Unbegun, accepted_in, collected_in, delivered_in};
-ghost use Rattle.serve_work.specs.Rests.{rest_stop};
+ghost use Rattle.serve_work.specs.Rests.{rest_image, rest_stop};
 ghost use Rattle.serve_work.specs.Sessions.{outcome_of};
 
 use crate::begun::State;
@@ -82,7 +82,7 @@ impl<R: Source + Drop, W: Sink> ClientRest<R, W> {
             → IsRestOf start past seat self → StreamEnds start past seat
             (outcome_of R.remaining R.failures W.contents W.failures W.is_flushed result) }
         ensures stop { IsNoNewEnd (rest_stop self) (Some result.stop) }
-        ensures kept { TellsKept (rest_stop self) result.stop }
+        ensures kept { TellsKept (rest_stop self) (rest_image self) result.stop }
     {
         match self.state {
             State::Unbegun(reader, writer) => Served {

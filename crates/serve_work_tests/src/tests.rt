@@ -10,6 +10,7 @@ mod live;
 mod many;
 mod pauses;
 mod sessions;
+mod slow;
 mod stops;
 
 use sessions::{Open, PLAIN, Plan, Still, served, stream_of, writer_of};

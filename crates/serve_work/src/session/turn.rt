@@ -11,7 +11,7 @@ ghost use Rattle.serve_work.specs.Sessions.{outcome_of};
 ghost use Rattle.serve_work.specs.ClientInside.{IsNoNewEnd, TellsKept};
 ghost use Rattle.serve_work.specs.SessionInside as rules;
 ghost use Rattle.serve_work.specs.SessionInside.{AreUnread, GoesOn, IsReady, Runs, StandsAt, held_with};
-ghost use Rattle.serve_work.specs.SessionInside.{kept_stop, stream_of, unread};
+ghost use Rattle.serve_work.specs.SessionInside.{kept_image, kept_stop, stream_of, unread};
 
 use super::Served;
 use crate::clients::{ClientEnd, ClientTurn, client};
@@ -47,7 +47,7 @@ pub(crate) fn told<R: Source + Drop, W: Sink + Drop>(stream: Stream<R, W>) -> Se
         start past seat → StreamEnds start past seat
         (outcome_of R.remaining R.failures W.contents W.failures W.is_flushed result) }
     ensures stop { IsNoNewEnd (kept_stop stream) (Some result.stop) }
-    ensures kept { TellsKept (kept_stop stream) result.stop }
+    ensures kept { TellsKept (kept_stop stream) (kept_image stream) result.stop }
 {
     match stream {
         Stream::Over(served) => served,

@@ -5,7 +5,6 @@
 //! offered frames, at one entry each, and a frame of it is unfinished from then on; then the client has its
 //! turn, in which each frame that is offered and each image that is collected has an entry.
 mod shy;
-mod slow;
 mod steps;
 
 use self::steps::{After, Case, LOUD, Step, follow};

@@ -1,5 +1,4 @@
 use Rattle.std.proofs.Common.{refl}
-use Rattle.serve_work.proofs.Finishing.{can_still, counted_on}
 use Rattle.serve_work.proofs.hand.write_on.Goals as goal
 
 pub loop-init : goal.loop-init

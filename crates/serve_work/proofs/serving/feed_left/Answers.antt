@@ -1,4 +1,4 @@
-use Rattle.std.proofs.Common.{◌≡◌, Some, true, false, ap, refl, sym, ◌∙◌}
+use Rattle.std.proofs.Common.{◌≡◌, Some, true, false, ap, sym, ◌∙◌}
 use Rattle.serve_hub.specs.Seats.{StreamSeatValue}
 use Rattle.serve_work.specs.declared.feeding.Fed.TheVariants as feds
 use Rattle.serve_work.specs.declared.stop.Stop.TheVariants.{Torn}

@@ -2,7 +2,7 @@ use Rattle.std.proofs.Common.{◌∙◌, Option, Some, ap, subst, sym}
 use Rattle.serve_work.specs.declared.course.Course as code
 use Rattle.serve_work.specs.declared.course.Course.TheVariants as courses
 use Rattle.serve_work.specs.Rests.{IsBefore, course_stop_before}
-use Rattle.serve_work.proofs.Allowing.{kept_allowed, same_allowed}
+use Rattle.serve_work.proofs.Allowing.{same_allowed}
 use Rattle.serve_work.proofs.Tallying.{none_accepted}
 use Rattle.serve_work.proofs.serving.serve.Goals as goal
 

@@ -7,9 +7,9 @@ ghost use Rattle.serve_hub.specs.Seats.{left_by, seat_over};
 ghost use Rattle.serve_work.specs.Rests.{IsRest, reader_in};
 
 use super::shy::{Bell, Framed, Shy};
-use super::slow::{Output, Tries, output};
 use crate::tests::lists::{both, one_of, sole, two_of};
 use crate::tests::sessions::{hub_of, setup_over};
+use crate::tests::slow::{Output, Tries, output};
 use crate::tests::{PLAIN, Still, same_at, stream_of};
 use frame_view::{Frame, Geometry};
 use lease::{Job, Lease, Scratch};

@@ -1,4 +1,4 @@
-//! A sink that takes all that is written, or one byte at a time, and so many in an epoch.
+//! A sink that takes all that is written, or one byte at a time, and so many until more are allowed.
 use std::io::{self, Write};
 use std::sync::atomic::{AtomicU64, Ordering};
 use test_tools::Room;
@@ -21,6 +21,11 @@ impl Tries {
     /// So many do from now on.
     pub(super) fn allow(&self, left: u64) {
         self.left.store(left, Ordering::SeqCst);
+    }
+
+    /// All do from now on, and take all bytes.
+    pub(super) fn open(&self) {
+        self.allow(u64::MAX);
     }
 
     fn is_endless(&self) -> bool {
