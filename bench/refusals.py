@@ -150,6 +150,40 @@ class Session(Case):
         return written
 
 
+class Live(Session):
+    """A run of `serve --control -`, whose lines ask for the streams: each has its line, in whatever order they end, unless nothing more of the
+    control can be read or there is no session."""
+
+    LINE = re.compile(rb"(\w+) accepted (\d+) delivered (\d+) charged (\d+) stop (whole|open|create|read .*|ops .*|(?:refused|admit) NoMemory)")
+    ENDS = (b"y4mserve: control read\n", b"y4mserve: session NoMemory\n")
+    # without the thread of its work there is nothing, without that of its lines no stream, and without that of its opening not this stream
+    needed = 4
+
+    def __init__(self, folder, frames):
+        super().__init__(folder, [], frames)
+        streams = self.words[2:]
+        self.words, self.given = [*self.words[:2], "--control", "-"], "".join(f"{line}\n" for line in [*streams, "end"]).encode()
+        self.name = f"serve --control -, {len(streams)} streams"
+
+    def rows(self, ended):
+        found = map(self.LINE.fullmatch, ended.out.splitlines())
+        return {row[1]: row for row in found if row}
+
+    def is_whole(self, ended):
+        rows = self.rows(ended)
+        return (ended.status, ended.errors) == (0, b"") and [rows[name][5] for name in self.names if name in rows] == [b"whole"] * len(self.names)
+
+    def fault(self, ended):
+        wrote, rows = [self.taken(path) for path in self.outs], self.rows(ended)
+        if not all(self.images.startswith(front) for front in wrote):
+            return "what was written is no front of the images"
+        is_true = all(name not in rows or self.is_true(rows[name], front) for name, front in zip(self.names, wrote))
+        if self.is_whole(ended) and is_true:
+            return None
+        is_told = ended.errors in self.ENDS or (ended.errors == b"" and set(rows) == set(self.names)) or self.names_words(ended)
+        return None if ended.refused and ended.status == 1 and is_true and is_told else f"status {ended.status}, {ended.out!r}, {ended.errors!r}"
+
+
 def tests_of(crate, kind=Test):
     """Each test of a crate, as one of this kind."""
     program = s.tests(crate)

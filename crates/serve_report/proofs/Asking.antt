@@ -5,7 +5,8 @@ use Rattle.std.proofs.lemmas.List.{map_push}
 use Rattle.std.proofs.lemmas.List.Elements.{All-append, All-from_recursion}
 use Rattle.serve_report.specs.StreamWords.{StreamAsked}
 use Rattle.serve_report.specs.ServeChecks.{AreSaid, Fault, IsSaid, all_told, asked_told, is_named, then_given}
-use Rattle.serve_report.specs.ServeChecks.{word_given, words_asked, words_given}
+use Rattle.serve_report.specs.ServeChecks.{word_given, words_given}
+use Rattle.serve_report.specs.StreamWords.{words_asked}
 use Rattle.serve_report.specs.declared.serve.checks.Asked.{Asked}
 
 -- what is left of a list begins with the element there
@@ -24,23 +25,26 @@ named_from name streams i asked same less is e =
     ap (λ rest. is_named name (all_told rest)) (left_from streams i asked less is)
     ∙ ap (λ found. found || is_named name (all_told (drop (i + 1) streams))) e
 
-module _ (before : List StreamAsked) (words : List (Bor (List ℕ))) (i : ℕ) (d : Bor (List ℕ)) (less : i < length words) where
+module _ (is_taken : Bool) (before : List StreamAsked) (words : List (Bor (List ℕ))) (i : ℕ) (d : Bor (List ℕ))
+    (less : i < length words) where
   later : StreamAsked → Result (List StreamAsked) Fault
-  later stream = words_given (before ++ stream ∷ []) (words_asked (drop (i + 1) words))
+  later stream = words_given is_taken (before ++ stream ∷ []) (words_asked (drop (i + 1) words))
 
-  first_word : words_given before (words_asked (drop i words)) ≡ then_given later (word_given before (get_or words i d).now)
+  first_word : words_given is_taken before (words_asked (drop i words))
+      ≡ then_given later (word_given is_taken before (get_or words i d).now)
   unfolding later
-  first_word = ap (λ rest. words_given before (words_asked rest)) (left_at words i d less)
+  first_word = ap (λ rest. words_given is_taken before (words_asked rest)) (left_at words i d less)
 
   -- one word further
-  pub one_word : (stream : StreamAsked) → word_given before (get_or words i d).now ≡ Ok stream
-      → words_given before (words_asked (drop i words)) ≡ words_given (before ++ stream ∷ []) (words_asked (drop (i + 1) words))
+  pub one_word : (stream : StreamAsked) → word_given is_taken before (get_or words i d).now ≡ Ok stream
+      → words_given is_taken before (words_asked (drop i words))
+      ≡ words_given is_taken (before ++ stream ∷ []) (words_asked (drop (i + 1) words))
   unfolding later
   one_word stream given = first_word ∙ ap (then_given later) given
 
   -- a word's fault ends it
-  pub faulty_word : (fault : Fault) → word_given before (get_or words i d).now ≡ Err fault
-      → words_given before (words_asked (drop i words)) ≡ Err fault
+  pub faulty_word : (fault : Fault) → word_given is_taken before (get_or words i d).now ≡ Err fault
+      → words_given is_taken before (words_asked (drop i words)) ≡ Err fault
   faulty_word fault given = first_word ∙ ap (then_given later) given
 
 -- a stream more

@@ -1,5 +1,5 @@
 -- Words that clap takes, and what they ask for.
-use Rattle.std.proofs.Common.{◌≡◌, ◌<◌, ◌≤◌, ap, arith, codes, refl, rules, subst, List, [], ◌∷◌, Some, false, length, true}
+use Rattle.std.proofs.Common.{◌≡◌, ◌≤◌, ap, arith, codes, refl, rules, subst, List, [], ◌∷◌, Some, false, length, true}
 use Rattle.std.specs.Prelude.{All, slice_index_or}
 use Rattle.clap.proofs.OnLiterals.{clap_on_literals}
 use Rattle.clap.specs.Faults.{level_fault}
@@ -8,7 +8,7 @@ use Rattle.clap.specs.Lexer.{usize_max}
 use Rattle.clap.specs.Simple.{Shape, built, names_of}
 use Rattle.clap.specs.Walk.{Text, Walk, after_step, finished, idle, nothing_held, value, walk, walk_from}
 use Rattle.serve_report.specs.CommandLine.{y4mserve}
-use Rattle.serve_report.specs.KnownWords.{AreKnown, IsNoOption, ToFilter, ToServe}
+use Rattle.serve_report.specs.KnownWords.{AreKnown, IsNoOption, ToFilter, ToServe, no_option}
 use Rattle.serve_report.specs.Options.{AreTaken, IsRequestOf}
 use Rattle.serve_report.specs.declared.words.Request.TheVariants.{Replay}
 use Rattle.serve_report.proofs.FoundWords.{to_filter, to_replay, to_serve}
@@ -62,11 +62,26 @@ pub replay_known : AreKnown (codes "replay" ∷ []) (λ request. request ≡ Rep
 unfolding clap_on_literals
 replay_known = (refl, (λ request asked. to_replay _ request asked.1))
 
-pub serve_known : (streams : List Text) → All IsNoOption streams → 0 < length streams → length streams ≤ usize_max
-    → AreKnown (codes "serve" ∷ streams) (ToServe streams 2 16 8 65536 false)
+pub serve_known : (streams : List Text) → All IsNoOption streams → length streams ≤ usize_max
+    → AreKnown (codes "serve" ∷ streams) (ToServe streams no_option)
 unfolding clap_on_literals
-serve_known [] plain some fits = absurd (omega arith)
-serve_known (word ∷ words) plain some fits = (
+serve_known [] plain fits = (
+  refl,
+  (λ request asked. to_serve _ request asked.1 (record {
+    streams_are = refl;
+    writes_workers = (codes "2", refl, search rules, refl, omega arith);
+    writes_band = (codes "16", refl, search rules, refl, omega arith);
+    writes_quantum = (codes "8", refl, search rules, refl, omega arith);
+    writes_journal = (codes "65536", refl, search rules, refl, omega arith);
+    control_is = refl;
+    writes_moment = refl;
+    quiet_is = refl;
+    keeps_workers = refl;
+    keeps_quantum = refl;
+    keeps_journal = refl;
+  })),
+)
+serve_known (word ∷ words) plain fits = (
   serve_taken word words plain fits,
   (λ request asked.
       to_serve _ request (subst (λ met. IsRequestOf met request) (serve_met word words plain fits) asked.1) (record {
@@ -75,6 +90,8 @@ serve_known (word ∷ words) plain some fits = (
         writes_band = (codes "16", refl, search rules, refl, omega arith);
         writes_quantum = (codes "8", refl, search rules, refl, omega arith);
         writes_journal = (codes "65536", refl, search rules, refl, omega arith);
+        control_is = refl;
+        writes_moment = refl;
         quiet_is = refl;
         keeps_workers = refl;
         keeps_quantum = refl;
@@ -84,7 +101,7 @@ serve_known (word ∷ words) plain some fits = (
 
 pub serve_by_known : AreKnown
     (codes "serve" ∷ codes "--workers" ∷ codes "1" ∷ codes "--quantum=4" ∷ codes "a:in:out:1:2:invert" ∷ [])
-    (ToServe (codes "a:in:out:1:2:invert" ∷ []) 1 16 4 65536 false)
+    (ToServe (codes "a:in:out:1:2:invert" ∷ []) (record no_option { workers = 1; quantum = 4 }))
 unfolding clap_on_literals
 serve_by_known = (
   refl,
@@ -94,6 +111,28 @@ serve_by_known = (
     writes_band = (codes "16", refl, search rules, refl, omega arith);
     writes_quantum = (codes "4", refl, search rules, refl, omega arith);
     writes_journal = (codes "65536", refl, search rules, refl, omega arith);
+    control_is = refl;
+    writes_moment = refl;
+    quiet_is = refl;
+    keeps_workers = refl;
+    keeps_quantum = refl;
+    keeps_journal = refl;
+  })),
+)
+
+pub serve_live_known : AreKnown (codes "serve" ∷ codes "--control" ∷ codes "-" ∷ codes "--moment=40" ∷ [])
+    (ToServe [] (record no_option { control = Some (codes "-"); moment = Some 40 }))
+unfolding clap_on_literals
+serve_live_known = (
+  refl,
+  (λ request asked. to_serve _ request asked.1 (record {
+    streams_are = refl;
+    writes_workers = (codes "2", refl, search rules, refl, omega arith);
+    writes_band = (codes "16", refl, search rules, refl, omega arith);
+    writes_quantum = (codes "8", refl, search rules, refl, omega arith);
+    writes_journal = (codes "65536", refl, search rules, refl, omega arith);
+    control_is = refl;
+    writes_moment = (codes "40", refl, search rules, refl, omega arith);
     quiet_is = refl;
     keeps_workers = refl;
     keeps_quantum = refl;

@@ -12,3 +12,6 @@ pub mod PlainWords
 pub mod FoundWords
 pub mod KnownStreams
 pub mod KnownWords
+pub mod Lines
+pub mod Feeding
+pub mod TakenBack

@@ -14,6 +14,7 @@ use Rattle.edf_pool.specs.declared.limits.TheConstants.{MOST_STREAMS}
 use Rattle.row_bands.specs.declared.limits.TheConstants.{FEWEST_BAND_ROWS, MOST_BAND_ROWS}
 use Rattle.serve_core.specs.declared.limits.TheConstants.{MOST_QUANTUM}
 use Rattle.serve_hub.specs.declared.limits.TheConstants.{MOST_ENTRIES}
+use Rattle.serve_report.specs.declared.words.TheConstants.{MOST_MICROSECONDS}
 
 -- an option that takes a value
 abbrev pub valued : Text → ValueParser → Rule
@@ -44,6 +45,18 @@ quantum = numbered (codes "quantum") 1 MOST_QUANTUM (codes "8")
 abbrev pub journal : Rule
 journal = numbered (codes "journal") (MOST_STREAMS + 2) MOST_ENTRIES (codes "65536")
 
+-- a file
+abbrev pub control : Rule
+control = record (new_rule (codes "control")) {
+  long = Some (codes "control");
+  action = Some Set;
+  value_names = 1;
+}
+
+-- a number within a range, which the words may lack
+abbrev pub moment : Rule
+moment = valued (codes "moment") (Signed (pos 1) (pos MOST_MICROSECONDS))
+
 abbrev pub quiet : Rule
 quiet = record (new_rule (codes "quiet")) {
   short = Some 113;
@@ -55,13 +68,12 @@ quiet = record (new_rule (codes "quiet")) {
 abbrev pub operations : Rule
 operations = record (new_rule (codes "OPS")) { action = Some Set; required = true }
 
--- one word or more
+-- any number of words
 abbrev pub streams : Rule
 streams = record (new_rule (codes "STREAM")) {
   action = Some Append;
   range = Some (record { start_inclusive = 1; end_inclusive = usize_max });
   value_names = 1;
-  required = true;
 }
 
 -- a command with these arguments
@@ -78,7 +90,9 @@ abbrev pub replay : App
 replay = with_arguments (codes "replay") []
 
 abbrev pub serve : App
-serve = with_arguments (codes "serve") (workers ∷ band ∷ quantum ∷ journal ∷ quiet ∷ streams ∷ [])
+serve =
+    with_arguments (codes "serve")
+    (workers ∷ band ∷ quantum ∷ journal ∷ control ∷ moment ∷ quiet ∷ streams ∷ [])
 
 -- the words are those behind the program's name, and one names a subcommand
 abbrev pub y4mserve : App

@@ -4,6 +4,7 @@ pub mod ServeChecks
 pub mod Apart
 pub mod ServeReport
 pub mod Moments
+pub mod RunClocks
 pub mod Openings
 pub mod Entrants
 pub mod ReadAhead
@@ -14,3 +15,6 @@ pub mod Runs
 pub mod Options
 pub mod CommandLine
 pub mod KnownWords
+pub mod Control
+pub mod Feeds
+pub mod Said

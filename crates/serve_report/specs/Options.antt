@@ -1,6 +1,8 @@
 -- What the words give for each option, by what clap found of them.
 use Rattle.std.specs.Prelude.{ℕ, ◌+◌, ◌≡◌, ◌<◌, ◌^◌, ◌⊎◌, Bool, true, false, min, max, List, [], codes}
-use Rattle.std.specs.Prelude.{Option, Some, None, unwrap_or}
+use Rattle.std.specs.Prelude.{Option, Some, None, option_map, unwrap_or}
+use Rattle.std.specs.Option.{option_map_or, option_or}
+use Rattle.std.specs.Str.{bytes_eq}
 use Rattle.std.specs.Str.Parse.{IsNumeral, digits_value, without_leading_plus}
 use Rattle.clap.specs.Faults.{fault_of}
 use Rattle.clap.specs.Matches.{found_of}
@@ -12,11 +14,12 @@ use Rattle.edf_pool.specs.declared.limits.TheConstants.{MOST_STREAMS}
 use Rattle.serve_core.specs.declared.limits.TheConstants.{MOST_QUANTUM}
 use Rattle.serve_hub.specs.declared.limits.TheConstants.{MOST_ENTRIES}
 use Rattle.serve_report.specs.CommandLine.{y4mserve}
-use Rattle.serve_report.specs.ServeChecks.{words_asked}
+use Rattle.serve_report.specs.StreamWords.{words_asked}
 use Rattle.serve_report.specs.declared.words.FilterWords.{FilterWords}
 use Rattle.serve_report.specs.declared.words.Request.{Request}
 use Rattle.serve_report.specs.declared.words.Request.TheVariants.{Filter, Replay, Serve}
 use Rattle.serve_report.specs.declared.words.ServeWords.{ServeWords}
+use Rattle.serve_report.specs.declared.words.live.TheConstants.{MICROSECONDS}
 
 -- what was found for the options of a command
 abbrev pub found_in : ArgMatches → List Row
@@ -37,6 +40,13 @@ pub record IsNumberOf (found : List Row) (name : List ℕ) (default number : ℕ
 abbrev pub IsKeptOf : List Row → (name : List ℕ) → (default least most number : ℕ) → Type 0
 IsKeptOf found name default least most number =
     (given : ℕ) × IsNumberOf found name default given × (number ≡ min (max given least) most)
+
+-- the number is that of the option of this name, where the words have it
+pub record IsNumberIn (found : List Row) (name : List ℕ) (number : Option ℕ) : Type 0 where
+  pub none : one_of name found ≡ None → number ≡ None
+  pub some : (text : List ℕ) → one_of name found ≡ Some text
+      → IsNumeral 10 (without_leading_plus text) → digits_value 10 (without_leading_plus text) < 2 ^ 32
+      → number ≡ Some (digits_value 10 (without_leading_plus text))
 
 -- the flag is the one of this name
 pub record IsFlagOf (found : List Row) (name : List ℕ) (flag : Bool) : Type 0 where
@@ -64,8 +74,18 @@ pub record HasServeOptions (found : List Row) (words : ServeWords) : Type 0 wher
   pub band : IsNumberOf found (codes "band") 16 words.band
   pub quantum : IsKeptOf found (codes "quantum") 8 1 MOST_QUANTUM words.quantum
   pub journal : IsKeptOf found (codes "journal") 65536 (MOST_STREAMS + 2) MOST_ENTRIES words.journal
+  pub control : option_map (λ file. file.now) words.control ≡ first_of (codes "control") found
+  pub moment : IsNumberIn found (codes "moment") words.moment
   pub quiet : IsFlagOf found (codes "quiet") words.is_quiet
   pub streams : words_asked words.streams.items ≡ texts_of found (codes "STREAM")
+
+-- the microseconds of a moment where time passes: those that are told, and 30 where streams come and go
+abbrev pub microseconds_of : ServeWords → Option ℕ
+microseconds_of words = option_or words.moment (option_map (λ _. MICROSECONDS) words.control)
+
+-- whether the control is standard input
+abbrev pub takes_input : ServeWords → Bool
+takes_input words = option_map_or (λ file. bytes_eq file.now (codes "-")) words.control false
 
 -- the subcommand of this name was met, with what was found behind it
 abbrev pub Meets : Option (List ℕ × List Row) → (name : List ℕ) → List Row → Type 0

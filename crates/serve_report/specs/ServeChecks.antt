@@ -2,7 +2,6 @@
 use Rattle.std.specs.Prelude.{ℕ, ◌≡◌, ◌≤◌, ◌<◌, ◌⊎◌, ⊤, Bool, nat_lt, if◌then◌else◌, List, [], ◌∷◌, ◌++◌}
 use Rattle.std.specs.Prelude.{length, map}
 use Rattle.std.specs.Prelude.{Option, Some, None, MatchOption, MatchResult, Result, Ok, Err, All}
-use Rattle.std.specs.Borrow.{Bor}
 use Rattle.std.specs.List.{list_any}
 use Rattle.std.specs.Option.{option_map_or}
 use Rattle.std.specs.Str.{bytes_eq}
@@ -17,7 +16,8 @@ use Rattle.filters.specs.declared.error.FilterError.TheVariants as filter
 use Rattle.filters.specs.declared.limits.TheConstants.{MOST_OPS}
 use Rattle.filters.specs.declared.op.Op.{Op}
 use Rattle.row_bands.specs.Height.{IsBandHeight}
-use Rattle.serve_report.specs.StreamWords.{StreamAsked, stream_of, stream_told}
+use Rattle.serve_report.specs.Options.{takes_input}
+use Rattle.serve_report.specs.StreamWords.{StreamAsked, stream_beside, stream_told, words_asked}
 use Rattle.serve_report.specs.declared.serve.checks.Asked.{Asked}
 use Rattle.serve_report.specs.declared.serve.checks.Checked.{Checked}
 use Rattle.serve_report.specs.declared.serve.checks.WordFault.{WordFault}
@@ -27,6 +27,7 @@ use Rattle.serve_report.specs.declared.words.ServeWords.{ServeWords}
 -- what is wrong with the words
 pub data Fault : Type 0 where
   BadBand : Fault
+  NoStreams : Fault
   TooManyStreams : Fault
   BadStream : (word : List ℕ) → Fault
   RepeatedName : (name : List ℕ) → Fault
@@ -39,6 +40,7 @@ pub data Fault : Type 0 where
 -- a fault of the program as it is told here; want of memory isn't
 abbrev pub fault_told : WordFault → Option Fault
 fault_told faults.BadBand = Some BadBand
+fault_told faults.NoStreams = Some NoStreams
 fault_told faults.TooManyStreams = Some TooManyStreams
 fault_told (faults.BadStream word) = Some (BadStream word.now)
 fault_told (faults.RepeatedName name) = Some (RepeatedName name.now)
@@ -56,9 +58,6 @@ asked_told asked = stream_told asked.word
 
 abbrev pub all_told : List Asked → List StreamAsked
 all_told streams = map asked_told streams
-
-abbrev pub words_asked : List (Bor (List ℕ)) → List (List ℕ)
-words_asked words = map (λ word. word.now) words
 
 -- the operations are those of the stream's word
 abbrev pub IsSaid : Asked → Type 0
@@ -87,15 +86,18 @@ stream_given before stream =
     if is_named stream.name before then Err (RepeatedName stream.name)
     else then_given (λ ops. Ok stream) (ops_given stream.name (ops_of stream.operations))
 
--- the same of a word, whose form comes first
-abbrev pub word_given : List StreamAsked → List ℕ → Result StreamAsked Fault
-word_given before word = option_map_or (stream_given before) (stream_of word) (Err (BadStream word))
+-- no stream is read from standard input where that is taken
+module _ (is_taken : Bool) where
+  -- the same of a word, whose form comes first
+  abbrev pub word_given : List StreamAsked → List ℕ → Result StreamAsked Fault
+  word_given before word =
+      option_map_or (stream_given before) (stream_beside is_taken word) (Err (BadStream word))
 
--- the streams of words behind those before them, or the first fault
-abbrev pub words_given : List StreamAsked → List (List ℕ) → Result (List StreamAsked) Fault
-words_given before [] = Ok before
-words_given before (word ∷ words) =
-    then_given (λ stream. words_given (before ++ stream ∷ []) words) (word_given before word)
+  -- the streams of words behind those before them, or the first fault
+  abbrev pub words_given : List StreamAsked → List (List ℕ) → Result (List StreamAsked) Fault
+  words_given before [] = Ok before
+  words_given before (word ∷ words) =
+      then_given (λ stream. words_given (before ++ stream ∷ []) words) (word_given before word)
 
 -- the shares of streams come to a load one after the other: the first that isn't admitted, if one isn't
 abbrev pub AdmissionGives : Load → List StreamAsked → Option Fault → Type 0
@@ -112,14 +114,19 @@ abbrev pub SharesGive : ℕ → List StreamAsked → Result (List StreamAsked) F
 SharesGive workers streams (Ok asked) = (asked ≡ streams) × AdmissionGives (load_of workers []) streams None
 SharesGive workers streams (Err fault) = AdmissionGives (load_of workers []) streams (Some fault)
 
+-- no stream is asked for, by the words or by a control
+abbrev pub AskForNone : ServeWords → Type 0
+AskForNone words = (words.streams.items ≡ []) × (words.control ≡ None)
+
 -- the streams that the words ask for, or the first fault: the band, the number of streams, word by word, and
 -- then the shares
 abbrev pub ChecksGive : ServeWords → Result (List StreamAsked) Fault → Type 0
 ChecksGive words given =
     ((¬ IsBandHeight words.band) × (given ≡ Err BadBand))
+    ⊎ (IsBandHeight words.band × AskForNone words × (given ≡ Err NoStreams))
     ⊎ (IsBandHeight words.band × (MOST_STREAMS < length words.streams.items) × (given ≡ Err TooManyStreams))
-    ⊎ (IsBandHeight words.band × (length words.streams.items ≤ MOST_STREAMS)
-    × MatchResult (words_given [] (words_asked words.streams.items))
+    ⊎ (IsBandHeight words.band × (¬ AskForNone words) × (length words.streams.items ≤ MOST_STREAMS)
+    × MatchResult (words_given (takes_input words) [] (words_asked words.streams.items))
     (λ streams. SharesGive words.workers streams given) (λ fault. given ≡ Err fault))
 
 -- the options are those of the words

@@ -1,13 +1,18 @@
 -- The words that ask for streams.
-use Rattle.std.specs.Prelude.{ℕ, zero, suc, ◌==◌, ◌&&◌, nat_le, if◌then◌else◌, List, [], ◌∷◌, length}
-use Rattle.std.specs.Prelude.{Option, None, option_and_then}
+use Rattle.std.specs.Prelude.{ℕ, zero, suc, Bool, ◌==◌, ◌&&◌, nat_le, if◌then◌else◌, List, [], ◌∷◌, length}
+use Rattle.std.specs.Prelude.{Option, Some, None, codes, map, option_and_then}
+use Rattle.std.specs.Borrow.{Bor}
 use Rattle.std.specs.List.{before_first}
 use Rattle.std.specs.Option.{option_map, option_map_or}
+use Rattle.std.specs.Str.{bytes_eq}
 use Rattle.y4m_header.specs.Text.{number_of, text_after}
 use Rattle.y4m_header.specs.declared.limits.TheConstants.{MOST_DIGITS}
 use Rattle.serve_script.specs.SessionWords.{is_name}
 use Rattle.serve_report.specs.declared.serve.stream_word.StreamWord.{StreamWord}
 use Rattle.serve_report.specs.declared.serve.stream_word.WordParts.{WordParts}
+
+abbrev pub words_asked : List (Bor (List ℕ)) → List (List ℕ)
+words_asked words = map (λ word. word.now) words
 
 -- a stream that is asked for: q units in every t moments
 pub record StreamAsked : Type 0 where
@@ -42,6 +47,15 @@ stream_of_parts parts = None
 -- the stream that a word asks for, `NAME:IN:OUT:Q:T:OPS`, if it does
 abbrev pub stream_of : List ℕ → Option StreamAsked
 stream_of word = stream_of_parts (cut_at_colons 5 word)
+
+-- whether the stream is read from standard input
+abbrev pub reads_input : StreamAsked → Bool
+reads_input stream = bytes_eq stream.input (codes "/dev/stdin")
+
+-- the same, where something else may have taken standard input: no stream is read from it then
+abbrev pub stream_beside : (is_taken : Bool) → List ℕ → Option StreamAsked
+stream_beside is_taken word =
+    option_and_then (λ stream. if is_taken && reads_input stream then None else Some stream) (stream_of word)
 
 abbrev pub stream_told : StreamWord → StreamAsked
 stream_told word = record {

@@ -30,12 +30,12 @@ pub enum Place {
 /// Where the files that the words name are opened and made.
 pub trait Files {
     /// What is read from a file whose reads are answered at once.
-    type Reader: Read + Drop + Send;
+    type Reader: Read + Drop;
 
     /// What is read from one that may wait. A thread of its own reads from it too.
-    type Slow: Read + Drop + Send + 'static;
+    type Slow: Read + Drop;
 
-    type Writer: Write + Drop + Send;
+    type Writer: Write + Drop;
 
     /// Opening a file of this name came to one whose reads will give these bytes, where they are known, or to
     /// none.
@@ -62,6 +62,19 @@ pub trait Files {
     fn create(&self, name: &str) -> io::Result<Self::Writer>
         ensures file { IfOk result (λ file. create_gives name.now (Some (Self.Writer.contents file))) }
         ensures none { IfErr result (λ _. create_gives name.now None) };
+
+    /// The same of a file that may have been made before in this run. Who asks for it sees to it that no two
+    /// write to one. What was there before may stay until the first write.
+    fn make(&self, name: &str) -> io::Result<Self::Writer>
+        ensures file { IfOk result (λ file. create_gives name.now (Some (Self.Writer.contents file))) }
+        ensures none { IfErr result (λ _. create_gives name.now None) }
+    {
+        self.create(name)
+    }
+
+    /// Opens the file of this name for reading, which doesn't wait for anything. A FIFO is opened for writing
+    /// too: as long as it is held so, it has no end, and nobody waits who opens its other one.
+    fn hold(&self, name: &str) -> io::Result<Self::Slow>;
 }
 
 /// The files of a run for one stream, with a count of those that were asked for, for contracts alone.

@@ -15,8 +15,8 @@ pub const PAGE: &str = "Examples:
 
 Status:
   0  All went well.
-  1  A fault of a stream or of the script, a stop of 'serve' that is not whole,
-     or no memory.
+  1  A fault of a stream or of the script, a stop of 'serve' that is not whole
+     or closed, or no memory.
   2  Wrong words, or a stream that would go to a terminal.
 A pipe has the status of its last program, but with 'set -o pipefail' that of
 one that failed.
@@ -269,7 +269,7 @@ pub const SERVE_LONG: &str =
     "Filters many streams at once. Each is read from its file IN and written to
 its file OUT as by 'filter'; worker threads do the filtering for all of them,
 and Q:T is a stream's share of these. When all streams have ended, a line for
-each is printed.";
+each is printed. With --control streams come and go while others run.";
 
 /// What a word of a stream is.
 pub const STREAM: &str = "A stream: its name, its two files, its share and its operations";
@@ -306,9 +306,33 @@ share come sooner, a higher one costs less";
 pub const JOURNAL: &str = "Most entries of a journal, 66 to 1048576";
 
 /// The same, for the long help.
-pub const JOURNAL_LONG: &str = "Most entries of a journal, 66 to 1048576. Each call of a stream or a
-worker is an entry; where the journal is full, all streams stand still until
-each client is back. A longer one is full less often, and takes more memory";
+pub const JOURNAL_LONG: &str =
+    "Most entries of a journal, 66 to 1048576; with --control 130 at least.
+Each call of a stream or a worker is an entry; where the journal is full,
+all streams stand still until each client is back. A longer one is full
+less often, and takes more memory";
+
+/// What `--control` is.
+pub const CONTROL: &str = "File of lines that ask for more streams while others run";
+
+/// The same, for the long help.
+pub const CONTROL_LONG: &str = "File whose lines are read while streams run, a FIFO or '-' for
+standard input:
+  NAME:IN:OUT:Q:T:OPS  A stream comes.
+  close NAME           No more is read of the stream of this name.
+  state                How the streams stand is told.
+  end                  No line after it is read, and the streams end
+                       by themselves.
+An empty line and one that begins with '#' do nothing. Streams may be
+named on the command line too, or none may";
+
+/// What `--moment` is.
+pub const MOMENT: &str = "Microseconds of a moment, 1 to 1000000";
+
+/// The same, for the long help.
+pub const MOMENT_LONG: &str = "Microseconds of a moment, 1 to 1000000: the clock is the time since
+the start. Without it a moment passes with each offer of a frame; with
+--control it is 30 unless told otherwise";
 
 /// What `--quiet` of `serve` is.
 pub const SERVE_QUIET: &str = "Show no progress on a terminal; faults are told";
@@ -319,7 +343,8 @@ pub const SERVE_PAGE: &str = "Shares:
   costs 1 + R units. So in bands of 16 rows a frame of 1080 rows costs 68 units
   by invert, and 204 by blur:2.
   A moment passes with each offer of a frame, by any stream, and with nothing
-  else; a frame that finds its stream's queue full is offered again.
+  else; a frame that finds its stream's queue full is offered again. With
+  --moment or --control a moment is so many microseconds of time instead.
   Q:T is a ratio: a stream's deadline moves back by T moments for each Q units
   that it has used. All shares together, each Q / T rounded up to a millionth,
   are at most the number of workers.
@@ -347,6 +372,13 @@ A frames were taken in, D images were written whole, and U units were done. The
 last line, 'units N', has the sum. A fault of one stream leaves the others as
 they are.
 
+With --control the line of a stream is printed when it ends, and each line of
+FILE is answered at once: by 'NAME admitted' where the stream is served from now
+on, and by 'line N: FAULT' where line N is wrong, which changes nothing. Behind
+'state' each stream has a line, 'NAME accepted A finished F collected K charged
+U budget C deadline E' or, while its files are being opened, 'NAME opening'. The
+last, 'now M streams N', has the moment and how many are served.
+
 Where standard error is a terminal, a line for each stream shows there how far
 it has come, at most five times a second: 'NAME frames in I out O'.
 
@@ -363,6 +395,21 @@ Stops, the ends of these lines:
   refused NoMemory       There was no memory for a frame or its image, or none
                  to go on with when the journal was full.
   torn           An answer of the server contradicts the stream's own count.
+  closed         It was closed. The images of all that was read are written.
+  admit E        It isn't served: E is TooManyStreams, BadLimits, BadBandwidth,
+                 Overload or NoMemory.
+
+What may be wrong with a line of FILE; the first of these is told:
+  TooLong        It has more than 1024 bytes.
+  BadLine        It has none of the forms, or it is the last and isn't ended.
+  BadName        A stream that hasn't ended has the name.
+  BadFile        OUT, or a FIFO, is in use by a stream that hasn't ended.
+  BadOp          A part of OPS is no operation.
+  TooManyOps     OPS has more than 8 parts.
+  BadBandwidth   Q and T are not 1 <= Q <= T <= 1048576.
+  NoStream       No stream has the name.
+  AlreadyClosed  The stream was closed before.
+  NoMemory       There was no memory for what it asks.
 
 The streams are opened side by side: IN, whose header is read, and then OUT.
 What writes to a FIFO, or reads from one, is to be started before, or beside.
@@ -370,14 +417,17 @@ At most 4 frames of a stream are unfinished, and 4 images wait to be written.
 
 Faults, each one line on standard error behind 'y4mserve: '; status 2:
   bad band              B is odd.
+  no streams            There is none, and no --control.
   too many streams      There are more than 64.
-  bad stream WORD       WORD has not the six parts above.
+  bad stream WORD       WORD has not the six parts above, or IN is /dev/stdin
+                        and FILE is '-'.
   repeated name NAME    Two streams have the name.
   BadOp NAME            A part of the stream's OPS is no operation.
   TooManyOps NAME       Its OPS has more than 8 parts.
   repeated file FILE    A FIFO, or a file that is written, stands twice; the
                         report's file counts too.
 Status 1, before any file is opened:
+  control               FILE can't be opened.
   BadBandwidth NAME     Q and T are not 1 <= Q <= T <= 1048576.
   Overload NAME         The streams before it leave it less than its share.
   NoMemory              No memory was left.
@@ -385,4 +435,6 @@ Status 1, in place of the report:
   session NoMemory      There was no memory, or no thread, to serve with.
   session Mismatch      What streams and workers did isn't what was recorded.
   write                 The report couldn't be written.
-Status 1 also where a stop is not whole.";
+Status 1, beside the report:
+  control read          Reading FILE failed, and no more of it is read.
+Status 1 also where a stop is not whole or closed.";

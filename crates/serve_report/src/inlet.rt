@@ -2,8 +2,9 @@
 ghost use Rattle.std.specs.Prelude.{◌≡◌};
 ghost use Rattle.std.specs.Io.KnownBytes.{Keeps};
 ghost use Rattle.serve_report.specs.Inlets.{IsInflowOf, inflow_remaining, inlet_remaining};
+ghost use Rattle.serve_report.specs.declared.inlet.Inlet.TheVariants.{Slow};
 
-use crate::lookout::Lookout;
+use crate::lookout::{Looker, Lookout};
 use std::alloc::Global;
 use std::io::{self, Read};
 use std::sync::Wait;
@@ -41,6 +42,17 @@ impl<R: Read, S: Read + Drop, T: Wait + Drop> Read for Inflow<R, S, T> {
     }
 }
 
+impl<R: Read, S: Read + Drop, T: Wait + Clock + Drop> Inflow<R, S, T> {
+    /// Whether reads of what is wanted would be answered at once, where that can be told. It waits for that at
+    /// most so many milliseconds.
+    pub fn is_ready(&self, milliseconds: u64, wanted: Wanted) -> bool {
+        match self {
+            Inflow::Watched(lookout) => lookout.is_ready(milliseconds, wanted),
+            _ => true,
+        }
+    }
+}
+
 /// Looks out at an inlet that may wait. Nothing is read of it yet.
 pub fn inflow_of<R, S, T>(rt: &T, alloc: Global, inlet: Inlet<R, S>) -> Inflow<R, S, T>
 where
@@ -51,12 +63,48 @@ where
         (inflow_remaining R.remaining S.remaining result) }
     ensures kind { IsInflowOf inlet result }
 {
+    let looker = if matches!(inlet, Inlet::Slow(_)) {
+        Looker::start(rt, alloc)
+    } else {
+        None
+    };
+    inflow_by(alloc, inlet, looker)
+}
+
+/// The same by a looker that was started before, if one was.
+pub fn inflow_by<R, S, T>(
+    alloc: Global,
+    inlet: Inlet<R, S>,
+    looker: Option<Looker<S, T>>,
+) -> Inflow<R, S, T>
+where
+    R: Read,
+    S: Read + Drop,
+    T: Wait + Clock + Drop,
+    ensures bytes { Keeps (inlet_remaining R.remaining inlet)
+        (inflow_remaining R.remaining S.remaining result) }
+    ensures kind { IsInflowOf inlet result }
+{
     match inlet {
         Inlet::Prompt(reader) => Inflow::Prompt(reader),
-        Inlet::Slow(reader) => match Lookout::start(rt, alloc, reader) {
-            Ok(lookout) => Inflow::Watched(lookout),
-            Err(reader) => Inflow::Slow(reader),
-        },
+        Inlet::Slow(reader) => watched(alloc, reader, looker),
+    }
+}
+
+/// Looks out at a reader that may wait, where there is a looker.
+fn watched<R, S, T>(alloc: Global, reader: S, looker: Option<Looker<S, T>>) -> Inflow<R, S, T>
+where
+    R: Read,
+    S: Read + Drop,
+    T: Wait + Clock + Drop,
+    ensures { IsInflowOf (Slow reader) result }
+{
+    let Some(looker) = looker else {
+        return Inflow::Slow(reader);
+    };
+    match looker.look_out(alloc, reader) {
+        Ok(lookout) => Inflow::Watched(lookout),
+        Err(reader) => Inflow::Slow(reader),
     }
 }
 
@@ -94,9 +142,6 @@ impl<R: Read, S: Read + Drop, T: Wait + Clock + Drop> Source for OverInflow<R, S
     }
 
     fn is_ready(&self, milliseconds: u64, wanted: Wanted) -> bool {
-        match &self.inflow {
-            Inflow::Watched(lookout) => lookout.is_ready(milliseconds, wanted),
-            _ => true,
-        }
+        self.inflow.is_ready(milliseconds, wanted)
     }
 }

@@ -2,6 +2,7 @@
 #![tactic(auto)]
 
 mod ahead;
+pub mod control;
 pub mod files;
 mod help;
 pub mod inlet;
@@ -20,5 +21,5 @@ pub use inlet::Inlet;
 pub use lookout::Lookout;
 pub use program::{main_on, run_on};
 pub use progress::{Unwatched, Watch};
-pub use serve::Counter;
+pub use serve::{Counter, RunClock};
 pub use serve_script::{ReplayFault, replay};

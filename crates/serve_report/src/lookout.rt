@@ -13,6 +13,8 @@ use y4m_stream::Wanted;
 /// Who has the reader, and what is asked of the looker.
 #[derive(Drop)]
 enum State<R: Read> {
+    /// There is no reader yet.
+    Idle,
     /// The looker rests. What it found is held, until it is taken.
     Resting(Ahead<R>),
     /// The looker is to read of what is wanted.
@@ -146,26 +148,10 @@ impl<R: Read + Drop, T: Wait + Drop> Lookout<R, T> {
         R: Send + 'static,
         T: Threads + Copy + Send + 'static,
     {
-        let rt = *rt;
-        let ahead = Ahead::new(alloc, reader)?;
-        let post = Post {
-            state: Mutex::new(State::Over),
-            changed: Condvar::new(),
-        };
-        let Ok(post) = Arc::new(alloc, post) else {
-            return Err(ahead.into_reader());
-        };
-        let Ok(theirs) = Arc::try_clone(&post) else {
-            return Err(ahead.into_reader());
-        };
-        // Held until the looker is there, so that it doesn't find the state that it ends at.
-        let mut state = post.state.lock(&rt);
-        if thread::spawn(&rt, move || look_out(&rt, &theirs)).is_err() {
-            return Err(ahead.into_reader());
+        match Looker::start(rt, alloc) {
+            Some(looker) => looker.look_out(alloc, reader),
+            None => Err(reader),
         }
-        *state = State::Resting(ahead);
-        drop(state);
-        Ok(Lookout { rt, post })
     }
 
     /// Whether reads of what is wanted would be answered at once: with bytes, with the end, or with a fault.
@@ -184,6 +170,42 @@ impl<R: Read + Drop, T: Wait + Drop> Lookout<R, T> {
             .changed
             .wait_timeout_while(&self.rt, state, patience, |state| state.is_unknown());
         !state.is_unknown()
+    }
+}
+
+/// A looker that rests until it is given a reader.
+#[derive(Drop)]
+pub struct Looker<R: Read + Drop, T: Wait + Drop> {
+    lookout: Lookout<R, T>,
+}
+
+impl<R: Read + Drop, T: Wait + Drop> Looker<R, T> {
+    /// None where there is no thread or no memory.
+    pub fn start(rt: &T, alloc: Global) -> Option<Looker<R, T>>
+    where
+        R: Send + 'static,
+        T: Threads + Copy + Send + 'static,
+    {
+        let rt = *rt;
+        let post = Post {
+            state: Mutex::new(State::Idle),
+            changed: Condvar::new(),
+        };
+        let post = Arc::new(alloc, post).ok()?;
+        let theirs = Arc::try_clone(&post).ok()?;
+        if thread::spawn(&rt, move || look_out(&rt, &theirs)).is_err() {
+            return None;
+        }
+        let lookout = Lookout { rt, post };
+        Some(Looker { lookout })
+    }
+
+    /// Nothing is read yet. Where there is no memory the reader comes back.
+    pub fn look_out(self, alloc: Global, reader: R) -> Result<Lookout<R, T>, R> {
+        let ahead = Ahead::new(alloc, reader)?;
+        let Self { lookout } = self;
+        *lookout.post.state.lock(&lookout.rt) = State::Resting(ahead);
+        Ok(lookout)
     }
 }
 

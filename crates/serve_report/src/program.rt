@@ -81,9 +81,12 @@ pub fn main_on<R, W, E, F, T>(
 ) -> u8
 where
     R: Read + Drop + Send,
-    W: Write,
-    E: Write,
+    W: Write + Send,
+    E: Write + Send,
     F: Files + Sync,
+    F::Reader: Send,
+    F::Slow: Send + 'static,
+    F::Writer: Send,
     T: Threads + Wait + Clock + Copy + Drop + Send + Sync + 'static,
     ensures status { result ≤ 2 }
     ensures untouched { result ≡ 2 → Keeps (W.contents output.old) (W.contents output.new) }
@@ -110,9 +113,12 @@ pub fn run_on<R, W, E, F, V, T>(
 ) -> u8
 where
     R: Read + Drop + Send,
-    W: Write,
-    E: Write,
+    W: Write + Send,
+    E: Write + Send,
     F: Files + Sync,
+    F::Reader: Send,
+    F::Slow: Send + 'static,
+    F::Writer: Send,
     V: Watch + Sync,
     T: Threads + Wait + Clock + Copy + Drop + Send + Sync + 'static,
     ensures status { result ≤ 2 }
@@ -147,9 +153,12 @@ fn run_request<R, W, E, F, V, T>(
 ) -> u8
 where
     R: Read + Drop + Send,
-    W: Write,
-    E: Write,
+    W: Write + Send,
+    E: Write + Send,
     F: Files + Sync,
+    F::Reader: Send,
+    F::Slow: Send + 'static,
+    F::Writer: Send,
     V: Watch + Sync,
     T: Threads + Wait + Clock + Copy + Drop + Send + Sync + 'static,
     ensures status { result ≤ 2 }
@@ -160,7 +169,7 @@ where
     match request {
         Request::Filter(asked) => run_filter(rt, alloc, asked, input, output, errors, watch),
         Request::Replay => run_replay(alloc, input, output, errors),
-        Request::Serve(asked) => run_serve(rt, alloc, asked, output, errors, files, watch),
+        Request::Serve(asked) => run_serve(rt, alloc, asked, input, output, errors, files, watch),
     }
 }
 

@@ -9,14 +9,21 @@ ghost use Rattle.serve_report.specs.Openings.{openings_of};
 ghost use Rattle.serve_report.specs.ServeChecks.{all_told};
 ghost use Rattle.serve_work.specs.Sessions.{AreInputs, served_of, starts_of};
 
-use self::apart::tell_apart;
-use self::checks::{Asked, Checked, WordFault, check};
+pub use self::apart::FileUse;
+use self::apart::{tell_apart, tell_control_apart};
+use self::checks::check;
+pub use self::checks::{Asked, Checked, WordFault};
 pub use self::clock::Counter;
-use self::gate::PlainGate;
+pub use self::gate::PlainGate;
 use self::opening::{Opened, Tried, all_tried, open_all};
+pub use self::opening::{job_of, spec_of};
 use self::ready::Input;
-use self::report::StreamRow;
+pub use self::ready::Ready;
+pub use self::report::{AdmitFault, StreamRow, StreamStop};
 use self::rows::{are_whole, rows_of, write_report};
+pub use self::run_clock::RunClock;
+pub use self::stream_word::{StreamWord, parse_word_beside};
+use crate::control::{lines_of, run_control};
 use crate::files::Files;
 use crate::progress::{Watch, following};
 use crate::tell::tell;
@@ -24,7 +31,7 @@ use crate::words::ServeWords;
 use serve_core::{Setup, StreamSpec};
 use serve_work::{Clock, Served, SessionFault, serve_session};
 use std::alloc::{AllocError, Global};
-use std::io::{self, Write};
+use std::io::{self, Read, Write};
 use std::sync::Wait;
 use std::thread::Threads;
 use std::{fmt, time};
@@ -38,11 +45,12 @@ mod opening;
 mod ready;
 mod report;
 mod rows;
+mod run_clock;
 mod stream_word;
 
 /// Why a run isn't reported.
 #[derive(Clone, Copy)]
-enum RunFault {
+pub enum RunFault {
     Session(SessionFault),
     Write,
 }
@@ -75,24 +83,29 @@ impl From<io::Error> for RunFault {
 }
 
 /// Serves the streams that the words ask for, and answers the program's status.
-pub fn run_serve<W, E, F, V, T>(
+pub fn run_serve<R, W, E, F, V, T>(
     rt: &T,
     alloc: Global,
     words: ServeWords<'_>,
+    input: R,
     output: &mut W,
     errors: &mut E,
     files: &F,
     watch: &V,
 ) -> u8
 where
-    W: Write,
-    E: Write,
+    R: Read + Drop + Send,
+    W: Write + Send,
+    E: Write + Send,
     F: Files + Sync,
+    F::Reader: Send,
+    F::Slow: Send + 'static,
+    F::Writer: Send,
     V: Watch + Sync,
     T: Threads + Wait + time::Clock + Copy + Drop + Send + Sync + 'static,
     ensures status { result ≤ 2 }
     ensures untouched { result ≡ 2 → Keeps (W.contents output.old) (W.contents output.new) }
-    ensures well { result ≡ 0
+    ensures well { result ≡ 0 → words.entry.control ≡ None
         → ServesAll F.place_gives F.open_gives F.create_gives words.entry (W.contents output.old)
         (W.contents output.new) }
 {
@@ -104,7 +117,15 @@ where
         return refuse(errors, fault);
     }
     let told = following(watch, words.is_quiet);
-    let clock = Counter::new(rt);
+    let clock = RunClock::new(rt, words.microseconds());
+    if let Some(control) = words.control {
+        if let Err(clash) = tell_control_apart(files, lines_of(control), &checked.streams) {
+            return refuse(errors, clash);
+        }
+        return run_control(
+            rt, alloc, control, checked, &clock, input, output, errors, files, told,
+        );
+    }
     match serve(rt, alloc, checked, output, files, told, &clock) {
         Ok(true) => 0,
         Ok(false) => 1,
@@ -116,7 +137,7 @@ where
 }
 
 /// Tells what is wrong with the words, and answers the program's status.
-fn refuse<E: Write>(errors: &mut E, fault: WordFault<'_>) -> u8
+pub fn refuse<E: Write>(errors: &mut E, fault: WordFault<'_>) -> u8
     ensures fault { 1 ≤ result }
     ensures most { result ≤ 2 }
 {
@@ -138,6 +159,9 @@ fn serve<W, F, V, K, T>(
 where
     W: Write,
     F: Files + Sync,
+    F::Reader: Send,
+    F::Slow: Send + 'static,
+    F::Writer: Send,
     V: Watch + Sync,
     K: Clock + Sync,
     T: Threads + Wait + time::Clock + Copy + Drop + Send + Sync + 'static,
@@ -158,7 +182,11 @@ where
 
 /// Tells a watch which streams begin, and answers it. Where there is no memory for their names, none is told
 /// of the run.
-fn begun<'w, V: Watch>(alloc: Global, streams: &[Asked<'_>], told: Option<&'w V>) -> Option<&'w V> {
+pub fn begun<'w, V: Watch>(
+    alloc: Global,
+    streams: &[Asked<'_>],
+    told: Option<&'w V>,
+) -> Option<&'w V> {
     let watch = told?;
     let mut names = Vec::new(alloc);
     for asked in streams {
@@ -179,6 +207,9 @@ fn serve_files<'a, F, V, K, T>(
 ) -> Result<Vec<StreamRow<'a>>, RunFault>
 where
     F: Files + Sync,
+    F::Reader: Send,
+    F::Slow: Send + 'static,
+    F::Writer: Send,
     V: Watch + Sync,
     K: Clock + Sync,
     T: Threads + Wait + time::Clock + Copy + Drop + Send + Sync + 'static,

@@ -11,12 +11,16 @@ use std::alloc::AllocError;
 
 mod command;
 mod given;
+mod live;
 mod read;
 
 pub use read::read_words;
 
 /// The fewest entries of a journal: one for each stream that may be served, and two.
 const FEWEST_JOURNAL: usize = MOST_STREAMS + 2;
+
+/// The most microseconds of a moment.
+const MOST_MICROSECONDS: u32 = 1_000_000;
 
 /// What the words ask for.
 #[derive(Drop)]
@@ -53,6 +57,10 @@ pub struct ServeWords<'a> {
     pub journal: u32,
     /// Nothing is shown of the run while it goes on.
     pub is_quiet: bool,
+    /// The file whose lines ask for more streams, if one does; `-` is standard input.
+    pub control: Option<&'a str>,
+    /// The microseconds of a moment, where they are told.
+    pub moment: Option<u32>,
     /// The words that name the streams.
     pub streams: Vec<&'a str>,
     ghost in_range: { (1 ≤ workers) × (workers ≤ MOST_WORKERS) × (1 ≤ quantum) × (quantum ≤ MOST_QUANTUM)

@@ -7,6 +7,8 @@ mod clock;
 #[cfg(test)]
 mod compare;
 #[cfg(test)]
+mod control;
+#[cfg(test)]
 mod lookout;
 #[cfg(test)]
 mod program;

@@ -10,6 +10,7 @@ use std::time::Clock;
 use test_tools::Tape;
 
 mod command_line;
+mod control;
 mod memory;
 mod serving;
 mod threads;

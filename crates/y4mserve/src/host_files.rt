@@ -3,8 +3,8 @@ ghost use Rattle.std.specs.Prelude.{⊤};
 
 use serve_report::{FileId, Files, Inlet, Place};
 use std::array;
-use std::fs::{self, File, Metadata};
-use std::io::{self, ErrorKind};
+use std::fs::{self, File, Metadata, OpenOptions};
+use std::io::{self, ErrorKind, Write};
 use std::os::fd::AsRawFd;
 use std::os::unix::fs::{FileTypeExt, MetadataExt};
 use std::sync::OnceLock;
@@ -56,6 +56,28 @@ impl<'a> HostFiles<'a> {
     }
 }
 
+/// A file that is written.
+#[derive(Drop)]
+pub struct Output {
+    file: File,
+    /// Whether the bytes that were there before are there yet.
+    is_kept: bool,
+}
+
+impl Write for Output {
+    fn write(&mut self, buf: &[u8]) -> io::Result<usize> {
+        if self.is_kept {
+            self.file.set_len(0)?;
+            self.is_kept = false;
+        }
+        self.file.write(buf)
+    }
+
+    fn flush(&mut self) -> io::Result<()> {
+        self.file.flush()
+    }
+}
+
 /// A folder at the lowest number that is free, if that is a standard descriptor's.
 fn keep(rt: &HostRuntime) -> Option<File> {
     let folder = fs::open(rt, "/").ok()?;
@@ -97,7 +119,7 @@ impl Files for HostFiles<'_> {
 
     type Slow = File;
 
-    type Writer = File;
+    type Writer = Output;
 
     ghost place_gives = { λ _ _. ⊤ };
 
@@ -122,9 +144,32 @@ impl Files for HostFiles<'_> {
         }
     }
 
-    fn create(&self, name: &str) -> io::Result<File> {
+    fn create(&self, name: &str) -> io::Result<Output> {
         let file = fs::create(self.rt, name)?;
         self.note_made(&file)?;
-        Ok(file)
+        Ok(Output {
+            file,
+            is_kept: false,
+        })
+    }
+
+    fn make(&self, name: &str) -> io::Result<Output> {
+        let file = OpenOptions::new()
+            .write(true)
+            .create(true)
+            .open(self.rt, name)?;
+        let is_kept = file.metadata()?.file_type().is_file();
+        Ok(Output { file, is_kept })
+    }
+
+    fn hold(&self, name: &str) -> io::Result<File> {
+        let kind = fs::metadata(self.rt, name)?.file_type();
+        if kind.is_dir() {
+            return Err(io::Error::from(ErrorKind::IsADirectory));
+        }
+        OpenOptions::new()
+            .read(true)
+            .write(kind.is_fifo())
+            .open(self.rt, name)
     }
 }

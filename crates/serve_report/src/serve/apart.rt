@@ -22,7 +22,7 @@ pub struct FileUse<'a> {
 
 impl FileUse<'_> {
     /// Whether one of the two would lose what the other reads or writes.
-    fn clashes_with(&self, other: &FileUse<'_>) -> bool
+    pub fn clashes_with(&self, other: &FileUse<'_>) -> bool
         ensures { IsTrue result ↔ Clash self.now other.now }
     {
         let is_written = self.is_written || other.is_written;
@@ -52,6 +52,23 @@ pub fn tell_apart<'a, F: Files>(
         None => Ok(()),
         Some(found) => Err(WordFault::RepeatedFile(found.name)),
     }
+}
+
+/// Refuses the first file of a stream that is the one from which a control's lines come.
+pub fn tell_control_apart<'a, F: Files>(
+    files: &F,
+    lines: &'a str,
+    streams: &[Asked<'a>],
+) -> Result<(), WordFault<'a>> {
+    let lines = use_of(files, lines, true);
+    for asked in streams {
+        for name in [asked.word.input, asked.word.output] {
+            if lines.clashes_with(&use_of(files, name, true)) {
+                return Err(WordFault::RepeatedFile(name));
+            }
+        }
+    }
+    Ok(())
 }
 
 /// The files of the report and of the streams, in order.

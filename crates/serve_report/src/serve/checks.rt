@@ -4,9 +4,10 @@ ghost use Rattle.cbs_account.specs.Admission.{load_of};
 ghost use Rattle.filters.specs.OpsText.{ops_of};
 ghost use Rattle.serve_report.specs.ServeChecks.{AdmissionGives, AreSaid, ChecksGive, HasOptions, IsSaid};
 ghost use Rattle.serve_report.specs.ServeChecks.{MayTell, all_told, asked_told, fault_told, is_named};
-ghost use Rattle.serve_report.specs.ServeChecks.{ops_given, word_given, words_asked, words_given};
+ghost use Rattle.serve_report.specs.ServeChecks.{ops_given, word_given, words_given};
+ghost use Rattle.serve_report.specs.StreamWords.{words_asked};
 
-use super::stream_word::{StreamWord, parse_stream_word};
+use super::stream_word::{StreamWord, parse_word_beside};
 use crate::words::ServeWords;
 use cbs_account::limits::MOST_WORKERS;
 use cbs_account::{Admission, AdmissionError};
@@ -38,6 +39,8 @@ pub struct Checked<'a> {
 pub enum WordFault<'a> {
     /// The rows of a band are odd.
     BadBand,
+    /// No stream is asked for, and none may come.
+    NoStreams,
     /// There are more streams than are served at once.
     TooManyStreams,
     /// This word names no stream.
@@ -71,6 +74,7 @@ impl fmt::Display for WordFault<'_> {
     fn fmt<W: fmt::Write>(&self, f: &mut fmt::Formatter<W>) -> fmt::Result {
         match *self {
             WordFault::BadBand => write!(f, "bad band"),
+            WordFault::NoStreams => write!(f, "no streams"),
             WordFault::TooManyStreams => write!(f, "too many streams"),
             WordFault::BadStream(word) => write!(f, "bad stream {word}"),
             WordFault::RepeatedName(name) => write!(f, "repeated name {name}"),
@@ -101,10 +105,14 @@ pub fn check<'a>(alloc: Global, words: &ServeWords<'a>) -> Result<Checked<'a>, W
     let Some(height) = BandHeight::new(words.band) else {
         return Err(WordFault::BadBand);
     };
+    if words.streams.is_empty() && words.control.is_none() {
+        return Err(WordFault::NoStreams);
+    }
     if words.streams.len() > MOST_STREAMS {
         return Err(WordFault::TooManyStreams);
     }
-    let streams = all_streams(alloc, &words.streams)?;
+    let is_taken = words.takes_input();
+    let streams = all_streams(alloc, &words.streams, is_taken)?;
     let workers = u64::from(words.workers);
     admit_all(workers, &streams)?;
     Ok(Checked {
@@ -117,16 +125,20 @@ pub fn check<'a>(alloc: Global, words: &ServeWords<'a>) -> Result<Checked<'a>, W
 }
 
 /// The streams of the words, or the first fault among these.
-fn all_streams<'a>(alloc: Global, words: &[&'a str]) -> Result<Vec<Asked<'a>>, WordFault<'a>>
+fn all_streams<'a>(
+    alloc: Global,
+    words: &[&'a str],
+    is_taken: bool,
+) -> Result<Vec<Asked<'a>>, WordFault<'a>>
     ensures streams { IfOk result (λ streams.
-        words_given [] (words_asked words.now) ≡ Ok (all_told streams.items)) }
+        words_given is_taken [] (words_asked words.now) ≡ Ok (all_told streams.items)) }
     ensures ops { IfOk result (λ streams. AreSaid streams.items) }
     ensures fault { IfErr result
-        (λ fault. MayTell fault (λ told. words_given [] (words_asked words.now) ≡ Err told)) }
+        (λ fault. MayTell fault (λ told. words_given is_taken [] (words_asked words.now) ≡ Err told)) }
 {
     let mut streams = Vec::new(alloc);
     for word in words {
-        let asked = next_stream(alloc, &streams, word)?;
+        let asked = next_stream(alloc, &streams, word, is_taken)?;
         streams.push(asked)?;
     }
     Ok(streams)
@@ -137,14 +149,15 @@ fn next_stream<'a>(
     alloc: Global,
     before: &[Asked<'a>],
     text: &'a str,
+    is_taken: bool,
 ) -> Result<Asked<'a>, WordFault<'a>>
     ensures stream { IfOk result
-        (λ asked. word_given (all_told before.now) text.now ≡ Ok (asked_told asked)) }
+        (λ asked. word_given is_taken (all_told before.now) text.now ≡ Ok (asked_told asked)) }
     ensures ops { IfOk result IsSaid }
     ensures fault { IfErr result
-        (λ fault. MayTell fault (λ told. word_given (all_told before.now) text.now ≡ Err told)) }
+        (λ fault. MayTell fault (λ told. word_given is_taken (all_told before.now) text.now ≡ Err told)) }
 {
-    let Some(word) = parse_stream_word(text) else {
+    let Some(word) = parse_word_beside(text, is_taken) else {
         return Err(WordFault::BadStream(text));
     };
     if has_name(before, word.name) {

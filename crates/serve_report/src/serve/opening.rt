@@ -17,7 +17,6 @@ ghost use Rattle.serve_report.specs.Openings.{openings_of, specs_in};
 use super::checks::Asked;
 use super::ready::{Input, Ready};
 use super::report::StreamStop;
-use super::stream_word::StreamWord;
 use crate::files::{Files, StreamFiles};
 use crate::inlet::{Inlet, OverInflow, inflow_of};
 use crate::progress::{Watch, WatchedSink, WatchedSource};
@@ -117,7 +116,7 @@ impl<'a, R: Source, W: Sink> Opened<'a, R, W> {
 /// Opens the streams side by side, each in a thread of its own, or in turn where threads are refused. One that
 /// stops here leaves the others as they are. A watch is told of their frames by their places among all of
 /// them.
-pub fn open_all<'a, 'w, F: Files + Sync, V: Watch + Sync, T>(
+pub fn open_all<'a, 'w, F, V, T>(
     rt: &T,
     alloc: Global,
     streams: Vec<Asked<'a>>,
@@ -126,6 +125,11 @@ pub fn open_all<'a, 'w, F: Files + Sync, V: Watch + Sync, T>(
     told: Option<&'w V>,
 ) -> Result<Vec<Tried<'a, Inflows<'w, F, V, T>, Outflows<'w, F, V>>>, AllocError>
 where
+    F: Files + Sync,
+    F::Reader: Send,
+    F::Slow: Send + 'static,
+    F::Writer: Send,
+    V: Watch + Sync,
     T: Threads + Wait + Clock + Copy + Drop + Send + Sync + 'static,
     ensures { IfOk result (λ tried. AllZip (IsOpening F.open_gives F.create_gives height) streams.entry.items
         (openings_of tried.items)) }
@@ -148,7 +152,7 @@ fn with_places<'a>(alloc: Global, streams: Vec<Asked<'a>>) -> Result<Vec<Placed<
 }
 
 /// Opens each stream.
-fn try_all<'a, 'w, F: Files + Sync, V: Watch + Sync, T>(
+fn try_all<'a, 'w, F, V, T>(
     rt: &T,
     alloc: Global,
     placed: Vec<Placed<'a>>,
@@ -157,6 +161,11 @@ fn try_all<'a, 'w, F: Files + Sync, V: Watch + Sync, T>(
     told: Option<&'w V>,
 ) -> Result<Vec<Tried<'a, Inflows<'w, F, V, T>, Outflows<'w, F, V>>>, AllocError>
 where
+    F: Files + Sync,
+    F::Reader: Send,
+    F::Slow: Send + 'static,
+    F::Writer: Send,
+    V: Watch + Sync,
     T: Threads + Wait + Clock + Copy + Drop + Send + Sync + 'static,
     ensures count { IfOk result (λ tried. vec_len tried ≡ vec_len placed.entry) }
     ensures each { IfOk result (λ tried. (i : ℕ) (job : _) (given : _) → i < length placed.entry.items
@@ -171,7 +180,7 @@ where
 }
 
 /// Opens a stream.
-fn try_stream<'a, 'w, F: Files, V: Watch, T>(
+fn try_stream<'a, 'w, F, V, T>(
     rt: &T,
     alloc: Global,
     placed: Placed<'a>,
@@ -180,6 +189,9 @@ fn try_stream<'a, 'w, F: Files, V: Watch, T>(
     told: Option<&'w V>,
 ) -> Tried<'a, Inflows<'w, F, V, T>, Outflows<'w, F, V>>
 where
+    F: Files,
+    F::Slow: Send + 'static,
+    V: Watch,
     T: Threads + Wait + Clock + Copy + Drop + Send + 'static,
     ensures { IsOpening F.open_gives F.create_gives height placed.entry.asked
         (opening_of result) }
@@ -225,7 +237,7 @@ pub fn all_tried<'a, R: Source + Drop, W: Sink + Drop>(
 }
 
 /// Opens the input, reads its header, makes the chain, and makes the output.
-fn open_stream<'w, F: Files, V: Watch, T>(
+fn open_stream<'w, F, V, T>(
     rt: &T,
     alloc: Global,
     asked: Asked<'_>,
@@ -235,6 +247,9 @@ fn open_stream<'w, F: Files, V: Watch, T>(
     told: Option<&'w V>,
 ) -> Result<Ready<Inflows<'w, F, V, T>, Outflows<'w, F, V>>, StreamStop>
 where
+    F: Files,
+    F::Slow: Send + 'static,
+    V: Watch,
     T: Threads + Wait + Clock + Copy + Drop + Send + 'static,
     ensures opened { files.new.opened ≡ one_more files.old.opened }
     ensures made { files.new.made ≡ made_after result files.old.made }
@@ -261,7 +276,7 @@ where
         Ok(output) => output,
         Err(_) => return Err(StreamStop::Create),
     };
-    let spec = spec_of(word, geometry, spec);
+    let spec = spec_of(word.q, word.t, geometry, spec);
     let sink = WatchedSink::new(OverWrite::new(output), stream, told);
     let input = (reader, sink);
     Ok(Ready { spec, input })
@@ -276,7 +291,7 @@ fn open_reader<'w, R, S, V, T>(
     told: Option<&'w V>,
 ) -> Result<StreamReader<WatchedSource<'w, OverInflow<R, S, T>, V>>, ReadFault>
 where
-    R: Read + Drop + Send,
+    R: Read + Drop,
     S: Read + Drop + Send + 'static,
     V: Watch,
     T: Threads + Wait + Clock + Copy + Drop + Send + 'static,
@@ -289,17 +304,17 @@ where
     Ok(reader)
 }
 
-/// What a stream of this word is served with.
-fn spec_of(word: StreamWord<'_>, geometry: Geometry, spec: Arc<JobSpec>) -> StreamSpec
-    ensures share { (result.maximum ≡ word.entry.q) × (result.period ≡ word.entry.t) }
+/// What a stream of this share is served with.
+pub fn spec_of(q: u64, t: u64, geometry: Geometry, spec: Arc<JobSpec>) -> StreamSpec
+    ensures share { (result.maximum ≡ q) × (result.period ≡ t) }
     ensures places { (result.queue ≡ 4) × (result.outbox ≡ 4) × (result.frames ≡ MOST_FRAMES) }
     ensures chain { (result.geometry ≡ geometry) × (result.chain ≡ arc_value spec) }
 {
-    StreamSpec::new(geometry, spec, word.q, word.t, QUEUE, OUTBOX, MOST_FRAMES)
+    StreamSpec::new(geometry, spec, q, t, QUEUE, OUTBOX, MOST_FRAMES)
 }
 
 /// What is done to each frame of this geometry.
-fn job_of(
+pub fn job_of(
     alloc: Global,
     ops: Vec<Op>,
     geometry: Geometry,

@@ -1,10 +1,28 @@
 //! What is reported of the streams of a run.
 ghost use Rattle.std.specs.Prelude.{◌≡◌};
+ghost use Rattle.serve_report.specs.ServeReport.{admit_word};
 
 use filters::FilterError;
+use serve_core::Refusal as Core;
+use serve_hub::Refusal;
 use serve_work::{Cause, Stop};
 use std::fmt;
 use y4m_stream::{ReadFault, WriteFault};
+
+/// Why a stream isn't admitted to those that are served.
+#[derive(Clone, Copy)]
+pub enum AdmitFault {
+    /// As many streams as can be are opened or served.
+    TooManyStreams,
+    /// A number of the stream is outside its limits.
+    BadLimits,
+    /// Its maximum budget and period are those of no stream.
+    BadBandwidth,
+    /// The streams that are served leave it less than its share.
+    Overload,
+    /// There was no memory, or no thread, for it.
+    NoMemory,
+}
 
 /// Why a stream ended.
 #[derive(Clone, Copy)]
@@ -25,6 +43,52 @@ pub enum StreamStop {
     Refused(Cause),
     /// What was answered contradicts what was asked.
     Torn,
+    /// It was closed while it was read, and the images of all that was read were written.
+    Closed,
+    /// It wasn't admitted.
+    Admit(AdmitFault),
+}
+
+impl AdmitFault {
+    /// The word that it is told by, its own name.
+    pub fn word(&self) -> &'static str
+        ensures { result.now ≡ admit_word self.now }
+    {
+        match self {
+            AdmitFault::TooManyStreams => "TooManyStreams",
+            AdmitFault::BadLimits => "BadLimits",
+            AdmitFault::BadBandwidth => "BadBandwidth",
+            AdmitFault::Overload => "Overload",
+            AdmitFault::NoMemory => "NoMemory",
+        }
+    }
+}
+
+impl fmt::Display for AdmitFault {
+    ghost use Rattle.std.specs.Prelude.{Some};
+    ghost use Rattle.serve_report.specs.ServeReport.{admit_word};
+
+    ghost output = { λ fault. Some (admit_word fault) };
+
+    fn fmt<W: fmt::Write>(&self, f: &mut fmt::Formatter<W>) -> fmt::Result {
+        f.write_str(self.word())
+    }
+}
+
+impl From<Refusal> for AdmitFault {
+    ghost use Rattle.serve_report.specs.ServeReport.{admit_fault};
+
+    ghost from_gives = { λ refusal fault. fault ≡ admit_fault refusal };
+
+    fn from(refusal: Refusal) -> AdmitFault {
+        match refusal {
+            Refusal::Core(Core::TooManyStreams) => AdmitFault::TooManyStreams,
+            Refusal::Core(Core::BadLimits) => AdmitFault::BadLimits,
+            Refusal::Core(Core::BadBandwidth) => AdmitFault::BadBandwidth,
+            Refusal::Core(Core::Overload) => AdmitFault::Overload,
+            _ => AdmitFault::NoMemory,
+        }
+    }
 }
 
 impl From<Stop> for StreamStop {
@@ -59,6 +123,8 @@ impl fmt::Display for StreamStop {
             StreamStop::Write(fault) => write!(f, "write {fault}"),
             StreamStop::Refused(cause) => write!(f, "refused {cause}"),
             StreamStop::Torn => write!(f, "torn"),
+            StreamStop::Closed => write!(f, "closed"),
+            StreamStop::Admit(fault) => write!(f, "admit {fault}"),
         }
     }
 }

@@ -4,10 +4,14 @@ ghost use Rattle.std.specs.List.{before_first};
 ghost use Rattle.std.specs.Option.{option_map};
 ghost use Rattle.std.specs.Prelude.{◌==◌};
 ghost use Rattle.y4m_header.specs.Text.{text_after};
-ghost use Rattle.serve_report.specs.StreamWords.{cut_at_colons, parts_of, stream_of, stream_told};
+ghost use Rattle.serve_report.specs.StreamWords.{cut_at_colons, parts_of, stream_beside, stream_of};
+ghost use Rattle.serve_report.specs.StreamWords.{stream_told};
 
 use serve_script::is_name;
 use y4m_header::text::{MOST_DIGITS, decimal_number};
+
+/// Where standard input is found.
+const INPUT: &str = "/dev/stdin";
 
 /// A stream as its word has it, `NAME:IN:OUT:Q:T:OPS`: `q` units of work in every `t` moments.
 #[derive(Clone, Copy)]
@@ -33,7 +37,7 @@ struct WordParts<'a> {
 
 /// The stream of a word, which is split at its first five colons, where each part has its form. The
 /// operations, which may hold more colons, aren't read.
-pub fn parse_stream_word(word: &str) -> Option<StreamWord<'_>>
+fn parse_stream_word(word: &str) -> Option<StreamWord<'_>>
     ensures { option_map stream_told result ≡ stream_of word.now }
 {
     let parts = word_parts(word)?;
@@ -49,6 +53,17 @@ pub fn parse_stream_word(word: &str) -> Option<StreamWord<'_>>
         t: decimal_number(MOST_DIGITS, parts.t.as_bytes())?,
         operations: parts.operations,
     })
+}
+
+/// The same where standard input may be taken by something else: no stream is read from it then.
+pub fn parse_word_beside(word: &str, is_taken: bool) -> Option<StreamWord<'_>>
+    ensures { option_map stream_told result ≡ stream_beside is_taken word.now }
+{
+    let word = parse_stream_word(word)?;
+    if is_taken && word.input == INPUT {
+        return None;
+    }
+    Some(word)
 }
 
 /// The parts of a word, if there are so many.

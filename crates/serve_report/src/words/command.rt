@@ -4,7 +4,7 @@ ghost use Rattle.clap.specs.Simple.{app_of};
 ghost use Rattle.serve_report.specs.CommandLine as line;
 ghost use Rattle.serve_report.specs.CommandLine.{IsArgument, IsCommand};
 
-use super::FEWEST_JOURNAL;
+use super::{FEWEST_JOURNAL, MOST_MICROSECONDS};
 use crate::help;
 use cbs_account::limits::MOST_WORKERS;
 use clap::builder::ValueParser;
@@ -91,6 +91,30 @@ fn journal_option<'a>(alloc: Global) -> Arg<'a>
     .long_help(help::JOURNAL_LONG)
 }
 
+fn control_option<'a>(alloc: Global) -> Arg<'a>
+    ensures { IsArgument line.control result }
+{
+    Arg::new(alloc, "control")
+        .long("control")
+        .action(ArgAction::Set)
+        .value_name("FILE")
+        .help(help::CONTROL)
+        .long_help(help::CONTROL_LONG)
+}
+
+fn moment_option<'a>(alloc: Global) -> Arg<'a>
+    ensures { IsArgument line.moment result }
+{
+    number_option(
+        alloc,
+        "moment",
+        "US",
+        value_parser!(u32).range(1..=MOST_MICROSECONDS as i64),
+    )
+    .help(help::MOMENT)
+    .long_help(help::MOMENT_LONG)
+}
+
 fn quiet_flag<'a>(alloc: Global, help: &'a str) -> Arg<'a>
     ensures { IsArgument line.quiet result }
 {
@@ -114,7 +138,6 @@ fn streams_argument<'a>(alloc: Global) -> Arg<'a>
     ensures { IsArgument line.streams result }
 {
     Arg::new(alloc, "STREAM")
-        .required(true)
         .action(ArgAction::Append)
         .num_args(1..)
         .value_name("NAME:IN:OUT:Q:T:OPS")
@@ -155,6 +178,8 @@ fn serve_command<'a>(alloc: Global) -> Result<Command<'a>, AllocError>
         .arg(band_option(alloc))?
         .arg(quantum_option(alloc))?
         .arg(journal_option(alloc))?
+        .arg(control_option(alloc))?
+        .arg(moment_option(alloc))?
         .arg(quiet_flag(alloc, help::SERVE_QUIET))?
         .arg(streams_argument(alloc))
 }

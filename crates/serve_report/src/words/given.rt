@@ -1,8 +1,9 @@
 //! What the words of the command line give for each option.
-ghost use Rattle.std.specs.Prelude.{◌≡◌, IfOk, codes};
-ghost use Rattle.serve_report.specs.Options.{HasFilterOptions, HasServeOptions, IsFlagOf, IsNumberOf};
-ghost use Rattle.serve_report.specs.Options.{found_in, text_of, texts_of};
-ghost use Rattle.serve_report.specs.ServeChecks.{words_asked};
+ghost use Rattle.std.specs.Prelude.{◌≡◌, IfOk, codes, option_map};
+ghost use Rattle.clap.specs.Walk.{first_of};
+ghost use Rattle.serve_report.specs.Options.{HasFilterOptions, HasServeOptions, IsFlagOf, IsNumberIn};
+ghost use Rattle.serve_report.specs.Options.{IsNumberOf, found_in, text_of, texts_of};
+ghost use Rattle.serve_report.specs.StreamWords.{words_asked};
 
 use super::{FEWEST_JOURNAL, FilterWords, ServeWords};
 use cbs_account::limits::MOST_WORKERS;
@@ -28,6 +29,20 @@ fn number_of(matches: &ArgMatches<'_>, name: &str, default: u32) -> u32
     ensures { IsNumberOf (found_in matches.now) name.now default result }
 {
     matches.get_one::<u32>(name).unwrap_or(default)
+}
+
+/// The number of an option that the words may lack.
+fn number_in(matches: &ArgMatches<'_>, name: &str) -> Option<u32>
+    ensures { IsNumberIn (found_in matches.now) name.now result }
+{
+    matches.get_one::<u32>(name)
+}
+
+/// The file of a control.
+fn control_of<'a>(matches: &ArgMatches<'a>) -> Option<&'a str>
+    ensures { option_map (λ file. file.now) result ≡ first_of (codes "control") (found_in matches.now) }
+{
+    matches.get_str("control")
 }
 
 /// Whether a flag is raised.
@@ -72,6 +87,8 @@ pub fn serve_words<'a>(
             MOST_ENTRIES as u32,
         ),
         is_quiet: flag_of(matches, "quiet"),
+        control: control_of(matches),
+        moment: number_in(matches, "moment"),
         streams: stream_words(alloc, matches)?,
     })
 }

@@ -202,7 +202,7 @@ const REPLAY_WORDS: &[&str] = &[
 ];
 
 const SERVE_WORDS: &[&str] = &[
-    "Usage: y4mserve serve [OPTIONS] <NAME:IN:OUT:Q:T:OPS>...\n",
+    "Usage: y4mserve serve [OPTIONS] [NAME:IN:OUT:Q:T:OPS]...\n",
     "-q, --quiet\n",
     "--workers <N>",
     "1 to 16",
@@ -213,6 +213,10 @@ const SERVE_WORDS: &[&str] = &[
     "--journal <N>",
     "66 to 1048576",
     "[default: 65536]",
+    "--control <FILE>",
+    "close NAME",
+    "--moment <US>",
+    "1 to 1000000",
     "--band <B>",
     "blur:R",
     "deadline",
@@ -224,6 +228,10 @@ const SERVE_WORDS: &[&str] = &[
     "TooManyFrames",
     "ClockEnd",
     "torn",
+    "closed",
+    "admit E",
+    "AlreadyClosed",
+    "no streams",
     "bad stream WORD",
     "repeated name NAME",
     "repeated file FILE",

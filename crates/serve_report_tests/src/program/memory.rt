@@ -143,6 +143,15 @@ impl<'a, T: Wait + Sync> Files for Memory<'a, T> {
         }
         Err(io::Error::from(ErrorKind::PermissionDenied))
     }
+
+    fn hold(&self, name: &str) -> io::Result<Tape<'static>> {
+        for file in self.slow {
+            if file.name == name {
+                return Ok(Tape::new(file.text, file.fails));
+            }
+        }
+        Err(io::Error::from(ErrorKind::NotFound))
+    }
 }
 
 /// No file can be opened or made.
@@ -172,5 +181,9 @@ impl Files for NoFiles {
 
     fn create(&self, _name: &str) -> io::Result<io::Sink> {
         Err(io::Error::from(ErrorKind::PermissionDenied))
+    }
+
+    fn hold(&self, _name: &str) -> io::Result<io::Empty> {
+        Err(io::Error::from(ErrorKind::NotFound))
     }
 }

@@ -12,7 +12,7 @@ use std::time::Clock;
 mod apart;
 mod checks;
 mod faults;
-mod growths;
+pub mod growths;
 mod many;
 mod openings;
 mod shares;
@@ -185,4 +185,19 @@ fn a_crop_has_a_header_of_its_own_and_a_blur_costs_more(rt: HostRuntime) {
     serves(&rt, rt.alloc(), line, &files, expected);
     let text = b"YUV4MPEG2 W1 H1 Cmono\nFRAME\n\x00FRAME\n\x10FRAME\n\x7F";
     holds(&rt, &outputs[0], text);
+}
+
+#[test]
+fn a_stream_is_served_by_a_clock_of_time(rt: HostRuntime) {
+    let inputs = [given("a.y4m", A)];
+    let outputs = [Made::new(rt.alloc(), "a.out", 4096)];
+    let files = Memory::new(&rt, &inputs, &outputs);
+    let expected = Expected {
+        report: "a accepted 3 delivered 3 charged 3 stop whole\nunits 3\n",
+        errors: "",
+        status: 0,
+    };
+    let line = "serve --moment 30 a:a.y4m:a.out:1:2:invert";
+    serves(&rt, rt.alloc(), line, &files, expected);
+    holds(&rt, &outputs[0], A_INVERTED);
 }

@@ -11,12 +11,13 @@ returns c = record {
   replay = known.replay_known;
   serve = known.serve_known;
   serve_by = known.serve_by_known;
+  serve_live = known.serve_live_known;
   help = refl;
   help_of = refl;
   version = refl;
   none = refl;
   no_operations = refl;
-  no_streams = refl;
   unknown = refl;
   threads = refl;
+  moment = refl;
 }

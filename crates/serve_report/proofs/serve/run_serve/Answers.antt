@@ -6,7 +6,7 @@ use Rattle.serve_report.proofs.serve.run_serve.Goals as goal
 pub returns-in-Ok-true-clause-well : goal.returns-in-Ok-true-clause-well
 returns-in-Ok-true-clause-well g c =
     let checked = c.in-Ok.checked in
-    λ well. record {
+    λ well none. record {
       checked = checked;
       asked = c.in-Ok.ensures.passed;
       options = c.in-Ok.ensures.options;

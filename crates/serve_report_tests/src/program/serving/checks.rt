@@ -31,6 +31,21 @@ fn refuses<R: Abort + Threads + Wait + Clock + Copy + Drop + Send + Sync + 'stat
 const REFUSED: &[(&str, &str, u8)] = &[
     // Each stands with a fault that is looked for later, in the same word or in one after it.
     ("serve --band 3 a:i:o:1", "y4mserve: bad band\n", 2),
+    ("serve --band 3", "y4mserve: bad band\n", 2),
+    // Streams may be none only where others may come.
+    ("serve", "y4mserve: no streams\n", 2),
+    ("serve --moment 40", "y4mserve: no streams\n", 2),
+    // A control on standard input leaves it to no stream.
+    (
+        "serve --control - a:/dev/stdin:o:1:2:invert b:i:o:1:2:sepia",
+        "y4mserve: bad stream a:/dev/stdin:o:1:2:invert\n",
+        2,
+    ),
+    (
+        "serve --control - a:i:/dev/stdin:1:2:invert b:/dev/stdin:o:1:2:sepia",
+        "y4mserve: bad stream b:/dev/stdin:o:1:2:sepia\n",
+        2,
+    ),
     (
         "serve a:i:o:1:invert b:i:o:1:2:sepia",
         "y4mserve: bad stream a:i:o:1:invert\n",
@@ -87,6 +102,18 @@ const REFUSED: &[(&str, &str, u8)] = &[
     (
         "serve --quantum 0 a:i:o:1:2:invert",
         "error: invalid value '0' for '--quantum <K>': 0 is not in 1..=64\n\n\
+             For more information, try '--help'.\n",
+        2,
+    ),
+    (
+        "serve --moment 0 a:i:o:1:2:invert",
+        "error: invalid value '0' for '--moment <US>': 0 is not in 1..=1000000\n\n\
+             For more information, try '--help'.\n",
+        2,
+    ),
+    (
+        "serve --moment 1000001 a:i:o:1:2:invert",
+        "error: invalid value '1000001' for '--moment <US>': 1000001 is not in 1..=1000000\n\n\
              For more information, try '--help'.\n",
         2,
     ),

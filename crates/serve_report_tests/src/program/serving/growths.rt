@@ -17,31 +17,32 @@ const WANTS: &[&str] = &[
     " stop read Header NoMemory",
     " stop ops NoMemory",
     " stop refused NoMemory",
+    " stop admit NoMemory",
 ];
 
 /// How the line of a stream begins, what it is where the stream is whole, and what is written then.
 #[derive(Clone, Copy)]
-struct Whole<'a> {
-    front: &'a str,
+pub struct Whole<'a> {
+    pub front: &'a str,
     line: &'a str,
     text: &'a [u8],
 }
 
 /// The two streams.
-const A_WHOLE: Whole<'_> = Whole {
+pub const A_WHOLE: Whole<'_> = Whole {
     front: "a accepted ",
     line: "a accepted 3 delivered 3 charged 3 stop whole",
     text: A_INVERTED,
 };
 
-const B_WHOLE: Whole<'_> = Whole {
+pub const B_WHOLE: Whole<'_> = Whole {
     front: "b accepted ",
     line: "b accepted 3 delivered 3 charged 6 stop whole",
     text: B_TURNED,
 };
 
 /// A file with room for all that is written to it.
-fn roomy<'a>(rt: &(impl Abort + Wait), alloc: Global, name: &'a str) -> Made<'a> {
+pub fn roomy<'a>(rt: &(impl Abort + Wait), alloc: Global, name: &'a str) -> Made<'a> {
     let file = Made::new(alloc, name, 64);
     file.text.lock(rt).reserve(64).expect(rt, name);
     file
@@ -49,7 +50,7 @@ fn roomy<'a>(rt: &(impl Abort + Wait), alloc: Global, name: &'a str) -> Made<'a>
 
 /// Whether the line of a stream is that of a whole one, whose text must then be so too. Any other is for want
 /// of memory.
-fn is_whole<R: Abort + Wait>(rt: &R, line: &str, file: &Made<'_>, whole: Whole<'_>) -> bool {
+pub fn is_whole<R: Abort + Wait>(rt: &R, line: &str, file: &Made<'_>, whole: Whole<'_>) -> bool {
     if line == whole.line {
         holds(rt, file, whole.text);
         return true;
@@ -78,7 +79,7 @@ fn reports<R: Abort + Wait>(rt: &R, report: &str, files: &[Made<'_>; 2], status:
 }
 
 /// What was written to a file is a front of the images.
-fn holds_front<R: Abort + Wait>(rt: &R, file: &Made<'_>, whole: Whole<'_>) {
+pub fn holds_front<R: Abort + Wait>(rt: &R, file: &Made<'_>, whole: Whole<'_>) {
     let kept = file.text.lock(rt);
     let front = whole.text.get(..kept.len());
     same_at(rt, front, Some(kept.as_slice()), file.name);

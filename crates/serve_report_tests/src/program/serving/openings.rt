@@ -42,6 +42,10 @@ impl<'a, T: Wait + Sync> Files for Meeting<'a, T> {
     fn create(&self, name: &str) -> io::Result<Output<'a, T>> {
         self.files.create(name)
     }
+
+    fn hold(&self, name: &str) -> io::Result<Tape<'static>> {
+        self.files.hold(name)
+    }
 }
 
 const REFUSED: &str = "was a thread or its memory refused?";

@@ -191,6 +191,10 @@ impl<'a> Files for Both<'a> {
             stream: stream_of(name)?,
         })
     }
+
+    fn hold(&self, _name: &str) -> io::Result<Empty> {
+        Err(io::Error::from(ErrorKind::NotFound))
+    }
 }
 
 /// Runs both streams, sees that they are whole, and answers how many images of the second were counted.

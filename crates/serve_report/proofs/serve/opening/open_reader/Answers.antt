@@ -1,4 +1,4 @@
-use Rattle.serve_report.proofs.Openings.{no_header_of, opened_of}
+use Rattle.serve_report.proofs.Openings.{opened_of}
 use Rattle.serve_report.proofs.serve.opening.open_reader.Goals as goal
 
 pub returns-clause-reader : goal.returns-clause-reader

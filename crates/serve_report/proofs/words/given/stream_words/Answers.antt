@@ -2,7 +2,7 @@ use Rattle.std.proofs.Common.{◌∙◌, [], ap, arith, codes, rules, take_all}
 use Rattle.std.specs.Prelude.{unwrap_or}
 use Rattle.clap.specs.Matches.{found_of}
 use Rattle.serve_report.proofs.Found.{all_by_row, of_unwrapped}
-use Rattle.serve_report.specs.ServeChecks.{words_asked}
+use Rattle.serve_report.specs.StreamWords.{words_asked}
 use Rattle.serve_report.proofs.words.given.stream_words.Goals as goal
 
 pub returns : goal.returns

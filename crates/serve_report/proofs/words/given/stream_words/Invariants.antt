@@ -1,5 +1,5 @@
 use Rattle.std.proofs.Common.{◌≡◌, take}
-use Rattle.serve_report.specs.ServeChecks.{words_asked}
+use Rattle.serve_report.specs.StreamWords.{words_asked}
 use Rattle.serve_report.proofs.words.given.stream_words.Given as goal
 
 -- the words so far

@@ -1,0 +1,22 @@
+//! A run whose streams come and go: what its control asks for line by line, and what is answered.
+
+pub mod answer;
+mod clerk;
+mod closable;
+mod door;
+mod entry;
+mod errand;
+pub mod feed;
+pub mod line;
+mod listener;
+mod lobby;
+mod opener;
+mod order;
+mod run;
+mod table;
+mod threads;
+mod tickets;
+mod voice;
+
+pub use crate::serve::{AdmitFault, Asked, StreamRow, StreamStop, StreamWord};
+pub use run::{lines_of, run_control};

@@ -1,0 +1,143 @@
+//! What is answered while streams come and go: each answer is a line of its own.
+ghost use Rattle.std.specs.Prelude.{◌≡◌, ◌≤◌, [], OnOk, Some, take};
+ghost use Rattle.std.specs.Io.{WritesAtMost};
+ghost use Rattle.std.specs.Io.KnownBytes.{Appends, Keeps, WriteAppends};
+ghost use Rattle.serve_script.specs.ScriptReport.{line_text};
+ghost use Rattle.serve_report.specs.Said.{said_text};
+ghost use Rattle.serve_report.specs.declared.control.answer.TheConstants.{LONGEST};
+
+use super::line::LineFault;
+use crate::serve::StreamRow;
+use std::fmt;
+use std::io::{self, Write};
+
+/// How a stream stands where an epoch ended.
+#[derive(Clone, Copy)]
+pub struct Standing {
+    pub accepted: u64,
+    pub finished: u64,
+    pub collected: u64,
+    pub charged: u64,
+    pub budget: u64,
+    pub deadline: u64,
+}
+
+impl fmt::Display for Standing {
+    ghost use Rattle.std.specs.Prelude.{Some};
+    ghost use Rattle.serve_report.specs.Said.{standing_text};
+
+    ghost output = { λ standing. Some (standing_text standing) };
+
+    fn fmt<W: fmt::Write>(&self, f: &mut fmt::Formatter<W>) -> fmt::Result {
+        let Standing {
+            accepted,
+            finished,
+            collected,
+            charged,
+            budget,
+            deadline,
+        } = *self;
+        write!(
+            f,
+            "accepted {accepted} finished {finished} collected {collected} charged {charged} budget {budget} \
+            deadline {deadline}"
+        )
+    }
+}
+
+/// An answer.
+#[derive(Clone, Copy)]
+pub enum Said<'a> {
+    /// The line of this number is wrong.
+    Wrong(u64, LineFault),
+    /// The stream of this name is served from now on.
+    Admitted(&'a str),
+    /// A stream ended.
+    Ended(StreamRow<'a>),
+    /// The stream of this name is served, and stands so.
+    Stands(&'a str, Standing),
+    /// The stream of this name is being opened.
+    Opening(&'a str),
+    /// The moment, and how many streams are served.
+    Now(u64, usize),
+    /// The units that were done for all streams.
+    Units(u64),
+}
+
+impl fmt::Display for Said<'_> {
+    ghost use Rattle.std.specs.Prelude.{Some};
+    ghost use Rattle.serve_report.specs.Said.{said_text};
+
+    ghost output = { λ said. Some (said_text said) };
+
+    fn fmt<W: fmt::Write>(&self, f: &mut fmt::Formatter<W>) -> fmt::Result {
+        match *self {
+            Said::Wrong(number, fault) => write!(f, "line {number}: {fault}"),
+            Said::Admitted(name) => write!(f, "{name} admitted"),
+            Said::Ended(row) => write!(f, "{row}"),
+            Said::Stands(name, standing) => write!(f, "{name} {standing}"),
+            Said::Opening(name) => write!(f, "{name} opening"),
+            Said::Now(moment, streams) => write!(f, "now {moment} streams {streams}"),
+            Said::Units(units) => write!(f, "units {units}"),
+        }
+    }
+}
+
+/// The longest answer that goes out in one write, with its line feed.
+const LONGEST: usize = 512;
+
+/// A sheet on which an answer is written before it goes out.
+#[derive(Drop)]
+struct Sheet {
+    room: [u8; LONGEST],
+    length: usize,
+    ghost within: { length ≤ LONGEST },
+}
+
+impl Sheet {
+    fn new() -> Sheet
+        ensures { result.length ≡ 0 }
+    {
+        Sheet {
+            room: [0; LONGEST],
+            length: 0,
+        }
+    }
+
+    fn text(&self) -> &[u8]
+        ensures { result.now ≡ take self.now.length self.now.room }
+    {
+        &self.room[..self.length]
+    }
+}
+
+impl Write for Sheet {
+    ghost use Rattle.std.specs.Prelude.{Some, take};
+
+    ghost contents = { λ sheet. Some (take sheet.length sheet.room) };
+
+    fn write(&mut self, buf: &[u8]) -> io::Result<usize> {
+        let count = buf.len().min(LONGEST - self.length);
+        self.room[self.length..self.length + count].copy_from_slice(&buf[..count]);
+        self.length += count;
+        Ok(count)
+    }
+
+    fn flush(&mut self) -> io::Result<()> {
+        Ok(())
+    }
+}
+
+/// Writes an answer at once: its line in one write, and a flush behind it. One that is longer than any of
+/// these is written part by part.
+pub fn say<W: Write>(output: &mut W, said: &Said<'_>) -> io::Result<()>
+    ensures { OnOk result
+        (Appends (W.contents output.old) (W.contents output.new) (line_text (said_text said.now))) }
+{
+    let mut sheet = Sheet::new();
+    match writeln!(sheet, "{said}") {
+        Ok(()) => output.write_all(sheet.text())?,
+        Err(_) => writeln!(output, "{said}")?,
+    }
+    output.flush()
+}

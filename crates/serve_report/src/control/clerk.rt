@@ -1,0 +1,257 @@
+//! What is done by the lines of a control.
+
+use super::answer::Said;
+use super::errand::{Bidding, Bids, Errand};
+use super::feed::{Feed, Feeding};
+use super::line::{Ask, LineFault, check_stream, parse_line};
+use super::lobby::Lobby;
+use super::order::Order;
+use super::{AdmitFault, StreamStop, StreamWord};
+use crate::files::{Files, Place};
+use crate::serve::{Asked, FileUse};
+use std::alloc::{AllocError, Global};
+use std::io::{Read, Write};
+use std::sync::{Arc, Wait};
+use y4m_stream::{Sink, Source};
+
+/// Who takes the lines of a control.
+#[derive(Drop)]
+pub struct Clerk<'r, 'o, F, R: Source, W: Sink, S: Drop, T, O: Write, E: Write> {
+    rt: &'r T,
+    alloc: Global,
+    files: &'r F,
+    lobby: &'r Lobby<'o, R, W, S, O, E>,
+    /// Whether the control is standard input.
+    is_input: bool,
+    /// Where the report goes, and where the lines come from.
+    own: [(&'r str, Place); 2],
+    /// How many streams were asked for.
+    asked: u64,
+}
+
+impl<'r, 'o, F, R, W, S, T, O, E> Clerk<'r, 'o, F, R, W, S, T, O, E>
+where
+    F: Files<Slow = S>,
+    R: Source + Drop,
+    W: Sink + Drop,
+    S: Drop + 'static,
+    T: Wait,
+    O: Write,
+    E: Write,
+{
+    /// No stream was asked for yet.
+    pub fn new(
+        rt: &'r T,
+        alloc: Global,
+        files: &'r F,
+        lobby: &'r Lobby<'o, R, W, S, O, E>,
+        is_input: bool,
+        own: [(&'r str, Place); 2],
+    ) -> Clerk<'r, 'o, F, R, W, S, T, O, E> {
+        Clerk {
+            rt,
+            alloc,
+            files,
+            lobby,
+            is_input,
+            own,
+            asked: 0,
+        }
+    }
+
+    /// Takes the streams of the words. Those that aren't taken are told.
+    pub fn enter_all(&mut self, streams: Vec<Asked<'_>>) -> Result<Vec<Errand>, AllocError> {
+        let mut errands = Vec::with_capacity(self.alloc, streams.len())?;
+        for (stream, asked) in streams.into_iter().enumerate() {
+            let input = self.files.place(asked.word.input);
+            let output = self.files.place(asked.word.output);
+            if let Bidding::Open(errand) = self.enter(asked, input, output, stream) {
+                errands.push(errand)?;
+            }
+        }
+        Ok(errands)
+    }
+
+    /// Waits for the next line, and does what it asks for.
+    pub fn take_next<I: Read>(&mut self, feed: &mut Feed<I>) -> Bidding {
+        match feed.next() {
+            Feeding::Line => self.take(feed.number(), feed.line()),
+            Feeding::Fault(fault) => {
+                self.refuse(feed.number(), fault);
+                Bidding::Done
+            }
+            Feeding::End => Bidding::End,
+            Feeding::ReadFailed => {
+                self.lobby.fail_reading(self.rt);
+                Bidding::End
+            }
+        }
+    }
+
+    /// Does what the line of this number asks for, or tells what is wrong with it.
+    pub fn take(&mut self, number: u64, line: &[u8]) -> Bidding {
+        match self.take_right(line) {
+            Ok(bidding) => bidding,
+            Err(fault) => {
+                self.refuse(number, fault);
+                Bidding::Done
+            }
+        }
+    }
+
+    /// Tells what is wrong with the line of this number.
+    pub fn refuse(&mut self, number: u64, fault: LineFault) {
+        self.lobby.say(self.rt, &Said::Wrong(number, fault));
+    }
+
+    /// Does what a line asks for.
+    fn take_right(&mut self, line: &[u8]) -> Result<Bidding, LineFault> {
+        match parse_line(line, self.is_input)? {
+            Ask::Nothing => Ok(Bidding::Done),
+            Ask::Serve(word) => self.take_stream(word),
+            Ask::Close(name) => self.close(name),
+            Ask::State => {
+                self.ask();
+                Ok(Bidding::Done)
+            }
+            Ask::End => Ok(Bidding::End),
+        }
+    }
+
+    /// Asks how the streams stand.
+    fn ask(&self) {
+        self.lobby.table.lock(self.rt).is_asked = true;
+        self.lobby.changed.notify_all();
+    }
+
+    /// Closes the stream of this name.
+    fn close(&self, name: &str) -> Result<Bidding, LineFault> {
+        let mut table = self.lobby.table.lock(self.rt);
+        let Some(entry) = table.named_mut(name) else {
+            return Err(LineFault::NoStream);
+        };
+        if !entry.order.close() {
+            return Err(LineFault::AlreadyClosed);
+        }
+        entry.let_go(self.files);
+        Ok(Bidding::Done)
+    }
+
+    /// Takes the stream that a line asks for.
+    fn take_stream(&mut self, word: StreamWord<'_>) -> Result<Bidding, LineFault> {
+        if self.lobby.table.lock(self.rt).has_name(word.name) {
+            return Err(LineFault::BadName);
+        }
+        let input = self.files.place(word.input);
+        let output = self.files.place(word.output);
+        if self.has_clash(word, input, output) {
+            return Err(LineFault::BadFile);
+        }
+        match check_stream(self.alloc, word) {
+            Ok(asked) => Ok(self.enter(asked, input, output, usize::MAX)),
+            Err(LineFault::NoMemory) => Ok(self.stop(word.name, AdmitFault::NoMemory)),
+            Err(fault) => Err(fault),
+        }
+    }
+
+    /// Takes a stream, if there is a place for it.
+    pub fn enter(
+        &mut self,
+        asked: Asked<'_>,
+        input: Place,
+        output: Place,
+        stream: usize,
+    ) -> Bidding {
+        let Asked { word, ops } = asked;
+        let number = self.asked;
+        self.asked = self.asked.saturating_add(1);
+        let Some((order, theirs)) = order_of(self.alloc, number, word) else {
+            return self.stop(word.name, AdmitFault::NoMemory);
+        };
+        if !self.lobby.table.lock(self.rt).enter(theirs, input, output) {
+            return self.stop(word.name, AdmitFault::TooManyStreams);
+        }
+        Bidding::Open(Errand {
+            order,
+            ops,
+            stream,
+            may_wait: !matches!(input, Place::File(_)),
+        })
+    }
+
+    /// Tells that a stream isn't taken.
+    fn stop(&self, name: &str, fault: AdmitFault) -> Bidding {
+        let mut voice = self.lobby.voice.lock(self.rt);
+        voice.say_stopped(name, StreamStop::Admit(fault));
+        Bidding::Done
+    }
+
+    /// Whether a file of a stream is in use by another one, by the run itself or by both ways.
+    fn has_clash(&self, word: StreamWord<'_>, input: Place, output: Place) -> bool {
+        let input = FileUse {
+            name: word.input,
+            place: input,
+            is_written: false,
+        };
+        let output = FileUse {
+            name: word.output,
+            place: output,
+            is_written: true,
+        };
+        if input.clashes_with(&output) || self.is_own(&input) || self.is_own(&output) {
+            return true;
+        }
+        let table = self.lobby.table.lock(self.rt);
+        table.has_clash(None, &input) || table.has_clash(None, &output)
+    }
+
+    /// Whether the file is that of the report or of the control.
+    fn is_own(&self, found: &FileUse<'_>) -> bool {
+        for (name, place) in &self.own {
+            let own = FileUse {
+                name,
+                place: *place,
+                is_written: true,
+            };
+            if own.clashes_with(found) {
+                return true;
+            }
+        }
+        false
+    }
+}
+
+/// A clerk, and the lines that it takes.
+#[derive(Drop)]
+pub struct Desk<'r, 'o, F, R: Source, W: Sink, S: Drop, T, O: Write, E: Write, I: Read> {
+    pub clerk: Clerk<'r, 'o, F, R, W, S, T, O, E>,
+    pub feed: Feed<I>,
+}
+
+impl<'r, 'o, F, R, W, S, T, O, E, I> Bids for Desk<'r, 'o, F, R, W, S, T, O, E, I>
+where
+    F: Files<Slow = S>,
+    R: Source + Drop,
+    W: Sink + Drop,
+    S: Drop + 'static,
+    T: Wait,
+    O: Write,
+    E: Write,
+    I: Read,
+{
+    fn next(&mut self) -> Bidding {
+        self.clerk.take_next(&mut self.feed)
+    }
+}
+
+/// An order, for who opens its stream and for the table.
+fn order_of(
+    alloc: Global,
+    number: u64,
+    word: StreamWord<'_>,
+) -> Option<(Arc<Order, Global>, Arc<Order, Global>)> {
+    let order = Order::new(alloc, number, word).ok()?;
+    let order = Arc::new(alloc, order).ok()?;
+    let theirs = Arc::try_clone(&order).ok()?;
+    Some((order, theirs))
+}

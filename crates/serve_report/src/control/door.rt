@@ -1,0 +1,288 @@
+//! The door of a run whose streams come and go.
+ghost use Rattle.std.specs.Prelude.{ℕ, ◌≡◌, ◌++◌, [], ◌∷◌, IfNone, IfOk, IfSome, map};
+ghost use Rattle.serve_work.specs.Sessions.{IsInput};
+ghost use Rattle.serve_report.specs.Moments.{IsMoment};
+
+use super::answer::{Said, Standing};
+use super::lobby::Lobby;
+use super::tickets::Tickets;
+use super::{AdmitFault, StreamRow, StreamStop};
+use serve_work::{Answer, Bell, Clock as Moments, Door, Request, Standing as Stood};
+use std::alloc::{AllocError, Global};
+use std::io::Write;
+use std::marker::{Brand, PhantomData};
+use std::sync::{CondvarTimeouts, Wait};
+use std::time::{Clock, Duration};
+use y4m_stream::{ReadFault, Sink, Source};
+
+/// The most entries of an epoch's journal, for contracts alone.
+///
+/// A door's type tells it. Who calls a function that is generic in it, at `Brand`, picks it there.
+pub trait Limit {
+    ghost limit: { ℕ };
+}
+
+impl Limit for Brand {
+    ghost limit = { 0 };
+}
+
+/// The door to a lobby. It gives the streams that wait there, one after the other.
+#[derive(Drop)]
+pub struct Doorway<
+    'l,
+    'o,
+    R: Source,
+    W: Sink,
+    S: Drop,
+    O: Write,
+    E: Write,
+    K: Moments,
+    T,
+    L: Limit,
+> {
+    rt: &'l T,
+    lobby: &'l Lobby<'o, R, W, S, O, E>,
+    clock: &'l K,
+    /// Those of the streams that were given and aren't told yet.
+    tickets: Tickets,
+    /// That of the last one, where it isn't known yet whether it is admitted.
+    last: Option<u64>,
+    limit: PhantomData<L>,
+}
+
+impl<'l, 'o, R, W, S, O, E, K, T, L> Doorway<'l, 'o, R, W, S, O, E, K, T, L>
+where
+    R: Source + Drop,
+    W: Sink + Drop,
+    S: Drop,
+    O: Write,
+    E: Write,
+    K: Moments,
+    T: Wait,
+    L: Limit,
+{
+    /// Nothing was given yet.
+    pub fn new(
+        rt: &'l T,
+        alloc: Global,
+        lobby: &'l Lobby<'o, R, W, S, O, E>,
+        clock: &'l K,
+    ) -> Result<Doorway<'l, 'o, R, W, S, O, E, K, T, L>, AllocError>
+        ensures { IfOk result (λ door. door.tickets ≡ []) }
+    {
+        Ok(Doorway {
+            rt,
+            lobby,
+            clock,
+            tickets: Tickets::new(alloc)?,
+            last: None,
+            limit: PhantomData,
+        })
+    }
+
+    /// Tells that the last one is admitted, where that wasn't known yet.
+    fn say_admitted(&mut self)
+        ensures { self.new.tickets ≡ self.old.tickets }
+    {
+        let Some(ticket) = self.last.take() else {
+            return;
+        };
+        let mut voice = self.lobby.voice.lock(self.rt);
+        let table = self.lobby.table.lock(self.rt);
+        if let Some(entry) = table.served(ticket) {
+            voice.say(&Said::Admitted(&entry.order.name));
+        }
+    }
+
+    /// The next one that waits, under its ticket.
+    fn next_ready(&mut self) -> Option<Request<R, W>>
+        ensures input { IfSome result (λ r. IsInput r.spec (r.reader, r.writer)) }
+        ensures given { IfSome result (λ r. self.new.tickets ≡ self.old.tickets ++ r.ticket ∷ []) }
+        ensures none { IfNone result (self.new.tickets ≡ self.old.tickets) }
+    {
+        let mut table = self.lobby.table.lock(self.rt);
+        if !table.has_ready() {
+            return None;
+        }
+        let ticket = self.tickets.give()?;
+        let Some(ready) = table.next_ready(ticket) else {
+            self.tickets.take(ticket);
+            return None;
+        };
+        let (reader, writer) = ready.input;
+        Some(Request {
+            ticket,
+            spec: ready.spec,
+            reader,
+            writer,
+        })
+    }
+
+    /// Tells what the stream of a ticket came to.
+    fn say_ended(&mut self, ticket: u64, course: Course)
+        ensures { self.new.tickets ≡ self.old.tickets }
+    {
+        let mut voice = self.lobby.voice.lock(self.rt);
+        let entry = self.lobby.table.lock(self.rt).take_served(ticket);
+        self.lobby.changed.notify_all();
+        if let Some(entry) = &entry {
+            let is_closed = entry.order.is_closed();
+            voice.say_row(course.row(&entry.order.name, is_closed));
+        }
+    }
+}
+
+/// What a stream came to.
+#[derive(Clone, Copy)]
+struct Course {
+    accepted: u64,
+    delivered: u64,
+    charged: u64,
+    stop: StreamStop,
+}
+
+impl Course {
+    /// By what is answered. The stream's files are let go.
+    fn of<R: Source + Drop, W: Sink + Drop>(answer: Answer<R, W>) -> Course {
+        match answer {
+            Answer::Ended(served) => Course {
+                accepted: served.accepted,
+                delivered: served.delivered,
+                charged: served.charged,
+                stop: StreamStop::from(served.stop),
+            },
+            Answer::Refused(refusal, ..) => Course {
+                accepted: 0,
+                delivered: 0,
+                charged: 0,
+                stop: StreamStop::Admit(AdmitFault::from(refusal)),
+            },
+        }
+    }
+
+    /// What is reported of it. Where the stream was closed, its last read failed for that.
+    fn row(self, name: &str, is_closed: bool) -> StreamRow<'_> {
+        let stop = match self.stop {
+            StreamStop::Read(ReadFault::Device) if is_closed => StreamStop::Closed,
+            stop => stop,
+        };
+        StreamRow {
+            name,
+            accepted: self.accepted,
+            delivered: self.delivered,
+            charged: self.charged,
+            stop,
+        }
+    }
+}
+
+impl<'l, 'o, R, W, S, O, E, K, T, L> Bell for Doorway<'l, 'o, R, W, S, O, E, K, T, L>
+where
+    R: Source + Drop,
+    W: Sink + Drop,
+    S: Drop,
+    O: Write,
+    E: Write,
+    K: Moments,
+    T: Wait + Clock,
+    L: Limit,
+{
+    fn wait(&self) -> bool {
+        let table = self.lobby.table.lock(self.rt);
+        let table = self
+            .lobby
+            .changed
+            .wait_while(self.rt, table, |table| !table.calls() && table.may_call());
+        table.calls()
+    }
+
+    fn is_there(&self, patience: u64) -> bool {
+        let table = self.lobby.table.lock(self.rt);
+        let (table, _) = self.lobby.changed.wait_timeout_while(
+            self.rt,
+            table,
+            Duration::from_millis(patience),
+            |table| !table.calls(),
+        );
+        table.calls()
+    }
+}
+
+impl<'l, 'o, R, W, S, O, E, K, T, L> Door<R, W> for Doorway<'l, 'o, R, W, S, O, E, K, T, L>
+where
+    R: Source + Drop,
+    W: Sink + Drop,
+    S: Drop,
+    O: Write,
+    E: Write,
+    K: Moments,
+    T: Wait + Clock,
+    L: Limit,
+{
+    ghost limit = { L.limit };
+
+    ghost times = { IsMoment };
+
+    ghost waits = { λ door ws. map (λ w. w.ticket) ws ≡ door.tickets };
+
+    fn next(&mut self) -> Option<Request<R, W>> {
+        self.say_admitted();
+        let request = self.next_ready()?;
+        self.last = Some(request.ticket);
+        Some(request)
+    }
+
+    fn tell(&mut self, ticket: u64, answer: &mut Option<Answer<R, W>>) {
+        let Some(answer) = answer.take() else {
+            unreachable!()
+        };
+        if matches!(answer, Answer::Refused(..)) && self.last == Some(ticket) {
+            self.last = None;
+        }
+        self.say_admitted();
+        let course = Course::of(answer);
+        self.tickets.take(ticket);
+        self.say_ended(ticket, course);
+    }
+
+    fn asks(&self) -> bool {
+        self.lobby.table.lock(self.rt).is_asked
+    }
+
+    fn show(&mut self, ticket: u64, standing: Stood) {
+        self.say_admitted();
+        let mut voice = self.lobby.voice.lock(self.rt);
+        let table = self.lobby.table.lock(self.rt);
+        if let Some(entry) = table.served(ticket) {
+            voice.say(&Said::Stands(&entry.order.name, standing_of(standing)));
+        }
+    }
+
+    fn shown(&mut self, moment: Option<u64>) {
+        self.say_admitted();
+        let moment = match moment {
+            Some(moment) => moment,
+            None => self.clock.moment(),
+        };
+        let mut voice = self.lobby.voice.lock(self.rt);
+        let mut table = self.lobby.table.lock(self.rt);
+        for entry in &table.entries {
+            if entry.is_before() {
+                voice.say(&Said::Opening(&entry.order.name));
+            }
+        }
+        voice.say(&Said::Now(moment, table.count_served()));
+        table.is_asked = false;
+    }
+}
+
+fn standing_of(stood: Stood) -> Standing {
+    Standing {
+        accepted: stood.accepted,
+        finished: stood.finished,
+        collected: stood.collected,
+        charged: stood.charged,
+        budget: stood.budget,
+        deadline: stood.deadline,
+    }
+}

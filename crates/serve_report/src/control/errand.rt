@@ -1,0 +1,34 @@
+//! A stream that is to be opened.
+
+use super::order::Order;
+use filters::Op;
+use std::alloc::Global;
+use std::sync::Arc;
+
+/// A stream that is to be opened, with its operations.
+#[derive(Drop)]
+pub struct Errand {
+    pub order: Arc<Order, Global>,
+    pub ops: Vec<Op>,
+    /// Its place among the streams that a watch is told of; past all of them where it isn't.
+    pub stream: usize,
+    /// Whether a read of its input may wait.
+    pub may_wait: bool,
+}
+
+/// What comes of a line.
+#[derive(Drop)]
+pub enum Bidding {
+    /// Nothing more.
+    Done,
+    /// A stream is to be opened.
+    Open(Errand),
+    /// No line is taken after it.
+    End,
+}
+
+/// What says what is to be done, one thing after the other.
+pub trait Bids {
+    /// What comes next. It waits for that.
+    fn next(&mut self) -> Bidding;
+}

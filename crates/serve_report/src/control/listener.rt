@@ -1,0 +1,88 @@
+//! What the lines of a control are read from.
+
+use crate::inlet::{Inflow, Inlet, inflow_of};
+use std::alloc::Global;
+use std::io::{self, Empty, Read};
+use std::sync::Wait;
+use std::sync::atomic::{AtomicBool, Ordering};
+use std::thread::Threads;
+use std::time::Clock;
+use y4m_stream::Wanted;
+
+/// For how many milliseconds it is waited for bytes before it is looked whether the run is over.
+const PATIENCE: u64 = 50;
+
+/// A reader, or a file that was opened for lines.
+#[derive(Drop)]
+pub enum Origin<I: Read, S> {
+    Input(I),
+    File(S),
+}
+
+/// Where lines come from.
+#[derive(Drop)]
+enum Way<I: Read, S: Read + Drop, T: Wait + Drop> {
+    Input(I),
+    File(Inflow<Empty, S, T>),
+}
+
+/// A reader that comes to its end where the run is over. Where it can't be told that a read would wait, that is
+/// seen once the read is answered.
+#[derive(Drop)]
+pub struct Listener<'r, 'f, I: Read, S: Read + Drop, T: Wait + Clock + Drop> {
+    rt: &'r T,
+    way: Way<I, S, T>,
+    is_over: &'f AtomicBool,
+}
+
+impl<'r, 'f, I, S, T> Listener<'r, 'f, I, S, T>
+where
+    I: Read,
+    S: Read + Drop + Send + 'static,
+    T: Threads + Wait + Clock + Copy + Drop + Send + 'static,
+{
+    /// Nothing is read yet.
+    pub fn new(
+        rt: &'r T,
+        alloc: Global,
+        origin: Origin<I, S>,
+        is_over: &'f AtomicBool,
+    ) -> Listener<'r, 'f, I, S, T> {
+        let way = match origin {
+            Origin::Input(input) => Way::Input(input),
+            Origin::File(file) => Way::File(inflow_of(rt, alloc, Inlet::Slow(file))),
+        };
+        Listener { rt, way, is_over }
+    }
+}
+
+/// Waits until something is there to be read. False where the run is over.
+fn awaits<S: Read + Drop, T: Wait + Clock + Drop>(
+    rt: &T,
+    file: &Inflow<Empty, S, T>,
+    is_over: &AtomicBool,
+) -> bool {
+    for _ in rt.forever() {
+        if is_over.load(Ordering::SeqCst) {
+            return false;
+        }
+        if file.is_ready(PATIENCE, Wanted::data(1)) {
+            return true;
+        }
+    }
+    unreachable!()
+}
+
+impl<I: Read, S: Read + Drop, T: Wait + Clock + Drop> Read for Listener<'_, '_, I, S, T> {
+    fn read(&mut self, buf: &mut [u8]) -> io::Result<usize> {
+        match &mut self.way {
+            Way::Input(input) => input.read(buf),
+            Way::File(file) => {
+                if !awaits(self.rt, file, self.is_over) {
+                    return Ok(0);
+                }
+                file.read(buf)
+            }
+        }
+    }
+}

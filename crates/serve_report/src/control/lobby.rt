@@ -1,0 +1,134 @@
+//! What the threads share by whom streams are asked for, opened and served.
+ghost use Rattle.std.specs.Prelude.{◌≤◌};
+ghost use Rattle.cbs_account.specs.declared.limits.TheConstants.{MOST_WORKERS};
+
+use super::answer::Said;
+use super::order::Order;
+use super::table::Table;
+use super::voice::Voice;
+use super::{AdmitFault, StreamStop};
+use crate::files::Place;
+use crate::serve::{FileUse, Ready, RunFault};
+use cbs_account::AdmissionError;
+use serve_work::SessionFault;
+use std::alloc::Global;
+use std::io::Write;
+use std::sync::{Arc, Condvar, Mutex, Wait};
+use y4m_stream::{Sink, Source};
+
+/// The streams of a run that haven't ended, and where answers are told.
+///
+/// Who takes both locks takes that of the voice first. So a name is free, and a file, once it is told that
+/// its stream ended, and no answer of another stream of the name comes before that.
+#[derive(Drop)]
+pub struct Lobby<'o, R: Source, W: Sink, S: Drop, O: Write, E: Write> {
+    pub table: Mutex<Table<R, W, S>>,
+    /// Something of the table has changed.
+    pub changed: Condvar,
+    pub voice: Mutex<Voice<'o, O, E>>,
+}
+
+impl<'o, R: Source + Drop, W: Sink + Drop, S: Drop, O: Write, E: Write> Lobby<'o, R, W, S, O, E> {
+    /// Nobody is there yet. Where there is no memory for it the voice comes back.
+    pub fn new(
+        alloc: Global,
+        workers: u64,
+        voice: Voice<'o, O, E>,
+    ) -> Result<Lobby<'o, R, W, S, O, E>, Voice<'o, O, E>>
+        requires some { 1 ≤ workers }
+        requires most { workers ≤ MOST_WORKERS }
+    {
+        match Table::new(alloc, workers) {
+            Ok(table) => Ok(Lobby {
+                table: Mutex::new(table),
+                changed: Condvar::new(),
+                voice: Mutex::new(voice),
+            }),
+            Err(_) => Err(voice),
+        }
+    }
+
+    /// Tells what a run came to, and answers the program's status.
+    pub fn close<T: Wait>(self, rt: &T, served: Result<(), SessionFault>) -> u8
+        ensures { result ≤ 1 }
+    {
+        let mut voice = self.voice.lock(rt);
+        if let Err(fault) = served {
+            voice.fault(&RunFault::Session(fault));
+        }
+        voice.end()
+    }
+
+    /// Tells that a stream stopped before it was served.
+    pub fn stopped<T: Wait>(&self, rt: &T, order: &Order, stop: StreamStop) {
+        let mut voice = self.voice.lock(rt);
+        let entry = self.table.lock(rt).take(order.number);
+        self.changed.notify_all();
+        voice.say_stopped(&order.name, stop);
+        drop(entry);
+    }
+
+    /// A stream was opened, and waits to be served.
+    pub fn opened<T: Wait>(&self, rt: &T, order: &Order, ready: Ready<R, W>) {
+        let mut table = self.table.lock(rt);
+        if let Some(entry) = table.entry_mut(order.number) {
+            entry.opened(ready);
+        }
+        drop(table);
+        self.changed.notify_all();
+    }
+
+    /// Asks for a stream's share of the workers, before its output is made.
+    pub fn admit<T: Wait>(&self, rt: &T, order: &Order) -> Result<(), StreamStop> {
+        match self.table.lock(rt).admit(order.number, order.q, order.t) {
+            Ok(()) => Ok(()),
+            Err(AdmissionError::BadBandwidth) => {
+                Err(StreamStop::Admit(AdmitFault::BadBandwidth))
+            }
+            Err(AdmissionError::Overload) => Err(StreamStop::Admit(AdmitFault::Overload)),
+        }
+    }
+
+    /// A stream's output was made, and stands there. Answers whether no other stream lost by it.
+    pub fn made<T: Wait>(&self, rt: &T, order: &Order, place: Place) -> bool {
+        let mut table = self.table.lock(rt);
+        let output = FileUse {
+            name: &order.output,
+            place,
+            is_written: true,
+        };
+        if table.has_clash(Some(order.number), &output) {
+            return false;
+        }
+        if let Some(entry) = table.entry_mut(order.number) {
+            entry.made(place);
+        }
+        true
+    }
+
+    /// There is no thread to open the stream of this number with.
+    pub fn refuse<T: Wait>(&self, rt: &T, number: u64) {
+        let mut voice = self.voice.lock(rt);
+        let entry = self.table.lock(rt).take(number);
+        self.changed.notify_all();
+        if let Some(entry) = &entry {
+            voice.say_stopped(&entry.order.name, StreamStop::Admit(AdmitFault::NoMemory));
+        }
+    }
+
+    /// No stream is asked for any more.
+    pub fn end<T: Wait>(&self, rt: &T) {
+        self.table.lock(rt).is_ended = true;
+        self.changed.notify_all();
+    }
+
+    /// Nothing more can be read of the control, and so no stream is asked for any more.
+    pub fn fail_reading<T: Wait>(&self, rt: &T) {
+        self.voice.lock(rt).fault(&"control read");
+        self.end(rt);
+    }
+
+    pub fn say<T: Wait>(&self, rt: &T, said: &Said<'_>) {
+        self.voice.lock(rt).say(said);
+    }
+}

@@ -1,0 +1,230 @@
+//! Opening a stream beside the others.
+ghost use Rattle.std.specs.Prelude.{ℕ, ◌≡◌, IfOk, List, Option, Some};
+ghost use Rattle.serve_report.specs.Inlets.{inflow_remaining};
+ghost use Rattle.serve_report.specs.Openings.{IsEntry, entry_of};
+ghost use Rattle.y4m_stream.specs.Reader.{IsOpened};
+
+use super::StreamStop;
+use super::closable::Closable;
+use super::errand::Errand;
+use super::lobby::Lobby;
+use super::order::Order;
+use crate::files::Files;
+use crate::inlet::{Inflow, inflow_by};
+use crate::lookout::Looker;
+use crate::progress::{Watch, WatchedSink, WatchedSource};
+use crate::serve::{Asked, Ready, job_of, spec_of};
+use frame_view::Geometry;
+use row_bands::BandHeight;
+use std::alloc::Global;
+use std::io::{Read, Write};
+use std::sync::{Arc, Mutex, Wait};
+use std::time::Clock;
+use y4m_stream::{OverWrite, ReadFault, Sink, Source, StreamReader, Wanted};
+
+/// For how many milliseconds it is waited for a header before it is looked whether its stream was closed.
+const PATIENCE: u64 = 20;
+
+/// The most bytes of a header line, with its line feed.
+const HEADER_LINE: usize = 1024;
+
+/// What the streams of a run are read from.
+pub type Inflows<'w, F, V, T> = WatchedSource<
+    'w,
+    Closable<<F as Files>::Reader, <F as Files>::Slow, T>,
+    V,
+>;
+
+/// What they are written to.
+pub type Outflows<'w, F, V> = WatchedSink<'w, OverWrite<<F as Files>::Writer>, V>;
+
+/// What the threads of a run share.
+pub type Shared<'w, 'o, F, V, T, O, E> = Lobby<
+    'o,
+    Inflows<'w, F, V, T>,
+    Outflows<'w, F, V>,
+    <F as Files>::Slow,
+    O,
+    E,
+>;
+
+/// Opens a stream for a lobby: it waits to be served then, or it is told why it doesn't. Its bands have so many
+/// rows, one of the lookers looks out at an input that may wait, and a watch is told of its frames.
+pub fn open_errand<'w, 'o, F, V, T, O, E>(
+    rt: &T,
+    alloc: Global,
+    height: BandHeight,
+    files: &F,
+    lobby: &Shared<'w, 'o, F, V, T, O, E>,
+    lookers: &Mutex<Vec<Looker<F::Slow, T>>>,
+    told: Option<&'w V>,
+    errand: Errand,
+)
+where
+    F: Files,
+    V: Watch,
+    T: Wait + Clock + Drop,
+    O: Write,
+    E: Write,
+{
+    let Errand {
+        order,
+        ops,
+        stream,
+        may_wait,
+    } = errand;
+    let looker = if may_wait {
+        lookers.lock(rt).pop()
+    } else {
+        None
+    };
+    let asked = Asked {
+        word: order.word(),
+        ops,
+    };
+    let ready = open_files(
+        rt, alloc, height, files, lobby, &order, asked, looker, stream, told,
+    );
+    match ready {
+        Ok(ready) => lobby.opened(rt, &order, ready),
+        Err(stop) => lobby.stopped(rt, &order, stop_of(&order, stop)),
+    }
+}
+
+/// What is told of a stream that stopped so: where it was closed, that it was.
+fn stop_of(order: &Order, stop: StreamStop) -> StreamStop {
+    if order.is_closed() {
+        return StreamStop::Closed;
+    }
+    stop
+}
+
+/// Opens the input, reads its header, makes the chain, asks for the share, and makes the output.
+fn open_files<'w, 'o, F, V, T, O, E>(
+    rt: &T,
+    alloc: Global,
+    height: BandHeight,
+    files: &F,
+    lobby: &Shared<'w, 'o, F, V, T, O, E>,
+    order: &Arc<Order, Global>,
+    asked: Asked<'_>,
+    looker: Option<Looker<F::Slow, T>>,
+    stream: usize,
+    told: Option<&'w V>,
+) -> Result<Ready<Inflows<'w, F, V, T>, Outflows<'w, F, V>>, StreamStop>
+where
+    F: Files,
+    V: Watch,
+    T: Wait + Clock + Drop,
+    O: Write,
+    E: Write,
+    ensures { IfOk result (λ ready. IsEntry F.open_gives F.create_gives height asked.entry (entry_of ready)) }
+{
+    let Asked { word, ops } = asked;
+    let reader = open_input(rt, alloc, files, order, word.input, looker, stream, told)?;
+    let geometry = Geometry::of(reader.header());
+    let job = match job_of(alloc, ops, geometry, height) {
+        Ok(job) => job,
+        Err(error) => return Err(StreamStop::Ops(error)),
+    };
+    lobby.admit(rt, order)?;
+    let sink = open_output(files, order, word.output, stream, told)?;
+    let place = files.place(word.output);
+    if !lobby.made(rt, order, place) {
+        return Err(StreamStop::Create);
+    }
+    let spec = spec_of(word.q, word.t, geometry, job);
+    let input = (reader, sink);
+    Ok(Ready { spec, input })
+}
+
+/// Opens the input and reads its header, unless the stream was closed.
+fn open_input<'w, F, V, T>(
+    rt: &T,
+    alloc: Global,
+    files: &F,
+    order: &Arc<Order, Global>,
+    name: &str,
+    looker: Option<Looker<F::Slow, T>>,
+    stream: usize,
+    told: Option<&'w V>,
+) -> Result<StreamReader<Inflows<'w, F, V, T>>, StreamStop>
+where
+    F: Files,
+    V: Watch,
+    T: Wait + Clock + Drop,
+    ensures { IfOk result (λ reader. (bytes : Option (List ℕ)) × F.open_gives name.now (Some bytes)
+        × IsOpened bytes 0 reader) }
+{
+    if order.is_closed() {
+        return Err(StreamStop::Closed);
+    }
+    let Ok(inlet) = files.open(name) else {
+        return Err(StreamStop::Open);
+    };
+    let inflow = inflow_by(alloc, inlet, looker);
+    match open_reader(rt, alloc, order, inflow, stream, told) {
+        Ok(reader) => Ok(reader),
+        Err(fault) => Err(StreamStop::Read(fault)),
+    }
+}
+
+/// Reads the header of an input, once something is there or the stream is closed.
+fn open_reader<'w, R, S, V, T>(
+    rt: &T,
+    alloc: Global,
+    order: &Arc<Order, Global>,
+    inflow: Inflow<R, S, T>,
+    stream: usize,
+    told: Option<&'w V>,
+) -> Result<StreamReader<WatchedSource<'w, Closable<R, S, T>, V>>, ReadFault>
+where
+    R: Read + Drop,
+    S: Read + Drop,
+    V: Watch,
+    T: Wait + Clock + Drop,
+    ensures { IfOk result (IsOpened (inflow_remaining R.remaining S.remaining inflow) 0) }
+{
+    let Ok(theirs) = Arc::try_clone(order) else {
+        return Err(ReadFault::NoMemory);
+    };
+    let over = Closable::new(inflow, theirs);
+    await_input(rt, &over);
+    let source = WatchedSource::new(over, stream, told);
+    let reader = StreamReader::open(alloc, source)?;
+    Ok(reader)
+}
+
+/// Makes the output, unless the stream was closed, or is meanwhile: a FIFO is held open then, and may have no
+/// reader.
+fn open_output<'w, F: Files, V: Watch>(
+    files: &F,
+    order: &Order,
+    name: &str,
+    stream: usize,
+    told: Option<&'w V>,
+) -> Result<Outflows<'w, F, V>, StreamStop>
+    ensures output { IfOk result (λ sink. F.create_gives name.now (Some (F.Writer.contents sink.sink.writer))) }
+    ensures no_failure { IfOk result (λ sink. sink.sink.failures ≡ 0) }
+{
+    if order.is_closed() {
+        return Err(StreamStop::Closed);
+    }
+    let Ok(output) = files.make(name) else {
+        return Err(StreamStop::Create);
+    };
+    if order.is_closed() {
+        return Err(StreamStop::Closed);
+    }
+    Ok(WatchedSink::new(OverWrite::new(output), stream, told))
+}
+
+/// Waits until a source has its header line, the end or a fault, or is closed.
+fn await_input<S: Source, T: Wait>(rt: &T, source: &S) {
+    for _ in rt.forever() {
+        if source.is_ready(PATIENCE, Wanted::line(HEADER_LINE, 0)) {
+            return;
+        }
+    }
+    unreachable!()
+}

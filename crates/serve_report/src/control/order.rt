@@ -1,0 +1,66 @@
+//! A stream that was asked for.
+ghost use Rattle.std.specs.Prelude.{◌≡◌, IfOk, string_bytes};
+
+use super::StreamWord;
+use std::alloc::{AllocError, Global};
+use std::sync::atomic::{AtomicBool, Ordering};
+
+/// A stream as it was asked for: `q` units of work in every `t` moments. Any thread may close it.
+#[derive(Drop)]
+pub struct Order {
+    /// Its number among all that were asked for.
+    pub number: u64,
+    pub name: String,
+    pub input: String,
+    pub output: String,
+    pub q: u64,
+    pub t: u64,
+    is_closed: AtomicBool,
+}
+
+impl Order {
+    /// It isn't closed yet.
+    pub fn new(alloc: Global, number: u64, word: StreamWord<'_>) -> Result<Order, AllocError>
+        ensures name { IfOk result (λ order. string_bytes order.name ≡ word.entry.name.now) }
+        ensures input { IfOk result (λ order. string_bytes order.input ≡ word.entry.input.now) }
+        ensures output { IfOk result (λ order. string_bytes order.output ≡ word.entry.output.now) }
+        ensures share { IfOk result (λ order. (order.q ≡ word.entry.q) × (order.t ≡ word.entry.t)) }
+        ensures number { IfOk result (λ order. order.number ≡ number) }
+    {
+        Ok(Order {
+            number,
+            name: String::from_str(alloc, word.name)?,
+            input: String::from_str(alloc, word.input)?,
+            output: String::from_str(alloc, word.output)?,
+            q: word.q,
+            t: word.t,
+            is_closed: AtomicBool::new(false),
+        })
+    }
+
+    /// The word that it was asked for by, without its operations.
+    pub fn word(&self) -> StreamWord<'_>
+        ensures input { result.input.now ≡ string_bytes self.now.input }
+        ensures output { result.output.now ≡ string_bytes self.now.output }
+        ensures share { (result.q ≡ self.now.q) × (result.t ≡ self.now.t) }
+    {
+        StreamWord {
+            name: &self.name,
+            input: &self.input,
+            output: &self.output,
+            q: self.q,
+            t: self.t,
+            operations: "",
+        }
+    }
+
+    /// Whether no read of it is begun any more.
+    pub fn is_closed(&self) -> bool {
+        self.is_closed.load(Ordering::SeqCst)
+    }
+
+    /// No read of it is begun from here on. Answers whether that is new.
+    pub fn close(&self) -> bool {
+        !self.is_closed.swap(true, Ordering::SeqCst)
+    }
+}

@@ -1,0 +1,223 @@
+//! The threads of a run whose streams come and go: the first serves, one takes the lines of its control, and
+//! each stream is opened on one of its own.
+ghost use Rattle.std.specs.Prelude.{ℕ, ◌≡◌};
+ghost use Rattle.std.specs.Thread.{IsSend, IsSync};
+ghost use Rattle.serve_report.specs.Moments.{IsMoment};
+ghost use Rattle.serve_work.specs.Live.{IsForm};
+
+use super::door::{Doorway, Limit};
+use super::errand::{Bidding, Bids, Errand};
+use super::lobby::Lobby;
+use crate::serve::{PlainGate, RunClock};
+use serve_work::{Clock as Moments, SessionFault, serve_live};
+use std::alloc::Global;
+use std::io::Write;
+use std::marker::Brand;
+use std::sync::atomic::{AtomicBool, Ordering};
+use std::sync::{Mutex, Wait};
+use std::thread::{self, Threads};
+use std::time::Clock;
+use y4m_stream::{Sink, Source};
+
+/// How many workers a run has, the most bands of one lease, and the most entries of an epoch's journal.
+#[derive(Clone, Copy)]
+pub struct Form {
+    pub workers: u64,
+    pub quantum: u64,
+    pub journal: usize,
+}
+
+/// Takes the lines of a control while those are served who come to a lobby, until no more come. Then no line is
+/// read any more.
+pub fn serve_beside<R, W, S, O, E, T, B, L, P>(
+    rt: &T,
+    alloc: Global,
+    form: Form,
+    lobby: &Lobby<'_, R, W, S, O, E>,
+    clock: &RunClock<'_, T>,
+    bids: B,
+    first: &Mutex<Option<Vec<Errand>>>,
+    prepares: &L,
+    opens: &P,
+    is_over: &AtomicBool,
+) -> Result<(), SessionFault>
+where
+    R: Source + Drop + Send,
+    W: Sink + Drop + Send,
+    S: Drop + Send,
+    O: Write + Send,
+    E: Write + Send,
+    T: Threads + Wait + Clock + Sync,
+    B: Bids + Drop + Send,
+    L: Fn() + Sync,
+    P: Fn(Errand) + Sync,
+    requires form { IsForm form.workers form.quantum }
+    requires prepares { L.IsAlwaysCallable prepares.now }
+    requires opens { P.IsAlwaysCallable opens.now }
+{
+    thread::scope(
+        thread::scope_env(),
+        rt,
+        |scope| -> Result<(), SessionFault>
+            requires { IsForm form.workers form.quantum × IsSync T.row × IsSync L.row × IsSync P.row
+                × IsSend B.row × IsSend R.row × IsSend W.row × IsSend S.row × IsSend O.row
+                × IsSend E.row × L.IsAlwaysCallable prepares.now × P.IsAlwaysCallable opens.now }
+        {
+            let listening = scope.spawn(
+                move ||
+                    requires { L.IsAlwaysCallable prepares.now × P.IsAlwaysCallable opens.now }
+                { listen(rt, alloc, lobby, bids, first, prepares, opens) },
+            );
+            if listening.is_err() {
+                open_first(rt, first, prepares, opens);
+                lobby.fail_reading(rt);
+            }
+            let served = serve_lobby(rt, alloc, form, lobby, clock);
+            is_over.store(true, Ordering::SeqCst);
+            served
+        },
+    )
+}
+
+/// Serves those who come to a lobby, until no more come.
+fn serve_lobby<R, W, S, O, E, T>(
+    rt: &T,
+    alloc: Global,
+    form: Form,
+    lobby: &Lobby<'_, R, W, S, O, E>,
+    clock: &RunClock<'_, T>,
+) -> Result<(), SessionFault>
+where
+    R: Source + Drop + Send,
+    W: Sink + Drop + Send,
+    S: Drop + Send,
+    O: Write + Send,
+    E: Write + Send,
+    T: Threads + Wait + Clock + Sync,
+    requires { IsForm form.workers form.quantum }
+{
+    serve_door::<R, W, S, O, E, RunClock<'_, T>, T, Brand>(rt, alloc, form, lobby, clock)
+}
+
+/// The same, where a door's type tells the most entries of a journal.
+fn serve_door<'l, 'o, R, W, S, O, E, K, T, L>(
+    rt: &'l T,
+    alloc: Global,
+    form: Form,
+    lobby: &'l Lobby<'o, R, W, S, O, E>,
+    clock: &'l K,
+) -> Result<(), SessionFault>
+where
+    R: Source + Drop + Send,
+    W: Sink + Drop + Send,
+    S: Drop + Send,
+    O: Write + Send,
+    E: Write + Send,
+    K: Moments + Sync,
+    T: Threads + Wait + Clock + Sync,
+    L: Limit + Sync,
+    requires form { IsForm form.workers form.quantum }
+    requires limit { form.journal ≡ L.limit }
+    requires times { (at : ℕ) → K.gives clock.now at → IsMoment at }
+{
+    let mut door: Doorway<'l, 'o, R, W, S, O, E, K, T, L> = Doorway::new(rt, alloc, lobby, clock)?;
+    let Form {
+        workers,
+        quantum,
+        journal,
+    } = form;
+    serve_live(
+        rt, alloc, workers, quantum, journal, &mut door, &PlainGate, clock,
+    )
+}
+
+/// Opens the streams of the words one after the other.
+fn open_first<T: Wait, L: Fn(), P: Fn(Errand)>(
+    rt: &T,
+    first: &Mutex<Option<Vec<Errand>>>,
+    prepares: &L,
+    opens: &P,
+)
+    requires prepares { L.IsAlwaysCallable prepares.now }
+    requires opens { P.IsAlwaysCallable opens.now }
+{
+    let Some(errands) = first.lock(rt).take() else {
+        return;
+    };
+    for errand in errands {
+        if errand.may_wait {
+            prepares();
+        }
+        opens(errand);
+    }
+}
+
+/// Opens the first streams, and takes the lines of a control until no more are taken. It ends when each stream
+/// that was asked for is opened or stopped.
+fn listen<R, W, S, O, E, T, B, L, P>(
+    rt: &T,
+    alloc: Global,
+    lobby: &Lobby<'_, R, W, S, O, E>,
+    bids: B,
+    first: &Mutex<Option<Vec<Errand>>>,
+    prepares: &L,
+    opens: &P,
+)
+where
+    R: Source + Drop,
+    W: Sink + Drop,
+    S: Drop,
+    O: Write,
+    E: Write,
+    T: Threads + Wait,
+    B: Bids + Drop,
+    L: Fn(),
+    P: Fn(Errand) + Sync,
+    requires prepares { L.IsAlwaysCallable prepares.now }
+    requires opens { P.IsAlwaysCallable opens.now }
+{
+    let mut bids = bids;
+    let errands = first.lock(rt).take().unwrap_or(Vec::new(alloc));
+    thread::scope(
+        thread::scope_env(),
+        rt,
+        |scope|
+            requires { IsSync P.row × L.IsAlwaysCallable prepares.now × P.IsAlwaysCallable opens.now }
+        {
+            for errand in errands {
+                let number = errand.order.number;
+                if errand.may_wait {
+                    prepares();
+                }
+                let opening = scope.spawn(
+                    move ||
+                        requires { P.IsAlwaysCallable opens.now }
+                    { opens(errand) },
+                );
+                if opening.is_err() {
+                    lobby.refuse(rt, number);
+                }
+            }
+            for _ in rt.forever() {
+                let errand = match bids.next() {
+                    Bidding::Done => continue,
+                    Bidding::Open(errand) => errand,
+                    Bidding::End => break,
+                };
+                let number = errand.order.number;
+                if errand.may_wait {
+                    prepares();
+                }
+                let opening = scope.spawn(
+                    move ||
+                        requires { P.IsAlwaysCallable opens.now }
+                    { opens(errand) },
+                );
+                if opening.is_err() {
+                    lobby.refuse(rt, number);
+                }
+            }
+            lobby.end(rt);
+        },
+    );
+}

@@ -1,0 +1,5 @@
+//! The lines of a control, and what is answered.
+
+mod answers;
+mod feeding;
+mod lines;

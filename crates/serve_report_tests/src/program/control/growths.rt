@@ -1,0 +1,69 @@
+//! Streams that come, whatever growth is refused: `bench/growths` refuses each in turn.
+use crate::compare::same_at;
+use crate::program::memory::{Made, Memory};
+use crate::program::serving::growths::{A_WHOLE, B_WHOLE, holds_front, is_whole, roomy};
+use crate::program::serving::{A, B, given};
+use crate::program::{words_of, written};
+use serve_report::{Unwatched, run_on};
+use std::process::Abort;
+use std::sync::Wait;
+
+const LINES: &[u8] = b"a:a.y4m:a.out:1:2:invert\nb:b.y4m:b.out:1:2:hflip+vflip\nend\n";
+
+/// What may be said, where no stream need be told: the last where there is no thread to take lines with.
+const SAID: &[&str] = &[
+    "y4mserve: NoMemory\n",
+    "y4mserve: session NoMemory\n",
+    "y4mserve: control read\n",
+];
+
+/// The line by which a stream ends.
+fn end_of<'a>(answers: &'a str, front: &str) -> &'a str {
+    for line in answers.lines() {
+        if line.starts_with(front) {
+            return line;
+        }
+    }
+    ""
+}
+
+/// Each stream is told, and is whole or stops for want of memory, or there was no memory to serve with.
+fn are_told<R: Abort + Wait>(rt: &R, answers: &str, said: &str, files: &[Made<'_>; 2], status: u8) {
+    if !said.is_empty() {
+        same_at(rt, (SAID.contains(&said), status), (true, 1), said);
+        return;
+    }
+    let a = is_whole(rt, end_of(answers, A_WHOLE.front), &files[0], A_WHOLE);
+    let b = is_whole(rt, end_of(answers, B_WHOLE.front), &files[1], B_WHOLE);
+    same_at(rt, status == 0, a && b, answers);
+}
+
+#[test]
+fn a_refused_growth_is_told_of_its_stream(rt: HostRuntime) {
+    let inputs = [given("a.y4m", A), given("b.y4m", B)];
+    let outputs = [
+        roomy(&rt, rt.alloc(), "a.out"),
+        roomy(&rt, rt.alloc(), "b.out"),
+    ];
+    let files = Memory::new(&rt, &inputs, &outputs);
+    let line = "serve --control -";
+    let words = words_of(rt.alloc(), line).expect(&rt, line);
+    let (mut room, mut faults) = ([0; 512], [0; 512]);
+    let (mut output, mut errors) = (room.as_mut_slice(), faults.as_mut_slice());
+    let status = run_on(
+        &rt,
+        rt.alloc(),
+        &words,
+        LINES,
+        &mut output,
+        &mut errors,
+        &files,
+        &Unwatched,
+    );
+    let (left, unsaid) = (output.len(), errors.len());
+    let answers = str::from_utf8(written(&room, left)).expect(&rt, "the answers are no text");
+    let said = str::from_utf8(written(&faults, unsaid)).expect(&rt, "what is said is no text");
+    holds_front(&rt, &outputs[0], A_WHOLE);
+    holds_front(&rt, &outputs[1], B_WHOLE);
+    are_told(&rt, answers, said, &outputs, status);
+}
