@@ -160,10 +160,12 @@ impl Course {
         }
     }
 
-    /// What is reported of it. Where the stream was closed, its last read failed for that.
+    /// What is reported of it. Where the stream was closed, its last read failed for that; it isn't told as
+    /// closed where an image is missing, since a write failed.
     fn row(self, name: &str, is_closed: bool) -> StreamRow<'_> {
+        let is_whole = self.delivered == self.accepted;
         let stop = match self.stop {
-            StreamStop::Read(ReadFault::Device) if is_closed => StreamStop::Closed,
+            StreamStop::Read(ReadFault::Device) if is_closed && is_whole => StreamStop::Closed,
             stop => stop,
         };
         StreamRow {

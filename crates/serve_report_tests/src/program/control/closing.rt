@@ -1,8 +1,9 @@
 //! Streams that are closed.
 use super::script::{AWAITED, HELD, Turn};
-use super::waiting::{ASK, Later, Slow, serves_fifos, waits};
+use super::waiting::{ASK, Later, Slow, serves_fifos, shared_answers, talks_of, waits};
 use super::{Talk, text_by};
-use crate::program::serving::{A, A_INVERTED};
+use crate::program::memory::Made;
+use crate::program::serving::{A, A_INVERTED, holds};
 use std::alloc::Global;
 use std::process::Abort;
 use std::sync::Wait;
@@ -39,6 +40,25 @@ fn closes<'f, R: Abort + Threads + Wait + Clock + Copy + Drop + Send + Sync + 's
     let came = [("", before), ("AlreadyClosed", b"FRAME\n1234")];
     let talk = Talk::new(&turns, answers);
     waits(rt, alloc, "", &came, Some(written), talk);
+}
+
+/// The last image doesn't fit into the output.
+#[test]
+fn a_failed_write_is_not_told_as_a_close(rt: HostRuntime) {
+    let turns: [Turn<'_>; 3] = [
+        ASK,
+        (AWAITED, b"close a\nclose a\n"),
+        ("stop read Device\n", b"end\n"),
+    ];
+    let outputs = [Made::new(rt.alloc(), "a.out", A_INVERTED.len() - 3)];
+    let answers = shared_answers(&rt, rt.alloc(), usize::MAX);
+    let came = [("", A), ("AlreadyClosed", b"FRAME\n".as_slice())];
+    let wanted = "a admitted\nline 3: AlreadyClosed\n\
+                  a accepted 3 delivered 2 charged 3 stop read Device\nunits 3\n";
+    let later: [Later<'_>; 1] = [("a.in", "", &came)];
+    let talk = Talk::new(&turns, wanted).with_status(1);
+    talks_of(&rt, rt.alloc(), &answers, &later, &[], "", &outputs, talk);
+    holds(&rt, &outputs[0], &A_INVERTED[..A_INVERTED.len() - 3]);
 }
 
 #[test]
