@@ -174,8 +174,8 @@ module _ (past : List Act) (o : Outset) (is : IsOutset o) (reader : ReaderState)
       inl (sends_whole o.seat o.writer frames is.fresh.kept is.writing seat writer' all, other)
 
   -- a fault is held, with a frame in hand if there is one
-  held_given : (in_hand : Option FrameText) (held : Stop) (seat : StreamSeatValue) (writer : WriterState) → IsReadAhead reader.rest reader.left
-      → Spoils held o reader seat writer in_hand → ServesTo StreamStopsAt past held o.reader reader o.seat seat o.writer writer
+  held_given : (in_hand : Option FrameText) (held : Stop) (seat : StreamSeatValue) (writer : WriterState)
+      → IsReadAhead reader.rest reader.left → Spoils held o reader seat writer in_hand → ServesTo StreamStopsAt past held o.reader reader o.seat seat o.writer writer
   held_given None held seat writer ahead at = held_up held o reader seat writer past at ahead
   held_given (Some frame) held seat writer ahead at =
       serves_more past held o reader seat writer (held_told held o reader seat writer frame past at)
@@ -210,7 +210,8 @@ module _ (past : List Act) (o : Outset) (is : IsOutset o) (reader : ReaderState)
       rw (e.1, given_for_none ended first told behind e.0 now) (fed_up in_hand seat seat writer writer ahead at refl
       (inl (sends_whole o.seat o.writer at.frames is.fresh.kept is.writing seat writer at.passed.moved, λ f is. absurd (cc))))
   given_up (Feeding in_hand (Some pair)) seat writer writer' ended first told ahead at e now behind = elim (e at.0 at.1) [
-    | inl well ↦ rw (given_for_none ended first told behind well.0 now) (fed_up in_hand (with_kept pair seat) seat at.0 writer' ahead at.2 refl
+    | inl well ↦ rw (given_for_none ended first told behind well.0 now)
+        (fed_up in_hand (with_kept pair seat) seat at.0 writer' ahead at.2 refl
         (sent_pair (Refused NoMemory) pair seat at.0 writer writer' at.2.frames (λ f is. absurd (cc)) at.1 at.2.passed.moved well.1))
     | inr cut ↦ rw (given_for_fault ended first told behind (Write cut.0) (λ is. cc) (now ∙ cut.1))
         (fed_fault in_hand pair seat at.0 writer writer' cut.0 ahead at.1 at.2 cut.2)

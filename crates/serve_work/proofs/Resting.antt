@@ -154,8 +154,8 @@ pair_now pair reader writer a b h k p q is = record {
 -- what a client needs to go on where it fed
 module _ (past : List Act) (o : Outset) (is : IsOutset o) (size : IsWriterFor o.seat.chain o.writer) where
   can_feed : (in_hand : Option (Arc Frame Global)) (reader : ReaderState) (seat : StreamSeatValue) (writer : WriterState)
-      (buffers : Buffers) → seat.frames ≤ MOST_FRAMES → IsCounted past seat → HasInHand o.reader reader o.seat seat o.writer writer (text_in in_hand)
-      → AreBuffersFor seat.chain buffers → IsSized seat.chain in_hand → CanFeed in_hand reader seat writer buffers
+      (buffers : Buffers) → seat.frames ≤ MOST_FRAMES → IsCounted past seat
+      → HasInHand o.reader reader o.seat seat o.writer writer (text_in in_hand) → AreBuffersFor seat.chain buffers → IsSized seat.chain in_hand → CanFeed in_hand reader seat writer buffers
   can_feed in_hand reader seat writer buffers most counted at memory sized =
       let moved = at.passed.moved in
       record {

@@ -238,8 +238,6 @@ TalliesSeat-closed mid closed t = record {
   torn = t.torn;
 }
 
--- the first of two stops
-
 -- the first was no fault, and the last is told; or the first is
 first_told : (stop last told : Stop) → IsUseful stop → IsFirst stop last told
     → ((stop ≡ Whole) × (told ≡ last)) ⊎ (IsNoWrite stop × (stop ≢ Whole) × (told ≡ stop))

@@ -13,8 +13,8 @@ pub(crate) enum Course {
     /// It writes on with the image in hand, if there is one; offers the frame in hand, if there is one, and
     /// reads on.
     Feeding(Option<Arc<Frame>>, Option<Collected>),
-    /// It offers the frame in hand, if there is one, and reads on, but an image couldn't be delivered, for this
-    /// reason, and no more are written.
+    /// It offers the frame in hand, if there is one, and reads on, but an image couldn't be delivered, for
+    /// this reason, and no more are written.
     Holding(Option<Arc<Frame>>, Stop),
     /// It reads no more, for this reason. It writes on with the image in hand, if there is one, and writes
     /// those that are left.

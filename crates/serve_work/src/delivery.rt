@@ -19,8 +19,8 @@ use serve_hub::{CollectRefused, Epoch, Hub, Refusal, StreamSeat};
 use std::sync::Wait;
 use y4m_stream::{Sink, StreamWriter};
 
-/// Collects an image and writes it. It stops at `Whole` where nothing is left to collect. Where the journal is
-/// full before all of the image went out, that is in hand.
+/// Collects an image and writes it. It stops at `Whole` where nothing is left to collect. Where the journal
+/// is full before all of the image went out, that is in hand.
 pub(crate) fn deliver<L: Epoch, W: Sink, T: Wait>(
     rt: &T,
     hub: &Hub<L>,

@@ -15,8 +15,8 @@ use y4m_stream::{Sink, StreamWriter, WriteFault};
 /// For how many milliseconds a client waits for its output before it looks whether the journal is full.
 const PATIENCE: u64 = 5;
 
-/// Writes on with an image, until it went out whole, or until the journal is full between two of its writes. It
-/// answers whether the image went out whole.
+/// Writes on with an image, until it went out whole, or until the journal is full between two of its writes.
+/// It answers whether the image went out whole.
 fn write_on<L: Epoch, W: Sink, T: Wait>(
     rt: &T,
     hub: &Hub<L>,

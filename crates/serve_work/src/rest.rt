@@ -16,8 +16,9 @@ use y4m_stream::reader::Phase;
 use y4m_stream::{Sink, Source, StreamReader};
 
 /// What is left to do of a stream, from epoch to epoch: its reader and its writer, the frame that was read
-/// and isn't accepted, if there is one, the memory of frames and images, how many frames were accepted and
-/// how many images collected and delivered, and why no more frames are read, or no more images written.
+/// and isn't accepted, if there is one, the image that isn't written whole, if there is one, the memory of
+/// frames and images, how many frames were accepted and how many images collected and delivered, and why no
+/// more frames are read, or no more images written.
 ///
 /// Contracts see the `RestValue` of `specs/Rests.antt`.
 #[derive(Drop)]

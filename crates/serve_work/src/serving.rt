@@ -11,8 +11,8 @@ ghost use Rattle.serve_work.specs.ClientInside.{MayClose, Serves, Tallies, Talli
 ghost use Rattle.serve_work.specs.Hands.{counted_with};
 ghost use Rattle.serve_work.specs.Rests.{CanDrain, CanDrainBehind, CanFeed, CanFeedBehind, CanGoOn, CanHold};
 ghost use Rattle.serve_work.specs.Rests.{Comes, Draining, Feeding, HasMemoryAt, IsAt, IsBefore, IsOutset};
-ghost use Rattle.serve_work.specs.Rests.{IsSilent, Outset, Spoils, course_stop_before, image_before, step_image};
-ghost use Rattle.serve_work.specs.Rests.{step_stop};
+ghost use Rattle.serve_work.specs.Rests.{IsSilent, Outset, Spoils, course_stop_before, image_before};
+ghost use Rattle.serve_work.specs.Rests.{step_image, step_stop};
 
 use crate::buffers::Buffers;
 use crate::course::Course;

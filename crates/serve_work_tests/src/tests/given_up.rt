@@ -192,8 +192,8 @@ fn tells_its_fault(rt: &impl Abort, served: OneServed<'_>) {
 }
 
 /// A stream of one frame whose sink takes the header line alone, and whose end comes once another one's
-/// images are all written, in a dozen epochs. Where the next of these epochs finds no memory, the fault of the
-/// write is told all the same.
+/// images are all written, in a dozen epochs. Where the next of these epochs finds no memory, the fault of
+/// the write is told all the same.
 ///
 /// It holds whichever growth is refused: `bench/growths` refuses each in turn.
 #[test]
@@ -238,9 +238,9 @@ fn goes_out_whole(rt: &impl Abort, served: OneServed<'_>) {
     same_at(rt, written.as_slice(), ONE_INVERTED, "what was written");
 }
 
-/// A stream of one frame whose sink takes three bytes of its image, and the rest once another one's images are
-/// all written, in a dozen epochs. Where the next of these epochs finds no memory, the image goes out whole all
-/// the same.
+/// A stream of one frame whose sink takes three bytes of its image, and the rest once another one's images
+/// are all written, in a dozen epochs. Where the next of these epochs finds no memory, the image goes out
+/// whole all the same.
 ///
 /// It holds whichever growth is refused: `bench/growths` refuses each in turn.
 #[test]
