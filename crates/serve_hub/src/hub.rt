@@ -197,6 +197,18 @@ impl<L: Epoch> Hub<L> {
         RoomLeft::of(&shared)
     }
 
+    /// The deadline of a stream, and the moment of the clock. It waits for the lock alone.
+    ///
+    /// No contract can name what is under a lock, so none promises anything of the answer.
+    pub fn deadline(&self, rt: &impl Wait, stream: u32) -> Option<(u64, u64)> {
+        let shared = self.shared.lock(rt);
+        let desk = shared.book.desk();
+        match desk.account(stream) {
+            Some((_, deadline)) => Some((deadline, desk.clock())),
+            None => None,
+        }
+    }
+
     /// Ends the epoch: from now on an offer, a collection, a lease and an admission are answered
     /// `HistoryFull` where they would be accepted, as where the journal is full. Who waits is woken. Closes
     /// and settlements are as ever. It waits for the lock alone.

@@ -13,6 +13,7 @@ ghost use Rattle.serve_work.specs.Hands.{counted_with, image_at};
 
 use crate::buffers::Buffers;
 use crate::hand::finish;
+use crate::input::most_ahead;
 use crate::stop::Halt;
 use serve_core::{Collected, Refusal as Core};
 use serve_hub::{CollectRefused, Epoch, Hub, Refusal, StreamSeat};
@@ -49,7 +50,7 @@ pub(crate) fn deliver<L: Epoch, W: Sink, T: Wait>(
 }
 
 /// Collects an image that is there, or also one that comes soon. Where the client reads ahead, it doesn't
-/// wait for the last one.
+/// wait for the last ones.
 fn collect_early<L: Epoch, T: Wait>(
     rt: &T,
     hub: &Hub<L>,
@@ -59,7 +60,7 @@ fn collect_early<L: Epoch, T: Wait>(
     ensures given { IfOk result (λ pair. Gives pair seat.old seat.new) }
     ensures refused { IfErr result (λ e. IsCollectRefused e seat.old seat.new) }
 {
-    if ahead && seat.kept() < 2 {
+    if ahead && seat.kept() < most_ahead(seat) {
         hub.try_collect(rt, seat)
     } else {
         hub.collect_soon(rt, seat)

@@ -1,7 +1,22 @@
 //! What a session asks of its surroundings.
 ghost use Rattle.std.specs.Prelude.{ℕ};
 
+/// What a worker did under a lease that it settled.
+#[derive(Clone, Copy)]
+pub struct Stint {
+    pub stream: u32,
+    /// The frame's number in its stream.
+    pub number: u64,
+    /// The bands that were done, and the units that they cost.
+    pub bands: u32,
+    pub units: u32,
+    /// They were the last ones of the frame.
+    pub is_finished: bool,
+}
+
 /// What is told of the work, band by band, from the threads of the workers. It decides how a band is done.
+///
+/// Each call is outside the hub's lock. One that says nothing of its own isn't told of leases.
 pub trait Gate {
     /// Worker `worker` is about to do a band of frame `number` of stream `stream`.
     fn before_band(&self, worker: u32, stream: u32, number: u64);
@@ -11,6 +26,21 @@ pub trait Gate {
 
     /// Worker `worker`, or the thread that helps it, is about to do half 0 or 1 of a band.
     fn in_half(&self, worker: u32, half: u32);
+
+    /// An epoch begins: none of its threads was started yet.
+    fn epoch_begins(&self) {}
+
+    /// Whether it is to be told of leases.
+    fn follows_leases(&self) -> bool {
+        false
+    }
+
+    /// Worker `worker` has a lease.
+    fn leased(&self, _worker: u32) {}
+
+    /// It has settled it, having done this. The hub then told the stream's deadline and the moment of its
+    /// clock.
+    fn settled(&self, _worker: u32, _stint: Stint, _deadline: Option<(u64, u64)>) {}
 }
 
 /// What tells the moments at which frames are offered.

@@ -10,6 +10,10 @@ const PATIENCE: u64 = 5;
 /// that is full is seen to be ready by a thread that has to wake first.
 const GLANCE: u64 = 1;
 
+/// The bytes of a frame up to which it costs more to wait for its image, which wakes two threads, than to do
+/// its work.
+const SMALL: usize = 1 << 20;
+
 /// What a client finds that is about to read.
 #[derive(Clone, Copy, Debug, PartialEq, Eq)]
 pub(crate) enum Input {
@@ -36,12 +40,25 @@ pub(crate) fn await_input<L: Epoch, R: Source + Drop, T: Wait>(
     }
 }
 
-/// Whether a frame is read beside the work on another one: where that takes long, since a filter looks at
-/// more than a band's own rows, and the frame is there.
+/// Whether a frame is read beside the work on others: where they are small, or where that takes long, since a
+/// filter looks at more than a band's own rows; and where the frame is there.
 pub(crate) fn reads_ahead<L: Epoch, R: Source + Drop>(
     seat: &StreamSeat<L>,
     reader: &StreamReader<R>,
 ) -> bool {
     let chain = seat.spec().chain();
-    chain.steps() < chain.cost() && reader.is_ready(GLANCE)
+    (is_small(seat) || chain.steps() < chain.cost()) && reader.is_ready(GLANCE)
+}
+
+/// How many frames it keeps before it waits for an image, where it reads ahead.
+pub(crate) fn most_ahead<L: Epoch>(seat: &StreamSeat<L>) -> usize {
+    if is_small(seat) {
+        seat.places()
+    } else {
+        2
+    }
+}
+
+fn is_small<L: Epoch>(seat: &StreamSeat<L>) -> bool {
+    seat.spec().chain().geometry().bytes() <= SMALL
 }

@@ -1,8 +1,10 @@
 //! A worker: it leases jobs, does what is granted, and settles.
-ghost use Rattle.std.specs.Prelude.{◌≡◌, ◌<◌, ◌+◌};
+ghost use Rattle.std.specs.Prelude.{◌≡◌, ◌<◌, ◌+◌, ◌↔◌, IsTrue};
+ghost use Rattle.lease.specs.Lease.{spent_of};
+ghost use Rattle.filters.specs.Steps.{steps_of};
 ghost use Rattle.serve_work.specs.Workers.{Works};
 
-use crate::gate::Gate;
+use crate::gate::{Gate, Stint};
 use lease::Lease;
 use serve_hub::{Epoch, Hub, LeaseRefused, Refusal, WorkSeat};
 use std::sync::Wait;
@@ -33,6 +35,30 @@ fn spend<G: Gate + Sync, T: Threads>(rt: &T, worker: u32, lease: &mut Lease, gat
     }
 }
 
+/// What is done under a lease.
+fn stint_of(lease: &Lease) -> Stint
+    ensures frame { (result.stream ≡ lease.now.stream) × (result.number ≡ lease.now.number) }
+    ensures bands { result.bands ≡ lease.now.used }
+    ensures units { result.units ≡ spent_of lease.now }
+    ensures last { IsTrue result.is_finished ↔ (lease.now.job.done ≡ steps_of lease.now.job.chain) }
+{
+    Stint {
+        stream: lease.stream(),
+        number: lease.number(),
+        bands: lease.used(),
+        units: lease.spent(),
+        is_finished: lease.done() == lease.spec().chain().steps(),
+    }
+}
+
+/// Tells a gate that follows leases of one that was settled.
+fn tell<L: Epoch, G: Gate, T: Wait>(rt: &T, hub: &Hub<L>, worker: u32, stint: Stint, gate: &G) {
+    if gate.follows_leases() {
+        let deadline = hub.deadline(rt, stint.stream);
+        gate.settled(worker, stint, deadline);
+    }
+}
+
 /// Why a settlement was refused. A lease that came back is given up, with its job.
 fn given_up(refused: LeaseRefused) -> Refusal
     ensures { result ≡ refused.refusal }
@@ -47,8 +73,8 @@ fn given_up(refused: LeaseRefused) -> Refusal
 /// Leases jobs, does all bands that are granted, and settles, until a call is refused: `Drained` where all
 /// streams are closed and done, and `HistoryFull` where the journal has no place for another lease.
 ///
-/// Before each band it tells the gate. It holds no lock while it filters. A lease whose settlement is refused
-/// is given up, with its job.
+/// Before each band it tells the gate, and a gate that follows leases of each one too. It holds no lock then,
+/// nor while it filters. A lease whose settlement is refused is given up, with its job.
 pub fn work<L: Epoch, G: Gate + Sync, T: Threads + Wait>(
     rt: &T,
     hub: &Hub<L>,
@@ -63,10 +89,13 @@ pub fn work<L: Epoch, G: Gate + Sync, T: Threads + Wait>(
             Ok(lease) => lease,
             Err(refusal) => return (seat, refusal),
         };
+        gate.leased(seat.worker());
         spend(rt, seat.worker(), &mut lease, gate);
+        let stint = stint_of(&lease);
         if let Err(refused) = hub.settle(rt, &mut seat, lease) {
             return (seat, given_up(refused));
         }
+        tell(rt, hub, seat.worker(), stint, gate);
     }
     unreachable!()
 }

@@ -107,6 +107,7 @@ fn epoch<
         mut slots,
         mut back,
     } = room;
+    gate.epoch_begins();
     let workers = work_seats.len();
     slotted(&mut slots, work_seats);
     let (turns, goes_on) = run_threads::<L, R, W, D, G, K, T>(

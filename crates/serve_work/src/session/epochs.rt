@@ -91,6 +91,7 @@ fn epoch<
         mut slots,
         mut back,
     } = room;
+    gate.epoch_begins();
     let workers = work_seats.len();
     let turns = seated(turns, seats, streams);
     slotted(&mut slots, work_seats);
