@@ -150,12 +150,30 @@ class Session(Case):
         return written
 
 
-class Live(Session):
-    """A run of `serve --control -`, whose lines ask for the streams: each has its line, in whatever order they end, unless nothing more of the
-    control can be read or there is no session."""
+class Piped(Session):
+    """The same, whose outputs are FIFOs with room for all of it, so that each is written by a thread of its own where there is one for it."""
 
-    LINE = re.compile(rb"(\w+) accepted (\d+) delivered (\d+) charged (\d+) stop (whole|open|create|read .*|ops .*|(?:refused|admit) NoMemory)")
-    ENDS = (b"y4mserve: control read\n", b"y4mserve: session NoMemory\n")
+    def __init__(self, folder, options, frames):
+        super().__init__(folder, options, frames)
+        self.name += " to FIFOs"
+        for path in self.outs:
+            os.mkfifo(path)
+        self.ends = {path: os.open(path, os.O_RDONLY | os.O_NONBLOCK) for path in self.outs}
+
+    def taken(self, path):
+        """What was written, of which nothing is left then."""
+        written = b""
+        while piece := os.read(self.ends[path], 65536):
+            written += piece
+        return written
+
+
+class Live(Session):
+    """A run of `serve --control -`, whose lines ask for the streams: each has its line, in whatever order they end, unless there is no session, or
+    no thread for the lines."""
+
+    LINE = re.compile(rb"(\w+) accepted (\d+) delivered (\d+) charged (\d+) stop (whole|closed|open|create|read .*|ops .*|(?:refused|admit) NoMemory)")
+    ENDS = (b"y4mserve: session NoMemory\n",)
     # without the thread of its work there is nothing, without that of its lines no stream, and without that of its opening not this stream
     needed = 4
 

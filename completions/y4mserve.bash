@@ -13,7 +13,7 @@ _y4mserve() {
         help) words="filter replay serve help" ;;
         replay) words="-h --help" ;;
         filter) words="--band --threads -q --quiet -h --help" ;;
-        serve) words="--workers --band --quantum --journal --control --moment -q --quiet -h --help" ;;
+        serve) words="--workers --band --quantum --journal --control --moment --trace -q --quiet -h --help" ;;
     esac
     if [[ ($command == filter || $command == serve) && $previous == --band ]]; then
         words="2 4 8 16 32 64 128"
@@ -25,7 +25,7 @@ _y4mserve() {
         words="1 2 4 8 16 32 64"
     elif [[ $command == serve && $previous == --journal ]]; then
         words="4096 65536 1048576"
-    elif [[ $command == serve && $previous == --control ]]; then
+    elif [[ $command == serve && ($previous == --control || $previous == --trace) ]]; then
         compopt -o filenames
         mapfile -t COMPREPLY < <(compgen -f -- "$current")
         return

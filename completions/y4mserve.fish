@@ -29,6 +29,7 @@ complete -c y4mserve -n '__fish_seen_subcommand_from serve' -l quantum -x -a '1 
 complete -c y4mserve -n '__fish_seen_subcommand_from serve' -l journal -x -a '4096 65536 1048576' -d 'Most entries of a journal, 66 to 1048576'
 complete -c y4mserve -n '__fish_seen_subcommand_from serve' -l control -r -F -d 'File of lines that ask for more streams while others run'
 complete -c y4mserve -n '__fish_seen_subcommand_from serve' -l moment -x -a '10 20 30 40 100 1000' -d 'Microseconds of a moment, 1 to 1000000'
+complete -c y4mserve -n '__fish_seen_subcommand_from serve' -l trace -r -F -d 'File that a trace of the run is written to'
 complete -c y4mserve -n '__fish_seen_subcommand_from filter' -s q -l quiet -d 'Show no progress and no hint on a terminal'
 complete -c y4mserve -n '__fish_seen_subcommand_from serve' -s q -l quiet -d 'Show no progress on a terminal'
 complete -c y4mserve -n '__fish_seen_subcommand_from filter; and not __fish_seen_subcommand_from help' -a '(__y4mserve_operations)'

@@ -1,5 +1,5 @@
 -- Files that are told apart, one after the other.
-use Rattle.std.proofs.Common.{ℕ, ◌+◌, ◌<◌, List, ◌++◌, length, get_or, take, drop, AllPairs, Any}
+use Rattle.std.proofs.Common.{ℕ, ◌+◌, ◌<◌, List, ◌++◌, length, get_or, take, drop, All, AllPairs, Any}
 use Rattle.std.proofs.Common.{◌∙◌, add-one, ap, drop-cons, subst, sym}
 use Rattle.std.proofs.lemmas.List.{get_or_default, take-append-drop, take_more}
 use Rattle.std.proofs.lemmas.List.Quantifiers.{all_pairs_push}
@@ -24,3 +24,8 @@ module _ (uses : List FileUse) (i : ℕ) (d : FileUse) (less : i < length uses) 
     apart = apart;
     clash = clash;
   }
+
+-- what clashes with none is apart from each
+pub apart_from_all : (uses : List FileUse) (found : FileUse) → (Any (λ one. Clash one found) uses → ⊥)
+    → All (λ one. IsApart one found) uses
+apart_from_all uses found none k e below clash = none (k, get_or uses k e, below, get_or_default uses k _ e below, clash)

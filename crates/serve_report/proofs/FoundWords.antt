@@ -42,6 +42,7 @@ pub record ServeFound (found : List Row) (streams : List Text) (options : ServeO
   pub writes_journal : Writes found (codes "journal") options.journal
   pub control_is : first_of (codes "control") found ≡ options.control
   pub writes_moment : MayWrite found (codes "moment") options.moment
+  pub trace_is : first_of (codes "trace") found ≡ options.trace
   pub quiet_is : one_of (codes "quiet") found ≡ Some (bool_text options.is_quiet)
   pub keeps_workers : min (max options.workers 1) MOST_WORKERS ≡ options.workers
   pub keeps_quantum : min (max options.quantum 1) MOST_QUANTUM ≡ options.quantum
@@ -104,6 +105,7 @@ to_serve {options = options} found (Serve words) asked is =
         journal = kept_is _ _ is.writes_journal is.keeps_journal has.journal;
         control = has.control ∙ is.control_is;
         moment = may_be options.moment is.writes_moment has.moment;
+        trace = has.trace ∙ is.trace_is;
         quiet = flag_is options.is_quiet is.quiet_is has.quiet;
       },
     )

@@ -53,7 +53,7 @@ none_on (word ∷ words) seen plain =
 -- ---- after the walk
 
 abbrev streams : Rule
-streams = slice_index_or serve.rules 7 line.streams
+streams = slice_index_or serve.rules 8 line.streams
 
 texts_pass : (words : List Text) → values_fault streams words ≡ []
 texts_pass [] = refl

@@ -65,3 +65,11 @@ UsesGive uses (Some fault) =
 abbrev pub FilesGive : OfPlace → List StreamAsked → Option Fault → Type 0
 FilesGive PlaceGives streams given =
     (uses : List FileUse) × AreUses PlaceGives streams uses × UsesGive uses given
+
+-- a file of this name, which is written, clashes with none of the report's and the streams'
+pub record IsTraceApart (PlaceGives : OfPlace) (streams : List StreamAsked) (name : List ℕ) : Type 0 where
+  pub uses : List FileUse
+  pub are_uses : AreUses PlaceGives streams uses
+  pub trace : FileUse
+  pub is_trace : (name_used trace ≡ (name, true)) × PlaceGives name trace.place
+  pub apart : All (λ one. IsApart one trace) uses

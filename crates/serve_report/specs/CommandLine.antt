@@ -53,6 +53,14 @@ control = record (new_rule (codes "control")) {
   value_names = 1;
 }
 
+-- a file
+abbrev pub trace : Rule
+trace = record (new_rule (codes "trace")) {
+  long = Some (codes "trace");
+  action = Some Set;
+  value_names = 1;
+}
+
 -- a number within a range, which the words may lack
 abbrev pub moment : Rule
 moment = valued (codes "moment") (Signed (pos 1) (pos MOST_MICROSECONDS))
@@ -92,7 +100,7 @@ replay = with_arguments (codes "replay") []
 abbrev pub serve : App
 serve =
     with_arguments (codes "serve")
-    (workers ∷ band ∷ quantum ∷ journal ∷ control ∷ moment ∷ quiet ∷ streams ∷ [])
+    (workers ∷ band ∷ quantum ∷ journal ∷ control ∷ moment ∷ trace ∷ quiet ∷ streams ∷ [])
 
 -- the words are those behind the program's name, and one names a subcommand
 abbrev pub y4mserve : App

@@ -31,6 +31,7 @@ pub record ServeOptions : Type 0 where
   pub journal : ℕ
   pub control : Option (List ℕ)
   pub moment : Option ℕ
+  pub trace : Option (List ℕ)
   pub is_quiet : Bool
 
 -- those that it has where the words have none
@@ -42,6 +43,7 @@ no_option = record {
   journal = 65536;
   control = None;
   moment = None;
+  trace = None;
   is_quiet = false;
 }
 
@@ -52,6 +54,7 @@ pub record AreOptions (options : ServeOptions) (words : ServeWords) : Type 0 whe
   pub journal : words.journal ≡ options.journal
   pub control : option_map (λ file. file.now) words.control ≡ options.control
   pub moment : words.moment ≡ options.moment
+  pub trace : option_map (λ file. file.now) words.trace ≡ options.trace
   pub quiet : words.is_quiet ≡ options.is_quiet
 
 -- one to serve these streams by these options

@@ -1,4 +1,5 @@
 pub mod Board
+pub mod Trace
 pub mod StreamWords
 pub mod ServeChecks
 pub mod Apart
@@ -9,6 +10,8 @@ pub mod Openings
 pub mod Entrants
 pub mod ReadAhead
 pub mod Inlets
+pub mod Outlets
+pub mod Relays
 pub mod Filtering
 pub mod Help
 pub mod Runs

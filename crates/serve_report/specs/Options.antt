@@ -76,6 +76,7 @@ pub record HasServeOptions (found : List Row) (words : ServeWords) : Type 0 wher
   pub journal : IsKeptOf found (codes "journal") 65536 (MOST_STREAMS + 2) MOST_ENTRIES words.journal
   pub control : option_map (λ file. file.now) words.control ≡ first_of (codes "control") found
   pub moment : IsNumberIn found (codes "moment") words.moment
+  pub trace : option_map (λ file. file.now) words.trace ≡ first_of (codes "trace") found
   pub quiet : IsFlagOf found (codes "quiet") words.is_quiet
   pub streams : words_asked words.streams.items ≡ texts_of found (codes "STREAM")
 

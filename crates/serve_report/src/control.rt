@@ -3,6 +3,7 @@
 pub mod answer;
 mod clerk;
 mod closable;
+mod crew;
 mod door;
 mod entry;
 mod errand;
@@ -13,6 +14,7 @@ mod lobby;
 mod opener;
 mod order;
 mod run;
+mod still_read;
 mod table;
 mod threads;
 mod tickets;

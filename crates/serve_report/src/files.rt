@@ -2,9 +2,11 @@
 ghost use Rattle.std.specs.Prelude.{ℕ, ◌≡◌, List, None, Option, Some, IfErr, IfOk};
 ghost use Rattle.y4m_stream.specs.Failures.{one_more};
 ghost use Rattle.serve_report.specs.Inlets.{inlet_remaining};
+ghost use Rattle.serve_report.specs.Outlets.{outlet_contents};
 ghost use Rattle.serve_report.specs.declared.files.Place.{Place};
 
 use crate::inlet::Inlet;
+use crate::outlet::Outlet;
 use std::io::{self, Read, Write};
 
 /// A file among all those of its system.
@@ -35,7 +37,11 @@ pub trait Files {
     /// What is read from one that may wait. A thread of its own reads from it too.
     type Slow: Read + Drop;
 
+    /// What is written to a file whose writes are answered at once.
     type Writer: Write + Drop;
+
+    /// What is written to one whose writes may wait. A thread of its own writes to it.
+    type SlowWriter: Write + Drop;
 
     /// Opening a file of this name came to one whose reads will give these bytes, where they are known, or to
     /// none.
@@ -59,14 +65,16 @@ pub trait Files {
         ensures none { IfErr result (λ _. open_gives name.now None) };
 
     /// Makes the file of this name for writing, or empties the one that is there.
-    fn create(&self, name: &str) -> io::Result<Self::Writer>
-        ensures file { IfOk result (λ file. create_gives name.now (Some (Self.Writer.contents file))) }
+    fn create(&self, name: &str) -> io::Result<Outlet<Self::Writer, Self::SlowWriter>>
+        ensures file { IfOk result (λ outlet.
+            create_gives name.now (Some (outlet_contents Self.Writer.contents outlet))) }
         ensures none { IfErr result (λ _. create_gives name.now None) };
 
     /// The same of a file that may have been made before in this run. Who asks for it sees to it that no two
     /// write to one. What was there before may stay until the first write.
-    fn make(&self, name: &str) -> io::Result<Self::Writer>
-        ensures file { IfOk result (λ file. create_gives name.now (Some (Self.Writer.contents file))) }
+    fn make(&self, name: &str) -> io::Result<Outlet<Self::Writer, Self::SlowWriter>>
+        ensures file { IfOk result (λ outlet.
+            create_gives name.now (Some (outlet_contents Self.Writer.contents outlet))) }
         ensures none { IfErr result (λ _. create_gives name.now None) }
     {
         self.create(name)
@@ -111,10 +119,11 @@ impl<'f, F: Files> StreamFiles<'f, F> {
     }
 
     /// Makes a file, as `Files::create` does.
-    pub fn create(&mut self, name: &str) -> io::Result<F::Writer>
+    pub fn create(&mut self, name: &str) -> io::Result<Outlet<F::Writer, F::SlowWriter>>
         ensures opened { self.new.opened ≡ self.old.opened }
         ensures made { self.new.made ≡ one_more self.old.made }
-        ensures file { IfOk result (λ file. F.create_gives name.now (Some (F.Writer.contents file))) }
+        ensures file { IfOk result (λ outlet.
+            F.create_gives name.now (Some (outlet_contents F.Writer.contents outlet))) }
         ensures none { IfErr result (λ _. F.create_gives name.now None) }
     {
         self.made = self.made.saturating_add(1);

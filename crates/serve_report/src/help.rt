@@ -334,6 +334,15 @@ pub const MOMENT_LONG: &str = "Microseconds of a moment, 1 to 1000000: the clock
 the start. Without it a moment passes with each offer of a frame; with
 --control it is 30 unless told otherwise";
 
+/// What `--trace` is.
+pub const TRACE: &str = "File that a trace of the run is written to";
+
+/// The same, for the long help.
+pub const TRACE_LONG: &str = "File that a trace of the run is written to, for ui.perfetto.dev or
+chrome://tracing: what each worker and each stream does when, and how
+many frames of a stream aren't finished and images wait. It is an OUT
+too. Not with --control";
+
 /// What `--quiet` of `serve` is.
 pub const SERVE_QUIET: &str = "Show no progress on a terminal; faults are told";
 
@@ -372,19 +381,20 @@ A frames were taken in, D images were written whole, and U units were done. The
 last line, 'units N', has the sum. A fault of one stream leaves the others as
 they are.
 
-With --control the line of a stream is printed when it ends, and each line of
-FILE is answered at once: by 'NAME admitted' where the stream is served from now
-on, and by 'line N: FAULT' where line N is wrong, which changes nothing. Behind
-'state' each stream has a line, 'NAME accepted A finished F collected K charged
-U budget C deadline E' or, while its files are being opened, 'NAME opening'. The
-last, 'now M streams N', has the moment and how many are served.
+With --control the line of a stream is printed when it ends. A stream that a
+line asks for is told by 'NAME admitted' when it is served from now on, or by
+its own line where it isn't. A wrong line is told by 'line N: FAULT', and changes
+nothing. Behind 'state' each stream has a line, 'NAME accepted A finished F
+collected K charged U budget C deadline E' or, until it is served, 'NAME
+opening'. The last, 'now M streams N', has the moment and how many are served.
 
-Where standard error is a terminal, a line for each stream shows there how far
-it has come, at most five times a second: 'NAME frames in I out O'.
+Where standard error is a terminal, a line for each stream of the words shows
+there how far it has come, at most five times a second: 'NAME frames in I out O'.
 
 Stops, the ends of these lines:
   whole          All frames were read, and all images written.
-  open           IN can't be opened. OUT is not made, at the next two neither.
+  open           IN can't be opened, or is a FIFO that another stream reads. OUT
+                 is not made, at the next two neither.
   read F         F as for 'filter'. A header that is refused stops before OUT.
   ops E          E is BadCrop, TooManySteps or NoMemory, as for 'filter'.
   create         OUT can't be made.
@@ -395,21 +405,24 @@ Stops, the ends of these lines:
   refused NoMemory       There was no memory for a frame or its image, or none
                  to go on with when the journal was full.
   torn           An answer of the server contradicts the stream's own count.
-  closed         It was closed. The images of all that was read are written.
+  closed         It was closed, and the images of all that was read are
+                 written. Where one is missing, 'read Device' is told.
   admit E        It isn't served: E is TooManyStreams, BadLimits, BadBandwidth,
                  Overload or NoMemory.
 
 What may be wrong with a line of FILE; the first of these is told:
   TooLong        It has more than 1024 bytes.
-  BadLine        It has none of the forms, or it is the last and isn't ended.
+  BadLine        It has none of the forms, or it is the last and isn't ended;
+                 a last 'end' need not be.
   BadName        A stream that hasn't ended has the name.
-  BadFile        OUT, or a FIFO, is in use by a stream that hasn't ended.
+  BadFile        A file that is written, or a FIFO, stands twice: in the line,
+                 or in another stream that hasn't ended; or it is the report's
+                 or FILE; or a read of the FIFO waits, though its stream ended.
   BadOp          A part of OPS is no operation.
   TooManyOps     OPS has more than 8 parts.
   BadBandwidth   Q and T are not 1 <= Q <= T <= 1048576.
   NoStream       No stream has the name.
   AlreadyClosed  The stream was closed before.
-  NoMemory       There was no memory for what it asks.
 
 The streams are opened side by side: IN, whose header is read, and then OUT.
 What writes to a FIFO, or reads from one, is to be started before, or beside.
@@ -425,16 +438,19 @@ Faults, each one line on standard error behind 'y4mserve: '; status 2:
   BadOp NAME            A part of the stream's OPS is no operation.
   TooManyOps NAME       Its OPS has more than 8 parts.
   repeated file FILE    A FIFO, or a file that is written, stands twice; the
-                        report's file counts too.
+                        report's file and that of --trace count too.
+  trace and control     There are --trace and --control.
 Status 1, before any file is opened:
   control               FILE can't be opened.
   BadBandwidth NAME     Q and T are not 1 <= Q <= T <= 1048576.
   Overload NAME         The streams before it leave it less than its share.
   NoMemory              No memory was left.
-Status 1, in place of the report:
+Status 1, in place of the report, or with --control beside it:
   session NoMemory      There was no memory, or no thread, to serve with.
   session Mismatch      What streams and workers did isn't what was recorded.
   write                 The report couldn't be written.
 Status 1, beside the report:
   control read          Reading FILE failed, and no more of it is read.
+  trace                 The file of --trace couldn't be made or written whole, or
+                        there was no memory for some of the trace.
 Status 1 also where a stop is not whole or closed.";

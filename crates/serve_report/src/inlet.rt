@@ -43,8 +43,8 @@ impl<R: Read, S: Read + Drop, T: Wait + Drop> Read for Inflow<R, S, T> {
 }
 
 impl<R: Read, S: Read + Drop, T: Wait + Clock + Drop> Inflow<R, S, T> {
-    /// Whether reads of what is wanted would be answered at once, where that can be told. It waits for that at
-    /// most so many milliseconds.
+    /// Whether reads of what is wanted would be answered at once, where that can be told. It waits for that
+    /// at most so many milliseconds.
     pub fn is_ready(&self, milliseconds: u64, wanted: Wanted) -> bool {
         match self {
             Inflow::Watched(lookout) => lookout.is_ready(milliseconds, wanted),
@@ -64,7 +64,7 @@ where
     ensures kind { IsInflowOf inlet result }
 {
     let looker = if matches!(inlet, Inlet::Slow(_)) {
-        Looker::start(rt, alloc)
+        Looker::start(rt, alloc, None)
     } else {
         None
     };

@@ -2,6 +2,7 @@
 ghost use Rattle.std.specs.Io.{ReadsAtMost};
 
 use crate::ahead::Ahead;
+use crate::reading::Reading;
 use std::alloc::Global;
 use std::io::{self, ErrorKind, Read};
 use std::mem;
@@ -105,6 +106,17 @@ impl<R: Read + Drop> State<R> {
 struct Post<R: Read> {
     state: Mutex<State<R>>,
     changed: Condvar,
+    /// Whether the looker reads, for others than the client.
+    reading: Option<Reading>,
+}
+
+impl<R: Read> Post<R> {
+    /// Tells others than the client whether the looker reads. Who tells it has the state's lock.
+    fn tell(&self, is_reading: bool) {
+        if let Some(reading) = &self.reading {
+            reading.set(is_reading);
+        }
+    }
 }
 
 /// Reads of what the client wants, once and again, until the client is gone.
@@ -116,9 +128,14 @@ fn look_out<R: Read + Drop, T: Wait>(rt: &T, post: &Post<R>) {
         let Some((mut ahead, wanted)) = state.lend() else {
             return;
         };
+        post.tell(true);
         drop(state);
         ahead.look(wanted);
-        if post.state.lock(rt).settle(ahead) {
+        let mut state = post.state.lock(rt);
+        let is_told = state.settle(ahead);
+        post.tell(false);
+        drop(state);
+        if is_told {
             post.changed.notify_all();
         }
     }
@@ -148,7 +165,7 @@ impl<R: Read + Drop, T: Wait + Drop> Lookout<R, T> {
         R: Send + 'static,
         T: Threads + Copy + Send + 'static,
     {
-        match Looker::start(rt, alloc) {
+        match Looker::start(rt, alloc, None) {
             Some(looker) => looker.look_out(alloc, reader),
             None => Err(reader),
         }
@@ -180,8 +197,8 @@ pub struct Looker<R: Read + Drop, T: Wait + Drop> {
 }
 
 impl<R: Read + Drop, T: Wait + Drop> Looker<R, T> {
-    /// None where there is no thread or no memory.
-    pub fn start(rt: &T, alloc: Global) -> Option<Looker<R, T>>
+    /// None where there is no thread or no memory. Others than the client may be told whether it reads.
+    pub fn start(rt: &T, alloc: Global, reading: Option<Reading>) -> Option<Looker<R, T>>
     where
         R: Send + 'static,
         T: Threads + Copy + Send + 'static,
@@ -190,6 +207,7 @@ impl<R: Read + Drop, T: Wait + Drop> Looker<R, T> {
         let post = Post {
             state: Mutex::new(State::Idle),
             changed: Condvar::new(),
+            reading,
         };
         let post = Arc::new(alloc, post).ok()?;
         let theirs = Arc::try_clone(&post).ok()?;

@@ -87,6 +87,7 @@ where
     F::Reader: Send,
     F::Slow: Send + 'static,
     F::Writer: Send,
+    F::SlowWriter: Send + 'static,
     T: Threads + Wait + Clock + Copy + Drop + Send + Sync + 'static,
     ensures status { result ≤ 2 }
     ensures untouched { result ≡ 2 → Keeps (W.contents output.old) (W.contents output.new) }
@@ -119,6 +120,7 @@ where
     F::Reader: Send,
     F::Slow: Send + 'static,
     F::Writer: Send,
+    F::SlowWriter: Send + 'static,
     V: Watch + Sync,
     T: Threads + Wait + Clock + Copy + Drop + Send + Sync + 'static,
     ensures status { result ≤ 2 }
@@ -159,6 +161,7 @@ where
     F::Reader: Send,
     F::Slow: Send + 'static,
     F::Writer: Send,
+    F::SlowWriter: Send + 'static,
     V: Watch + Sync,
     T: Threads + Wait + Clock + Copy + Drop + Send + Sync + 'static,
     ensures status { result ≤ 2 }

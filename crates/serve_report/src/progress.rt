@@ -1,11 +1,14 @@
-//! How far a run has come: what watches it, is asked about terminals and told of the frames of each stream,
-//! and what shows it, a line for each stream, or one for a stream that is alone. Each drawing stands over the
-//! one before. Times are milliseconds from the start of the run.
+//! How far a run has come: what tells a watch of the frames of each stream, and what shows it, a line for
+//! each stream, or one for a stream that is alone. Each drawing stands over the one before. Times are
+//! milliseconds from the start of the run.
 ghost use Rattle.std.specs.Prelude.{◌≡◌, ◌≤◌, ◌+◌, ◌-◌, ◌^◌, ◌↔◌, IsTrue, None, OnOk, IfOk, Some, map, min};
 ghost use Rattle.std.specs.Prelude.{string_bytes, unwrap_or};
 ghost use Rattle.std.specs.Io.KnownBytes.{Appends};
 ghost use Rattle.serve_report.specs.Board.{drawing_text, line_drawn, lines_drawn};
 
+use crate::trace::Doing;
+pub(crate) use crate::watch::{following, tell_begin, tell_done};
+pub use crate::watch::{Unwatched, Watch};
 use std::alloc::{AllocError, Global};
 use std::fmt;
 use std::io::{self, Write};
@@ -22,55 +25,6 @@ const BETWEEN_LINES: u64 = 100;
 
 /// The columns of the line of a stream that is alone: it is filled up with spaces, over what stood there.
 const WIDTH: usize = 64;
-
-/// Is asked about the terminals of a run, and told of its frames as they go by. It changes no byte of them.
-/// One that says nothing of its own sees no terminal, and is told nothing.
-///
-/// Streams are numbered from 0: the one of `filter` is 0, and those of `serve` have the order of their words.
-/// Each stream of `serve` is told of by its client's thread.
-pub trait Watch {
-    /// Whether the input is a terminal, from which nothing comes before somebody types it.
-    fn input_is_terminal(&self) -> bool {
-        false
-    }
-
-    /// Whether the output is a terminal, which would show the bytes of a stream as text.
-    fn output_is_terminal(&self) -> bool {
-        false
-    }
-
-    /// Whether it is to be told of frames.
-    fn follows_frames(&self) -> bool {
-        false
-    }
-
-    /// Streams of these names begin. A stream that is alone has no name, and begins untold.
-    fn begins(&self, _names: &[&str]) {}
-
-    /// One more frame of a stream has been read whole.
-    fn frame_read(&self, _stream: usize) {}
-
-    /// One more image of a stream has been written whole. The bytes are all that were written since it was
-    /// last told of one of this stream.
-    fn image_written(&self, _stream: usize, _bytes: u64) {}
-
-    /// Nothing more is read or written.
-    fn ends(&self) {}
-}
-
-/// The watch, where it is told of the frames of a run: it follows them, and the run isn't quiet.
-pub(crate) fn following<V: Watch>(watch: &V, is_quiet: bool) -> Option<&V> {
-    if is_quiet || !watch.follows_frames() {
-        return None;
-    }
-    Some(watch)
-}
-
-/// A watch of a run between any reader and writers: there is no terminal, and nothing is told.
-#[derive(Clone, Copy)]
-pub struct Unwatched;
-
-impl Watch for Unwatched {}
 
 /// A source whose frames a watch is told of, as those of the stream of this number.
 #[derive(Drop)]
@@ -130,11 +84,17 @@ impl<'w, S: Source, V: Watch> Source for WatchedSource<'w, S, V> {
     ghost failures = { λ s. S.failures s.source };
 
     fn read(&mut self, buf: &mut [u8]) -> io::Result<usize> {
-        self.source.read(buf)
+        tell_begin(self.watch, self.stream, Doing::Reading);
+        let answer = self.source.read(buf);
+        tell_done(self.watch, self.stream, answer.is_err());
+        answer
     }
 
     fn is_ready(&self, milliseconds: u64, wanted: Wanted) -> bool {
-        self.source.is_ready(milliseconds, wanted)
+        tell_begin(self.watch, self.stream, Doing::Reading);
+        let answer = self.source.is_ready(milliseconds, wanted);
+        tell_done(self.watch, self.stream, false);
+        answer
     }
 
     fn frame_ended(&mut self) {
@@ -153,10 +113,22 @@ impl<'w, S: Sink, V: Watch> Sink for WatchedSink<'w, S, V> {
     ghost is_flushed = { λ s. S.is_flushed s.sink };
 
     fn write(&mut self, buf: &[u8]) -> io::Result<usize> {
+        tell_begin(self.watch, self.stream, Doing::Writing);
         let answer = self.sink.write(buf);
         if let Ok(taken) = &answer {
             self.bytes = self.bytes.saturating_add(*taken as u64);
         }
+        tell_done(self.watch, self.stream, answer.is_err());
+        answer
+    }
+
+    fn try_write(&mut self, buf: &[u8], milliseconds: u64) -> io::Result<Option<usize>> {
+        tell_begin(self.watch, self.stream, Doing::Writing);
+        let answer = self.sink.try_write(buf, milliseconds);
+        if let Ok(Some(taken)) = &answer {
+            self.bytes = self.bytes.saturating_add(*taken as u64);
+        }
+        tell_done(self.watch, self.stream, answer.is_err());
         answer
     }
 

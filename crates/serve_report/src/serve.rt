@@ -1,6 +1,6 @@
 //! Many streams at once: each has a file that it is read from and one that it is written to, and they share
 //! some workers.
-ghost use Rattle.std.specs.Prelude.{◌≡◌, ◌≤◌, IfOk, None, map};
+ghost use Rattle.std.specs.Prelude.{◌≡◌, ◌≤◌, IfOk, None, map, true};
 ghost use Rattle.std.specs.Io.KnownBytes.{Keeps};
 ghost use Rattle.serve_hub.specs.Seats.{opened_streams};
 ghost use Rattle.serve_report.specs.Apart.{FilesGive};
@@ -10,11 +10,12 @@ ghost use Rattle.serve_report.specs.ServeChecks.{all_told};
 ghost use Rattle.serve_work.specs.Sessions.{AreInputs, served_of, starts_of};
 
 pub use self::apart::FileUse;
-use self::apart::{tell_apart, tell_control_apart};
+use self::apart::{tell_apart, tell_control_apart, tell_trace_apart};
 use self::checks::check;
 pub use self::checks::{Asked, Checked, WordFault};
 pub use self::clock::Counter;
 pub use self::gate::PlainGate;
+use self::gate::WatchedGate;
 use self::opening::{Opened, Tried, all_tried, open_all};
 pub use self::opening::{job_of, spec_of};
 use self::ready::Input;
@@ -25,11 +26,13 @@ pub use self::run_clock::RunClock;
 pub use self::stream_word::{StreamWord, parse_word_beside};
 use crate::control::{lines_of, run_control};
 use crate::files::Files;
+use crate::outlet::Outlet;
 use crate::progress::{Watch, following};
 use crate::tell::tell;
+use crate::trace::Trace;
 use crate::words::ServeWords;
 use serve_core::{Setup, StreamSpec};
-use serve_work::{Clock, Served, SessionFault, serve_session};
+use serve_work::{Clock, Gate, Served, SessionFault, serve_session};
 use std::alloc::{AllocError, Global};
 use std::io::{self, Read, Write};
 use std::sync::Wait;
@@ -47,6 +50,12 @@ mod report;
 mod rows;
 mod run_clock;
 mod stream_word;
+
+/// What is said at the end of a run of whose trace something was lost.
+const TRACE: &str = "trace";
+
+/// What is said where a run is to be traced whose streams come and go.
+const TRACED_CONTROL: &str = "trace and control";
 
 /// Why a run isn't reported.
 #[derive(Clone, Copy)]
@@ -101,6 +110,7 @@ where
     F::Reader: Send,
     F::Slow: Send + 'static,
     F::Writer: Send,
+    F::SlowWriter: Send + 'static,
     V: Watch + Sync,
     T: Threads + Wait + time::Clock + Copy + Drop + Send + Sync + 'static,
     ensures status { result ≤ 2 }
@@ -119,6 +129,10 @@ where
     let told = following(watch, words.is_quiet);
     let clock = RunClock::new(rt, words.microseconds());
     if let Some(control) = words.control {
+        if words.trace.is_some() {
+            tell(errors, &TRACED_CONTROL);
+            return 2;
+        }
         if let Err(clash) = tell_control_apart(files, lines_of(control), &checked.streams) {
             return refuse(errors, clash);
         }
@@ -126,7 +140,48 @@ where
             rt, alloc, control, checked, &clock, input, output, errors, files, told,
         );
     }
-    match serve(rt, alloc, checked, output, files, told, &clock) {
+    match words.trace {
+        None => serve_told(rt, alloc, checked, output, errors, files, told, &clock),
+        Some(file) => {
+            if let Err(clash) = tell_trace_apart(alloc, files, file, &checked.streams) {
+                return refuse(errors, clash);
+            }
+            serve_traced(
+                rt, alloc, file, checked, output, errors, files, told, &clock,
+            )
+        }
+    }
+}
+
+/// Serves the streams, and tells their report, or why there is none.
+fn serve_told<W, E, F, V, K, T>(
+    rt: &T,
+    alloc: Global,
+    checked: Checked<'_>,
+    output: &mut W,
+    errors: &mut E,
+    files: &F,
+    told: Option<&V>,
+    clock: &K,
+) -> u8
+where
+    W: Write,
+    E: Write,
+    F: Files + Sync,
+    F::Reader: Send,
+    F::Slow: Send + 'static,
+    F::Writer: Send,
+    F::SlowWriter: Send + 'static,
+    V: Watch + Sync,
+    K: Clock + Sync,
+    T: Threads + Wait + time::Clock + Copy + Drop + Send + Sync + 'static,
+    requires apart { FilesGive F.place_gives (all_told checked.streams.items) None }
+    ensures status { result ≤ 1 }
+    ensures well { result ≡ 0
+        → Reports F.open_gives F.create_gives (K.gives clock.now) checked.entry (W.contents output.old)
+        (W.contents output.new) true }
+{
+    match serve(rt, alloc, checked, output, files, told, clock) {
         Ok(true) => 0,
         Ok(false) => 1,
         Err(fault) => {
@@ -134,6 +189,61 @@ where
             1
         }
     }
+}
+
+/// The same, with a trace of the run in this file. Where some of it was lost, that is told at the end.
+fn serve_traced<'t, W, E, F, V, K, T>(
+    rt: &'t T,
+    alloc: Global,
+    file: &str,
+    checked: Checked<'t>,
+    output: &mut W,
+    errors: &mut E,
+    files: &F,
+    told: Option<&'t V>,
+    clock: &K,
+) -> u8
+where
+    W: Write,
+    E: Write,
+    F: Files + Sync,
+    F::Reader: Send,
+    F::Slow: Send + 'static,
+    F::Writer: Send,
+    F::SlowWriter: Send + 'static,
+    V: Watch + Sync,
+    K: Clock + Sync,
+    T: Threads + Wait + time::Clock + Copy + Drop + Send + Sync + 'static,
+    requires apart { FilesGive F.place_gives (all_told checked.streams.items) None }
+    ensures status { result ≤ 1 }
+    ensures well { result ≡ 0
+        → Reports F.open_gives F.create_gives (K.gives clock.now) checked.entry (W.contents output.old)
+        (W.contents output.new) true }
+{
+    let names = names_of(alloc, &checked.streams);
+    let workers = checked.workers;
+    let file = trace_file(files, file);
+    let trace = Trace::start(rt, alloc, file, workers, names, told);
+    let status = serve_told(
+        rt,
+        alloc,
+        checked,
+        output,
+        errors,
+        files,
+        Some(&trace),
+        clock,
+    );
+    if !trace.end() {
+        tell(errors, &TRACE);
+        return 1;
+    }
+    status
+}
+
+/// Makes the file of a trace.
+fn trace_file<F: Files>(files: &F, name: &str) -> Option<Outlet<F::Writer, F::SlowWriter>> {
+    files.create(name).ok()
 }
 
 /// Tells what is wrong with the words, and answers the program's status.
@@ -162,6 +272,7 @@ where
     F::Reader: Send,
     F::Slow: Send + 'static,
     F::Writer: Send,
+    F::SlowWriter: Send + 'static,
     V: Watch + Sync,
     K: Clock + Sync,
     T: Threads + Wait + time::Clock + Copy + Drop + Send + Sync + 'static,
@@ -188,12 +299,18 @@ pub fn begun<'w, V: Watch>(
     told: Option<&'w V>,
 ) -> Option<&'w V> {
     let watch = told?;
+    let names = names_of(alloc, streams)?;
+    watch.begins(&names);
+    Some(watch)
+}
+
+/// The names of the streams, where there is memory for them.
+fn names_of<'a>(alloc: Global, streams: &[Asked<'a>]) -> Option<Vec<&'a str>> {
     let mut names = Vec::new(alloc);
     for asked in streams {
         names.push(asked.word.name).ok()?;
     }
-    watch.begins(&names);
-    Some(watch)
+    Some(names)
 }
 
 /// Serves the streams between their files, and answers what is reported of each, in order.
@@ -210,6 +327,7 @@ where
     F::Reader: Send,
     F::Slow: Send + 'static,
     F::Writer: Send,
+    F::SlowWriter: Send + 'static,
     V: Watch + Sync,
     K: Clock + Sync,
     T: Threads + Wait + time::Clock + Copy + Drop + Send + Sync + 'static,
@@ -224,23 +342,25 @@ where
         streams,
     } = checked;
     let tried = open_all(rt, alloc, streams, height, files, told)?;
-    let rows = serve_tried(rt, alloc, workers, quantum, journal, tried, clock)?;
+    let rows = serve_tried(rt, alloc, workers, quantum, journal, tried, told, clock)?;
     Ok(rows)
 }
 
 /// Serves the streams by what came of opening them.
-fn serve_tried<'a, R, W, K, T>(
+fn serve_tried<'a, R, W, V, K, T>(
     rt: &T,
     alloc: Global,
     workers: u64,
     quantum: u64,
     journal: usize,
     tried: Vec<Tried<'a, R, W>>,
+    told: Option<&V>,
     clock: &K,
 ) -> Result<Vec<StreamRow<'a>>, RunFault>
 where
     R: Source + Drop + Send,
     W: Sink + Drop + Send,
+    V: Watch + Sync,
     K: Clock + Sync,
     T: Threads + Wait + Sync,
     ensures { IfOk result (λ rows.
@@ -253,7 +373,10 @@ where
     } = all_tried(alloc, tried)?;
     // No memory is taken after the session, so that one that ended is reported.
     let rows = Vec::with_capacity(alloc, entrants.len())?;
-    let left = serve_opened(rt, alloc, workers, quantum, journal, specs, inputs, clock)?;
+    let gate = WatchedGate::new(alloc, entrants.as_slice(), told)?;
+    let left = serve_opened(
+        rt, alloc, workers, quantum, journal, specs, inputs, &gate, clock,
+    )?;
     let Some(rows) = rows_of(rows, &entrants, &left) else {
         return Err(RunFault::Session(SessionFault::Mismatch));
     };
@@ -261,7 +384,7 @@ where
 }
 
 /// Serves the streams that were opened; none where there is none.
-fn serve_opened<R, W, K, T>(
+fn serve_opened<R, W, G, K, T>(
     rt: &T,
     alloc: Global,
     workers: u64,
@@ -269,11 +392,13 @@ fn serve_opened<R, W, K, T>(
     journal: usize,
     specs: Vec<StreamSpec>,
     inputs: Vec<Input<R, W>>,
+    gate: &G,
     clock: &K,
 ) -> Result<Vec<Served<R, W>>, SessionFault>
 where
     R: Source + Drop + Send,
     W: Sink + Drop + Send,
+    G: Gate + Sync,
     K: Clock + Sync,
     T: Threads + Wait + Sync,
     requires inputs { AreInputs specs.items inputs.items }
@@ -287,6 +412,6 @@ where
     let Ok(setup) = Setup::new(workers, quantum, specs) else {
         return Err(SessionFault::Mismatch);
     };
-    let left = serve_session(rt, alloc, setup, inputs, journal, &PlainGate, clock)?;
+    let left = serve_session(rt, alloc, setup, inputs, journal, gate, clock)?;
     Ok(left)
 }

@@ -61,6 +61,8 @@ pub struct ServeWords<'a> {
     pub control: Option<&'a str>,
     /// The microseconds of a moment, where they are told.
     pub moment: Option<u32>,
+    /// The file that the trace of the run is written to, if one is.
+    pub trace: Option<&'a str>,
     /// The words that name the streams.
     pub streams: Vec<&'a str>,
     ghost in_range: { (1 ≤ workers) × (workers ≤ MOST_WORKERS) × (1 ≤ quantum) × (quantum ≤ MOST_QUANTUM)

@@ -14,3 +14,5 @@ mod lookout;
 mod program;
 #[cfg(test)]
 mod progress;
+#[cfg(test)]
+mod relay;

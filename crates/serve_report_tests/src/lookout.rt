@@ -4,12 +4,14 @@ mod frames;
 use crate::compare::same_at;
 use serve_report::Lookout;
 use serve_report::inlet::{Inflow, Inlet, inflow_of};
+use serve_report::lookout::Looker;
+use serve_report::reading::Reading;
 use std::alloc::Global;
 use std::io::{self, ErrorKind, Read};
 use std::process::Abort;
-use std::sync::{Arc, Condvar, Mutex, Wait};
+use std::sync::{Arc, Condvar, CondvarTimeouts, Mutex, Wait};
 use std::thread::{self, Threads};
-use std::time::Clock;
+use std::time::{Clock, Duration};
 use test_tools::Tape;
 use y4m_stream::Wanted;
 
@@ -248,6 +250,39 @@ fn a_client_may_go_while_its_looker_reads(rt: HostRuntime) {
     answers(&rt, &lookout, Wanted::data(TEXT.len()), &[20], false);
     drop(lookout);
     door.open(&rt);
+}
+
+/// Waits until it is so whether a reader is being read.
+fn comes<T: Wait + Clock>(rt: &T, reading: &Reading, is_on: bool) -> bool {
+    let (silence, changed) = (Mutex::new(()), Condvar::new());
+    for _ in 0..PATIENCE {
+        if reading.is_on() == is_on {
+            return true;
+        }
+        let millisecond = Duration::from_millis(1);
+        let guard = silence.lock(rt);
+        drop(changed.wait_timeout_while(rt, guard, millisecond, |_| true));
+    }
+    false
+}
+
+#[test]
+fn a_read_is_told_to_others_until_it_comes_back(rt: HostRuntime) {
+    let (door, reader) = shut(&rt, rt.alloc(), Tape::new(TEXT, false), 0);
+    let reading = Reading::new(rt.alloc()).expect(&rt, "was memory refused?");
+    let Some(looker) = Looker::start(&rt, rt.alloc(), reading.for_another()) else {
+        return;
+    };
+    let Ok(lookout) = looker.look_out(rt.alloc(), reader) else {
+        return;
+    };
+    same_at(&rt, reading.is_on(), false, "nothing is wanted");
+    answers(&rt, &lookout, Wanted::data(TEXT.len()), &[0], false);
+    same_at(&rt, comes(&rt, &reading, true), true, "a read waits");
+    drop(lookout);
+    same_at(&rt, reading.is_on(), true, "the client is gone");
+    door.open(&rt);
+    same_at(&rt, comes(&rt, &reading, false), true, "the read came back");
 }
 
 /// What is looked out at an input with, which waits or doesn't.

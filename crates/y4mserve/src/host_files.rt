@@ -1,10 +1,10 @@
 // The files of the system.
 ghost use Rattle.std.specs.Prelude.{⊤};
 
-use serve_report::{FileId, Files, Inlet, Place};
+use serve_report::{FileId, Files, Inlet, Outlet, Place};
 use std::array;
 use std::fs::{self, File, Metadata, OpenOptions};
-use std::io::{self, ErrorKind, Write};
+use std::io::{self, ErrorKind, IsTerminal, Write};
 use std::os::fd::AsRawFd;
 use std::os::unix::fs::{FileTypeExt, MetadataExt};
 use std::sync::OnceLock;
@@ -78,6 +78,17 @@ impl Write for Output {
     }
 }
 
+/// A file that is written, by whether a write may wait.
+fn outlet_of(file: File, is_kept: bool) -> Outlet<Output, Output> {
+    let is_slow = may_be_full(&file);
+    let output = Output { file, is_kept };
+    if is_slow {
+        Outlet::Slow(output)
+    } else {
+        Outlet::Prompt(output)
+    }
+}
+
 /// A folder at the lowest number that is free, if that is a standard descriptor's.
 fn keep(rt: &HostRuntime) -> Option<File> {
     let folder = fs::open(rt, "/").ok()?;
@@ -85,6 +96,18 @@ fn keep(rt: &HostRuntime) -> Option<File> {
         return None;
     }
     Some(folder)
+}
+
+/// Whether a write to the file may wait for who reads: to a FIFO, a socket or a terminal. Other devices, as
+/// `/dev/null`, aren't waited for.
+fn may_be_full(file: &File) -> bool {
+    match file.metadata() {
+        Ok(metadata) => {
+            let kind = metadata.file_type();
+            kind.is_fifo() || kind.is_socket() || file.is_terminal()
+        }
+        Err(_) => true,
+    }
 }
 
 /// Whether a read of the file may wait for what isn't there yet: of a FIFO, a socket or a terminal.
@@ -121,6 +144,8 @@ impl Files for HostFiles<'_> {
 
     type Writer = Output;
 
+    type SlowWriter = Output;
+
     ghost place_gives = { λ _ _. ⊤ };
 
     ghost open_gives = { λ _ _. ⊤ };
@@ -144,22 +169,19 @@ impl Files for HostFiles<'_> {
         }
     }
 
-    fn create(&self, name: &str) -> io::Result<Output> {
+    fn create(&self, name: &str) -> io::Result<Outlet<Output, Output>> {
         let file = fs::create(self.rt, name)?;
         self.note_made(&file)?;
-        Ok(Output {
-            file,
-            is_kept: false,
-        })
+        Ok(outlet_of(file, false))
     }
 
-    fn make(&self, name: &str) -> io::Result<Output> {
+    fn make(&self, name: &str) -> io::Result<Outlet<Output, Output>> {
         let file = OpenOptions::new()
             .write(true)
             .create(true)
             .open(self.rt, name)?;
         let is_kept = file.metadata()?.file_type().is_file();
-        Ok(Output { file, is_kept })
+        Ok(outlet_of(file, is_kept))
     }
 
     fn hold(&self, name: &str) -> io::Result<File> {

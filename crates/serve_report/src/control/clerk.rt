@@ -120,20 +120,24 @@ where
 
     /// Asks how the streams stand.
     fn ask(&self) {
-        self.lobby.table.lock(self.rt).is_asked = true;
+        let mut table = self.lobby.table.lock(self.rt);
+        table.asked = table.asked.saturating_add(1);
+        drop(table);
         self.lobby.changed.notify_all();
     }
 
-    /// Closes the stream of this name.
+    /// Closes the stream of this name. What is being opened for it is let go, also where it was closed
+    /// before.
     fn close(&self, name: &str) -> Result<Bidding, LineFault> {
         let mut table = self.lobby.table.lock(self.rt);
         let Some(entry) = table.named_mut(name) else {
             return Err(LineFault::NoStream);
         };
-        if !entry.order.close() {
+        let is_new = entry.order.close();
+        entry.let_go(self.files);
+        if !is_new {
             return Err(LineFault::AlreadyClosed);
         }
-        entry.let_go(self.files);
         Ok(Bidding::Done)
     }
 
@@ -176,6 +180,8 @@ where
             ops,
             stream,
             may_wait: !matches!(input, Place::File(_)),
+            is_prompt: matches!(input, Place::File(_)) && !matches!(output, Place::Pipe(_)),
+            output_may_wait: !matches!(output, Place::File(_) | Place::Missing),
         })
     }
 

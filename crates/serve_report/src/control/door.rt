@@ -248,7 +248,7 @@ where
     }
 
     fn asks(&self) -> bool {
-        self.lobby.table.lock(self.rt).is_asked
+        self.lobby.table.lock(self.rt).asked > 0
     }
 
     fn show(&mut self, ticket: u64, standing: Stood) {
@@ -274,7 +274,7 @@ where
             }
         }
         voice.say(&Said::Now(moment, table.count_served()));
-        table.is_asked = false;
+        table.asked = table.asked.saturating_sub(1);
     }
 }
 

@@ -11,8 +11,12 @@ use y4m_stream::{Sink, Source};
 /// How far a stream has come.
 #[derive(Drop)]
 enum Stage<R: Source, W: Sink> {
-    /// Its files are being opened.
-    Opening,
+    /// Its input is being opened.
+    Input,
+    /// Its header is being read.
+    Header,
+    /// Its output is being made.
+    Output,
     /// It waits to be served.
     Ready(Ready<R, W>),
     /// It is served under this ticket.
@@ -28,9 +32,8 @@ pub struct Entry<R: Source, W: Sink, S: Drop> {
     stage: Stage<R, W>,
     /// Whether a share of the workers is kept for it.
     pub has_share: bool,
-    /// What is held open, so that no opener waits for a FIFO's other end.
-    held_input: Option<S>,
-    held_output: Option<S>,
+    /// What is held open, so that its opener doesn't wait for a FIFO's other end.
+    held: Option<S>,
 }
 
 impl<R: Source + Drop, W: Sink + Drop, S: Drop> Entry<R, W, S> {
@@ -40,10 +43,9 @@ impl<R: Source + Drop, W: Sink + Drop, S: Drop> Entry<R, W, S> {
             order,
             input,
             output,
-            stage: Stage::Opening,
+            stage: Stage::Input,
             has_share: false,
-            held_input: None,
-            held_output: None,
+            held: None,
         }
     }
 
@@ -83,16 +85,33 @@ impl<R: Source + Drop, W: Sink + Drop, S: Drop> Entry<R, W, S> {
         input.clashes_with(found) || output.clashes_with(found)
     }
 
-    /// It was opened, and waits to be served.
-    pub fn opened(&mut self, ready: Ready<R, W>) {
-        self.held_input = None;
-        self.held_output = None;
-        self.stage = Stage::Ready(ready);
+    /// What stands behind the name of its input.
+    pub fn input(&self) -> Place {
+        self.input
+    }
+
+    /// Its input was opened, and stands there. Its header is read next.
+    pub fn input_opened(&mut self, input: Place) {
+        self.input = input;
+        self.held = None;
+        self.stage = Stage::Header;
+    }
+
+    /// A share of the workers is kept for it, and its output is made next.
+    pub fn admitted(&mut self) {
+        self.has_share = true;
+        self.stage = Stage::Output;
     }
 
     /// Its output was made, and stands there.
-    pub fn made(&mut self, output: Place) {
+    pub fn output_made(&mut self, output: Place) {
         self.output = output;
+    }
+
+    /// It was opened, and waits to be served.
+    pub fn opened(&mut self, ready: Ready<R, W>) {
+        self.held = None;
+        self.stage = Stage::Ready(ready);
     }
 
     /// What it is served with, where it waits to be. It is served under this ticket from here on.
@@ -106,19 +125,33 @@ impl<R: Source + Drop, W: Sink + Drop, S: Drop> Entry<R, W, S> {
         }
     }
 
-    /// Holds its FIFOs open, where it is being opened, so that its opener comes back.
+    /// Nothing is held open for it any more.
+    pub fn leave(&mut self) {
+        self.held = None;
+    }
+
+    /// Holds a FIFO open that is being opened for it, so that its opener comes back. One that is held stays
+    /// so. Another file that has taken its name isn't held.
     pub fn let_go<F: Files<Slow = S>>(&mut self, files: &F)
     where
         S: 'static,
     {
-        if !matches!(self.stage, Stage::Opening) {
-            return;
+        let (name, place) = match self.stage {
+            Stage::Input => (&self.order.input, self.input),
+            Stage::Output => (&self.order.output, self.output),
+            _ => return,
+        };
+        if self.held.is_none() && is_same_fifo(place, files.place(name)) {
+            self.held = files.hold(name).ok();
         }
-        if matches!(self.input, Place::Pipe(_)) {
-            self.held_input = files.hold(&self.order.input).ok();
-        }
-        if matches!(self.output, Place::Pipe(_)) {
-            self.held_output = files.hold(&self.order.output).ok();
-        }
+    }
+}
+
+/// Whether a FIFO stands where this stood, or nothing did yet.
+fn is_same_fifo(before: Place, found: Place) -> bool {
+    match (before, found) {
+        (Place::Pipe(one), Place::Pipe(other)) => one == other,
+        (Place::Missing, Place::Pipe(_)) => true,
+        _ => false,
     }
 }

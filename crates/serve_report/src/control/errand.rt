@@ -1,5 +1,6 @@
 //! A stream that is to be opened.
 
+use super::crew::Wants;
 use super::order::Order;
 use filters::Op;
 use std::alloc::Global;
@@ -14,6 +15,25 @@ pub struct Errand {
     pub stream: usize,
     /// Whether a read of its input may wait.
     pub may_wait: bool,
+    /// Whether its files are opened at once, since none is a FIFO.
+    pub is_prompt: bool,
+    /// Whether a write to its output may.
+    pub output_may_wait: bool,
+}
+
+impl Errand {
+    /// Whom it wants, if anybody, and where there is memory to tell.
+    pub fn wants(&self) -> Option<Wants> {
+        if !self.may_wait && !self.output_may_wait {
+            return None;
+        }
+        let order = Arc::try_clone(&self.order).ok()?;
+        Some(Wants {
+            order,
+            looker: self.may_wait,
+            carrier: self.output_may_wait,
+        })
+    }
 }
 
 /// What comes of a line.

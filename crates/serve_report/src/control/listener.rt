@@ -26,8 +26,8 @@ enum Way<I: Read, S: Read + Drop, T: Wait + Drop> {
     File(Inflow<Empty, S, T>),
 }
 
-/// A reader that comes to its end where the run is over. Where it can't be told that a read would wait, that is
-/// seen once the read is answered.
+/// A reader that comes to its end where the run is over. Where it can't be told that a read would wait, that
+/// is seen before the next read.
 #[derive(Drop)]
 pub struct Listener<'r, 'f, I: Read, S: Read + Drop, T: Wait + Clock + Drop> {
     rt: &'r T,
@@ -76,6 +76,7 @@ fn awaits<S: Read + Drop, T: Wait + Clock + Drop>(
 impl<I: Read, S: Read + Drop, T: Wait + Clock + Drop> Read for Listener<'_, '_, I, S, T> {
     fn read(&mut self, buf: &mut [u8]) -> io::Result<usize> {
         match &mut self.way {
+            Way::Input(_) if self.is_over.load(Ordering::SeqCst) => Ok(0),
             Way::Input(input) => input.read(buf),
             Way::File(file) => {
                 if !awaits(self.rt, file, self.is_over) {

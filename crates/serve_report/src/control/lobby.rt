@@ -7,7 +7,7 @@ use super::order::Order;
 use super::table::Table;
 use super::voice::Voice;
 use super::{AdmitFault, StreamStop};
-use crate::files::Place;
+use crate::files::{Files, Place};
 use crate::serve::{FileUse, Ready, RunFault};
 use cbs_account::AdmissionError;
 use serve_work::SessionFault;
@@ -48,13 +48,17 @@ impl<'o, R: Source + Drop, W: Sink + Drop, S: Drop, O: Write, E: Write> Lobby<'o
         }
     }
 
-    /// Tells what a run came to, and answers the program's status.
-    pub fn close<T: Wait>(self, rt: &T, served: Result<(), SessionFault>) -> u8
+    /// Tells what a run came to, and answers the program's status. The streams that waited to be served where
+    /// a run has failed are told as closed.
+    pub fn close<T: Wait>(self, rt: &T) -> u8
         ensures { result ≤ 1 }
     {
         let mut voice = self.voice.lock(rt);
-        if let Err(fault) = served {
-            voice.fault(&RunFault::Session(fault));
+        let table = self.table.lock(rt);
+        for entry in &table.entries {
+            if entry.is_before() {
+                voice.say_stopped(&entry.order.name, StreamStop::Closed);
+            }
         }
         voice.end()
     }
@@ -66,6 +70,23 @@ impl<'o, R: Source + Drop, W: Sink + Drop, S: Drop, O: Write, E: Write> Lobby<'o
         self.changed.notify_all();
         voice.say_stopped(&order.name, stop);
         drop(entry);
+    }
+
+    /// A stream's input was opened, and stands there. Answers whether no other stream loses by it.
+    pub fn input_opened<T: Wait>(&self, rt: &T, order: &Order, place: Place) -> bool {
+        let mut table = self.table.lock(rt);
+        let input = FileUse {
+            name: &order.input,
+            place,
+            is_written: false,
+        };
+        if table.has_clash(Some(order.number), &input) {
+            return false;
+        }
+        if let Some(entry) = table.entry_mut(order.number) {
+            entry.input_opened(place);
+        }
+        true
     }
 
     /// A stream was opened, and waits to be served.
@@ -90,7 +111,7 @@ impl<'o, R: Source + Drop, W: Sink + Drop, S: Drop, O: Write, E: Write> Lobby<'o
     }
 
     /// A stream's output was made, and stands there. Answers whether no other stream lost by it.
-    pub fn made<T: Wait>(&self, rt: &T, order: &Order, place: Place) -> bool {
+    pub fn output_made<T: Wait>(&self, rt: &T, order: &Order, place: Place) -> bool {
         let mut table = self.table.lock(rt);
         let output = FileUse {
             name: &order.output,
@@ -101,7 +122,7 @@ impl<'o, R: Source + Drop, W: Sink + Drop, S: Drop, O: Write, E: Write> Lobby<'o
             return false;
         }
         if let Some(entry) = table.entry_mut(order.number) {
-            entry.made(place);
+            entry.output_made(place);
         }
         true
     }
@@ -112,8 +133,23 @@ impl<'o, R: Source + Drop, W: Sink + Drop, S: Drop, O: Write, E: Write> Lobby<'o
         let entry = self.table.lock(rt).take(number);
         self.changed.notify_all();
         if let Some(entry) = &entry {
+            entry.order.close();
             voice.say_stopped(&entry.order.name, StreamStop::Admit(AdmitFault::NoMemory));
         }
+    }
+
+    /// Nobody can be served.
+    pub fn fail<T: Wait>(&self, rt: &T, fault: SessionFault) {
+        self.voice.lock(rt).fault(&RunFault::Session(fault));
+    }
+
+    /// Nobody is served any more. Streams that are being opened come back, and are told as closed.
+    pub fn give_up<T: Wait, F: Files<Slow = S>>(&self, rt: &T, files: &F)
+    where
+        S: 'static,
+    {
+        self.table.lock(rt).give_up(files);
+        self.changed.notify_all();
     }
 
     /// No stream is asked for any more.

@@ -2,25 +2,29 @@
 ghost use Rattle.std.specs.Prelude.{ℕ, ◌≡◌, IfOk, List, Option, Some};
 ghost use Rattle.serve_report.specs.Inlets.{inflow_remaining};
 ghost use Rattle.serve_report.specs.Openings.{IsEntry, entry_of};
+ghost use Rattle.serve_report.specs.Outlets.{outflow_contents};
 ghost use Rattle.y4m_stream.specs.Reader.{IsOpened};
 
 use super::StreamStop;
 use super::closable::Closable;
+use super::crew::{Crew, Helpers};
 use super::errand::Errand;
 use super::lobby::Lobby;
 use super::order::Order;
 use crate::files::Files;
 use crate::inlet::{Inflow, inflow_by};
 use crate::lookout::Looker;
+use crate::outlet::{OverOutflow, outflow_by};
 use crate::progress::{Watch, WatchedSink, WatchedSource};
+use crate::relay::Carrier;
 use crate::serve::{Asked, Ready, job_of, spec_of};
 use frame_view::Geometry;
 use row_bands::BandHeight;
 use std::alloc::Global;
 use std::io::{Read, Write};
-use std::sync::{Arc, Mutex, Wait};
+use std::sync::{Arc, Wait};
 use std::time::Clock;
-use y4m_stream::{OverWrite, ReadFault, Sink, Source, StreamReader, Wanted};
+use y4m_stream::{ReadFault, Sink, Source, StreamReader, Wanted};
 
 /// For how many milliseconds it is waited for a header before it is looked whether its stream was closed.
 const PATIENCE: u64 = 20;
@@ -36,27 +40,31 @@ pub type Inflows<'w, F, V, T> = WatchedSource<
 >;
 
 /// What they are written to.
-pub type Outflows<'w, F, V> = WatchedSink<'w, OverWrite<<F as Files>::Writer>, V>;
+pub type Outflows<'w, F, V, T> = WatchedSink<
+    'w,
+    OverOutflow<<F as Files>::Writer, <F as Files>::SlowWriter, T>,
+    V,
+>;
 
 /// What the threads of a run share.
 pub type Shared<'w, 'o, F, V, T, O, E> = Lobby<
     'o,
     Inflows<'w, F, V, T>,
-    Outflows<'w, F, V>,
+    Outflows<'w, F, V, T>,
     <F as Files>::Slow,
     O,
     E,
 >;
 
-/// Opens a stream for a lobby: it waits to be served then, or it is told why it doesn't. Its bands have so many
-/// rows, one of the lookers looks out at an input that may wait, and a watch is told of its frames.
+/// Opens a stream for a lobby: it waits to be served then, or it is told why it doesn't. Its bands have so
+/// many rows, of the crew some read and write where its files may wait, and a watch is told of its frames.
 pub fn open_errand<'w, 'o, F, V, T, O, E>(
     rt: &T,
     alloc: Global,
     height: BandHeight,
     files: &F,
     lobby: &Shared<'w, 'o, F, V, T, O, E>,
-    lookers: &Mutex<Vec<Looker<F::Slow, T>>>,
+    crew: &Crew<F::Slow, F::SlowWriter, T>,
     told: Option<&'w V>,
     errand: Errand,
 )
@@ -71,19 +79,15 @@ where
         order,
         ops,
         stream,
-        may_wait,
+        ..
     } = errand;
-    let looker = if may_wait {
-        lookers.lock(rt).pop()
-    } else {
-        None
-    };
+    let helpers = crew.take(rt, order.number);
     let asked = Asked {
         word: order.word(),
         ops,
     };
     let ready = open_files(
-        rt, alloc, height, files, lobby, &order, asked, looker, stream, told,
+        rt, alloc, height, files, lobby, &order, asked, helpers, stream, told,
     );
     match ready {
         Ok(ready) => lobby.opened(rt, &order, ready),
@@ -108,10 +112,10 @@ fn open_files<'w, 'o, F, V, T, O, E>(
     lobby: &Shared<'w, 'o, F, V, T, O, E>,
     order: &Arc<Order, Global>,
     asked: Asked<'_>,
-    looker: Option<Looker<F::Slow, T>>,
+    helpers: Helpers<F::Slow, F::SlowWriter, T>,
     stream: usize,
     told: Option<&'w V>,
-) -> Result<Ready<Inflows<'w, F, V, T>, Outflows<'w, F, V>>, StreamStop>
+) -> Result<Ready<Inflows<'w, F, V, T>, Outflows<'w, F, V, T>>, StreamStop>
 where
     F: Files,
     V: Watch,
@@ -121,16 +125,19 @@ where
     ensures { IfOk result (λ ready. IsEntry F.open_gives F.create_gives height asked.entry (entry_of ready)) }
 {
     let Asked { word, ops } = asked;
-    let reader = open_input(rt, alloc, files, order, word.input, looker, stream, told)?;
+    let Helpers { looker, carrier } = helpers;
+    let reader = open_input(
+        rt, alloc, files, lobby, order, word.input, looker, stream, told,
+    )?;
     let geometry = Geometry::of(reader.header());
     let job = match job_of(alloc, ops, geometry, height) {
         Ok(job) => job,
         Err(error) => return Err(StreamStop::Ops(error)),
     };
     lobby.admit(rt, order)?;
-    let sink = open_output(files, order, word.output, stream, told)?;
+    let sink = open_output(files, order, word.output, carrier, stream, told)?;
     let place = files.place(word.output);
-    if !lobby.made(rt, order, place) {
+    if !lobby.output_made(rt, order, place) {
         return Err(StreamStop::Create);
     }
     let spec = spec_of(word.q, word.t, geometry, job);
@@ -138,11 +145,12 @@ where
     Ok(Ready { spec, input })
 }
 
-/// Opens the input and reads its header, unless the stream was closed.
-fn open_input<'w, F, V, T>(
+/// Opens the input and reads its header, unless the stream was closed, or another one reads the same FIFO.
+fn open_input<'w, 'o, F, V, T, O, E>(
     rt: &T,
     alloc: Global,
     files: &F,
+    lobby: &Shared<'w, 'o, F, V, T, O, E>,
     order: &Arc<Order, Global>,
     name: &str,
     looker: Option<Looker<F::Slow, T>>,
@@ -153,6 +161,8 @@ where
     F: Files,
     V: Watch,
     T: Wait + Clock + Drop,
+    O: Write,
+    E: Write,
     ensures { IfOk result (λ reader. (bytes : Option (List ℕ)) × F.open_gives name.now (Some bytes)
         × IsOpened bytes 0 reader) }
 {
@@ -162,6 +172,9 @@ where
     let Ok(inlet) = files.open(name) else {
         return Err(StreamStop::Open);
     };
+    if !lobby.input_opened(rt, order, files.place(name)) {
+        return Err(StreamStop::Open);
+    }
     let inflow = inflow_by(alloc, inlet, looker);
     match open_reader(rt, alloc, order, inflow, stream, told) {
         Ok(reader) => Ok(reader),
@@ -197,26 +210,33 @@ where
 
 /// Makes the output, unless the stream was closed, or is meanwhile: a FIFO is held open then, and may have no
 /// reader.
-fn open_output<'w, F: Files, V: Watch>(
+fn open_output<'w, F, V, T>(
     files: &F,
     order: &Order,
     name: &str,
+    carrier: Option<Carrier<F::SlowWriter, T>>,
     stream: usize,
     told: Option<&'w V>,
-) -> Result<Outflows<'w, F, V>, StreamStop>
-    ensures output { IfOk result (λ sink. F.create_gives name.now (Some (F.Writer.contents sink.sink.writer))) }
+) -> Result<Outflows<'w, F, V, T>, StreamStop>
+where
+    F: Files,
+    V: Watch,
+    T: Wait + Clock + Drop,
+    ensures output { IfOk result (λ sink.
+        F.create_gives name.now (Some (outflow_contents F.Writer.contents sink.sink.outflow))) }
     ensures no_failure { IfOk result (λ sink. sink.sink.failures ≡ 0) }
 {
     if order.is_closed() {
         return Err(StreamStop::Closed);
     }
-    let Ok(output) = files.make(name) else {
+    let Ok(outlet) = files.make(name) else {
         return Err(StreamStop::Create);
     };
     if order.is_closed() {
         return Err(StreamStop::Closed);
     }
-    Ok(WatchedSink::new(OverWrite::new(output), stream, told))
+    let over = OverOutflow::new(outflow_by(outlet, carrier));
+    Ok(WatchedSink::new(over, stream, told))
 }
 
 /// Waits until a source has its header line, the end or a fault, or is closed.

@@ -2,6 +2,7 @@
 ghost use Rattle.std.specs.Prelude.{◌≡◌, IfOk, string_bytes};
 
 use super::StreamWord;
+use crate::reading::Reading;
 use std::alloc::{AllocError, Global};
 use std::sync::atomic::{AtomicBool, Ordering};
 
@@ -15,6 +16,8 @@ pub struct Order {
     pub output: String,
     pub q: u64,
     pub t: u64,
+    /// Whether its input is being read by a thread of its own.
+    pub reading: Reading,
     is_closed: AtomicBool,
 }
 
@@ -34,6 +37,7 @@ impl Order {
             output: String::from_str(alloc, word.output)?,
             q: word.q,
             t: word.t,
+            reading: Reading::new(alloc)?,
             is_closed: AtomicBool::new(false),
         })
     }

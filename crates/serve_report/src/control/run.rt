@@ -3,15 +3,15 @@ ghost use Rattle.std.specs.Prelude.{◌≤◌};
 ghost use Rattle.serve_work.specs.Live.{IsForm};
 
 use super::clerk::{Clerk, Desk};
+use super::crew::{Crew, Wants};
 use super::errand::Errand;
 use super::feed::Feed;
 use super::listener::{Listener, Origin};
 use super::lobby::Lobby;
 use super::opener::{Shared, open_errand};
-use super::threads::{Form, serve_beside};
+use super::threads::{Form, Openers, serve_beside};
 use super::voice::Voice;
 use crate::files::Files;
-use crate::lookout::Looker;
 use crate::progress::Watch;
 use crate::serve::{Asked, Checked, RunClock, RunFault, begun};
 use crate::tell::tell;
@@ -67,6 +67,7 @@ where
     F::Reader: Send,
     F::Slow: Send + 'static,
     F::Writer: Send,
+    F::SlowWriter: Send + 'static,
     V: Watch + Sync,
     T: Threads + Wait + Clock + Copy + Drop + Send + Sync + 'static,
     requires { IsForm checked.workers checked.quantum }
@@ -131,6 +132,7 @@ where
     F::Reader: Send,
     F::Slow: Send + 'static,
     F::Writer: Send,
+    F::SlowWriter: Send + 'static,
     V: Watch + Sync,
     T: Threads + Wait + Clock + Copy + Drop + Send + Sync + 'static,
     requires { IsForm checked.workers checked.quantum }
@@ -145,10 +147,10 @@ where
             return 1;
         }
     };
-    let served = serve_asked(
+    serve_asked(
         rt, alloc, control, checked, clock, origin, &lobby, files, told,
     );
-    lobby.close(rt, served)
+    lobby.close(rt)
 }
 
 /// Serves the streams.
@@ -162,7 +164,7 @@ fn serve_asked<'r, 'w, 'o, R, W, E, F, V, T>(
     lobby: &'r Shared<'w, 'o, F, V, T, W, E>,
     files: &'r F,
     told: Option<&'w V>,
-) -> Result<(), SessionFault>
+)
 where
     R: Read + Drop + Send,
     W: Write + Send,
@@ -171,22 +173,29 @@ where
     F::Reader: Send,
     F::Slow: Send + 'static,
     F::Writer: Send,
+    F::SlowWriter: Send + 'static,
     V: Watch + Sync,
     T: Threads + Wait + Clock + Copy + Drop + Send + Sync + 'static,
     requires { IsForm checked.workers checked.quantum }
 {
     let height = checked.height;
-    let lookers = Mutex::new(Vec::new(alloc));
-    let lookers = &lookers;
-    let prepares = move || start_looker(rt, alloc, lookers);
-    let opens = move |errand| open_errand(rt, alloc, height, files, lobby, lookers, told, errand);
+    let crew = Crew::new(alloc);
+    let crew = &crew;
+    let prepares = move |wants: Wants| crew.start(rt, alloc, &wants);
+    let opens = move |errand| open_errand(rt, alloc, height, files, lobby, crew, told, errand);
+    let gives_up = move || lobby.give_up(rt, files);
+    let openers = Openers {
+        prepares,
+        opens,
+        gives_up,
+    };
     serve_by(
-        rt, alloc, control, checked, clock, origin, lobby, files, &prepares, &opens,
-    )
+        rt, alloc, control, checked, clock, origin, lobby, files, &openers,
+    );
 }
 
-/// Serves the streams, each of which is opened so, where a looker was started before if a read may wait.
-fn serve_by<'r, 'o, I, R, W, S, O, E, F, T, L, P>(
+/// Serves the streams, each of which is opened so.
+fn serve_by<'r, 'o, I, R, W, S, O, E, F, T, L, P, G>(
     rt: &'r T,
     alloc: Global,
     control: &'r str,
@@ -195,9 +204,8 @@ fn serve_by<'r, 'o, I, R, W, S, O, E, F, T, L, P>(
     origin: Origin<I, S>,
     lobby: &'r Lobby<'o, R, W, S, O, E>,
     files: &'r F,
-    prepares: &L,
-    opens: &P,
-) -> Result<(), SessionFault>
+    openers: &Openers<L, P, G>,
+)
 where
     I: Read + Drop + Send,
     R: Source + Drop + Send,
@@ -208,12 +216,15 @@ where
     F: Files<Slow = S> + Sync,
     F::Reader: Send,
     F::Writer: Send,
+    F::SlowWriter: Send + 'static,
     T: Threads + Wait + Clock + Copy + Drop + Send + Sync + 'static,
-    L: Fn() + Sync,
+    L: Fn(Wants) + Sync,
     P: Fn(Errand) + Sync,
+    G: Fn(),
     requires form { IsForm checked.workers checked.quantum }
-    requires prepares { L.IsAlwaysCallable prepares.now }
-    requires opens { P.IsAlwaysCallable opens.now }
+    requires prepares { L.IsAlwaysCallable openers.now.prepares }
+    requires opens { P.IsAlwaysCallable openers.now.opens }
+    requires gives_up { G.IsAlwaysCallable openers.now.gives_up }
 {
     let Checked {
         workers,
@@ -227,7 +238,11 @@ where
     let lines = lines_of(control);
     let own = [(REPORT, files.place(REPORT)), (lines, files.place(lines))];
     let mut clerk = Clerk::new(rt, alloc, files, lobby, is_input, own);
-    let first = Mutex::new(Some(clerk.enter_all(streams)?));
+    let Ok(errands) = clerk.enter_all(streams) else {
+        lobby.fail(rt, SessionFault::NoMemory);
+        return;
+    };
+    let first = Mutex::new(Some(errands));
     let is_over = AtomicBool::new(false);
     let feed = Feed::new(Listener::new(rt, alloc, origin, &is_over));
     let form = Form {
@@ -237,17 +252,6 @@ where
     };
     let desk = Desk { clerk, feed };
     serve_beside(
-        rt, alloc, form, lobby, clock, desk, &first, prepares, opens, &is_over,
-    )
-}
-
-/// Starts one more looker, where there is a thread and memory for it.
-fn start_looker<S, T>(rt: &T, alloc: Global, lookers: &Mutex<Vec<Looker<S, T>>>)
-where
-    S: Read + Drop + Send + 'static,
-    T: Threads + Wait + Copy + Drop + Send + 'static,
-{
-    if let Some(looker) = Looker::start(rt, alloc) {
-        let _ = lookers.lock(rt).push(looker).is_ok();
-    }
+        rt, alloc, form, lobby, clock, desk, &first, openers, &is_over,
+    );
 }

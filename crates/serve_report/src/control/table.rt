@@ -4,7 +4,8 @@ ghost use Rattle.cbs_account.specs.declared.limits.TheConstants.{MOST_WORKERS};
 
 use super::entry::Entry;
 use super::order::Order;
-use crate::files::Place;
+use super::still_read::StillRead;
+use crate::files::{Files, Place};
 use crate::serve::{FileUse, Ready};
 use cbs_account::{Admission, AdmissionError};
 use edf_pool::limits::MOST_STREAMS;
@@ -18,10 +19,13 @@ use y4m_stream::{Sink, Source};
 pub struct Table<R: Source, W: Sink, S: Drop> {
     workers: u64,
     pub entries: Vec<Entry<R, W, S>>,
-    /// Whether it is asked how the streams stand.
-    pub is_asked: bool,
+    still_read: StillRead,
+    /// How many times it is asked how the streams stand.
+    pub asked: u64,
     /// Whether no stream is asked for any more.
     pub is_ended: bool,
+    /// Whether nobody is served any more.
+    is_given_up: bool,
     ghost some: { 1 ≤ workers },
     ghost most: { workers ≤ MOST_WORKERS },
 }
@@ -32,12 +36,13 @@ impl<R: Source + Drop, W: Sink + Drop, S: Drop> Table<R, W, S> {
         requires some { 1 ≤ workers }
         requires most { workers ≤ MOST_WORKERS }
     {
-        let entries = Vec::with_capacity(alloc, MOST_STREAMS)?;
         Ok(Table {
             workers,
-            entries,
-            is_asked: false,
+            entries: Vec::with_capacity(alloc, MOST_STREAMS)?,
+            still_read: StillRead::new(alloc, MOST_STREAMS)?,
+            asked: 0,
             is_ended: false,
+            is_given_up: false,
         })
     }
 
@@ -54,13 +59,18 @@ impl<R: Source + Drop, W: Sink + Drop, S: Drop> Table<R, W, S> {
                 return true;
             }
         }
-        false
+        self.still_read.has_clash(found)
     }
 
-    /// Takes one more stream, which is being opened. False where there are as many as can be.
+    /// Takes one more stream, which is being opened. False where there are as many as can be. Where nobody is
+    /// served any more it is closed at once.
     pub fn enter(&mut self, order: Arc<Order, Global>, input: Place, output: Place) -> bool {
-        if self.entries.len() >= MOST_STREAMS {
+        let count = self.entries.len().saturating_add(self.still_read.count());
+        if count >= MOST_STREAMS {
             return false;
+        }
+        if self.is_given_up {
+            order.close();
         }
         self.entries.push(Entry::new(order, input, output)).is_ok()
     }
@@ -70,7 +80,7 @@ impl<R: Source + Drop, W: Sink + Drop, S: Drop> Table<R, W, S> {
         let mut tally = self.tally();
         tally.admit(q, t)?;
         if let Some(entry) = self.entry_mut(number) {
-            entry.has_share = true;
+            entry.admitted();
         }
         Ok(())
     }
@@ -109,7 +119,7 @@ impl<R: Source + Drop, W: Sink + Drop, S: Drop> Table<R, W, S> {
             .entries
             .iter()
             .position(|entry| entry.order.number == number)?;
-        Some(self.entries.remove(place))
+        Some(self.take_at(place))
     }
 
     /// Takes the stream out that is served under this ticket.
@@ -118,7 +128,30 @@ impl<R: Source + Drop, W: Sink + Drop, S: Drop> Table<R, W, S> {
             .entries
             .iter()
             .position(|entry| entry.is_served(ticket))?;
-        Some(self.entries.remove(place))
+        Some(self.take_at(place))
+    }
+
+    /// Takes a stream out. A FIFO of it that is still being read stays in use.
+    fn take_at(&mut self, place: usize) -> Entry<R, W, S>
+        requires { place < vec_len self.old.entries }
+    {
+        let mut entry = self.entries.remove(place);
+        entry.leave();
+        self.still_read.keep(&entry);
+        entry
+    }
+
+    /// Nobody is served any more: the streams are closed, and those that are being opened come back.
+    pub fn give_up<F: Files<Slow = S>>(&mut self, files: &F)
+    where
+        S: 'static,
+    {
+        self.is_given_up = true;
+        self.is_ended = true;
+        for entry in &mut self.entries {
+            entry.order.close();
+            entry.let_go(files);
+        }
     }
 
     /// What the first stream is served with that waits to be. It is served under this ticket from here on.
@@ -149,7 +182,7 @@ impl<R: Source + Drop, W: Sink + Drop, S: Drop> Table<R, W, S> {
 
     /// Whether a stream waits to be served, or it is asked how they stand.
     pub fn calls(&self) -> bool {
-        self.is_asked || self.has_ready()
+        self.asked > 0 || self.has_ready()
     }
 
     /// Whether a stream may yet come that waits to be served.

@@ -5,6 +5,7 @@ ghost use Rattle.std.specs.Thread.{IsSend, IsSync};
 ghost use Rattle.serve_report.specs.Moments.{IsMoment};
 ghost use Rattle.serve_work.specs.Live.{IsForm};
 
+use super::crew::Wants;
 use super::door::{Doorway, Limit};
 use super::errand::{Bidding, Bids, Errand};
 use super::lobby::Lobby;
@@ -27,9 +28,21 @@ pub struct Form {
     pub journal: usize,
 }
 
-/// Takes the lines of a control while those are served who come to a lobby, until no more come. Then no line is
-/// read any more.
-pub fn serve_beside<R, W, S, O, E, T, B, L, P>(
+/// What is done for streams that are to be opened.
+#[derive(Drop)]
+pub struct Openers<L, P, G> {
+    /// Starts those whom a stream wants.
+    pub prepares: L,
+    /// Opens a stream. It may wait.
+    pub opens: P,
+    /// Lets those come back who open a stream, where nobody is served any more.
+    pub gives_up: G,
+}
+
+/// Takes the lines of a control while those are served who come to a lobby, until no more come. Then no line
+/// is read any more. Where there is no thread for the lines none is, nor is a stream opened of which a file
+/// may be waited for.
+pub fn serve_beside<R, W, S, O, E, T, B, L, P, G>(
     rt: &T,
     alloc: Global,
     form: Form,
@@ -37,10 +50,9 @@ pub fn serve_beside<R, W, S, O, E, T, B, L, P>(
     clock: &RunClock<'_, T>,
     bids: B,
     first: &Mutex<Option<Vec<Errand>>>,
-    prepares: &L,
-    opens: &P,
+    openers: &Openers<L, P, G>,
     is_over: &AtomicBool,
-) -> Result<(), SessionFault>
+)
 where
     R: Source + Drop + Send,
     W: Sink + Drop + Send,
@@ -49,34 +61,56 @@ where
     E: Write + Send,
     T: Threads + Wait + Clock + Sync,
     B: Bids + Drop + Send,
-    L: Fn() + Sync,
+    L: Fn(Wants) + Sync,
     P: Fn(Errand) + Sync,
+    G: Fn(),
     requires form { IsForm form.workers form.quantum }
-    requires prepares { L.IsAlwaysCallable prepares.now }
-    requires opens { P.IsAlwaysCallable opens.now }
+    requires prepares { L.IsAlwaysCallable openers.now.prepares }
+    requires opens { P.IsAlwaysCallable openers.now.opens }
+    requires gives_up { G.IsAlwaysCallable openers.now.gives_up }
 {
+    let Openers {
+        prepares,
+        opens,
+        gives_up,
+    } = openers;
     thread::scope(
         thread::scope_env(),
         rt,
-        |scope| -> Result<(), SessionFault>
+        |scope|
             requires { IsForm form.workers form.quantum × IsSync T.row × IsSync L.row × IsSync P.row
                 × IsSend B.row × IsSend R.row × IsSend W.row × IsSend S.row × IsSend O.row
-                × IsSend E.row × L.IsAlwaysCallable prepares.now × P.IsAlwaysCallable opens.now }
+                × IsSend E.row × L.IsAlwaysCallable prepares.now × P.IsAlwaysCallable opens.now
+                × G.IsAlwaysCallable gives_up.now }
         {
             let listening = scope.spawn(
                 move ||
                     requires { L.IsAlwaysCallable prepares.now × P.IsAlwaysCallable opens.now }
                 { listen(rt, alloc, lobby, bids, first, prepares, opens) },
             );
-            if listening.is_err() {
-                open_first(rt, first, prepares, opens);
-                lobby.fail_reading(rt);
+            let is_heard = listening.is_ok();
+            if !is_heard {
+                open_prompt(rt, lobby, first, opens);
+                lobby.end(rt);
             }
             let served = serve_lobby(rt, alloc, form, lobby, clock);
             is_over.store(true, Ordering::SeqCst);
-            served
+            if let Err(fault) = heard(served, is_heard) {
+                lobby.fail(rt, fault);
+                gives_up();
+            }
         },
     )
+}
+
+/// What serving came to, where there was a thread for the lines, and else that there was none.
+fn heard(served: Result<(), SessionFault>, is_heard: bool) -> Result<(), SessionFault> {
+    served?;
+    if is_heard {
+        Ok(())
+    } else {
+        Err(SessionFault::NoMemory)
+    }
 }
 
 /// Serves those who come to a lobby, until no more come.
@@ -131,29 +165,46 @@ where
     )
 }
 
-/// Opens the streams of the words one after the other.
-fn open_first<T: Wait, L: Fn(), P: Fn(Errand)>(
+/// Opens those of the first streams one after the other for which nobody is waited for, and refuses the others.
+fn open_prompt<R, W, S, O, E, T, P>(
     rt: &T,
+    lobby: &Lobby<'_, R, W, S, O, E>,
     first: &Mutex<Option<Vec<Errand>>>,
-    prepares: &L,
     opens: &P,
 )
-    requires prepares { L.IsAlwaysCallable prepares.now }
-    requires opens { P.IsAlwaysCallable opens.now }
+where
+    R: Source + Drop,
+    W: Sink + Drop,
+    S: Drop,
+    O: Write,
+    E: Write,
+    T: Wait,
+    P: Fn(Errand),
+    requires { P.IsAlwaysCallable opens.now }
 {
     let Some(errands) = first.lock(rt).take() else {
         return;
     };
     for errand in errands {
-        if errand.may_wait {
-            prepares();
+        if errand.is_prompt {
+            opens(errand);
+        } else {
+            lobby.refuse(rt, errand.order.number);
         }
-        opens(errand);
     }
 }
 
-/// Opens the first streams, and takes the lines of a control until no more are taken. It ends when each stream
-/// that was asked for is opened or stopped.
+/// Starts those whom a stream wants.
+fn prepare<L: Fn(Wants)>(prepares: &L, errand: &Errand)
+    requires { L.IsAlwaysCallable prepares.now }
+{
+    if let Some(wants) = errand.wants() {
+        prepares(wants);
+    }
+}
+
+/// Opens the first streams, and takes the lines of a control until no more are taken. It ends when each
+/// stream that was asked for is opened or stopped.
 fn listen<R, W, S, O, E, T, B, L, P>(
     rt: &T,
     alloc: Global,
@@ -171,7 +222,7 @@ where
     E: Write,
     T: Threads + Wait,
     B: Bids + Drop,
-    L: Fn(),
+    L: Fn(Wants),
     P: Fn(Errand) + Sync,
     requires prepares { L.IsAlwaysCallable prepares.now }
     requires opens { P.IsAlwaysCallable opens.now }
@@ -186,9 +237,7 @@ where
         {
             for errand in errands {
                 let number = errand.order.number;
-                if errand.may_wait {
-                    prepares();
-                }
+                prepare(prepares, &errand);
                 let opening = scope.spawn(
                     move ||
                         requires { P.IsAlwaysCallable opens.now }
@@ -205,9 +254,7 @@ where
                     Bidding::End => break,
                 };
                 let number = errand.order.number;
-                if errand.may_wait {
-                    prepares();
-                }
+                prepare(prepares, &errand);
                 let opening = scope.spawn(
                     move ||
                         requires { P.IsAlwaysCallable opens.now }

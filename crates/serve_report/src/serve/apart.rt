@@ -2,6 +2,7 @@
 ghost use Rattle.std.specs.Prelude.{◌≡◌, ◌↔◌, AllPairs, Any, IfOk, IsTrue, MatchOption, MatchResult};
 ghost use Rattle.std.specs.Prelude.{None, Some};
 ghost use Rattle.serve_report.specs.Apart.{AreUses, Clash, FilesGive, IsApart, IsFirstClash};
+ghost use Rattle.serve_report.specs.Apart.{IsTraceApart};
 ghost use Rattle.serve_report.specs.ServeChecks.{MayTell, all_told};
 
 use super::checks::{Asked, WordFault};
@@ -67,6 +68,24 @@ pub fn tell_control_apart<'a, F: Files>(
                 return Err(WordFault::RepeatedFile(name));
             }
         }
+    }
+    Ok(())
+}
+
+/// Refuses the file of a trace that is the report's, or one of a stream: it is written.
+pub fn tell_trace_apart<'a, F: Files>(
+    alloc: Global,
+    files: &F,
+    trace: &'a str,
+    streams: &[Asked<'a>],
+) -> Result<(), WordFault<'a>>
+    ensures apart { IfOk result (λ _. IsTraceApart F.place_gives (all_told streams.now) trace.now) }
+{
+    let Ok(uses) = uses_of(alloc, files, streams) else {
+        return Err(WordFault::NoMemory);
+    };
+    if has_clash(&uses, &use_of(files, trace, true)) {
+        return Err(WordFault::RepeatedFile(trace));
     }
     Ok(())
 }

@@ -19,6 +19,7 @@ use super::ready::{Input, Ready};
 use super::report::StreamStop;
 use crate::files::{Files, StreamFiles};
 use crate::inlet::{Inlet, OverInflow, inflow_of};
+use crate::outlet::{OverOutflow, outflow_of};
 use crate::progress::{Watch, WatchedSink, WatchedSource};
 use filters::{Chain, FilterError, Op};
 use frame_view::Geometry;
@@ -31,7 +32,7 @@ use std::sync::{Arc, Wait};
 use std::thread::{self, Threads};
 use std::time::Clock;
 use y4m_header::MOST_FRAMES;
-use y4m_stream::{OverWrite, ReadFault, Sink, Source, StreamReader};
+use y4m_stream::{ReadFault, Sink, Source, StreamReader};
 
 /// The most frames of a stream that may be unfinished.
 const QUEUE: u64 = 4;
@@ -54,7 +55,11 @@ pub type Inflows<'w, F, V, T> = WatchedSource<
 >;
 
 /// What they are written to.
-pub type Outflows<'w, F, V> = WatchedSink<'w, OverWrite<<F as Files>::Writer>, V>;
+pub type Outflows<'w, F, V, T> = WatchedSink<
+    'w,
+    OverOutflow<<F as Files>::Writer, <F as Files>::SlowWriter, T>,
+    V,
+>;
 
 /// The streams of a run, and of those that take part in the session what they are served with, and their
 /// files.
@@ -113,9 +118,9 @@ impl<'a, R: Source, W: Sink> Opened<'a, R, W> {
     }
 }
 
-/// Opens the streams side by side, each in a thread of its own, or in turn where threads are refused. One that
-/// stops here leaves the others as they are. A watch is told of their frames by their places among all of
-/// them.
+/// Opens the streams side by side, each in a thread of its own, or in turn where threads are refused. One
+/// that stops here leaves the others as they are. A watch is told of their frames by their places among all
+/// of them.
 pub fn open_all<'a, 'w, F, V, T>(
     rt: &T,
     alloc: Global,
@@ -123,12 +128,13 @@ pub fn open_all<'a, 'w, F, V, T>(
     height: BandHeight,
     files: &F,
     told: Option<&'w V>,
-) -> Result<Vec<Tried<'a, Inflows<'w, F, V, T>, Outflows<'w, F, V>>>, AllocError>
+) -> Result<Vec<Tried<'a, Inflows<'w, F, V, T>, Outflows<'w, F, V, T>>>, AllocError>
 where
     F: Files + Sync,
     F::Reader: Send,
     F::Slow: Send + 'static,
     F::Writer: Send,
+    F::SlowWriter: Send + 'static,
     V: Watch + Sync,
     T: Threads + Wait + Clock + Copy + Drop + Send + Sync + 'static,
     ensures { IfOk result (λ tried. AllZip (IsOpening F.open_gives F.create_gives height) streams.entry.items
@@ -159,12 +165,13 @@ fn try_all<'a, 'w, F, V, T>(
     height: BandHeight,
     files: &F,
     told: Option<&'w V>,
-) -> Result<Vec<Tried<'a, Inflows<'w, F, V, T>, Outflows<'w, F, V>>>, AllocError>
+) -> Result<Vec<Tried<'a, Inflows<'w, F, V, T>, Outflows<'w, F, V, T>>>, AllocError>
 where
     F: Files + Sync,
     F::Reader: Send,
     F::Slow: Send + 'static,
     F::Writer: Send,
+    F::SlowWriter: Send + 'static,
     V: Watch + Sync,
     T: Threads + Wait + Clock + Copy + Drop + Send + Sync + 'static,
     ensures count { IfOk result (λ tried. vec_len tried ≡ vec_len placed.entry) }
@@ -187,10 +194,11 @@ fn try_stream<'a, 'w, F, V, T>(
     height: BandHeight,
     files: &F,
     told: Option<&'w V>,
-) -> Tried<'a, Inflows<'w, F, V, T>, Outflows<'w, F, V>>
+) -> Tried<'a, Inflows<'w, F, V, T>, Outflows<'w, F, V, T>>
 where
     F: Files,
     F::Slow: Send + 'static,
+    F::SlowWriter: Send + 'static,
     V: Watch,
     T: Threads + Wait + Clock + Copy + Drop + Send + 'static,
     ensures { IsOpening F.open_gives F.create_gives height placed.entry.asked
@@ -245,10 +253,11 @@ fn open_stream<'w, F, V, T>(
     files: &mut StreamFiles<'_, F>,
     stream: usize,
     told: Option<&'w V>,
-) -> Result<Ready<Inflows<'w, F, V, T>, Outflows<'w, F, V>>, StreamStop>
+) -> Result<Ready<Inflows<'w, F, V, T>, Outflows<'w, F, V, T>>, StreamStop>
 where
     F: Files,
     F::Slow: Send + 'static,
+    F::SlowWriter: Send + 'static,
     V: Watch,
     T: Threads + Wait + Clock + Copy + Drop + Send + 'static,
     ensures opened { files.new.opened ≡ one_more files.old.opened }
@@ -272,12 +281,13 @@ where
         Ok(spec) => spec,
         Err(error) => return Err(StreamStop::Ops(error)),
     };
-    let output = match files.create(word.output) {
-        Ok(output) => output,
+    let outlet = match files.create(word.output) {
+        Ok(outlet) => outlet,
         Err(_) => return Err(StreamStop::Create),
     };
     let spec = spec_of(word.q, word.t, geometry, spec);
-    let sink = WatchedSink::new(OverWrite::new(output), stream, told);
+    let over = OverOutflow::new(outflow_of(rt, alloc, outlet));
+    let sink = WatchedSink::new(over, stream, told);
     let input = (reader, sink);
     Ok(Ready { spec, input })
 }

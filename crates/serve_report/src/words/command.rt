@@ -115,6 +115,17 @@ fn moment_option<'a>(alloc: Global) -> Arg<'a>
     .long_help(help::MOMENT_LONG)
 }
 
+fn trace_option<'a>(alloc: Global) -> Arg<'a>
+    ensures { IsArgument line.trace result }
+{
+    Arg::new(alloc, "trace")
+        .long("trace")
+        .action(ArgAction::Set)
+        .value_name("FILE")
+        .help(help::TRACE)
+        .long_help(help::TRACE_LONG)
+}
+
 fn quiet_flag<'a>(alloc: Global, help: &'a str) -> Arg<'a>
     ensures { IsArgument line.quiet result }
 {
@@ -180,6 +191,7 @@ fn serve_command<'a>(alloc: Global) -> Result<Command<'a>, AllocError>
         .arg(journal_option(alloc))?
         .arg(control_option(alloc))?
         .arg(moment_option(alloc))?
+        .arg(trace_option(alloc))?
         .arg(quiet_flag(alloc, help::SERVE_QUIET))?
         .arg(streams_argument(alloc))
 }

@@ -45,6 +45,13 @@ fn control_of<'a>(matches: &ArgMatches<'a>) -> Option<&'a str>
     matches.get_str("control")
 }
 
+/// The file of a trace.
+fn trace_of<'a>(matches: &ArgMatches<'a>) -> Option<&'a str>
+    ensures { option_map (λ file. file.now) result ≡ first_of (codes "trace") (found_in matches.now) }
+{
+    matches.get_str("trace")
+}
+
 /// Whether a flag is raised.
 fn flag_of(matches: &ArgMatches<'_>, name: &str) -> bool
     ensures { IsFlagOf (found_in matches.now) name.now result }
@@ -89,6 +96,7 @@ pub fn serve_words<'a>(
         is_quiet: flag_of(matches, "quiet"),
         control: control_of(matches),
         moment: number_in(matches, "moment"),
+        trace: trace_of(matches),
         streams: stream_words(alloc, matches)?,
     })
 }

@@ -78,6 +78,7 @@ where
     F::Reader: Send,
     F::Slow: Send + 'static,
     F::Writer: Send,
+    F::SlowWriter: Send + 'static,
 {
     let words = words_of(alloc, talk.line).expect(rt, talk.line);
     let mut faults = [0; 512];
@@ -113,6 +114,7 @@ where
     F::Reader: Send,
     F::Slow: Send + 'static,
     F::Writer: Send,
+    F::SlowWriter: Send + 'static,
 {
     run_talk(rt, alloc, files, answers, talk);
     if talk.is_ordered {

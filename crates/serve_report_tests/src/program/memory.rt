@@ -1,7 +1,7 @@
 //! Files in memory, which a run opens and makes by name.
 ghost use Rattle.std.specs.Prelude.{⊤};
 
-use serve_report::{Files, Inlet, Place};
+use serve_report::{Files, Inlet, Outlet, Place};
 use std::alloc::Global;
 use std::io::{self, ErrorKind, Write};
 use std::sync::{Mutex, Wait};
@@ -103,6 +103,8 @@ impl<'a, T: Wait + Sync> Files for Memory<'a, T> {
 
     type Writer = Output<'a, T>;
 
+    type SlowWriter = io::Sink;
+
     ghost place_gives = { λ _ _. ⊤ };
 
     ghost open_gives = { λ _ _. ⊤ };
@@ -133,12 +135,12 @@ impl<'a, T: Wait + Sync> Files for Memory<'a, T> {
         Err(io::Error::from(ErrorKind::NotFound))
     }
 
-    fn create(&self, name: &str) -> io::Result<Output<'a, T>> {
+    fn create(&self, name: &str) -> io::Result<Outlet<Output<'a, T>, io::Sink>> {
         count(self.rt, &self.asked);
         for file in self.made {
             if file.name == name {
                 *file.is_made.lock(self.rt) = true;
-                return Ok(Output { rt: self.rt, file });
+                return Ok(Outlet::Prompt(Output { rt: self.rt, file }));
             }
         }
         Err(io::Error::from(ErrorKind::PermissionDenied))
@@ -165,6 +167,8 @@ impl Files for NoFiles {
 
     type Writer = io::Sink;
 
+    type SlowWriter = io::Sink;
+
     ghost place_gives = { λ _ _. ⊤ };
 
     ghost open_gives = { λ _ _. ⊤ };
@@ -179,7 +183,7 @@ impl Files for NoFiles {
         Err(io::Error::from(ErrorKind::NotFound))
     }
 
-    fn create(&self, _name: &str) -> io::Result<io::Sink> {
+    fn create(&self, _name: &str) -> io::Result<Outlet<io::Sink, io::Sink>> {
         Err(io::Error::from(ErrorKind::PermissionDenied))
     }
 

@@ -17,6 +17,8 @@ mod many;
 mod openings;
 mod shares;
 mod slow;
+mod standing;
+mod traced;
 mod watched;
 
 /// Three frames of four samples, behind a header of 22 bytes.

@@ -161,6 +161,48 @@ fn a_stream_is_closed_that_is_being_opened(rt: HostRuntime) {
     }
 }
 
+/// A read of it comes back when the other stream is refused it.
+#[test]
+fn a_fifo_stays_in_use_while_a_read_of_it_waits(rt: HostRuntime) {
+    let turns: [Turn<'_>; 3] = [
+        ASK,
+        (AWAITED, b"close a\n"),
+        ("stop closed\n", b"b:a.in:b.out:1:4:invert\nend\n"),
+    ];
+    let answers = "a admitted\na accepted 0 delivered 0 charged 0 stop closed\n\
+                   line 3: BadFile\nunits 0\n";
+    let slow: [Slow<'_>; 1] = [("a.in", &[("", HEADER), ("BadFile\n", b"")])];
+    let talk = Talk::new(&turns, answers);
+    serves_fifos(&rt, rt.alloc(), &[], &slow, Some(HEADER), talk);
+}
+
+/// Requests of streams whose openers don't come back at the first close, or wait for what wasn't there
+/// before, and what is said then.
+const STUBBORN: &[(&[u8], &[u8], &str)] = &[
+    (b"a:later:a.out:1:4:invert\n", b"close a\nend\n", ""),
+    (
+        b"a:stubborn:a.out:1:4:invert\n",
+        b"close a\nclose a\nend\n",
+        "line 3: AlreadyClosed\n",
+    ),
+];
+
+#[test]
+fn an_opener_comes_back_once_its_fifo_is_held(rt: HostRuntime) {
+    for (request, closes, said) in STUBBORN {
+        let turns: [Turn<'_>; 2] = [("", *request), (AWAITED, *closes)];
+        let mut room = [0; 128];
+        let end = "a accepted 0 delivered 0 charged 0 stop closed\nunits 0\n";
+        let wanted = text_by(&rt, &mut room, format_args!("{said}{end}"));
+        let answers = shared_answers(&rt, rt.alloc(), usize::MAX);
+        let talk = Talk {
+            is_ordered: false,
+            ..Talk::new(&turns, wanted)
+        };
+        talks_of(&rt, rt.alloc(), &answers, &[], &[], HELD, &[], talk);
+    }
+}
+
 /// One gives no frame. Others come and go beside it, and how all stand is told.
 #[test]
 fn a_silent_stream_holds_up_no_other(rt: HostRuntime) {

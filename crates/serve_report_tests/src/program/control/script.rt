@@ -24,6 +24,8 @@ struct Answered {
     room: usize,
     /// Whether a file is held.
     is_held: bool,
+    /// How many times it was tried to hold one.
+    holds: u64,
     /// Whether more of a file is awaited.
     is_awaited: bool,
 }
@@ -57,6 +59,7 @@ impl Answers {
                 text: Vec::new(alloc),
                 room,
                 is_held: false,
+                holds: 0,
                 is_awaited: false,
             }),
             changed: Condvar::new(),
@@ -72,10 +75,20 @@ impl Answers {
             .wait_timeout_while(rt, answered, patience, |answered| !answered.has(part));
     }
 
-    /// A file is held.
-    pub fn hold<T: Wait>(&self, rt: &T) {
-        self.answered.lock(rt).is_held = true;
+    /// A file is held, but for so many times at first. Answers whether it is.
+    pub fn hold<T: Wait>(&self, rt: &T, before: u64) -> bool {
+        let mut answered = self.answered.lock(rt);
+        let is_held = answered.holds >= before;
+        answered.holds = answered.holds.saturating_add(1);
+        answered.is_held = is_held;
+        drop(answered);
         self.changed.notify_all();
+        is_held
+    }
+
+    /// Whether more of a file is awaited.
+    pub fn is_awaited<T: Wait>(&self, rt: &T) -> bool {
+        self.answered.lock(rt).is_awaited
     }
 
     /// More of a file is awaited.

@@ -6,7 +6,7 @@ use super::{Talk, talks, text_by};
 use crate::compare::same_at;
 use crate::program::memory::{Made, Memory, Output};
 use crate::program::serving::{A, A_INVERTED, holds};
-use serve_report::{FileId, Files, Inlet, Place};
+use serve_report::{FileId, Files, Inlet, Outlet, Place};
 use std::alloc::Global;
 use std::io::{self, ErrorKind};
 use std::process::Abort;
@@ -20,6 +20,12 @@ pub type Later<'a> = (&'a str, &'a str, &'a [Turn<'a>]);
 
 /// A file that is read by turns, of which a read may wait.
 pub type Slow<'a> = (&'a str, &'static [Turn<'static>]);
+
+/// A FIFO that isn't there before it is opened.
+pub const MADE_LATER: &str = "later";
+
+/// A FIFO that can be held the second time that it is tried.
+pub const HELD_LATER: &str = "stubborn";
 
 /// Files that are FIFOs. One that is held is opened too.
 #[derive(Drop)]
@@ -51,6 +57,8 @@ impl<'a, T: Wait + Clock + Copy + Drop + Send + Sync + 'static> Files for Waitin
 
     type Writer = Output<'a, T>;
 
+    type SlowWriter = io::Sink;
+
     ghost place_gives = { λ _ _. ⊤ };
 
     ghost open_gives = { λ _ _. ⊤ };
@@ -59,7 +67,8 @@ impl<'a, T: Wait + Clock + Copy + Drop + Send + Sync + 'static> Files for Waitin
 
     /// What is written isn't there yet.
     fn place(&self, name: &str) -> Place {
-        if name.ends_with(".out") {
+        let is_unmade = name == MADE_LATER && !self.answers.is_awaited(self.rt);
+        if name.ends_with(".out") || is_unmade {
             return Place::Missing;
         }
         Place::Pipe(FileId {
@@ -76,12 +85,13 @@ impl<'a, T: Wait + Clock + Copy + Drop + Send + Sync + 'static> Files for Waitin
         if let Some((_, turns)) = self.slow.iter().find(|file| file.0 == name) {
             return Ok(Inlet::Slow(Late::new(self.rt, self.answers, turns)?));
         }
+        self.answers.wait(self.rt);
         self.answers.expect(self.rt, self.others);
         Err(io::Error::from(ErrorKind::NotFound))
     }
 
     /// A FIFO is made when it is held.
-    fn create(&self, name: &str) -> io::Result<Output<'a, T>> {
+    fn create(&self, name: &str) -> io::Result<Outlet<Output<'a, T>, io::Sink>> {
         if !name.ends_with(".out") {
             self.answers.expect(self.rt, HELD);
         }
@@ -90,7 +100,10 @@ impl<'a, T: Wait + Clock + Copy + Drop + Send + Sync + 'static> Files for Waitin
 
     /// Who holds a file lets go those who wait for it.
     fn hold(&self, name: &str) -> io::Result<Late<T>> {
-        self.answers.hold(self.rt);
+        let before = u64::from(name == HELD_LATER);
+        if !self.answers.hold(self.rt, before) {
+            return Err(io::Error::from(ErrorKind::PermissionDenied));
+        }
         if let Some((_, turns)) = self.slow.iter().find(|file| file.0 == name) {
             return Late::new(self.rt, self.answers, turns);
         }
@@ -208,6 +221,25 @@ fn it_is_told_how_a_stream_stands(rt: HostRuntime) {
     let talk = Talk::new(&turns, answers);
     let slow: [Slow<'_>; 1] = [("a.in", TOLD)];
     serves_fifos(&rt, rt.alloc(), &[], &slow, Some(A_INVERTED), talk);
+}
+
+/// Both lines are answered. The stream gives no frame.
+#[test]
+fn it_is_told_twice_how_a_stream_stands(rt: HostRuntime) {
+    let turns: [Turn<'_>; 3] = [
+        ASK,
+        ("a admitted\n", b"state\nstate\n"),
+        ("streams 1\na accepted 0 finished 0", b"close a\nend\n"),
+    ];
+    let answers = "a admitted\n\
+                   a accepted 0 finished 0 collected 0 charged 0 budget 1 deadline 0\n\
+                   now streams 1\n\
+                   a accepted 0 finished 0 collected 0 charged 0 budget 1 deadline 0\n\
+                   now streams 1\n\
+                   a accepted 0 delivered 0 charged 0 stop closed\nunits 0\n";
+    let talk = Talk::new(&turns, answers);
+    let slow: [Slow<'_>; 1] = [("a.in", &[("", HEADER), ("units ", b"")])];
+    serves_fifos(&rt, rt.alloc(), &[], &slow, Some(HEADER), talk);
 }
 
 /// One that is being opened is told behind those that are served.

@@ -137,7 +137,7 @@ const REFUSED: &[(&str, Places, &str, u8)] = &[
 ];
 
 /// Runs the program with these words, where no file can be opened or made, and sees how many are asked for.
-fn asks_for<R: Abort + Threads + Wait + Clock + Copy + Drop + Send + Sync + 'static>(
+pub(super) fn asks_for<R: Abort + Threads + Wait + Clock + Copy + Drop + Send + Sync + 'static>(
     rt: &R,
     alloc: Global,
     line: &str,

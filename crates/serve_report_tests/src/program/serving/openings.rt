@@ -5,7 +5,7 @@ use super::{A, A_INVERTED, B, B_TURNED, TWO, given, holds};
 use crate::compare::same_at;
 use crate::program::memory::{Made, Memory, Output};
 use crate::program::{words_of, written};
-use serve_report::{Files, Inlet, Place, main_on};
+use serve_report::{Files, Inlet, Outlet, Place, main_on};
 use std::io;
 use std::sync::Wait;
 use test_tools::{Parts, Tape};
@@ -24,6 +24,8 @@ impl<'a, T: Wait + Sync> Files for Meeting<'a, T> {
 
     type Writer = Output<'a, T>;
 
+    type SlowWriter = io::Sink;
+
     ghost place_gives = { λ _ _. ⊤ };
 
     ghost open_gives = { λ _ _. ⊤ };
@@ -39,7 +41,7 @@ impl<'a, T: Wait + Sync> Files for Meeting<'a, T> {
         self.files.open(name)
     }
 
-    fn create(&self, name: &str) -> io::Result<Output<'a, T>> {
+    fn create(&self, name: &str) -> io::Result<Outlet<Output<'a, T>, io::Sink>> {
         self.files.create(name)
     }
 

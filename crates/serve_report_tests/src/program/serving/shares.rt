@@ -3,7 +3,7 @@ ghost use Rattle.std.specs.Prelude.{⊤};
 
 use crate::compare::same_at;
 use crate::program::{words_of, written};
-use serve_report::{Files, Inlet, Place, main_on};
+use serve_report::{Files, Inlet, Outlet, Place, main_on};
 use std::alloc::Global;
 use std::io::{self, Empty, ErrorKind, Read, Write};
 use std::process::Abort;
@@ -167,6 +167,8 @@ impl<'a> Files for Both<'a> {
 
     type Writer = Output<'a>;
 
+    type SlowWriter = io::Sink;
+
     ghost place_gives = { λ _ _. ⊤ };
 
     ghost open_gives = { λ _ _. ⊤ };
@@ -185,11 +187,11 @@ impl<'a> Files for Both<'a> {
         }))
     }
 
-    fn create(&self, name: &str) -> io::Result<Output<'a>> {
-        Ok(Output {
+    fn create(&self, name: &str) -> io::Result<Outlet<Output<'a>, io::Sink>> {
+        Ok(Outlet::Prompt(Output {
             pair: self.0,
             stream: stream_of(name)?,
-        })
+        }))
     }
 
     fn hold(&self, _name: &str) -> io::Result<Empty> {

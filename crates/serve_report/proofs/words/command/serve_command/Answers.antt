@@ -25,5 +25,6 @@ returns c =
     let four = by_argument three c.journal_option.ensures c.in_ok-arg-4.ensures in
     let five = by_argument four c.control_option.ensures c.in_ok-arg-5.ensures in
     let six = by_argument five c.moment_option.ensures c.in_ok-arg-6.ensures in
-    let seven = by_argument six c.quiet_flag.ensures c.in_ok-arg-7.ensures in
-    IfOk-weaker c.arg-8.result _ _ (λ command. by_argument seven c.streams_argument.ensures) c.arg-8.ensures
+    let seven = by_argument six c.trace_option.ensures c.in_ok-arg-7.ensures in
+    let eight = by_argument seven c.quiet_flag.ensures c.in_ok-arg-8.ensures in
+    IfOk-weaker c.arg-9.result _ _ (λ command. by_argument eight c.streams_argument.ensures) c.arg-9.ensures

@@ -1,0 +1,236 @@
+//! A writer whose writes can be waited for a while.
+ghost use Rattle.std.specs.Prelude.{◌≤◌, length, IfOk, IfSome};
+ghost use Rattle.std.specs.Io.{WritesAtMost};
+
+use crate::load::{Load, Room};
+use std::alloc::Global;
+use std::io::{self, ErrorKind, Write};
+use std::mem;
+use std::sync::{Arc, Condvar, CondvarTimeouts, Mutex, Wait};
+use std::thread::{self, Threads};
+use std::time::{Clock, Duration};
+
+/// Who has the writer, and what is asked of the carrier.
+#[derive(Drop)]
+enum State<W: Write> {
+    /// There is no writer yet.
+    Idle,
+    /// The carrier rests. What its write answered is held, until it is told.
+    Resting(Load<W>),
+    /// The carrier is to write.
+    Asked(Load<W>),
+    /// The carrier writes.
+    Carrying,
+    /// The client is gone, and the carrier is to end.
+    Over,
+}
+
+impl<W: Write + Drop> State<W> {
+    /// Whether bytes are on their way.
+    fn is_busy(&self) -> bool {
+        matches!(self, State::Asked(_) | State::Carrying)
+    }
+
+    /// Whether the carrier has something to do.
+    fn calls(&self) -> bool {
+        matches!(self, State::Asked(_) | State::Over)
+    }
+
+    /// Hands these bytes over, unless others are on their way or are still to be told of. It answers whether
+    /// it did.
+    fn ask(&mut self, buf: &[u8]) -> bool {
+        match mem::replace(self, State::Carrying) {
+            State::Resting(load) => {
+                *self = State::asked(load, buf);
+                matches!(self, State::Asked(_))
+            }
+            other => {
+                *self = other;
+                false
+            }
+        }
+    }
+
+    fn asked(load: Load<W>, buf: &[u8]) -> State<W> {
+        let mut load = load;
+        if load.is_answered() {
+            return State::Resting(load);
+        }
+        load.take(buf);
+        State::Asked(load)
+    }
+
+    /// The writer for the carrier, where it is to write.
+    fn lend(&mut self) -> Option<Load<W>> {
+        match mem::replace(self, State::Over) {
+            State::Asked(load) => {
+                *self = State::Carrying;
+                Some(load)
+            }
+            other => {
+                *self = other;
+                None
+            }
+        }
+    }
+
+    /// The carrier has written once.
+    fn settle(&mut self, load: Load<W>) {
+        if let State::Carrying = *self {
+            *self = State::Resting(load);
+        }
+    }
+
+    /// What the write of a front of these bytes answered, unless they are on their way. It fails where there
+    /// is no writer.
+    fn answer_to(&mut self, buf: &[u8]) -> Option<io::Result<usize>>
+        ensures { IfSome result (λ answer. WritesAtMost answer buf.now) }
+    {
+        match self {
+            State::Resting(load) => load.answer_to(buf),
+            State::Asked(_) | State::Carrying => None,
+            State::Idle | State::Over => Some(Err(io::Error::from(ErrorKind::Other))),
+        }
+    }
+
+    /// Flushes the writer. It fails where the writer isn't here.
+    fn flush(&mut self) -> io::Result<()> {
+        match self {
+            State::Resting(load) => load.flush(),
+            _ => Err(io::Error::from(ErrorKind::Other)),
+        }
+    }
+}
+
+/// What a client and its carrier share.
+#[derive(Drop)]
+struct Post<W: Write> {
+    state: Mutex<State<W>>,
+    changed: Condvar,
+}
+
+/// Writes what the client hands over, once and again, until the client is gone.
+fn carry_on<W: Write + Drop, T: Wait>(rt: &T, post: &Post<W>) {
+    for _ in rt.forever() {
+        let mut state = post
+            .changed
+            .wait_while(rt, post.state.lock(rt), |state| !state.calls());
+        let Some(mut load) = state.lend() else {
+            return;
+        };
+        drop(state);
+        load.carry();
+        post.state.lock(rt).settle(load);
+        post.changed.notify_all();
+    }
+}
+
+/// A writer whose writes can be waited for a while.
+///
+/// A thread, the carrier, writes what it was handed: a copy of at most 1 MiB at a time. It holds no lock
+/// while it writes. Who lets the relay go waits until what was handed over is written, or that failed.
+pub struct Relay<W: Write + Drop, T: Wait + Drop> {
+    rt: T,
+    post: Arc<Post<W>>,
+}
+
+impl<W: Write + Drop, T: Wait + Drop> Drop for Relay<W, T> {
+    fn drop(self) {
+        let Self { rt, post } = self;
+        let mut state = post
+            .changed
+            .wait_while(&rt, post.state.lock(&rt), |state| state.is_busy());
+        *state = State::Over;
+        drop(state);
+        post.changed.notify_all();
+    }
+}
+
+impl<W: Write + Drop, T: Wait + Drop> Relay<W, T> {
+    /// Writes a front of these bytes, as `Write::write` does, but waits for that at most so many
+    /// milliseconds. It answers none where they are on their way: the next write has to begin with the same
+    /// bytes, and tells of them.
+    pub fn try_write(&mut self, buf: &[u8], milliseconds: u64) -> io::Result<Option<usize>>
+    where
+        T: Clock,
+        ensures { IfOk result (λ told. IfSome told (λ n. n ≤ length buf.now)) }
+    {
+        let mut state = self.post.state.lock(&self.rt);
+        if state.ask(buf) {
+            self.post.changed.notify_all();
+        }
+        let patience = Duration::from_millis(milliseconds);
+        let (mut state, _) = self
+            .post
+            .changed
+            .wait_timeout_while(&self.rt, state, patience, |state| state.is_busy());
+        match state.answer_to(buf) {
+            None => Ok(None),
+            Some(Ok(n)) => Ok(Some(n)),
+            Some(Err(error)) => Err(error),
+        }
+    }
+}
+
+impl<W: Write + Drop, T: Wait + Drop> Write for Relay<W, T> {
+    fn write(&mut self, buf: &[u8]) -> io::Result<usize> {
+        let mut state = self.post.state.lock(&self.rt);
+        if state.ask(buf) {
+            self.post.changed.notify_all();
+        }
+        let mut state = self
+            .post
+            .changed
+            .wait_while(&self.rt, state, |state| state.is_busy());
+        match state.answer_to(buf) {
+            Some(answer) => answer,
+            None => Err(io::Error::from(ErrorKind::Other)),
+        }
+    }
+
+    fn flush(&mut self) -> io::Result<()> {
+        let mut state = self.post.changed.wait_while(
+            &self.rt,
+            self.post.state.lock(&self.rt),
+            |state| state.is_busy(),
+        );
+        state.flush()
+    }
+}
+
+/// A carrier that rests until it is given a writer, with its room.
+#[derive(Drop)]
+pub struct Carrier<W: Write + Drop, T: Wait + Drop> {
+    relay: Relay<W, T>,
+    room: Room,
+}
+
+impl<W: Write + Drop, T: Wait + Drop> Carrier<W, T> {
+    /// None where there is no thread or no memory.
+    pub fn start(rt: &T, alloc: Global) -> Option<Carrier<W, T>>
+    where
+        W: Send + 'static,
+        T: Threads + Copy + Send + 'static,
+    {
+        let rt = *rt;
+        let room = Room::new(alloc).ok()?;
+        let post = Post {
+            state: Mutex::new(State::Idle),
+            changed: Condvar::new(),
+        };
+        let post = Arc::new(alloc, post).ok()?;
+        let theirs = Arc::try_clone(&post).ok()?;
+        if thread::spawn(&rt, move || carry_on(&rt, &theirs)).is_err() {
+            return None;
+        }
+        let relay = Relay { rt, post };
+        Some(Carrier { relay, room })
+    }
+
+    /// Nothing is written yet.
+    pub fn carry(self, writer: W) -> Relay<W, T> {
+        let Self { relay, room } = self;
+        *relay.post.state.lock(&relay.rt) = State::Resting(Load::new(writer, room));
+        relay
+    }
+}
