@@ -19,6 +19,14 @@ BRINGS = {
     "mpeg2enc": "`apt-get install mjpegtools` brings it",
     "mandoc": "`apt-get install mandoc` brings it",
     "cc": "`apt-get install gcc` brings it",
+    "parallel": "`apt-get install parallel` brings it",
+    "ssh": "`apt-get install openssh-client` brings it",
+    "sshd": "`apt-get install openssh-server` brings it",
+    "rsync": "`apt-get install rsync` brings it",
+    "slurmctld": "`apt-get install slurmctld` brings it",
+    "slurmd": "`apt-get install slurmd` brings it",
+    "munged": "`apt-get install munge` brings it",
+    "sbatch": "`apt-get install slurm-client` brings it",
 }
 
 
