@@ -52,11 +52,7 @@ pub(crate) fn reads_ahead<L: Epoch, R: Source + Drop>(
 
 /// How many frames it keeps before it waits for an image, where it reads ahead.
 pub(crate) fn most_ahead<L: Epoch>(seat: &StreamSeat<L>) -> usize {
-    if is_small(seat) {
-        seat.places()
-    } else {
-        2
-    }
+    if is_small(seat) { seat.places() } else { 2 }
 }
 
 fn is_small<L: Epoch>(seat: &StreamSeat<L>) -> bool {
