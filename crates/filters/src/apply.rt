@@ -1,4 +1,4 @@
-// An operation on a frame, band by band.
+//! An operation on a frame, band by band.
 ghost use Rattle.std.specs.Prelude.{◌≡◌, ◌<◌};
 ghost use Rattle.frame_view.specs.Frame.{line_of, samples_of};
 ghost use Rattle.row_bands.specs.Bands.{band_count, luma_from, luma_to};

@@ -1,4 +1,4 @@
-// Operations that follow one another.
+//! Operations that follow one another.
 pub mod canvases;
 mod front;
 mod images;

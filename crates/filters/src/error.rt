@@ -1,4 +1,4 @@
-// What is wrong with a chain of operations.
+//! What is wrong with a chain of operations.
 ghost use Rattle.std.specs.Prelude.{◌≡◌};
 ghost use Rattle.filters.specs.declared.error.FilterError.TheVariants.{NoMemory};
 

@@ -1,4 +1,4 @@
-// Rows mirrored left to right.
+//! Rows mirrored left to right.
 ghost use Rattle.std.specs.Prelude.{◌≡◌, ◌-◌, ◌<◌, ℕ, length, slice_index};
 
 /// The row from right to left.

@@ -1,4 +1,4 @@
-// Tables on a frame in its own place.
+//! Tables on a frame in its own place.
 ghost use Rattle.std.specs.Prelude.{◌≡◌, map};
 ghost use Rattle.frame_view.specs.Frame.{line_of};
 ghost use Rattle.filters.specs.declared.op.Op.{Op};

@@ -1,4 +1,4 @@
-// The operations on frames.
+//! The operations on frames.
 #![tactic(auto)]
 
 pub mod apply;

@@ -1,4 +1,4 @@
-// How long a chain may be, how wide a blur, how dear a frame, and how long a number.
+//! How long a chain may be, how wide a blur, how dear a frame, and how long a number.
 
 /// The most operations of a chain.
 pub const MOST_OPS: usize = 8;

@@ -1,4 +1,4 @@
-// Rows of samples, each through a function of one sample.
+//! Rows of samples, each through a function of one sample.
 ghost use Rattle.std.specs.Prelude.{◌≡◌, ◌-◌, ℕ, length, map, nat_le, min, max, if◌then◌else◌};
 
 /// What samples become, each for itself. A table that is new is one more of these: the loops over rows are

@@ -1,4 +1,4 @@
-// Decimal numbers between commas.
+//! Decimal numbers between commas.
 ghost use Rattle.std.specs.Prelude.{◌≡◌, ◌∷◌, ◌<◌, MatchOption, option_and_then};
 ghost use Rattle.std.specs.Option.{option_copied, option_map};
 ghost use Rattle.y4m_header.specs.Text.{number_of};

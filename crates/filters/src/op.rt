@@ -1,4 +1,4 @@
-// The operations of a chain.
+//! The operations of a chain.
 pub(crate) mod facts;
 
 /// One operation on a whole frame.

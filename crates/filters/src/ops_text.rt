@@ -1,4 +1,4 @@
-// The text of operations.
+//! The text of operations.
 ghost use Rattle.std.specs.Prelude.{◌≡◌, ◌≤◌, ◌<◌, ◌↔◌, ◌⊎◌, length, Some, None};
 ghost use Rattle.std.specs.Prelude.{IfOk, IfErr, IsErrOf, IsSomeAnd};
 ghost use Rattle.std.specs.Option.{option_map, ok_or};

@@ -1,4 +1,4 @@
-// An operation as a painter of its image.
+//! An operation as a painter of its image.
 ghost use Rattle.frame_view.specs.Frame.{samples_of};
 ghost use Rattle.filters.specs.Ops.{IsDoable};
 ghost use Rattle.filters.specs.Image.{image_pixel};

@@ -1,4 +1,4 @@
-// One operation's text.
+//! One operation's text.
 ghost use Rattle.std.specs.Prelude.{◌≡◌, option_and_then};
 ghost use Rattle.filters.specs.OpsText.{numbers, plain_op, numbered_op, op_of_part};
 ghost use Rattle.filters.specs.OpsText.{threshold_of, clamp_of, crop_of, blur_of};

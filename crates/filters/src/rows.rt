@@ -1,4 +1,4 @@
-// Rows of the image of a frame.
+//! Rows of the image of a frame.
 ghost use Rattle.std.specs.Prelude.{◌≡◌, ◌+◌, ◌-◌, ◌*◌, ◌<◌, ◌≤◌, length};
 ghost use Rattle.y4m_header.specs.Chroma.{plane_count, horizontal_divisor, vertical_divisor};
 ghost use Rattle.frame_view.specs.Places.{plane_width, plane_height};

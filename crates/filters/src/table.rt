@@ -1,4 +1,4 @@
-// Rows through a table.
+//! Rows through a table.
 ghost use Rattle.std.specs.Prelude.{◌≡◌, length, map};
 ghost use Rattle.filters.specs.Pixel.{entry, luma_entry, chroma_entry};
 

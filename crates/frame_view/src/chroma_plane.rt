@@ -1,4 +1,4 @@
-// Which planes are chroma planes.
+//! Which planes are chroma planes.
 ghost use Rattle.std.specs.Prelude.{◌≡◌};
 ghost use Rattle.frame_view.specs.Places.{is_chroma_plane};
 

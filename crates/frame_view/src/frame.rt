@@ -1,4 +1,4 @@
-// A frame.
+//! A frame.
 ghost use Rattle.std.specs.Prelude.{◌≡◌, vec_len};
 ghost use Rattle.y4m_header.specs.Chroma.{data_len};
 ghost use Rattle.y4m_header.specs.FrameLine.{IsFrameLine};

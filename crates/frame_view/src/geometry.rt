@@ -1,4 +1,4 @@
-// The geometry of a frame.
+//! The geometry of a frame.
 ghost use Rattle.std.specs.Prelude.{◌≡◌, ◌≤◌, ◌%◌};
 ghost use Rattle.y4m_header.specs.Chroma.{horizontal_divisor, vertical_divisor, data_len};
 ghost use Rattle.y4m_header.specs.declared.limits.TheConstants.{LONGEST_SIDE, LARGEST_DATA};

@@ -1,4 +1,4 @@
-// What holds of the places of samples.
+//! What holds of the places of samples.
 ghost use Rattle.frame_view.specs.Lending.{LentRowsLeaveTheOthers};
 ghost use Rattle.frame_view.specs.Rows.{EachByteInOneRow, LentPlanesStandInTheirRows};
 

@@ -1,4 +1,4 @@
-// Frames, and their planes as lists of rows of one buffer.
+//! Frames, and their planes as lists of rows of one buffer.
 #![tactic(auto)]
 
 pub mod chroma_plane;

@@ -1,4 +1,4 @@
-// One plane of a frame.
+//! One plane of a frame.
 ghost use Rattle.std.specs.Prelude.{◌≡◌, ◌*◌, length};
 
 /// One plane of a frame, to read; it borrows the frame's samples.

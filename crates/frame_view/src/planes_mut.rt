@@ -1,4 +1,4 @@
-// All planes of a frame, lent for writing at once.
+//! All planes of a frame, lent for writing at once.
 ghost use Rattle.std.specs.Prelude.{◌≡◌, ◌+◌, ◌*◌, ◌≤◌, length, take, drop};
 ghost use Rattle.std.specs.Borrow.{sem};
 ghost use Rattle.frame_view.specs.LentTogether.{LendsParts, put_row};

@@ -1,4 +1,4 @@
-// Frames that are the same.
+//! Frames that are the same.
 ghost use Rattle.std.specs.Prelude.{◌≡◌, ◌↔◌, IsTrue};
 ghost use Rattle.frame_view.specs.Frame.{IsFrameWith, line_of, samples_of};
 

@@ -1,4 +1,4 @@
-// One band of a canvas, lent for writing.
+//! One band of a canvas, lent for writing.
 ghost use Rattle.std.specs.Prelude.{◌≤◌};
 
 use crate::band_plan::rows_above;

@@ -1,4 +1,4 @@
-// The height of the bands.
+//! The height of the bands.
 ghost use Rattle.std.specs.Prelude.{◌≡◌, ◌≤◌, ◌%◌, ◌↔◌, IsSome, IfSome};
 ghost use Rattle.row_bands.specs.declared.limits.TheConstants.{FEWEST_BAND_ROWS, MOST_BAND_ROWS};
 ghost use Rattle.row_bands.specs.Height.{IsBandHeight};

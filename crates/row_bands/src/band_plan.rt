@@ -1,4 +1,4 @@
-// Which rows are in which band.
+//! Which rows are in which band.
 ghost use Rattle.std.specs.Prelude.{◌≡◌, ◌<◌, ◌≤◌, ◌+◌, ◌*◌, min};
 ghost use Rattle.y4m_header.specs.Chroma.{plane_count};
 ghost use Rattle.frame_view.specs.Places.{plane_height};

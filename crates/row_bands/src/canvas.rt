@@ -1,4 +1,4 @@
-// A frame that is written band by band.
+//! A frame that is written band by band.
 use crate::band::Band;
 use crate::band_height::BandHeight;
 use crate::band_plan::BandPlan;

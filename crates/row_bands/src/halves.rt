@@ -1,4 +1,4 @@
-// Writing the two parts of a band at the same time.
+//! Writing the two parts of a band at the same time.
 ghost use Rattle.std.specs.Prelude.{◌≡◌, ◌≤◌};
 ghost use Rattle.row_bands.specs.Band.{band_geometry};
 ghost use Rattle.row_bands.specs.Halves.{IsHalved, HalvesPartTheBand};

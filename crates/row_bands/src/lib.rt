@@ -1,4 +1,4 @@
-// Frames cut into bands of rows, and bands lent for writing.
+//! Frames cut into bands of rows, and bands lent for writing.
 #![tactic(auto)]
 
 pub mod band;

@@ -1,4 +1,4 @@
-// How many rows a band has, and how many bands a frame.
+//! How many rows a band has, and how many bands a frame.
 
 /// The fewest luma rows of a band.
 pub const FEWEST_BAND_ROWS: u32 = 2;

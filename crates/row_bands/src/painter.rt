@@ -1,4 +1,4 @@
-// Writing a band from a picture.
+//! Writing a band from a picture.
 ghost use Rattle.std.specs.Prelude.{◌≡◌, ℕ, ◌<◌, ◌≤◌, ◌-◌, ◌*◌, List, length, ⊤};
 ghost use Rattle.y4m_header.specs.Chroma.{plane_count};
 ghost use Rattle.frame_view.specs.declared.geometry.Geometry.{Geometry};

@@ -1,4 +1,4 @@
-// The rows that go with some luma rows, written plane by plane.
+//! The rows that go with some luma rows, written plane by plane.
 ghost use Rattle.std.specs.Prelude.{◌≡◌, ◌≤◌, ◌-◌, length, take, drop};
 ghost use Rattle.frame_view.specs.LentTogether.{of_plane};
 ghost use Rattle.frame_view.specs.Places.{frame_len};

@@ -1,4 +1,4 @@
-// The chroma forms.
+//! The chroma forms.
 ghost use Rattle.std.specs.Prelude.{◌≡◌, ◌<◌, ◌↔◌, Some};
 ghost use Rattle.std.specs.Option.{option_copied};
 ghost use Rattle.y4m_header.specs.Chroma.{NamesChroma};

@@ -1,4 +1,4 @@
-// What is wrong with a line.
+//! What is wrong with a line.
 ghost use Rattle.std.specs.Prelude.{◌≡◌};
 ghost use Rattle.y4m_header.specs.declared.error.HeaderError.TheVariants.{NoMemory};
 

@@ -1,4 +1,4 @@
-// The size and the chroma form that a header line states.
+//! The size and the chroma form that a header line states.
 ghost use Rattle.std.specs.Prelude.{◌↔◌, IsTrue, MatchBool, IfOk, IfErr, IfSome, IfNone};
 ghost use Rattle.y4m_header.specs.HeaderLine.{IsY4mLine, StatesSize, StatesFormat, IsHeaderLine};
 ghost use Rattle.y4m_header.specs.HeaderLine.{widths, heights};

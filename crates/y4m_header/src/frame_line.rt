@@ -1,4 +1,4 @@
-// The line before each frame.
+//! The line before each frame.
 ghost use Rattle.std.specs.Prelude.{◌≡◌, ◌↔◌, IsOk, IsErr, Err};
 ghost use Rattle.y4m_header.specs.FrameLine.{IsFrameLine};
 

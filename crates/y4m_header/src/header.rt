@@ -1,4 +1,4 @@
-// The header line.
+//! The header line.
 ghost use Rattle.std.specs.Prelude.{◌≡◌, ◌≢◌, ◌≤◌, ℕ, IfOk, IfErr, IsErrOf, length};
 
 use crate::chroma::Chroma;

@@ -1,4 +1,4 @@
-// What follows from the definitions alone.
+//! What follows from the definitions alone.
 ghost use Rattle.y4m_header.specs.HeaderLine.{FormatIsDetermined};
 ghost use Rattle.y4m_header.specs.StreamText.{FramesAreDetermined};
 

@@ -1,4 +1,4 @@
-// The header line and the frame lines of a YUV4MPEG2 stream.
+//! The header line and the frame lines of a YUV4MPEG2 stream.
 #![tactic(auto)]
 
 pub mod chroma;

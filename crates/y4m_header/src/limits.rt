@@ -1,4 +1,4 @@
-// The limits of what is read, and which sizes go with a chroma form.
+//! The limits of what is read, and which sizes go with a chroma form.
 ghost use Rattle.std.specs.Prelude.{◌≡◌, ◌≤◌, ◌↔◌, IsTrue, MatchBool};
 ghost use Rattle.y4m_header.specs.Chroma.{data_len};
 ghost use Rattle.y4m_header.specs.HeaderLine.{IsDivided, IsWithinLimits};

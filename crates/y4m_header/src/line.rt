@@ -1,4 +1,4 @@
-// A line, and its first word.
+//! A line, and its first word.
 ghost use Rattle.std.specs.Prelude.{◌≡◌, ◌↔◌, IsTrue};
 ghost use Rattle.y4m_header.specs.Line.{IsLine, word};
 

@@ -1,4 +1,4 @@
-// A header line with another size.
+//! A header line with another size.
 ghost use Rattle.std.specs.Prelude.{◌≡◌, ◌∷◌, ◌++◌, IfOk, OnOk, decimal};
 ghost use Rattle.y4m_header.specs.Resized.{resized_line, resized_piece};
 

@@ -1,4 +1,4 @@
-// The sizes that the tags W and H state.
+//! The sizes that the tags W and H state.
 ghost use Rattle.std.specs.Prelude.{◌≡◌, ◌↔◌, IsTrue};
 ghost use Rattle.std.specs.Str.Parse.{digits_value};
 ghost use Rattle.y4m_header.specs.HeaderLine.{IsSize};

@@ -1,4 +1,4 @@
-// The tags of a line.
+//! The tags of a line.
 ghost use Rattle.std.specs.Prelude.{◌≡◌, ◌<◌, ◌↔◌, IsTrue, MatchBool, All, Any, length, slice_get};
 ghost use Rattle.std.specs.Option.{option_copied};
 ghost use Rattle.y4m_header.specs.HeaderLine.{IsSize};

@@ -1,4 +1,4 @@
-// The images that a chain's operations make of a frame, in memory that serves every frame.
+//! The images that a chain's operations make of a frame, in memory that serves every frame.
 ghost use Rattle.std.specs.Prelude.{◌≡◌, ◌<◌, IfOk, IfSome, OnOk, OnErr, IfErr, length};
 ghost use Rattle.y4m_header.specs.FrameLine.{IsFrameLine};
 ghost use Rattle.frame_view.specs.Frame.{line_of};

@@ -1,4 +1,4 @@
-// The tables in front of a chain.
+//! The tables in front of a chain.
 ghost use Rattle.std.specs.Prelude.{◌≡◌, ◌≤◌, length, take};
 ghost use Rattle.frame_view.specs.Frame.{line_of};
 ghost use Rattle.filters.specs.ChainImage.{IsImageByAll, value_of};

@@ -1,4 +1,4 @@
-// The images of frames by a chain.
+//! The images of frames by a chain.
 ghost use Rattle.std.specs.Prelude.{◌≡◌, ◌+◌, ◌-◌, ◌<◌, ◌≤◌, All, drop, length, slice_index_or, take};
 ghost use Rattle.std.specs.Prelude.{IfOk, IfErr, IfSome};
 ghost use Rattle.y4m_header.specs.FrameLine.{IsFrameLine};

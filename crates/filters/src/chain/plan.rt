@@ -1,4 +1,4 @@
-// The steps of a frame, and the geometries between the operations.
+//! The steps of a frame, and the geometries between the operations.
 ghost use Rattle.std.specs.Prelude.{◌≡◌, ◌≤◌, ◌<◌, ◌↔◌, ◌+◌, length, sum, IsSome, IfSome, IfOk};
 ghost use Rattle.filters.specs.Chain.{AreDoable};
 ghost use Rattle.filters.specs.Steps.{step_count, IsStep};

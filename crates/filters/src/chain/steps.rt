@@ -1,4 +1,4 @@
-// The steps of a frame, and what they cost.
+//! The steps of a frame, and what they cost.
 ghost use Rattle.std.specs.Prelude.{◌≡◌, ◌<◌, ◌≤◌, ◌+◌, Some, length, slice_get};
 ghost use Rattle.frame_view.specs.declared.geometry.Geometry.{Geometry};
 ghost use Rattle.row_bands.specs.Bands.{band_count};

@@ -1,5 +1,5 @@
-// What holds of one operation: which frames it can be done on, the geometry of its images, what a band of it
-// costs, and of which kind it is.
+//! What holds of one operation: which frames it can be done on, the geometry of its images, what a band of it
+//! costs, and of which kind it is.
 ghost use Rattle.std.specs.Prelude.{◌≡◌, ◌≤◌, ◌<◌, ◌+◌, ◌%◌, ◌↔◌, IsTrue};
 ghost use Rattle.filters.specs.Ops.{HasGoodRadius, IsDoable, IsRectangleOf, is_crop, is_table, op_cost};
 ghost use Rattle.filters.specs.Chain.{IsImageGeometry};
