@@ -10,15 +10,17 @@ use Rattle.filters.specs.declared.error.FilterError.TheVariants.{NoMemory}
 use Rattle.y4m_stream.specs.declared.fault.ReadFault.{ReadFault}
 use Rattle.y4m_stream.specs.declared.fault.ReadFault.TheVariants.{Device, LineTooLong, Header, NotFrame}
 use Rattle.y4m_stream.specs.declared.fault.ReadFault.TheVariants.{Truncated, NoMemory as NoReadMemory, Failed}
+use Rattle.y4m_stream.specs.declared.fault.WriteFault.{WriteFault}
 use Rattle.y4m_stream.specs.declared.fault.FilterFault.{FilterFault}
 use Rattle.y4m_stream.specs.declared.fault.FilterFault.TheVariants.{Read, Ops, Write, TooManyFrames}
 use Rattle.y4m_stream.specs.Filtered.{CountsReads, IsLineAhead}
 use Rattle.y4m_stream.specs.Front.{IsFrameAhead}
-use Rattle.y4m_stream.specs.Inside.{CanPass, FailsBeside, HasPassed, PutsBeside, ReadsTold, Stops}
+use Rattle.y4m_stream.specs.Inside.{CanPass, HasPassed, ReadsTold, Stops}
 use Rattle.y4m_stream.specs.Failures.{one_more}
-use Rattle.y4m_stream.specs.Reader.{ReaderState, AnswersOpen, MeetsEnd, TakesFrame, answer_into, data_len_of, failures_at, frame_text_of}
+use Rattle.y4m_stream.specs.Reader.{ReaderState, AnswersOpen, FailsAtFrame, MeetsEnd, TakesFrame, answer_into}
+use Rattle.y4m_stream.specs.Reader.{data_len_of, failures_at, frame_text_of}
 use Rattle.y4m_stream.specs.Served.{IsImageText}
-use Rattle.y4m_stream.specs.Writer.{PutsFrame, WriterState}
+use Rattle.y4m_stream.specs.Writer.{FailsToPut, PutsFrame, WriterState}
 use Rattle.y4m_stream.specs.declared.lookahead.TheConstants.{LINE_LIMIT}
 use Rattle.y4m_header.specs.declared.limits.TheConstants.{MOST_FRAMES}
 use Rattle.y4m_stream.proofs.MoreFrames.{CanPass-next, PassesFrames, PassesFrames-none, PassesFrames-push}
@@ -87,19 +89,6 @@ PassesAhead-first chain reader reader' writer more frame writing same answer = r
   met = λ none. rw none at answer;
 }
 
--- an image went out, and one read was answered
-pub put_beside : (reader reader' : ReaderState) (writer writer' : WriterState) (next : Frame) (image : FrameText)
-    (more : Bool) → PutsFrame writer writer' image
-    → AnswersOpen reader reader' (answer_into next (Ok more))
-    → PutsBeside reader reader' writer writer' (frame_text_of next) (Ok more) image
-put_beside reader reader' writer writer' next image true put one = (put, one)
-put_beside reader reader' writer writer' next image false put met = (put, met)
-
-pub beside_put : (reader reader' : ReaderState) (writer writer' : WriterState) (next image : FrameText) (more : Bool)
-    → PutsBeside reader reader' writer writer' next (Ok more) image → PutsFrame writer writer' image
-beside_put reader reader' writer writer' next image true both = both.0
-beside_put reader reader' writer writer' next image false both = both.0
-
 -- the first image can be written, where a frame was read
 pub first_ready : (chain : ChainValue) (reader reader' : ReaderState) (writer : WriterState) (next : Frame)
     (more : Bool) → reader'.header ≡ reader.header
@@ -108,14 +97,14 @@ first_ready chain reader reader' writer next true same one ready some =
     record { reading = one.stays_open; writing = ready.writing; header = rw same ready.header; size = ready.size }
 first_ready chain reader reader' writer next false same met ready some = absurd cc
 
--- the next image can be written, where one more frame was read
-pub beside_ready : (chain : ChainValue) (reader reader' : ReaderState) (writer writer' : WriterState)
-    (next image : FrameText) (more : Bool) → reader'.header ≡ reader.header
-    → PutsBeside reader reader' writer writer' next (Ok more) image → CanPass chain reader writer → more ≡ true
-    → CanPass chain reader' writer'
-beside_ready chain reader reader' writer writer' next image true same both ready some =
-    CanPass-next chain reader reader' writer writer' image same both.1.stays_open both.0 ready
-beside_ready chain reader reader' writer writer' next image false same both ready some = absurd cc
+-- the next image can be written, where one went out and one more frame was read
+pub beside_ready : (chain : ChainValue) (reader reader' : ReaderState) (writer writer' : WriterState) (next : Frame)
+    (image : FrameText) (more : Bool) → reader'.header ≡ reader.header
+    → AnswersOpen reader reader' (answer_into next (Ok more)) → PutsFrame writer writer' image → CanPass chain reader writer
+    → more ≡ true → CanPass chain reader' writer'
+beside_ready chain reader reader' writer writer' next image true same one put ready some =
+    CanPass-next chain reader reader' writer writer' image same one.stays_open put ready
+beside_ready chain reader reader' writer writer' next image false same met put ready some = absurd cc
 
 -- where no more than a line is read ahead, no more than a frame is
 Stops-ahead : (chain : ChainValue) (reader reader' : ReaderState) (writer writer' : WriterState) (fault : FilterFault)
@@ -182,36 +171,35 @@ module _ (chain : ChainValue) (reader reader' : ReaderState) (writer writer' : W
       longer : length (a.frames ++ next ∷ []) ≡ n + 1
       longer = omega (arith, length-append a.frames (next ∷ []), a.count)
 
-      abbrev ahead_of : (more' : Bool) (next' : FrameText) → reader''.header ≡ reader'.header → PutsFrame writer' writer'' image
-          → (more' ≡ true → TakesFrame reader' reader'' next') → (more' ≡ false → MeetsEnd reader' reader'')
-          → PassesAhead chain reader reader'' writer writer'' (n + 1) more' next'
-      ahead_of more' next' same put taken met = record {
+      pub Ahead-next : (more' : Bool) (next' : Frame) → reader''.header ≡ reader'.header → PutsFrame writer' writer'' image
+          → AnswersOpen reader' reader'' (answer_into next' (Ok more'))
+          → PassesAhead chain reader reader'' writer writer'' (n + 1) more' (frame_text_of next')
+      Ahead-next more' next' same put answer = record {
         frames = a.frames ++ next ∷ [];
         images = a.images ++ image ∷ [];
         mid = reader';
         count = longer;
         same = same;
         so_far = pushed put;
-        taken = taken;
-        met = met;
+        taken = λ some. rw some at answer;
+        met = λ none. rw none at answer;
       }
 
-      pub Ahead-next : (more' : Bool) (next' : FrameText) → reader''.header ≡ reader'.header
-          → PutsBeside reader' reader'' writer' writer'' next' (Ok more') image
-          → PassesAhead chain reader reader'' writer writer'' (n + 1) more' next'
-      Ahead-next true next' same both = ahead_of true next' same both.0 (λ _. both.1) (λ e. absurd cc)
-      Ahead-next false next' same both = ahead_of false next' same both.0 (λ e. absurd cc) (λ _. both.1)
-
-      pub Ahead-fails : (fault : FilterFault) → FailsBeside reader' reader'' writer' writer'' image fault
-          → HasPassed IsFrameAhead CountsReads chain reader reader'' writer writer'' (Err fault)
-      Ahead-fails (Read fault) fails =
+      -- it went out, and no more was read, for this reason
+      pub Ahead-unread : (fault : ReadFault) → PutsFrame writer' writer'' image → FailsAtFrame reader' reader'' fault
+          → HasPassed IsFrameAhead CountsReads chain reader reader'' writer writer'' (Err (Read fault))
+      Ahead-unread fault put fails =
           HasPassed-ahead chain reader reader'' writer writer'' (Err (Read fault))
           (HasPassed-read chain reader reader' writer writer'' (a.frames ++ next ∷ []) (a.images ++ image ∷ [])
-          (pushed fails.1) fault reader'' (omega (arith, longer, few)) fails.0)
-      Ahead-fails (Ops e) fails = absurd fails
-      Ahead-fails (Write fault) fails =
-          let reads = rw (one.no_failure ∙ a.so_far.reads) at fails.1 in
+          (pushed put) fault reader'' (omega (arith, longer, few)) fails)
+
+      -- it didn't go out whole, whatever was read
+      pub Ahead-cut : (fault : WriteFault) → IsFrameAhead (data_len_of reader'.header) reader'.rest reader''.left
+          → (reader''.failures ≡ reader'.failures) ⊎ (reader''.failures ≡ one_more reader'.failures)
+          → FailsToPut writer' writer'' image fault
+          → HasPassed IsFrameAhead CountsReads chain reader reader'' writer writer'' (Err (Write fault))
+      Ahead-cut fault ahead told fails =
           HasPassed-cut chain reader a.mid writer writer' a.frames a.images a.so_far IsFrameAhead CountsReads fault
           reader' reader'' writer'' (omega (arith, a.count, few))
-          (record { frame = next; image = image; taken = one; made = made; fails = fails.2 }) (rw (a.same, a.so_far.same) at fails.0) reads
-      Ahead-fails TooManyFrames fails = absurd fails
+          (record { frame = next; image = image; taken = one; made = made; fails = fails })
+          (rw (a.same, a.so_far.same) at ahead) (rw (one.no_failure ∙ a.so_far.reads) at told)

@@ -24,7 +24,7 @@ use Rattle.y4m_stream.specs.declared.fault.FilterFault.{FilterFault}
 use Rattle.y4m_stream.specs.declared.fault.FilterFault.TheVariants.{Read, Ops, Write, TooManyFrames}
 use Rattle.y4m_stream.specs.declared.filter.Filter.{Filter}
 use Rattle.y4m_stream.specs.Failures.{one_more}
-use Rattle.y4m_stream.specs.Front.{IsCutLine, IsFrameAhead, IsLongLine, HasOtherLine, HasGiven}
+use Rattle.y4m_stream.specs.Front.{IsCutLine, IsLongLine, HasOtherLine, HasGiven}
 use Rattle.y4m_stream.specs.Reader.{ReaderState, IsOfHeader, MeetsEnd, TakesFrame, Answers, FailsAtFrame}
 use Rattle.y4m_stream.specs.Reader.{data_len_of}
 use Rattle.y4m_stream.specs.Writer.{WriterState, CutsShort, FailsToPut, IsWriterFor, PutsFrame}
@@ -150,6 +150,16 @@ pub record CanPass (chain : ChainValue) (reader : ReaderState) (writer : WriterS
   pub header : IsOfHeader reader.header chain.geometry
   pub size : IsWriterFor chain writer
 
+-- the filter can pass frames on: its frame is of the size of its chain's
+pub record CanFilter (filter : Filter) (reader : ReaderState) (writer : WriterState) : Type 0 where
+  pub pass : CanPass filter.images.chain reader writer
+  pub frame : filter.frame.geometry ≡ filter.images.chain.geometry
+
+-- the chain stays, and the size of the filter's frame
+pub record KeepsSizes (old new : Filter) : Type 0 where
+  pub chain : new.images.chain ≡ old.images.chain
+  pub frame : new.frame.geometry ≡ old.frame.geometry
+
 -- a frame was taken, and its image went out
 pub record PassesFrame (chain : ChainValue) (reader reader' : ReaderState) (writer writer' : WriterState)
     (frame image : FrameText) : Type 0 where
@@ -214,29 +224,6 @@ pub record PassesAll (n : ℕ) (chain : ChainValue) (reader reader' : ReaderStat
   pub wrote : Appends writer.contents writer'.contents (frames_text passage.images)
   pub bytes : writer'.bytes ≡ writer.bytes + length (frames_text passage.images)
   pub writing : writer'.failed ≡ false
-
--- an image went out and the frame behind it was not read, or the image didn't go out whole, and then one read
--- may have failed too
-abbrev pub FailsBeside : ReaderState → ReaderState → WriterState → WriterState → FrameText
-    → FilterFault → Type 0
-FailsBeside reader reader' writer writer' image (Read fault) =
-    FailsAtFrame reader reader' fault × PutsFrame writer writer' image
-FailsBeside reader reader' writer writer' image (Ops e) = ⊥
-FailsBeside reader reader' writer writer' image (Write fault) =
-    IsFrameAhead (data_len_of reader.header) reader.rest reader'.left
-    × ((reader'.failures ≡ reader.failures) ⊎ (reader'.failures ≡ one_more reader.failures))
-    × FailsToPut writer writer' image fault
-FailsBeside reader reader' writer writer' image TooManyFrames = ⊥
-
--- what writing an image answers, while the frame behind it is read into this one: whether there was one
-abbrev pub PutsBeside : ReaderState → ReaderState → WriterState → WriterState → FrameText
-    → Result Bool FilterFault → FrameText → Type 0
-PutsBeside reader reader' writer writer' next (Ok true) image =
-    PutsFrame writer writer' image × TakesFrame reader reader' next
-PutsBeside reader reader' writer writer' next (Ok false) image =
-    PutsFrame writer writer' image × MeetsEnd reader reader'
-PutsBeside reader reader' writer writer' next (Err fault) image =
-    FailsBeside reader reader' writer writer' image fault
 
 -- why not all frames were passed on
 abbrev pub Stops : (ℕ → Option (List ℕ) → Option (List ℕ) → Type 0)

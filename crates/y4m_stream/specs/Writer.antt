@@ -131,7 +131,11 @@ pub record IsWithin (before now : WriterState) (image : FrameText) : Type 0 wher
   pub none : before.part ≡ 0
   pub partly : now.part < length (text_of image)
   pub front : Appends before.contents now.contents (take now.part (text_of image))
-  pub stays : now ≡ record before { contents = now.contents; bytes = before.bytes + now.part; part = now.part }
+  pub stays : now ≡ record before {
+    contents = now.contents;
+    bytes = before.bytes + now.part;
+    part = now.part;
+  }
 
 -- what writing on with an image does that was begun behind the first of these states
 abbrev pub PutsMore : WriterState → WriterState → FrameText → Result Bool WriteFault → Type 0

@@ -1,4 +1,4 @@
-// The data of a frame, read straight into the frame's memory.
+//! The data of a frame, read straight into the frame's memory.
 ghost use Rattle.std.specs.Prelude.{◌≡◌, ◌+◌, ◌-◌, ◌<◌, length, IfErr, OnOk};
 ghost use Rattle.std.specs.Io.KnownBytes.{Consumes};
 ghost use Rattle.y4m_stream.specs.Front.{HasGiven};

@@ -1,17 +1,17 @@
-// A stream, filtered from end to end.
+//! A stream, filtered from end to end.
 ghost use Rattle.std.specs.Prelude.{◌≡◌, ◌≢◌, ◌⊎◌, ℕ, List, Option, IfOk, IfErr, OnOk, Some, true, false};
 ghost use Rattle.std.specs.Prelude.{unwrap_or};
 ghost use Rattle.std.specs.Io.KnownBytes.{Keeps};
 ghost use Rattle.y4m_stream.specs.Filtered.{CountsWrites, IsFiltered, LacksChain, filter_reads_told};
 ghost use Rattle.y4m_stream.specs.Inside.{Closes, CountsClosing, FailsToBegin, IsFilterFor, filter_writes_at};
-ghost use Rattle.y4m_stream.specs.Reader.{IsOfHeader, IsOpened};
+ghost use Rattle.y4m_stream.specs.Reader.{IsOfHeader};
 ghost use Rattle.y4m_stream.specs.Served.{IsHeaderOfImages};
 ghost use Rattle.y4m_stream.specs.Writer.{FlushesOrFails, IsOpenedFor};
 
 use crate::device::{Sink, Source};
 use crate::fault::{FilterFault, ReadFault};
 use crate::passing::pass_frames;
-use crate::reader::{Phase, StreamReader};
+use crate::reader::StreamReader;
 use crate::writer::StreamWriter;
 use filters::{Chain, FilterError, Images, Op};
 use frame_view::{Frame, Geometry};
@@ -133,42 +133,6 @@ pub fn close<W: Sink>(
     }
 }
 
-/// Filters the frames of a stream whose header line was read.
-fn filter_frames<R: Source + Drop, W: Sink>(
-    alloc: Global,
-    reader: &mut StreamReader<R>,
-    output: W,
-    ops: Vec<Op>,
-    height: BandHeight,
-) -> (W, Result<u64, FilterFault>)
-    requires { reader.old.phase ≡ Phase.Open }
-    ensures answer { (input : Option (List ℕ)) → IsOpened input reader.old.failures reader.old
-        → IsFiltered result.1 ops.items height (record {
-          input = input;
-          left = reader.new.left;
-          before = W.contents output;
-          after = W.contents result.0;
-        }) }
-    ensures reads { reader.new.failures ≡ filter_reads_told result.1 reader.old.failures }
-    ensures writes { CountsWrites result.1 (W.failures output) (W.failures result.0) }
-    ensures flushed { OnOk result.1 (W.is_flushed result.0 ≡ true) }
-    ensures closed { (result.0 ≡ output)
-        ⊎ FlushesOrFails (W.is_flushed result.0) (W.failures output) (W.failures result.0) }
-{
-    let (mut filter, mut writer) = match begin(alloc, reader.header(), output, ops, height) {
-        Ok(begun) => begun,
-        Err((output, fault)) => return (output, Err(fault)),
-    };
-    let passed = pass_frames(
-        alloc,
-        reader,
-        &mut writer,
-        &mut filter.frame,
-        &mut filter.images,
-    );
-    close(writer, passed)
-}
-
 /// Reads a stream to its end and writes it with the image of each of its frames in the frame's place, on the
 /// caller's thread; answers the number of frames, and gives the sink back.
 ///
@@ -206,7 +170,7 @@ pub fn filter_stream<R: Source + Drop, W: Sink>(
     (output, answer)
 }
 
-/// The same, and gives the source back too, without the bytes that were read ahead.
+/// Does what [`filter_stream`] does, and gives the source back too, without the bytes that were read ahead.
 pub fn filter_between<R: Source + Drop, W: Sink>(
     alloc: Global,
     input: R,
@@ -230,7 +194,12 @@ pub fn filter_between<R: Source + Drop, W: Sink>(
         Ok(reader) => reader,
         Err((input, fault)) => return (input, output, Err(FilterFault::Read(fault))),
     };
-    let (output, answer) = filter_frames(alloc, &mut reader, output, ops, height);
+    let (mut filter, mut writer) = match begin(alloc, reader.header(), output, ops, height) {
+        Ok(begun) => begun,
+        Err((output, fault)) => return (reader.into_source(), output, Err(fault)),
+    };
+    let passed = pass_frames(alloc, &mut reader, &mut writer, &mut filter);
+    let (output, answer) = close(writer, passed);
     (reader.into_source(), output, answer)
 }
 

@@ -1,4 +1,4 @@
-// A frame at the front of what is left: its line, and the data behind it.
+//! A frame at the front of what is left: its line, and the data behind it.
 ghost use Rattle.std.specs.Prelude.{◌≡◌, ◌+◌, ◌<◌, take, length, [], Ok, true, false, IfOk};
 ghost use Rattle.std.specs.Prelude.{IfErr, IfSome, IfNone, OnOk, ◌≤◌};
 ghost use Rattle.std.specs.Io.KnownBytes.{Consumes, IsAtEnd, Keeps};

@@ -1,4 +1,4 @@
-// Reading a stream frame by frame, writing one, and a stream filtered from end to end.
+//! Reading a stream frame by frame, writing one, and a stream filtered from end to end.
 #![tactic(auto)]
 
 mod data;

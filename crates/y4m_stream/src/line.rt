@@ -1,4 +1,4 @@
-// A line at the front of what is left.
+//! A line at the front of what is left.
 ghost use Rattle.std.specs.Prelude.{◌≡◌, ◌≤◌, ◌-◌, length, IfOk, IfErr};
 ghost use Rattle.std.specs.Io.KnownBytes.{Keeps};
 ghost use Rattle.y4m_stream.specs.Inside.{BeginsWithLine, LacksLine, rest_of};

@@ -1,15 +1,14 @@
-// The frames of a stream, each read, filtered and written before the next.
+//! The frames of a stream, each read, filtered and written before the next.
 ghost use Rattle.std.specs.Prelude.{◌≡◌, ◌<◌};
 ghost use Rattle.y4m_stream.specs.Filtered.{IsLineAhead};
-ghost use Rattle.y4m_stream.specs.Inside.{CanPass, HasPassed, PassesNext, ReadsTold};
+ghost use Rattle.y4m_stream.specs.Inside.{CanFilter, HasPassed, KeepsSizes, PassesNext, ReadsTold};
 ghost use Rattle.y4m_header.specs.declared.limits.TheConstants.{MOST_FRAMES};
 
 use crate::device::{Sink, Source};
 use crate::fault::FilterFault;
+use crate::filter::Filter;
 use crate::reader::StreamReader;
 use crate::writer::StreamWriter;
-use filters::Images;
-use frame_view::Frame;
 use std::alloc::Global;
 use y4m_header::MOST_FRAMES;
 
@@ -18,22 +17,19 @@ fn pass_frame<R: Source + Drop, W: Sink>(
     alloc: Global,
     reader: &mut StreamReader<R>,
     writer: &mut StreamWriter<W>,
-    frame: &mut Frame,
-    images: &mut Images,
+    filter: &mut Filter,
 ) -> Result<bool, FilterFault>
-    requires ready { CanPass images.old.chain reader.old writer.old }
+    requires ready { CanFilter filter.old reader.old writer.old }
     requires few { writer.old.frames < MOST_FRAMES }
-    requires frame { frame.old.geometry ≡ images.old.chain.geometry }
-    ensures frame { frame.new.geometry ≡ frame.old.geometry }
+    ensures kept { KeepsSizes filter.old filter.new }
     ensures header { reader.new.header ≡ reader.old.header }
-    ensures chain { images.new.chain ≡ images.old.chain }
-    ensures answer { PassesNext images.old.chain reader.old reader.new writer.old writer.new result }
+    ensures answer { PassesNext filter.old.images.chain reader.old reader.new writer.old writer.new result }
 {
-    if !reader.read_frame(alloc, frame)? {
+    if !reader.read_frame(alloc, &mut filter.frame)? {
         return Ok(false);
     }
-    images.make(alloc, frame)?;
-    writer.put(images.image(frame))?;
+    filter.images.make(alloc, &mut filter.frame)?;
+    writer.put(filter.images.image(&filter.frame))?;
     Ok(true)
 }
 
@@ -43,21 +39,19 @@ pub fn pass_frames<R: Source + Drop, W: Sink>(
     alloc: Global,
     reader: &mut StreamReader<R>,
     writer: &mut StreamWriter<W>,
-    frame: &mut Frame,
-    images: &mut Images,
+    filter: &mut Filter,
 ) -> Result<u64, FilterFault>
-    requires ready { CanPass images.old.chain reader.old writer.old }
+    requires ready { CanFilter filter.old reader.old writer.old }
     requires none { writer.old.frames ≡ 0 }
-    requires frame { frame.old.geometry ≡ images.old.chain.geometry }
-    ensures { HasPassed IsLineAhead ReadsTold images.old.chain reader.old reader.new
+    ensures { HasPassed IsLineAhead ReadsTold filter.old.images.chain reader.old reader.new
         writer.old writer.new result }
 {
     for count in 0..MOST_FRAMES {
-        if !pass_frame(alloc, reader, writer, frame, images)? {
+        if !pass_frame(alloc, reader, writer, filter)? {
             return Ok(count);
         }
     }
-    if reader.read_frame(alloc, frame)? {
+    if reader.read_frame(alloc, &mut filter.frame)? {
         return Err(FilterFault::TooManyFrames);
     }
     Ok(MOST_FRAMES)

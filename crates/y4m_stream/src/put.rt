@@ -1,4 +1,4 @@
-// Writing all bytes, or telling how many went out.
+//! Writing all bytes, or telling how many went out.
 ghost use Rattle.std.specs.Prelude.{◌≡◌, ◌≢◌, ◌+◌, ◌-◌, ◌^◌, ◌<◌, ◌≤◌, [], ◌∷◌, ◌++◌, length, take, IfNone};
 ghost use Rattle.y4m_stream.specs.declared.lookahead.TheConstants.{LINE_LIMIT};
 ghost use Rattle.y4m_stream.specs.Failures.{failures_after};

@@ -1,4 +1,4 @@
-// A reader of frames, which fails for good at its first fault.
+//! A reader of frames, which fails for good at its first fault.
 ghost use Rattle.std.specs.Prelude.{◌≡◌, ◌≤◌, ◌∷◌, ◌++◌, [], Option, length, IfOk, IfErr};
 ghost use Rattle.std.specs.Prelude.{IfSome, OnOk};
 ghost use Rattle.std.specs.Io.KnownBytes.{Consumes, Keeps};
@@ -110,7 +110,8 @@ impl<R: Source + Drop> StreamReader<R> {
         }
     }
 
-    /// The same. Where that fails the source comes back, without the bytes that were read.
+    /// Reads the header line and its line feed, as `open` does. Where that fails the source comes back,
+    /// without the bytes that were read.
     pub fn open_or_return(alloc: Global, source: R) -> Result<StreamReader<R>, (R, ReadFault)>
         ensures opened { IfOk result (IsOpened (R.remaining source) (R.failures source)) }
         ensures fault { IfErr result (λ failed. FailsToOpen (R.remaining source) (R.failures source)

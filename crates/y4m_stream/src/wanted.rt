@@ -1,4 +1,4 @@
-// What a reader of frames lacks of the next one.
+//! What a reader of frames lacks of the next one.
 ghost use Rattle.std.specs.Prelude.{◌≡◌, ℕ, ◌+◌, ◌-◌, ◌<◌, ◌≤◌, true, false};
 ghost use Rattle.y4m_header.specs.FrameLine.{IsFrameLine};
 ghost use Rattle.y4m_header.specs.declared.limits.TheConstants.{LARGEST_DATA};
@@ -100,7 +100,7 @@ impl Wanted {
         is_frame_line(line)
     }
 
-    /// The same, where so many bytes of the line come first, without a line feed.
+    /// How many bytes are wanted at least, where so many bytes of the line come first, without a line feed.
     fn least_of(self, come: usize) -> usize
         requires { 0 < self.line }
         ensures some { 0 < result }

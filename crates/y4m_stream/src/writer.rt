@@ -1,4 +1,4 @@
-// A writer of frames, which fails for good at its first fault.
+//! A writer of frames, which fails for good at its first fault.
 ghost use Rattle.std.specs.Prelude.{◌≡◌, ◌≢◌, ◌<◌, ◌^◌, ◌↔◌, [], ◌∷◌, ◌++◌, Ok, Err, IfOk, IfErr, IfNone};
 ghost use Rattle.std.specs.Prelude.{OnOk, length, true, false};
 ghost use Rattle.std.specs.Io.KnownBytes.{Keeps};
@@ -105,8 +105,8 @@ impl<W: Sink> StreamWriter<W> {
         }
     }
 
-    /// Writes on with a frame, behind what went out of it before, if anything did: where it has a patience, in
-    /// at most two writes, each of which waits at most so many milliseconds; else to its end. It answers
+    /// Writes on with a frame, behind what went out of it before, if anything did: where it has a patience,
+    /// in at most two writes, each of which waits at most so many milliseconds; else to its end. It answers
     /// whether the frame went out whole.
     ///
     /// Until it has, each call is for the same frame. After a fault each later call answers

@@ -7,34 +7,32 @@ use Rattle.y4m_stream.proofs.passing.pass_frames.Goals as goal
 pub loop-count-init : goal.loop-count-init
 loop-count-init g c = record {
   same = refl;
-  frame = c.requires.frame;
-  ready = c.requires.ready;
+  frame = c.requires.ready.frame;
+  ready = c.requires.ready.pass;
   put = c.requires.none;
-  passed = ([], [], refl, PassesFrames-none _ _ _ c.requires.ready.writing);
+  passed = ([], [], refl, PassesFrames-none _ _ _ c.requires.ready.pass.writing);
 }
 
 pub pass_frame-requires-clause-ready : goal.pass_frame-requires-clause-ready
-pass_frame-requires-clause-ready g c = rw c.loop-count.invariant.same c.loop-count.invariant.ready
-
-pub pass_frame-requires-clause-frame : goal.pass_frame-requires-clause-frame
-pass_frame-requires-clause-frame g c = rw c.loop-count.invariant.same c.loop-count.invariant.frame
+pass_frame-requires-clause-ready g c =
+    let so_far = c.loop-count.invariant in record { pass = rw so_far.same so_far.ready; frame = rw so_far.same so_far.frame }
 
 pub loop-count-preserved : goal.loop-count-preserved
 loop-count-preserved g c =
     let so_far = c.loop-count.invariant in
-    let kept = c.in_ok-pass_frame.ensures in
-    let one = rw (c.if-not-branch.false, so_far.same) at kept.answer in
+    let passed = c.in_ok-pass_frame.ensures in
+    let one = rw (c.if-not-branch.false, so_far.same) at passed.answer in
     let put = one.2.put in
     record {
-      same = kept.chain ∙ so_far.same;
-      frame = kept.frame ∙ so_far.frame;
-      ready = CanPass-next _ _ _ _ _ one.1 kept.header one.2.taken.stays_open put so_far.ready;
+      same = passed.kept.chain ∙ so_far.same;
+      frame = passed.kept.frame ∙ so_far.frame;
+      ready = CanPass-next _ _ _ _ _ one.1 passed.header one.2.taken.stays_open put so_far.ready;
       put = ap (λ w. w.frames) put.counted ∙ ap (λ n. n + 1) so_far.put;
       passed = (
         so_far.passed.0 ++ one.0 ∷ [],
         so_far.passed.1 ++ one.1 ∷ [],
         omega (arith, length-append so_far.passed.0 (one.0 ∷ []), so_far.passed.2),
-        PassesFrames-push _ _ _ _ _ _ _ so_far.passed.3 _ _ _ _ kept.header one.2,
+        PassesFrames-push _ _ _ _ _ _ _ so_far.passed.3 _ _ _ _ passed.header one.2,
       );
     }
 

@@ -6,10 +6,10 @@ use Rattle.y4m_stream.proofs.passing.pass_frames.Given as goal
 
 abbrev pub invariant-loop-count : goal.invariant-loop-count
 invariant-loop-count g l = record {
-  same : l.images.chain ≡ l.fn.images.chain;
-  frame : l.frame.geometry ≡ l.fn.images.chain.geometry;
-  ready : CanPass l.fn.images.chain l.reader l.writer;
+  same : l.filter.images.chain ≡ l.fn.filter.images.chain;
+  frame : l.filter.frame.geometry ≡ l.fn.filter.images.chain.geometry;
+  ready : CanPass l.fn.filter.images.chain l.reader l.writer;
   put : l.writer.frames ≡ l.count;
   passed : (frames images : List FrameText) × (length frames ≡ l.count)
-      × PassesFrames l.fn.images.chain l.fn.reader l.reader l.fn.writer l.writer frames images;
+      × PassesFrames l.fn.filter.images.chain l.fn.reader l.reader l.fn.writer l.writer frames images;
 }
