@@ -19,7 +19,8 @@ AreWinners nodes = (i : ℕ) → 1 ≤ i → i < MOST_STREAMS → IsWinner nodes
 -- node 64 + s holds stream s, or none
 abbrev pub AreLeaves : ℕ → List (Option Ready) → Type 0
 AreLeaves streams nodes =
-    (s : ℕ) (ready : Ready) → node_at nodes (MOST_STREAMS + s) ≡ Some ready → (ready.stream ≡ s) × (s < streams)
+    (s : ℕ) (ready : Ready) → node_at nodes (MOST_STREAMS + s) ≡ Some ready
+    → (ready.stream ≡ s) × (s < streams)
 
 -- the deadlines by stream, as the leaves show them
 abbrev pub deadlines : ℕ → List (Option Ready) → List (Option ℕ)

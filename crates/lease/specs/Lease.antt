@@ -27,4 +27,10 @@ pub record IsLease (lease : LeaseValue) : Type 0 where
 
 -- no step is done under the lease
 abbrev pub granted_of : JobValue → ℕ → ℕ → ℕ → LeaseValue
-granted_of job stream number grant = record { job = job; stream = stream; number = number; granted = grant; used = 0 }
+granted_of job stream number grant = record {
+  job = job;
+  stream = stream;
+  number = number;
+  granted = grant;
+  used = 0;
+}

@@ -1,4 +1,4 @@
-// Writing the band of one step by two threads.
+//! Writing the band of one step by two threads.
 ghost use Rattle.std.specs.Prelude.{◌≡◌, ℕ, ◌+◌, ◌<◌, length, slice_index_or};
 ghost use Rattle.frame_view.specs.Frame.{line_of, samples_of};
 ghost use Rattle.row_bands.specs.declared.canvas.Canvas.{Canvas};
@@ -12,7 +12,7 @@ ghost use Rattle.lease.specs.Canvases.{IsImageCanvas, IsScratch};
 ghost use Rattle.lease.specs.Halved.{CanHalveBand, CanHalveStep};
 ghost use Rattle.lease.specs.Job.{frames_by, AreDone, WritesBand};
 
-use crate::step::reaching;
+use crate::step::input_of_step;
 use filters::painter::ImagePainter;
 use filters::{Chain, Op, apply_band};
 use frame_view::Frame;
@@ -76,7 +76,7 @@ fn halve_between<R: Threads, N: Fn(u32) + Sync>(
     apply_halves(
         rt,
         chain.op(op),
-        reaching(source, before),
+        input_of_step(source, before),
         &mut rest[0],
         band,
         note,
@@ -108,7 +108,7 @@ fn halve_last<R: Threads, N: Fn(u32) + Sync>(
     apply_halves(
         rt,
         chain.op(scratch.len()),
-        reaching(source, scratch),
+        input_of_step(source, scratch),
         canvas,
         band,
         note,

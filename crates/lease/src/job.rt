@@ -1,4 +1,4 @@
-// A frame with what was made of it by now.
+//! A frame with what was made of it by now.
 use crate::halves::halve_step;
 use crate::job_spec::JobSpec;
 use crate::refused::{JobRefused, OverRefused};

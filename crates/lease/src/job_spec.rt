@@ -1,4 +1,4 @@
-// What is done to each frame of a stream.
+//! What is done to each frame of a stream.
 ghost use Rattle.std.specs.Prelude.{◌≡◌, ◌↔◌, IsTrue};
 
 use filters::{Chain, Op};

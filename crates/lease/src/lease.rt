@@ -1,4 +1,4 @@
-// The leave to do some steps of a job.
+//! The leave to do some steps of a job.
 use crate::job::Job;
 use crate::job_spec::JobSpec;
 use frame_view::Frame;
@@ -136,7 +136,7 @@ impl Lease {
         self.number
     }
 
-    /// The same: a frame is told by its number everywhere else.
+    /// The job's number in its stream, by the name that it has everywhere else.
     pub fn number(&self) -> u64
         ensures { result ≡ self.now.number }
     {

@@ -1,4 +1,4 @@
-// Why a frame got no job.
+//! Why a frame got no job.
 use frame_view::Frame;
 use std::sync::Arc;
 use thiserror::Error;

@@ -1,4 +1,4 @@
-// The canvases between the operations of a chain.
+//! The canvases between the operations of a chain.
 use crate::job_spec::JobSpec;
 use row_bands::Canvas;
 use std::alloc::{AllocError, Global};

@@ -1,4 +1,4 @@
-// Writing the band of one step.
+//! Writing the band of one step.
 ghost use Rattle.std.specs.Prelude.{◌≡◌, ℕ, ◌+◌, ◌<◌, ◌∷◌, length, map, slice_index_or};
 ghost use Rattle.frame_view.specs.Frame.{line_of};
 ghost use Rattle.row_bands.specs.declared.canvas.Canvas.{Canvas};
@@ -12,7 +12,7 @@ use frame_view::Frame;
 use row_bands::Canvas;
 
 /// What the operation after these canvases is done on.
-pub fn reaching<'a>(source: &'a Frame, before: &'a [Canvas]) -> &'a Frame
+pub fn input_of_step<'a>(source: &'a Frame, before: &'a [Canvas]) -> &'a Frame
     ensures { result.now
         ≡ slice_index_or (source.now ∷ map frame_of before.now) (length before.now) source.now }
 {
@@ -33,7 +33,7 @@ fn write_between(chain: &Chain, op: usize, band: usize, source: &Frame, scratch:
         (frames_by source.now scratch.old last) (frames_by source.now scratch.new last) }
 {
     let (before, rest) = scratch.split_at_mut(op);
-    apply_at(chain.op(op), reaching(source, before), &mut rest[0], band);
+    apply_at(chain.op(op), input_of_step(source, before), &mut rest[0], band);
 }
 
 /// Writes a band of the image by the last operation.
@@ -49,7 +49,7 @@ fn write_last(chain: &Chain, band: usize, source: &Frame, scratch: &[Canvas], ca
 {
     apply_at(
         chain.op(scratch.len()),
-        reaching(source, scratch),
+        input_of_step(source, scratch),
         canvas,
         band,
     );

@@ -10,16 +10,16 @@ use Rattle.lease.proofs.halves.halve_between.Given.{Over}
 
 -- what reaches the operation
 reached_format : (g : Over) (c : goal.After-index-rest-0 g)
-    → format_of c.reaching.result.now.geometry ≡ format_at c.args.chain.now c.args.op
+    → format_of c.input_of_step.result.now.geometry ≡ format_at c.args.chain.now c.args.op
 reached_format g c =
     let parts = c.split_at_mut-before.ensures in
-    ap (λ frame. format_of frame.geometry) c.reaching.ensures
+    ap (λ frame. format_of frame.geometry) c.input_of_step.ensures
     ∙ format_reached _ _ c.args.scratch.now _ _ c.args.op c.index-rest-0.result c.requires.source
     c.requires.scratch parts.value parts.front_len (omega (arith, c.requires.op))
 
 pub apply_halves-requires-clause-doable : goal.apply_halves-requires-clause-doable
 apply_halves-requires-clause-doable g c κs within =
-    c.op.ensures.doable c.reaching.result.now.geometry (reached_format g c)
+    c.op.ensures.doable c.input_of_step.result.now.geometry (reached_format g c)
 
 pub apply_halves-requires-clause-image : goal.apply_halves-requires-clause-image
 apply_halves-requires-clause-image g c κs within =
@@ -27,7 +27,7 @@ apply_halves-requires-clause-image g c κs within =
     let old =
     rest_is _ _ _ _ c.args.op c.index-rest-0.result c.requires.scratch c.requires.op parts.value
     parts.front_len in
-    c.op.ensures.image c.reaching.result.now.geometry _ (reached_format g c) old.format
+    c.op.ensures.image c.input_of_step.result.now.geometry _ (reached_format g c) old.format
 
 pub apply_halves-requires-clause-band : goal.apply_halves-requires-clause-band
 apply_halves-requires-clause-band g c κs within =
@@ -64,9 +64,9 @@ returns-clause-written g c last =
     rest_is _ _ _ _ op c.index-rest-0.result c.requires.scratch c.requires.op parts.value parts.front_len in
     let at = canvas_rest _ _ scratch op c.index-rest-0.result parts.value parts.front_len in
     rw (painted_rest _ _ scratch op canvas parts.value parts.front_len)
-    (writes c.args.chain.now op c.args.band _ _ c.op.result _ c.reaching.result.now _ (frame_of canvas)
+    (writes c.args.chain.now op c.args.band _ _ c.op.result _ c.input_of_step.result.now _ (frame_of canvas)
     (λ d. get_or_from_slice_get c.args.chain.now.ops op c.op.result d c.op.ensures.value)
-    (λ d. part_reached source scratch _ _ last op d parts.value parts.front_len ∙ sym c.reaching.ensures)
+    (λ d. part_reached source scratch _ _ last op d parts.value parts.front_len ∙ sym c.input_of_step.ensures)
     (λ d. frame_between source scratch last op d c.index-rest-0.result c.requires.op ∙ ap frame_of at)
     old.height (set_between source scratch last op canvas c.requires.op) c.apply_halves.ensures.rows)
 

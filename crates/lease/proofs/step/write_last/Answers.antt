@@ -9,9 +9,9 @@ use Rattle.lease.proofs.step.write_last.Goals as goal
 pub apply_at-requires-clause-image : goal.apply_at-requires-clause-image
 apply_at-requires-clause-image c =
     let scratch = c.args.scratch.now in
-    let reached : format_of c.reaching.result.now.geometry ≡ format_at c.args.chain.now (length scratch) =
+    let reached : format_of c.input_of_step.result.now.geometry ≡ format_at c.args.chain.now (length scratch) =
     ap (λ frame. format_of frame.geometry)
-    (c.reaching.ensures ∙ sym (last_reached c.args.source.now scratch c.args.canvas.now c.args.source.now))
+    (c.input_of_step.ensures ∙ sym (last_reached c.args.source.now scratch c.args.canvas.now c.args.source.now))
     ∙ format_between _ _ scratch c.args.canvas.now
     (length scratch) c.args.source.now c.requires.source c.requires.scratch (omega arith) in
     c.op.ensures.image _ _ reached (last_at _ scratch _ c.requires.scratch c.requires.canvas).format
@@ -27,9 +27,9 @@ returns-clause-written c =
     let source = c.args.source.now in
     let scratch = c.args.scratch.now in
     let old = c.args.canvas.now in
-    writes c.args.chain.now (length scratch) c.args.band _ _ c.op.result (height_of old) c.reaching.result.now
+    writes c.args.chain.now (length scratch) c.args.band _ _ c.op.result (height_of old) c.input_of_step.result.now
     (frame_of old) (frame_of c.apply_at.new.canvas)
     (λ d. get_or_from_slice_get c.args.chain.now.ops (length scratch) c.op.result d c.op.ensures.value)
-    (λ d. last_reached source scratch old d ∙ sym c.reaching.ensures)
+    (λ d. last_reached source scratch old d ∙ sym c.input_of_step.ensures)
     (λ d. frame_last source scratch old d)
     c.requires.canvas.height (set_last source scratch old c.apply_at.new.canvas) c.apply_at.ensures.rows
