@@ -1,4 +1,4 @@
-// Readers and writers over memory that come to their end, or fail.
+//! Readers and writers over memory that come to their end, or fail.
 use std::alloc::{AllocError, Global};
 use std::io::{self, ErrorKind, Read, Write};
 

@@ -1,4 +1,4 @@
-// Frames of a few samples.
+//! Frames of a few samples.
 ghost use Rattle.std.specs.Prelude.{IfOk};
 ghost use Rattle.frame_view.specs.Frame.{IsFrameWith};
 

@@ -1,4 +1,4 @@
-// Two parts of a work, each done by a thread where it can be had.
+//! Two parts of a work, each done by a thread where it can be had.
 ghost use Rattle.std.specs.Prelude.{◌<◌};
 
 use std::sync::atomic::{AtomicU32, Ordering};

@@ -1,4 +1,4 @@
-// Streams of two by two samples, and what `invert` makes of them: each sample v becomes 255 - v.
+//! Streams of two by two samples, and what `invert` makes of them: each sample v becomes 255 - v.
 use std::alloc::{AllocError, Global};
 
 /// The header line: 22 bytes with its line feed.

@@ -1,4 +1,4 @@
-// What the tests share: readers, writers and a stream of three frames.
+//! What the tests share: readers, writers and a stream of three frames.
 use filters::parse_ops;
 use row_bands::BandHeight;
 use std::alloc::Global;

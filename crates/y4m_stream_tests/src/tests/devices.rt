@@ -1,4 +1,4 @@
-// Devices that fail once and would go on, that take nothing, and that come back.
+//! Devices that fail once and would go on, that take nothing, and that come back.
 use super::reader::{Next, next_are, opened};
 use super::{
     INVERTED, STREAM, filter_into, open_fault, same, same_list, same_part, same_unless_refused,

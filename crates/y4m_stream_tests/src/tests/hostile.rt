@@ -1,4 +1,4 @@
-// Streams whose bytes are at fault.
+//! Streams whose bytes are at fault.
 use super::reader::{next_are, opened};
 use super::{filter, same, same_unless_refused};
 use std::alloc::{AllocError, Global};

@@ -1,4 +1,4 @@
-// What is told where a growth is refused: each test passes with any one refused, and with none.
+//! What is told where a growth is refused: each test passes with any one refused, and with none.
 use super::{ENDS, INVERTED, STREAM, same};
 use filters::{FilterError, Op, parse_ops};
 use row_bands::BandHeight;

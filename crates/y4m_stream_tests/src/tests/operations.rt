@@ -1,4 +1,4 @@
-// Streams served by the operations of a text.
+//! Streams served by the operations of a text.
 use super::{filter, filter_into, same, same_unless_refused};
 use filters::{Crop, FilterError, Op};
 use frame_view::Geometry;

@@ -1,4 +1,4 @@
-// Streams by `filter_overlapped`. Their frames are small, so that no thread is started.
+//! Streams by `filter_overlapped`. Their frames are small, so that no thread is started.
 use super::devices::{DEVICE, GIVEN, failing};
 use super::{
     INVERTED, Pieces, Room, STREAM, answer_of_part, filter, same, same_part, same_unless_refused,

@@ -1,4 +1,4 @@
-// Images that are written by parts.
+//! Images that are written by parts.
 ghost use Rattle.std.specs.Prelude.{IfOk};
 ghost use Rattle.y4m_stream.specs.Reader.{IsOfHeader};
 ghost use Rattle.y4m_stream.specs.Writer.{IsOfSize};
@@ -65,7 +65,9 @@ const HEADER: &[u8] = b"YUV4MPEG2 W2 H2 C444";
 
 /// The stream with two frames, the samples of whose planes are all 1, 2 and 3.
 const TEXT: &[u8] =
-    b"YUV4MPEG2 W2 H2 C444\nFRAME\n\x01\x01\x01\x01\x02\x02\x02\x02\x03\x03\x03\x03FRAME\n\x01\x01\x01\x01\x02\x02\x02\x02\x03\x03\x03\x03";
+    b"YUV4MPEG2 W2 H2 C444\n\
+    FRAME\n\x01\x01\x01\x01\x02\x02\x02\x02\x03\x03\x03\x03\
+    FRAME\n\x01\x01\x01\x01\x02\x02\x02\x02\x03\x03\x03\x03";
 
 /// Such a frame.
 fn frame_of(alloc: Global, header: &Header) -> Result<Frame, Fail>

@@ -1,4 +1,4 @@
-// The first bytes of a stream give the images of its frames that are whole in them.
+//! The first bytes of a stream give the images of its frames that are whole in them.
 use super::devices::DEVICE;
 use super::{Pieces, STREAM, answer_of_part, filter_into, same, same_part};
 use std::alloc::Global;

@@ -1,4 +1,4 @@
-// The reader's calls one by one.
+//! The reader's calls one by one.
 ghost use Rattle.std.specs.Prelude.{◌≡◌};
 ghost use Rattle.y4m_stream.specs.Reader.{IsOfHeader};
 

@@ -1,4 +1,4 @@
-// Sources that tell whether a read would wait.
+//! Sources that tell whether a read would wait.
 ghost use Rattle.std.specs.Prelude.{Some};
 
 use super::{STREAM, same, same_list};
@@ -9,8 +9,8 @@ use std::process::Abort;
 use std::test::Fail;
 use y4m_stream::{Source, StreamReader, Wanted};
 
-/// Gives its bytes, so many at a time, and is ready each third time that it is asked. It keeps how often it was
-/// asked, and the milliseconds of the last time and what was wanted then.
+/// Gives its bytes, so many at a time, and is ready each third time that it is asked. It keeps how often it
+/// was asked, and the milliseconds of the last time and what was wanted then.
 #[derive(Drop)]
 struct Late {
     left: &'static [u8],

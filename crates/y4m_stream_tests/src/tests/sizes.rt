@@ -1,4 +1,4 @@
-// Frames on both sides of the size from which each is read on a thread of its own.
+//! Frames on both sides of the size from which each is read on a thread of its own.
 use super::overlapped::{fail_both, overlap};
 use super::{Pieces, Room, filter, same, same_unless_refused};
 use std::alloc::{AllocError, Global};

@@ -1,4 +1,4 @@
-// What sources and sinks are told of the frames of a stream.
+//! What sources and sinks are told of the frames of a stream.
 ghost use Rattle.std.specs.Prelude.{◌≡◌};
 
 use super::sizes::{LEAST_BESIDE, stream_of};

@@ -1,4 +1,4 @@
-// Writers that fail, that take little at a time, and that count their calls.
+//! Writers that fail, that take little at a time, and that count their calls.
 use super::{INVERTED, Room, STREAM, filter, open_fault, same, same_list};
 use frame_view::{Frame, Geometry};
 use std::alloc::Global;
