@@ -83,7 +83,8 @@ IsOfferAnswer x s at geometry answer =
 
 -- the job is fresh, and of stream s, if that is there
 abbrev pub IsFreshFor : ScheduleValue → ℕ → JobValue → Type 0
-IsFreshFor x s job = (stream : KeptStream) → slice_get x.streams s ≡ Some stream → IsFresh stream.state.spec.chain job
+IsFreshFor x s job =
+    (stream : KeptStream) → slice_get x.streams s ≡ Some stream → IsFresh stream.state.spec.chain job
 
 -- at moment at, or at the clock if that is later, stream s takes the job behind all others
 abbrev pub TakesJob : (s at : ℕ) → JobValue → (number : ℕ) → (old new : ScheduleValue) → Type 0
@@ -163,7 +164,8 @@ RefusesClose x s e =
 
 -- the stream with this job out, which did these bands
 abbrev pub brought_by : JobValue → (bands : ℕ) → KeptStream → KeptStream
-brought_by job bands stream = with_leased (Some job) (record stream { state = worked_at_once bands stream.state })
+brought_by job bands stream =
+    with_leased (Some job) (record stream { state = worked_at_once bands stream.state })
 
 -- the stream with the lease's job and bands
 abbrev pub brought : LeaseValue → KeptStream → KeptStream
@@ -184,7 +186,8 @@ pub record TakesBack (w : ℕ) (lease : LeaseValue) (old new : ScheduleValue) : 
   pub stream : KeptStream
   pub here : slice_get old.streams lease.stream ≡ Some stream
   pub left : stream.state.done + lease.used ≢ steps stream.state.spec
-  pub schedule : new ≡ with_held w None (with_stream_at lease.stream (stream_returned (brought lease stream)) old)
+  pub schedule : new ≡ with_held w None
+      (with_stream_at lease.stream (stream_returned (brought lease stream)) old)
 
 -- all steps of the lease's job are done: its source and image are the last of its stream's images
 pub record TakesImage (w : ℕ) (lease : LeaseValue) (number : ℕ) (old new : ScheduleValue) : Type 0 where
@@ -194,4 +197,5 @@ pub record TakesImage (w : ℕ) (lease : LeaseValue) (number : ℕ) (old new : S
   pub first : number ≡ stream.state.finished
   pub images : List Collected
   pub gains : GainsImage lease.job stream.images images
-  pub schedule : new ≡ with_held w None (with_stream_at lease.stream (stream_finished images (brought lease stream)) old)
+  pub schedule : new ≡ with_held w None
+      (with_stream_at lease.stream (stream_finished images (brought lease stream)) old)

@@ -136,7 +136,8 @@ module _ {F G : Type 0} (measures : SizeTest F) (is_image : ImageRelation F G) w
   -- and so they do where it led on from a sound state in which they fit
   abbrev pub FitsFromLaw : Type 0
   FitsFromLaw =
-      (m n : State F) (p : Transcript F G) → Sound m → StillFits m → Leads measures is_image m p n → StillFits n
+      (m n : State F) (p : Transcript F G) → Sound m → StillFits m → Leads measures is_image m p n
+      → StillFits n
 
   -- a stream that is released stays so
   abbrev pub ReleasedLaw : Type 0

@@ -30,7 +30,8 @@ module _ {F G : Type 0} (measures : SizeTest F) (is_image : ImageRelation F G) w
 
   -- from a state that is reached: that is what it is to lead
   abbrev pub OverLaw : Type 0
-  OverLaw = (m n : State F) (p : Transcript F G) → LeadsOver m p n ↔ (IsReached m × Leads measures is_image m p n)
+  OverLaw =
+      (m n : State F) (p : Transcript F G) → LeadsOver m p n ↔ (IsReached m × Leads measures is_image m p n)
 
   -- and then the state that it leads to is reached too
   abbrev pub ReachedLaw : Type 0

@@ -139,7 +139,8 @@ stream_returned stream = record stream {
 }
 
 abbrev pub stream_finished : List Collected → KeptStream → KeptStream
-stream_finished images stream = record stream { state = did stream.state Ended; leased = None; images = images }
+stream_finished images stream =
+    record stream { state = did stream.state Ended; leased = None; images = images }
 
 abbrev pub stream_closed : KeptStream → KeptStream
 stream_closed stream = record stream { state = did stream.state Shut }

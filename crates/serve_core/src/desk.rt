@@ -131,7 +131,8 @@ impl Desk {
         at: u64,
         frame: Arc<Frame>,
     ) -> Result<u64, (Refusal, Arc<Frame>)>
-        ensures events { IfOk result (λ n. LeadsDesk self.old (rules.offered self.old.clock s at n) self.new) }
+        ensures events { IfOk result
+            (λ n. LeadsDesk self.old (rules.offered self.old.clock s at n) self.new) }
         ensures answer { OnOk result (IsOfferAnswer self.old s at (arc_value frame).geometry None) }
         ensures job { IfOk result (λ n. rules.TakesFrame s at (arc_value frame) n self.old self.new) }
         ensures refused { IfErr result (λ e.
@@ -161,7 +162,8 @@ impl Desk {
     /// the clock stays.
     pub fn offer_job(&mut self, s: u32, at: u64, job: Job) -> Result<u64, (Refusal, Job)>
         requires { rules.IsFreshFor self.old s job }
-        ensures events { IfOk result (λ n. LeadsDesk self.old (rules.offered self.old.clock s at n) self.new) }
+        ensures events { IfOk result
+            (λ n. LeadsDesk self.old (rules.offered self.old.clock s at n) self.new) }
         ensures answer { OnOk result (rules.job_refusal self.old s at ≡ None) }
         ensures job { IfOk result (λ n. rules.TakesJob s at job n self.old self.new) }
         ensures refused { IfErr result (λ e. rules.job_refusal self.old s at ≡ Some e.0) }
@@ -179,7 +181,8 @@ impl Desk {
     /// Stream `s` takes the job at a moment, or now if that is later.
     fn accept(&mut self, s: u32, at: u64, job: Job) -> u64
         requires moment { at ≤ LAST_MOMENT }
-        requires stream { HasStream self.old s (λ stream. HasPlace stream.state × IsFresh stream.state.spec.chain job) }
+        requires stream { HasStream self.old s
+            (λ stream. HasPlace stream.state × IsFresh stream.state.spec.chain job) }
         ensures events { LeadsDesk self.old (rules.offered self.old.clock s at result) self.new }
         ensures job { rules.TakesJob s at job result self.old self.new }
     {
@@ -217,8 +220,8 @@ impl Desk {
     /// What [`Desk::admit`] does, with the stream's memory, which was taken outside. A refused newcomer comes
     /// back.
     pub fn admit_newcomer(&mut self, newcomer: Newcomer) -> Result<u32, (Refusal, Newcomer)>
-        ensures events { IfOk result (λ s. LeadsDesk self.old (one (events.Admit newcomer) (events.Admitted s))
-            self.new) }
+        ensures events { IfOk result
+            (λ s. LeadsDesk self.old (one (events.Admit newcomer) (events.Admitted s)) self.new) }
         ensures answer { OnOk result (schedules.IsAdmitAnswer self.old newcomer None) }
         ensures stream { IfOk result (λ s. (s ≡ length self.old.streams)
             × (self.new ≡ schedules.with_stream newcomer self.old)) }
@@ -282,17 +285,17 @@ impl Desk {
         ensures refused { IfErr result (λ e. schedules.RefusesLease self.old w e × (self.new ≡ self.old)) }
     {
         let held = self.schedule.lease(w)?;
-        let job = self.schedule.hand_over(held.stream);
+        let job = self.schedule.take_job(held.stream);
         Ok(Lease::new(job, held.stream, held.number, held.grant))
     }
 
     /// What worker `w` holds, or why it has nothing to settle. No band is told of before the settlement.
-    pub fn held(&self, w: u32) -> Result<Held, Refusal>
+    pub fn lease_of_worker(&self, w: u32) -> Result<Held, Refusal>
         ensures ok { IfOk result (λ held. HasLease self.now w held) }
         ensures unused { IfOk result (λ held. held.used ≡ 0) }
         ensures err { IfErr result (λ e. rules.RefusesSettle self.now w e) }
     {
-        self.schedule.held(w)
+        self.schedule.lease_of_worker(w)
     }
 
     /// How many bands of the first unfinished frame of stream `s` were settled.
@@ -333,7 +336,7 @@ impl Desk {
         ensures refused { IfErr result (λ e. rules.RefusesSettle self.old w e.0) }
         ensures back { IfErr result (λ e. (e.1 ≡ lease) × (self.new ≡ self.old)) }
     {
-        match self.schedule.held(w) {
+        match self.schedule.lease_of_worker(w) {
             Err(refusal) => Err((refusal, lease)),
             Ok(held) => Ok(self.take_back(w, held, lease)),
         }
@@ -350,7 +353,7 @@ impl Desk {
         let bands = lease.used();
         let units = lease.spent() as u64;
         let job = lease.into_job();
-        self.schedule.bring(held.stream, job, bands, units);
+        self.schedule.return_job(held.stream, job, bands, units);
         self.schedule.settle(w, held)
     }
 
@@ -375,7 +378,8 @@ impl Desk {
 
     /// Gives the oldest image of stream `s` away, with its source.
     pub fn collect(&mut self, s: u32) -> Result<Collected, Refusal>
-        ensures events { OnOk result (LeadsDesk self.old (one (events.Collect s) (events.Image tt)) self.new) }
+        ensures events { OnOk result
+            (LeadsDesk self.old (one (events.Collect s) (events.Image tt)) self.new) }
         ensures pair { IfOk result (λ pair. HasStream self.old s (λ stream. schedules.IsFirst pair stream
             × (self.new ≡ with_stream_at s (schedules.stream_collected stream) self.old))) }
         ensures refused { IfErr result (λ e. schedules.RefusesCollect self.old s e × (self.new ≡ self.old)) }

@@ -178,7 +178,7 @@ impl Machine {
         ensures allowed { Allows measures is_image self.old (rules.Band w) (heard result) }
         ensures state { self.new ≡ after self.old (rules.Band w) (heard result) }
     {
-        match self.schedule.held(w) {
+        match self.schedule.lease_of_worker(w) {
             Err(refusal) => Reply::Refused(refusal),
             Ok(held) => {
                 if held.used == held.grant {
@@ -195,7 +195,7 @@ impl Machine {
         ensures allowed { Allows measures is_image self.old (rules.Settle w) (heard result) }
         ensures state { self.new ≡ after self.old (rules.Settle w) (heard result) }
     {
-        match self.schedule.held(w) {
+        match self.schedule.lease_of_worker(w) {
             Err(refusal) => Reply::Refused(refusal),
             Ok(held) => match self.schedule.settle(w, held) {
                 None => Reply::Returned,

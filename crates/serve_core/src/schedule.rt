@@ -120,8 +120,8 @@ impl Schedule {
 
     /// Why a frame of this geometry is refused by stream `s`, if it is, want of memory aside.
     pub(crate) fn arrival_refusal(&self, s: u32, geometry: Geometry) -> Option<Refusal>
-        ensures refusal { MatchOption (slice_get self.now.streams s) (result ≡ Some refusals.NoStream) (λ stream.
-            (is_sized : Bool) × (IsTrue is_sized ↔ (geometry ≡ stream.state.spec.geometry))
+        ensures refusal { MatchOption (slice_get self.now.streams s) (result ≡ Some refusals.NoStream)
+            (λ stream. (is_sized : Bool) × (IsTrue is_sized ↔ (geometry ≡ stream.state.spec.geometry))
             × (result ≡ arrival_refusal is_sized stream.state)) }
         ensures place { IfNone result (HasStream self.now s (λ stream. (geometry ≡ stream.state.spec.geometry)
             × HasPlace stream.state)) }
@@ -135,7 +135,8 @@ impl Schedule {
     /// A job for a frame of stream `s`. The frame comes back where the memory for it is refused.
     pub(crate) fn job(&self, alloc: Global, s: u32, frame: Arc<Frame>) -> Result<Job, Arc<Frame>>
         requires { HasStream self.now s (λ stream. (arc_value frame).geometry ≡ stream.state.spec.geometry) }
-        ensures ok { IfOk result (λ job. HasStream self.now s (λ stream. IsFresh stream.state.spec.chain job)) }
+        ensures ok { IfOk result
+            (λ job. HasStream self.now s (λ stream. IsFresh stream.state.spec.chain job)) }
         ensures source { IfOk result (λ job. job.source ≡ arc_value frame) }
         ensures back { IfErr result (λ back. back ≡ frame) }
     {
@@ -144,7 +145,8 @@ impl Schedule {
 
     /// Takes a job behind all others of stream `s`, and answers its number.
     pub(crate) fn accept(&mut self, s: u32, job: Job) -> u64
-        requires { HasStream self.old s (λ stream. HasPlace stream.state × IsFresh stream.state.spec.chain job) }
+        requires { HasStream self.old s
+            (λ stream. HasPlace stream.state × IsFresh stream.state.spec.chain job) }
         ensures { HasStream self.old s (λ stream. (result ≡ stream.state.accepted)
             × (self.new ≡ with_stream_at s (rules.stream_offered self.old.clock job stream) self.old)) }
     {
@@ -167,7 +169,7 @@ impl Schedule {
         if !spec.is_within_limits() {
             return Some(Refusal::BadLimits);
         }
-        let mut admission = held(self.workers.len() as u64, self.clock, &self.streams);
+        let mut admission = admission_of_held_shares(self.workers.len() as u64, self.clock, &self.streams);
         match admission.admit(spec.maximum, spec.period) {
             Ok(()) => None,
             Err(AdmissionError::BadBandwidth) => Some(Refusal::BadBandwidth),
@@ -300,7 +302,7 @@ impl Schedule {
     }
 
     /// What worker `w` holds, or why it holds nothing.
-    pub(crate) fn held(&self, w: u32) -> Result<Held, Refusal>
+    pub(crate) fn lease_of_worker(&self, w: u32) -> Result<Held, Refusal>
         ensures ok { IfOk result (λ held. HasLease self.now w held) }
         ensures err { IfErr result (λ e. MatchOption (slice_get self.now.workers w) (e ≡ refusals.NoWorker)
             (λ held. (held ≡ None) × (e ≡ refusals.NoLease))) }
@@ -338,7 +340,8 @@ impl Schedule {
         requires stream { HasStream self.old held.stream (λ stream. IsSome stream.leased) }
         ensures back { IfNone result (HasStream self.old held.stream (λ stream.
             (stream.state.done ≢ steps stream.state.spec)
-            × (self.new ≡ with_held w None (with_stream_at held.stream (rules.stream_returned stream) self.old)))) }
+            × (self.new ≡ with_held w None
+            (with_stream_at held.stream (rules.stream_returned stream) self.old)))) }
         ensures finished { IfSome result (λ number. HasStream self.old held.stream (λ stream.
             HasStream self.new held.stream (λ after.
             (stream.state.done ≡ steps stream.state.spec) × (number ≡ stream.state.finished)
@@ -384,8 +387,8 @@ impl Schedule {
 
     /// Gives the oldest image of stream `s` away, with its source.
     pub(crate) fn collect(&mut self, s: u32) -> Result<Collected, Refusal>
-        ensures ok { IfOk result (λ pair. HasStream self.old s (λ stream.
-            rules.IsFirst pair stream × (self.new ≡ with_stream_at s (rules.stream_collected stream) self.old))) }
+        ensures ok { IfOk result (λ pair. HasStream self.old s (λ stream. rules.IsFirst pair stream
+            × (self.new ≡ with_stream_at s (rules.stream_collected stream) self.old))) }
         ensures err { IfErr result (λ e. rules.RefusesCollect self.old s e × (self.new ≡ self.old)) }
     {
         if let Some(refusal) = self.collect_refusal(s) {
@@ -403,7 +406,7 @@ impl Schedule {
 }
 
 /// The workers with the shares that the streams hold at a moment.
-fn held(workers: u64, moment: u64, streams: &[Stream]) -> Admission
+fn admission_of_held_shares(workers: u64, moment: u64, streams: &[Stream]) -> Admission
     requires some { 1 ≤ workers }
     requires most { workers ≤ MOST_WORKERS }
     requires fits { Fits (rules.held_of_streams workers moment streams.now) }

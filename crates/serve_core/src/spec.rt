@@ -80,7 +80,7 @@ impl StreamSpec {
         }
     }
 
-    /// The same once more, with another handle on the chain.
+    /// A copy of the spec, with another handle on the chain.
     pub fn try_clone(&self) -> Result<StreamSpec, AllocError>
         ensures { IfOk result (λ spec. spec ≡ self.now) }
     {

@@ -7,8 +7,8 @@ ghost use Rattle.filters.specs.Steps.{steps_of};
 ghost use Rattle.lease.specs.Job.{StepsOn};
 ghost use Rattle.serve_core.specs.AtOnce.{cost_of_next, worked_at_once};
 ghost use Rattle.serve_core.specs.Counts.{Came, Worked, Ended, Back, Lent, Shut, Taken};
-ghost use Rattle.serve_core.specs.Streams.{GainsImage, HasPlace, IsFresh, IsPair, IsStarted, IsWithOne, listed};
-ghost use Rattle.serve_core.specs.Streams.{IsOver, opened, source_of, with_leased, source_in};
+ghost use Rattle.serve_core.specs.Streams.{GainsImage, HasPlace, IsFresh, IsOver, IsPair, IsStarted};
+ghost use Rattle.serve_core.specs.Streams.{IsWithOne, listed, opened, source_in, source_of, with_leased};
 ghost use Rattle.serve_core.specs.Rules as rules;
 ghost use Rattle.serve_core.specs.Schedule.{counts_of, stream_finished, stream_returned};
 ghost use Rattle.std.specs.Arc.{arc_value};
@@ -34,7 +34,8 @@ use std::sync::Arc;
 use stream_queue::FrameQueue;
 
 /// A stream's account, its jobs and its images. The scratch is with its front job once that has started. The
-/// job that is out stays here unless it is handed over. Contracts see the `KeptStream` of `specs/Streams.antt`.
+/// job that is out stays here unless it is handed over. Contracts see the `KeptStream` of
+/// `specs/Streams.antt`.
 #[derive(Drop)]
 pub(crate) struct Stream {
     spec: StreamSpec,
@@ -218,7 +219,7 @@ impl Stream {
         match self.queue.take() {
             None => unreachable!(),
             Some((number, job)) => {
-                self.leased = Some(started(job, self.scratch.take()));
+                self.leased = Some(start_job(job, self.scratch.take()));
                 self.holder = Some(worker);
                 let budget = self.account.budget();
                 let grant = grant_of(self.spec.job.chain(), quantum, budget, self.done);
@@ -228,7 +229,7 @@ impl Stream {
     }
 
     /// Hands the job over that is out.
-    pub(crate) fn hand_over(&mut self) -> Job
+    pub(crate) fn take_job(&mut self) -> Job
         requires { IsSome self.old.leased }
         ensures job { self.old.leased ≡ Some result }
         ensures gone { self.new ≡ with_leased None self.old }
@@ -240,7 +241,7 @@ impl Stream {
     }
 
     /// Takes the job that was handed over.
-    pub(crate) fn hand_back(&mut self, job: Job)
+    pub(crate) fn return_job(&mut self, job: Job)
         requires out { IsSome self.old.state.holder }
         requires gone { self.old.leased ≡ None }
         requires started { IsStarted self.old.state.spec.chain self.old.state.done job }
@@ -266,7 +267,7 @@ impl Stream {
         match self.leased.take() {
             None => unreachable!(),
             Some(job) => {
-                self.leased = Some(stepped(job));
+                self.leased = Some(step_job(job));
                 self.account.charge(cost);
                 self.charged += cost;
                 self.done += 1;
@@ -450,7 +451,7 @@ impl Stream {
 
 /// The job, started with the scratch where it has none.
 #[tactic(auto, using(crate::proofs::Schedules::Jobs::with_scratch))]
-fn started(job: Job, scratch: Option<Scratch>) -> Job
+fn start_job(job: Job, scratch: Option<Scratch>) -> Job
     requires { IsWithOne job.chain scratch job.scratch }
     ensures same { result ≡ record job { scratch = result.scratch } }
     ensures started { IsSome result.scratch }
@@ -466,7 +467,7 @@ fn started(job: Job, scratch: Option<Scratch>) -> Job
 }
 
 /// The job with one step more.
-fn stepped(job: Job) -> Job
+fn step_job(job: Job) -> Job
     requires started { IsSome job.scratch }
     requires left { job.done < steps_of job.chain }
     ensures step { StepsOn job result }

@@ -113,7 +113,8 @@ pub record HasHadRoom (opening : ScheduleValue) (entries : ℕ) : Type 0 where
 
 -- a book has the streams that it opened with, and perhaps more behind them
 abbrev pub SpecsLaw : Type 0
-SpecsLaw = (b : BookValue) → IsBook b → (more : List StreamSpec) × (specs_of b.desk ≡ specs_of b.opening ++ more)
+SpecsLaw =
+    (b : BookValue) → IsBook b → (more : List StreamSpec) × (specs_of b.desk ≡ specs_of b.opening ++ more)
 
 -- one entry more, its own: the desk answers its events, and all else stays
 pub record Appends (seat : Seat) (act : Act) (old new : BookValue) : Type 0 where

@@ -116,8 +116,8 @@ IsCollectTold seat e = IsTold seat (AllowsCollect seat) e
 abbrev pub IsSpec : StreamSpec → Type 0
 IsSpec spec = IsWithinLimits spec × HasBandwidth spec
 
--- why a stream of this spec isn't admitted: what is wrong with the spec comes before all that isn't told by it,
--- but the number of streams
+-- why a stream of this spec isn't admitted: what is wrong with the spec comes before all that isn't told by
+-- it, but the number of streams
 abbrev pub AllowsAdmission : StreamSpec → Refusal → Type 0
 AllowsAdmission spec (Core cores.TooManyStreams) = ⊤
 AllowsAdmission spec (Core cores.BadLimits) = ¬ IsWithinLimits spec
@@ -226,8 +226,8 @@ abbrev pub after_refusal : Refusal → StreamSeatValue → StreamSeatValue
 after_refusal (Torn c) seat = gives_up (noted (Torn c) seat)
 after_refusal e seat = seat
 
--- an image came that isn't of the oldest frame that the seat keeps, which the seat gives up; it notes that with
--- how many came before
+-- an image came that isn't of the oldest frame that the seat keeps, which the seat gives up; it notes that
+-- with how many came before
 pub record GivesOther (pair : Collected) (e : CollectRefused) (old new : StreamSeatValue) : Type 0 where
   pub mid : StreamSeatValue
   pub collects : Collects pair old mid

@@ -37,8 +37,8 @@ abbrev pub admission_of : ℕ → Option StreamSpec → Transcript Blank Blank
 admission_of s None = Start
 admission_of s (Some spec) = one (events.Admit spec) (events.Admitted s)
 
--- the events that an entry stands for, with their replies, in the state that its call found, where the streams
--- have these specs, which never change
+-- the events that an entry stands for, with their replies, in the state that its call found, where the
+-- streams have these specs, which never change
 abbrev pub events_of : List StreamSpec → State Blank → Seat → Act → Transcript Blank Blank
 events_of specs m (Stream s) (Offered tick number) =
     Then (ticks tick) (events.Arrive s tt) (events.Accepted number)
@@ -90,7 +90,8 @@ pub record IsJournal (specs : List StreamSpec) (opening : State Blank) (past : L
 -- the second are one journal, which leads from l to n
 abbrev pub JoinedLaw : Type 0
 JoinedLaw =
-    (specs more : List StreamSpec) (l m n : State Blank) (first second : List Entry) → IsJournal specs l first m
+    (specs more : List StreamSpec) (l m n : State Blank) (first second : List Entry)
+    → IsJournal specs l first m
     → IsJournal (specs ++ more) m second n
     → IsJournal (specs ++ more) l (second ++ first) n
     × (transcript_of (specs ++ more) l (second ++ first)

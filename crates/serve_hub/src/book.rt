@@ -208,7 +208,7 @@ impl Book {
             return false;
         };
         for w in 0..workers {
-            if self.desk.held(w).is_ok() {
+            if self.desk.lease_of_worker(w).is_ok() {
                 return false;
             }
         }

@@ -36,7 +36,7 @@ pub(crate) fn other_part(found: &JobSpec, own: &JobSpec) -> Option<ChainPart>
     other_op(found.chain().ops(), own.chain().ops())
 }
 
-/// The same of their operations alone.
+/// The first of the operations that the other ones don't have, if they differ.
 fn other_op(found: &[Op], own: &[Op]) -> Option<ChainPart>
     ensures same { IfNone result (found.now ≡ own.now) }
     ensures found { IfSome result (HasOp found.now) }

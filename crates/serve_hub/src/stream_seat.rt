@@ -222,7 +222,7 @@ impl<L: Epoch> StreamSeat<L> {
         }
     }
 
-    /// The same of a Torn, behind so many images.
+    /// Notes a Torn behind so many images, unless one was noted before.
     fn tear(&mut self, collected: u64)
         ensures { self.new ≡ torn_at collected self.old }
     {

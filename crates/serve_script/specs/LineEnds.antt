@@ -20,7 +20,8 @@ Ends Gives (Err fault) before after = MayFault Gives (fault_told fault) × (afte
 -- how a line ends that gives such a thing from wherever the lines before it may have led
 abbrev pub EndsFrom : {S : Type 0} → (S → Type 0) → (S → Given → Type 0) → Result Script ScriptFault
     → (before after : List ℕ) → Type 0
-EndsFrom {S} Is Gives (Ok kept) before after = (from : S) → Is from → PrintsAnswer (Gives from) kept before after
+EndsFrom {S} Is Gives (Ok kept) before after =
+    (from : S) → Is from → PrintsAnswer (Gives from) kept before after
 EndsFrom {S} Is Gives (Err fault) before after =
     ((from : S) → Is from → MayFault (Gives from) (fault_told fault)) × (after ≡ before)
 

@@ -105,7 +105,7 @@ pub fn replay<R: Source + Drop, W: Sink>(
     (output, answer)
 }
 
-/// The same, with its input and output lent.
+/// Runs a script from an input that is lent, and writes its lines to an output that is lent.
 fn replay_through<R: Source, W: Sink>(
     alloc: Global,
     input: &mut R,
@@ -158,7 +158,7 @@ fn answer_of(stop: Option<ScriptStop<'_>>) -> Result<bool, ReplayFault>
     }
 }
 
-/// The same behind a stop for this fault.
+/// What a replay answers behind a stop for this fault.
 fn answer_at(fault: ScriptFault<'_>) -> Result<bool, ReplayFault>
     ensures { result ≡ answer_at (fault_told fault.entry) }
 {

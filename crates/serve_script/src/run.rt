@@ -140,17 +140,17 @@ fn run_setup<'a>(
         printed.old.items printed.new.items }
 {
     match command {
-        SetupCommand::Workers { count } => settled(preparation.with_workers(count), printed),
-        SetupCommand::Quantum { bands } => settled(preparation.with_quantum(bands), printed),
+        SetupCommand::Workers { count } => after_setup_line(preparation.with_workers(count), printed),
+        SetupCommand::Quantum { bands } => after_setup_line(preparation.with_quantum(bands), printed),
         SetupCommand::Band { rows } => run_band(preparation, rows, printed),
-        SetupCommand::Frames { most } => settled(preparation.with_frames(most), printed),
+        SetupCommand::Frames { most } => after_setup_line(preparation.with_frames(most), printed),
         SetupCommand::Stream(stream) => run_stream(alloc, preparation, stream, printed),
         SetupCommand::Start => run_start(alloc, preparation, printed),
     }
 }
 
 /// Appends the answer of a setting.
-fn settled<'a>(
+fn after_setup_line<'a>(
     preparation: Preparation<'a>,
     printed: &mut Vec<u8>,
 ) -> Result<Script<'a>, ScriptFault<'a>>
@@ -169,7 +169,7 @@ fn run_band<'a>(
     ensures { Ends (BandGives preparation.entry rows) result printed.old.items printed.new.items }
 {
     let next = preparation.with_band(rows)?;
-    settled(next, printed)
+    after_setup_line(next, printed)
 }
 
 /// Runs `stream`.

@@ -37,8 +37,8 @@ pub fn demand_law()
 /// What all the streams that there ever were were charged, and whose deadline is at most a moment, is at
 /// most that moment, once for each worker.
 ///
-/// A stream that is admitted finds only the time behind the deadlines of those whose share it takes over: this
-/// is why a share is held up to its stream's deadline.
+/// A stream that is admitted finds only the time behind the deadlines of those whose share it takes over:
+/// this is why a share is held up to its stream's deadline.
 pub fn whole_demand_law()
     ensures of_frames { WholeDemandLaw measures is_image }
     ensures bare { WholeDemandLaw measures_any is_any_image }

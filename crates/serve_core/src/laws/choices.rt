@@ -5,8 +5,8 @@ ghost use Rattle.serve_core.specs.Bare.{Blank};
 ghost use Rattle.serve_core.specs.Laws.{AnswerAfterLaw, AnswerLaw, AreDetermined, OneChoiceLaw, RefusedLaw};
 ghost use Rattle.serve_core.specs.Laws.{SizedLaw};
 
-/// The rules leave one choice: whether a frame or a stream that can be accepted is refused for want of memory.
-/// All other replies are determined, since a frame has one size and one image.
+/// The rules leave one choice: whether a frame or a stream that can be accepted is refused for want of
+/// memory. All other replies are determined, since a frame has one size and one image.
 pub fn one_choice_law()
     ensures determined { AreDetermined measures is_image }
     ensures one_choice { OneChoiceLaw measures is_image }

@@ -4,11 +4,11 @@ ghost use Rattle.serve_core.specs.Delivered.{CloseLaw, DeliveredLaw, DrainedLaw,
 ghost use Rattle.serve_core.specs.Frames.{measures, is_image};
 ghost use Rattle.serve_core.specs.Headline.{HeadlineLaw};
 
-/// The headline. For every list of arrivals, leases, band steps, settlements, clock ticks, closes, collections
-/// and admissions, each stream's delivered list is the filter's images of its first n accepted frames, in order,
-/// each once, and all of them once it answers drained; nothing is accepted after its close; its budget and
-/// deadline are the rules' of constant bandwidth servers for its own arrivals and charges; every lease goes
-/// to an earliest deadline.
+/// The headline. For every list of arrivals, leases, band steps, settlements, clock ticks, closes,
+/// collections and admissions, each stream's delivered list is the filter's images of its first n accepted
+/// frames, in order, each once, and all of them once it answers drained; nothing is accepted after its close;
+/// its budget and deadline are the rules' of constant bandwidth servers for its own arrivals and charges;
+/// every lease goes to an earliest deadline.
 ///
 /// It is said of every legal transcript of a setup within its limits, from the definitions alone; that what a
 /// machine answers is a legal transcript is the contract of its runs.

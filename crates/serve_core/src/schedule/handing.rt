@@ -22,23 +22,24 @@ impl Schedule {
     }
 
     /// Hands the job over that is out of stream `s`.
-    pub(crate) fn hand_over(&mut self, s: u32) -> Job
+    pub(crate) fn take_job(&mut self, s: u32) -> Job
         requires { HasStream self.old s (λ stream. IsSome stream.leased) }
         ensures { HasStream self.old s (λ stream. (stream.leased ≡ Some result)
             × (self.new ≡ with_stream_at s (with_leased None stream) self.old)) }
     {
         let stream = &mut self.streams[s as usize];
-        stream.hand_over()
+        stream.take_job()
     }
 
     /// Takes the job that was handed over of stream `s`, with bands more, and charges the units that these
     /// cost together.
-    pub(crate) fn bring(&mut self, s: u32, job: Job, bands: u32, units: u64)
+    pub(crate) fn return_job(&mut self, s: u32, job: Job, bands: u32, units: u64)
         requires { HasStream self.old s (CanBring job bands units) }
-        ensures { HasStream self.old s (λ stream. self.new ≡ with_stream_at s (brought_by job bands stream) self.old) }
+        ensures { HasStream self.old s
+            (λ stream. self.new ≡ with_stream_at s (brought_by job bands stream) self.old) }
     {
         let stream = &mut self.streams[s as usize];
         stream.charge(bands, units);
-        stream.hand_back(job);
+        stream.return_job(job);
     }
 }

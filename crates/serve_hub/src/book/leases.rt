@@ -50,7 +50,7 @@ impl Book {
         ensures refused { IfErr result (λ e. RefusesSettle self.old w lease e.0) }
         ensures back { IfErr result (λ e. (e.1 ≡ lease) × (self.new ≡ self.old)) }
     {
-        let held = match self.desk.held(w) {
+        let held = match self.desk.lease_of_worker(w) {
             Ok(held) => held,
             Err(refusal) => return Err((Refusal::Core(refusal), lease)),
         };
@@ -64,7 +64,7 @@ impl Book {
             Act::Settled(bands, number.is_some()),
         ));
         self.units[w as usize] += units as u64;
-        Ok(settled(number))
+        Ok(settlement_of(number))
     }
 
     /// Whether the lease is what the desk has of it, with the chain and the first band of its stream.
@@ -119,7 +119,7 @@ impl Book {
 }
 
 /// What became of a frame that has this number if it is finished.
-fn settled(number: Option<u64>) -> Settled
+fn settlement_of(number: Option<u64>) -> Settled
     ensures { result ≡ answers.settled_as number }
 {
     match number {

@@ -47,7 +47,8 @@ impl<L: Epoch> StreamSeat<L> {
         }
     }
 
-    /// The same, in the memory of an image of the seat's chain, which comes back with the frame.
+    /// A job for a frame in the memory of an image of the seat's chain, which comes back with a frame that
+    /// got none.
     pub(crate) fn job_over(
         &self,
         alloc: Global,
@@ -108,7 +109,7 @@ impl<L: Epoch> StreamSeat<L> {
         self.enter(shared, at, job, frame)
     }
 
-    /// The same, where the book has the seat's stream, and the seat a place for the frame.
+    /// Offers the frame to the book, which has the seat's stream; the seat has a place for the frame.
     fn enter(
         &mut self,
         shared: &mut Shared<L>,

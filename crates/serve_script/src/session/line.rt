@@ -123,7 +123,7 @@ pub fn push_state(
     pushed
 }
 
-/// The same. Where a growth is refused, the balance may be left.
+/// Appends the parts of a state's line. Where a growth is refused, the balance may be left.
 fn push_state_parts(
     printed: &mut Vec<u8>,
     account: (u64, u64),

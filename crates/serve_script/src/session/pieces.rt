@@ -19,7 +19,7 @@ pub fn push_pieces(printed: &mut Vec<u8>, pieces: &[&[u8]]) -> Result<(), AllocE
     pushed
 }
 
-/// The same. Where a growth is refused, some of the pieces may be left.
+/// Appends each of the pieces. Where a growth is refused, some of them may be left.
 #[tactic(auto, using(crate::proofs::SessionParts::front_kept))]
 fn push_each(printed: &mut Vec<u8>, pieces: &[&[u8]]) -> Result<(), AllocError>
     ensures ok { OnOk result

@@ -4,7 +4,7 @@ use Rattle.serve_core.specs.Released.{with_held_share}
 use Rattle.serve_core.specs.Schedule.{held_of_streams}
 use Rattle.serve_core.proofs.Items.Lists.{slice_get_here}
 use Rattle.serve_core.proofs.Schedules.Holdings.{fits_first, held_more}
-use Rattle.serve_core.proofs.schedule.held.Goals as goal
+use Rattle.serve_core.proofs.schedule.admission_of_held_shares.Goals as goal
 
 pub hold-requires : goal.hold-requires
 hold-requires c =

@@ -3,7 +3,7 @@ use Rattle.serve_script.specs.ScriptReport.{line_text}
 use Rattle.serve_script.specs.ScriptState.{InSetup, MayFault, TakesMemory}
 use Rattle.serve_script.specs.SessionSetup.{settled}
 use Rattle.serve_script.proofs.ScriptSteps.{ends_faulty}
-use Rattle.serve_script.proofs.run.settled.Goals as goal
+use Rattle.serve_script.proofs.run.after_setup_line.Goals as goal
 
 pub returns-in_err-push_line : goal.returns-in_err-push_line
 returns-in_err-push_line c =

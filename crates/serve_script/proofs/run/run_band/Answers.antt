@@ -12,4 +12,4 @@ returns-in_err-next c =
     subst (λ own. MayFault (BandGives c.args.preparation c.args.rows) (fault_told own)) (sym same) c.in_err-next.ensures.fault) refl
 
 pub returns : goal.returns
-returns c = band_ends c.args.preparation c.in_ok-next.next c.args.rows c.settled.result _ _ c.in_ok-next.ensures.ok c.settled.ensures
+returns c = band_ends c.args.preparation c.in_ok-next.next c.args.rows c.after_setup_line.result _ _ c.in_ok-next.ensures.ok c.after_setup_line.ensures

@@ -4,8 +4,8 @@ use Rattle.serve_core.specs.Schedule.{HasLease, ScheduleValue}
 use Rattle.serve_core.proofs.Calls.Settlements.{BringsJob, Settles, brings, brought_leased, settles}
 use Rattle.serve_core.proofs.desk.Desk.take_back.Goals as goal
 
-pub bring-requires : goal.bring-requires
-bring-requires c =
+pub return_job-requires : goal.return_job-requires
+return_job-requires c =
     let known : IsHeldBy c.self.inside.schedule c.args.w c.args.lease = rw (← c.self.view_is) at c.requires.recorded in
     let holds : HasLease c.self.inside.schedule c.args.w c.args.held = rw (← c.self.view_is) at c.requires.holds in
     let within : c.args.lease.used ≤ c.args.lease.granted = omega arith in
@@ -16,8 +16,8 @@ bring-requires c =
 
 pub settle-requires-clause-stream : goal.settle-requires-clause-stream
 settle-requires-clause-stream c =
-    brought_leased c.self.inside.schedule c.bring.new.self c.args.held.stream c.used-bands.result
-    c.into_job-job.result c.bring.ensures
+    brought_leased c.self.inside.schedule c.return_job.new.self c.args.held.stream c.used-bands.result
+    c.into_job-job.result c.return_job.ensures
 
 settled : (c : goal.After-settle)
     → Settles c.self.inside.schedule c.settle.new.self c.args.w c.args.lease c.settle.result
@@ -26,9 +26,9 @@ settled c =
     let holds : HasLease c.self.inside.schedule c.args.w c.args.held = rw (← c.self.view_is) at c.requires.holds in
     let within : c.args.lease.used ≤ c.args.lease.granted = omega arith in
     let back : BringsJob c.self.inside.schedule c.args.held.stream c.args.lease.job c.args.lease.used
-    c.bring.new.self =
-    rw (c.into_job-job.ensures.value, c.used-bands.ensures.value) at c.bring.ensures in
-    settles c.self.inside.schedule c.bring.new.self c.settle.new.self c.args.w c.args.held c.args.lease
+    c.return_job.new.self =
+    rw (c.into_job-job.ensures.value, c.used-bands.ensures.value) at c.return_job.ensures in
+    settles c.self.inside.schedule c.return_job.new.self c.settle.new.self c.args.w c.args.held c.args.lease
     c.settle.result c.self.invariant holds known within back c.settle.ensures.back
     c.settle.ensures.finished
 

@@ -6,7 +6,7 @@ use Rattle.serve_core.specs.Streams.{KeptStream}
 use Rattle.serve_core.proofs.Items.Options.{and_some}
 use Rattle.serve_core.proofs.Schedules.Handing.{shown_still}
 use Rattle.serve_core.proofs.Schedules.Shown.{item_here}
-use Rattle.serve_core.proofs.schedule.Schedule.hand_over.Goals as goal
+use Rattle.serve_core.proofs.schedule.Schedule.take_job.Goals as goal
 
 pub invariant_of-self : goal.invariant_of-self
 invariant_of-self c =
@@ -16,8 +16,8 @@ invariant_of-self c =
     record {
       clock = c.self.invariant.clock;
       pool = c.self.invariant.pool
-          ∙ shown_still c.self.inside.streams.items c.args.s stream c.hand_over.new.self here.0
-          (ap (λ (stream : KeptStream). ready_deadline stream.state) c.hand_over.ensures.gone);
+          ∙ shown_still c.self.inside.streams.items c.args.s stream c.take_job.new.self here.0
+          (ap (λ (stream : KeptStream). ready_deadline stream.state) c.take_job.ensures.gone);
     }
 
 pub returns : goal.returns
@@ -26,6 +26,6 @@ returns c =
     let here = item_here (λ (stream : KeptStream). IsSome stream.leased) c.self.inside.streams.items c.args.s stream
     (rw (← c.self.view_is) at c.requires) c.index_mut-stream.ensures.value in
     rw (← c.self.view_is) (and_some (slice_get c.self.inside.streams.items c.args.s) _ stream here.0 (
-      c.hand_over.ensures.job,
-      ap (λ (stream : KeptStream). with_stream_at c.args.s stream (schedule c.self.inside)) c.hand_over.ensures.gone,
+      c.take_job.ensures.job,
+      ap (λ (stream : KeptStream). with_stream_at c.args.s stream (schedule c.self.inside)) c.take_job.ensures.gone,
     ))

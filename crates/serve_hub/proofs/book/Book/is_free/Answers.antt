@@ -12,7 +12,7 @@ loop-w-preserved c w held less =
     let free = λ (n : ℕ). (held : Held) → slice_get b.desk.workers n ≢ Some (Some held) in
     let here = subst (λ (b : BookValue). (held : Held) → slice_get b.desk.workers c.loop-w.w ≢ Some (Some held))
     c.self.view_is
-    (not_held c.self.inside.desk c.loop-w.w c.held.result (sym c.is_ok.ensures.value ∙ c.if-is_ok.false) c.held.ensures.err)
+    (not_held c.self.inside.desk c.loop-w.w c.lease_of_worker.result (sym c.is_ok.ensures.value ∙ c.if-is_ok.false) c.lease_of_worker.ensures.err)
     in
     one_more_number free c.loop-w.w (λ n l held. c.loop-w.invariant n held l) here w less held
 

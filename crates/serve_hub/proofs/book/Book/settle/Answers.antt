@@ -66,7 +66,7 @@ index_mut-requires c =
       c.self.invariant.is_book.workers,
     )
 
-inside : (c : goal.After-settled) → c.args.w < length c.self.inside.units.items
+inside : (c : goal.After-settlement_of) → c.args.w < length c.self.inside.units.items
 inside c =
     omega (
       arith,
@@ -91,7 +91,7 @@ overflow_add-index_mut c =
     let fits = k.is_book.fits in
     omega (arith, was, few, fits, k.limit, length-reverse c.self.inside.journal.items)
 
-entered : (c : goal.After-settled) → IsEntered (book c.self.inside) (Worker c.args.w)
+entered : (c : goal.After-settlement_of) → IsEntered (book c.self.inside) (Worker c.args.w)
     (Settled c.args.lease.used (is_some c.take_back-number.result)) c.take_back-number.new.self
     (with_units c.args.w (spent_of c.args.lease) (book c.self.inside)).units 0
 entered c =
@@ -103,7 +103,7 @@ entered c =
     c.self.invariant.is_book c.in-Ok.ensures.ok recorded c.in-Ok.ensures.unused within
     c.take_back-number.ensures.events c.take_back-number.ensures.job
 
-units : (c : goal.After-settled)
+units : (c : goal.After-settlement_of)
     → slice_set c.self.inside.units.items c.args.w (c.index_mut.result.now + c.spent-units.result)
     ≡ (with_units c.args.w (spent_of c.args.lease) (book c.self.inside)).units
 units c =
@@ -111,7 +111,7 @@ units c =
     ap (slice_set items c.args.w) (let was = get_or_read items c.args.w c.index_mut.result.now (inside c)
     c.index_mut.ensures.value 0 in omega (arith, was, c.spent-units.ensures))
 
-made : (c : goal.After-settled)
+made : (c : goal.After-settlement_of)
     → c.new.result ≡ entry_of (Worker c.args.w) (Settled c.args.lease.used (is_some c.take_back-number.result))
 made c = c.new.ensures ∙ rw (c.used-bands.ensures.value, c.is_some.ensures) refl
 
@@ -148,8 +148,8 @@ returns-clause-entry c =
       capacity = c.push_reserved.ensures.capacity;
       ending = refl;
     } in
-    let finished : is_some c.take_back-number.result ≡ is_finished c.settled.result =
-    finished_as c.take_back-number.result ∙ ap is_finished (sym c.settled.ensures) in
+    let finished : is_some c.take_back-number.result ≡ is_finished c.settlement_of.result =
+    finished_as c.take_back-number.result ∙ ap is_finished (sym c.settlement_of.ensures) in
     subst (λ f. Appends (Worker c.args.w) (Settled c.args.lease.used f)
     (with_units c.args.w (spent_of c.args.lease) c.args.self.now) (book z)) finished
     (appends_spent c.self.inside z c.args.self.now (Worker c.args.w) act c.args.w (spent_of c.args.lease) 0
