@@ -1,5 +1,6 @@
 """What `growths` and `threads` share: runs of which a growth of memory or a thread is refused, and what they may come to."""
 
+import json
 import os
 import re
 import subprocess
@@ -166,6 +167,33 @@ class Piped(Session):
         while piece := os.read(self.ends[path], 65536):
             written += piece
         return written
+
+
+class Traced(Session):
+    """The same, of which a trace is written too: it has the units of the report, or it is told that something of it was lost."""
+
+    LOST = b"y4mserve: trace\n"
+
+    def __init__(self, folder, options, frames):
+        self.trace = os.path.join(folder, "trace.json")
+        super().__init__(folder, [*options, "--trace", self.trace], frames)
+
+    def fault(self, ended):
+        trace, said = self.taken(self.trace), ended.errors.removesuffix(self.LOST)
+        if said == ended.errors:
+            return super().fault(ended) or (None if ended.status or self.is_traced(trace) else "a trace that isn't whole is told as whole")
+        if (ended.refused, ended.status) != (True, 1):
+            return f"status {ended.status}, {ended.errors[-200:]!r}"
+        # without its trace the run is as any other
+        status = 0 if (ended.out, said) == self.whole[1:] else 1
+        return super().fault(Ended(status, ended.out, said, True))
+
+    def is_traced(self, trace):
+        try:
+            leases = [record["args"] for record in json.loads(trace) if (record["ph"], record["pid"]) == ("X", 1)]
+        except ValueError:
+            return False
+        return b"units %d\n" % sum(lease["units"] for lease in leases) in self.whole[1]
 
 
 class Live(Session):

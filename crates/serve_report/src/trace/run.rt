@@ -9,7 +9,7 @@ use crate::watch::Watch;
 use serve_work::Stint;
 use std::alloc::{AllocError, Global};
 use std::io::Write;
-use std::sync::atomic::{AtomicU64, Ordering};
+use std::sync::atomic::{AtomicBool, AtomicU64, Ordering};
 use std::sync::{Mutex, Wait};
 use std::time::Clock;
 
@@ -26,6 +26,8 @@ pub struct Trace<'t, W: Write, V: Watch, T: Wait + Clock> {
     workers: Vec<Mutex<WorkerLane>>,
     streams: Vec<StreamLane<'t>>,
     epochs: AtomicU64,
+    /// It was told that the run begins. Else nothing of the run is told to it.
+    has_begun: AtomicBool,
 }
 
 impl<'t, W: Write + Drop, V: Watch, T: Wait + Clock> Trace<'t, W, V, T> {
@@ -45,6 +47,7 @@ impl<'t, W: Write + Drop, V: Watch, T: Wait + Clock> Trace<'t, W, V, T> {
             workers: Vec::new(alloc),
             streams: Vec::new(alloc),
             epochs: AtomicU64::new(0),
+            has_begun: AtomicBool::new(false),
         };
         if trace.add_lanes(alloc, workers, names).is_err() {
             trace.spool.lose();
@@ -98,7 +101,8 @@ impl<'t, W: Write + Drop, V: Watch, T: Wait + Clock> Trace<'t, W, V, T> {
             worker.lock(self.spool.rt()).write_out(&self.spool);
         }
         self.end_streams();
-        self.spool.end()
+        let is_whole = self.spool.end();
+        is_whole && self.has_begun.load(Ordering::SeqCst)
     }
 
     fn end_streams(&self) {
@@ -110,6 +114,7 @@ impl<'t, W: Write + Drop, V: Watch, T: Wait + Clock> Trace<'t, W, V, T> {
 
 impl<'t, W: Write + Drop, V: Watch, T: Wait + Clock> Watch for Trace<'t, W, V, T> {
     fn begins(&self, names: &[&str]) {
+        self.has_begun.store(true, Ordering::SeqCst);
         if let Some(told) = self.told {
             told.begins(names);
         }

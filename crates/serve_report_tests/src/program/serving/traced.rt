@@ -5,8 +5,10 @@ use super::{A, A_INVERTED, B, B_TURNED, Expected, given, holds, runs_in, serves}
 use crate::compare::same_at;
 use crate::program::memory::{Made, Memory};
 use crate::program::written;
-use serve_report::{FileId, Place, Unwatched};
+use serve_report::trace::Trace;
+use serve_report::{FileId, Place, Unwatched, Watch};
 use std::alloc::{AllocError, Global};
+use std::io;
 use std::process::Abort;
 use std::sync::Wait;
 
@@ -186,7 +188,8 @@ fn a_trace_goes_on_over_epochs(rt: HostRuntime) {
         errors: "",
         status: 0,
     };
-    // Each frame is offered, leased, settled and collected: 160 entries and a close, and at most 66 in an epoch.
+    // Each frame is offered, leased, settled and collected: 160 entries and a close, and at most 66 in an
+    // epoch.
     let line = "serve --workers 1 --journal 66 --trace run.json a:in.y4m:a.out:1:2:invert";
     serves(&rt, rt.alloc(), line, &files, expected);
     is_trace(&rt, rt.alloc(), &outputs[1], 40, 3);
@@ -298,6 +301,17 @@ fn the_file_of_a_trace_stands_once(rt: HostRuntime) {
         };
         asks_for(&rt, rt.alloc(), line, PLACES, expected, 0);
     }
+}
+
+#[test]
+fn a_trace_that_is_told_of_no_run_is_not_whole(rt: HostRuntime) {
+    let told: Option<&Unwatched> = None;
+    let file = Some(io::sink());
+    let names = Some(Vec::new(rt.alloc()));
+    let trace = Trace::start(&rt, rt.alloc(), file, 1, names, told);
+    same_at(&rt, trace.end(), false, "nothing began");
+    trace.begins(&[]);
+    same_at(&rt, trace.end(), true, "was memory refused?");
 }
 
 /// Whatever growth is refused: where the trace lacks memory the run goes on, and that is told.
