@@ -12,15 +12,16 @@ use std::sync::OnceLock;
 /// The number of the last standard descriptor.
 const LAST_STANDARD: i32 = 2;
 
-/// The most files that are made in a run: one for each of its streams.
-const MOST_FILES: usize = 64;
+/// The most files that are made in a run: one for each of its streams, and its trace.
+const MOST_FILES: usize = 65;
 
 /// The files of the system, by path.
 ///
 /// Where the caller closed a standard descriptor, its number is kept from the files of streams, which would
 /// else take it, so that a report would land in one of them. What is read from or written to it still fails.
 ///
-/// One file isn't made twice, by whatever names: two streams would write over each other.
+/// One file isn't made twice, by whatever names: two streams would write over each other, or over the trace.
+/// It is seen before the file is emptied.
 #[derive(Drop)]
 pub struct HostFiles<'a> {
     rt: &'a HostRuntime,
@@ -37,6 +38,16 @@ impl<'a> HostFiles<'a> {
             _kept: [keep(rt), keep(rt), keep(rt)],
             made: array::from_fn(|_| OnceLock::new()),
         }
+    }
+
+    /// Opens the file of this name for writing, or makes it. What was there before is kept yet.
+    fn open_kept(&self, name: &str) -> io::Result<Output> {
+        let file = OpenOptions::new()
+            .write(true)
+            .create(true)
+            .open(self.rt, name)?;
+        let is_kept = file.metadata()?.file_type().is_file();
+        Ok(Output { file, is_kept })
     }
 
     /// Refuses a file that was made before.
@@ -64,12 +75,20 @@ pub struct Output {
     is_kept: bool,
 }
 
-impl Write for Output {
-    fn write(&mut self, buf: &[u8]) -> io::Result<usize> {
+impl Output {
+    /// Lets the bytes go that were there before.
+    fn empty(&mut self) -> io::Result<()> {
         if self.is_kept {
             self.file.set_len(0)?;
             self.is_kept = false;
         }
+        Ok(())
+    }
+}
+
+impl Write for Output {
+    fn write(&mut self, buf: &[u8]) -> io::Result<usize> {
+        self.empty()?;
         self.file.write(buf)
     }
 
@@ -79,10 +98,8 @@ impl Write for Output {
 }
 
 /// A file that is written, by whether a write may wait.
-fn outlet_of(file: File, is_kept: bool) -> Outlet<Output, Output> {
-    let is_slow = may_be_full(&file);
-    let output = Output { file, is_kept };
-    if is_slow {
+fn outlet_of(output: Output) -> Outlet<Output, Output> {
+    if may_be_full(&output.file) {
         Outlet::Slow(output)
     } else {
         Outlet::Prompt(output)
@@ -170,18 +187,15 @@ impl Files for HostFiles<'_> {
     }
 
     fn create(&self, name: &str) -> io::Result<Outlet<Output, Output>> {
-        let file = fs::create(self.rt, name)?;
-        self.note_made(&file)?;
-        Ok(outlet_of(file, false))
+        let mut output = self.open_kept(name)?;
+        self.note_made(&output.file)?;
+        output.empty()?;
+        Ok(outlet_of(output))
     }
 
     fn make(&self, name: &str) -> io::Result<Outlet<Output, Output>> {
-        let file = OpenOptions::new()
-            .write(true)
-            .create(true)
-            .open(self.rt, name)?;
-        let is_kept = file.metadata()?.file_type().is_file();
-        Ok(outlet_of(file, is_kept))
+        let output = self.open_kept(name)?;
+        Ok(outlet_of(output))
     }
 
     fn hold(&self, name: &str) -> io::Result<File> {
