@@ -1,6 +1,7 @@
 use super::memory::NoFiles;
 use super::{words_of, written};
 use crate::compare::same_at;
+use serve_report::trace::Doing;
 use serve_report::{Watch, run_on};
 use std::alloc::Global;
 use std::io::Read;
@@ -18,6 +19,9 @@ struct Counted {
     read: AtomicU64,
     written: AtomicU64,
     bytes: AtomicU64,
+    writes: AtomicU64,
+    begun: AtomicU64,
+    done: AtomicU64,
 }
 
 impl Counted {
@@ -26,6 +30,9 @@ impl Counted {
             read: AtomicU64::new(0),
             written: AtomicU64::new(0),
             bytes: AtomicU64::new(0),
+            writes: AtomicU64::new(0),
+            begun: AtomicU64::new(0),
+            done: AtomicU64::new(0),
         }
     }
 }
@@ -85,6 +92,17 @@ impl<'n> Told<'n> {
         }
     }
 
+    /// How often a stream's client was about to write, and whether it came back each time from what it did.
+    pub fn writes(&self, stream: usize) -> (u64, bool) {
+        match self.streams.get(stream) {
+            Some(counted) => (
+                counted.writes.load(SeqCst),
+                counted.begun.load(SeqCst) == counted.done.load(SeqCst),
+            ),
+            None => (0, false),
+        }
+    }
+
     /// How often it was told that streams of its names begin.
     pub fn begun(&self) -> u64 {
         self.begun.load(SeqCst)
@@ -136,6 +154,21 @@ impl Watch for Told<'_> {
 
     fn ends(&self) {
         self.ended.fetch_add(1, SeqCst);
+    }
+
+    fn begins_doing(&self, stream: usize, doing: Doing) {
+        if let Some(counted) = self.streams.get(stream) {
+            counted.begun.fetch_add(1, SeqCst);
+            if doing == Doing::Writing {
+                counted.writes.fetch_add(1, SeqCst);
+            }
+        }
+    }
+
+    fn has_done(&self, stream: usize, _has_failed: bool) {
+        if let Some(counted) = self.streams.get(stream) {
+            counted.done.fetch_add(1, SeqCst);
+        }
     }
 }
 
@@ -224,6 +257,15 @@ fn each_frame_is_told_however_it_comes(rt: HostRuntime) {
         let whole = THREE.len();
         same_at(&rt, told, (whole, 1, (3, 3, whole as u64), 1), most);
     }
+}
+
+/// A header and three images are written, by one write each at least.
+#[test]
+fn each_write_is_told(rt: HostRuntime) {
+    let watch = Told::new(false, false);
+    watched(&rt, rt.alloc(), "filter vflip", THREE, &watch, "", 0);
+    let (writes, came_back) = watch.writes(0);
+    same_at(&rt, (writes.min(4), came_back), (4, true), "the watch");
 }
 
 /// The same without its last byte.

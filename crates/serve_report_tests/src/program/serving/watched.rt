@@ -60,6 +60,19 @@ fn frames_are_told_as_those_of_their_stream(rt: HostRuntime) {
     same_at(&rt, said_to(&watch), wanted, "the watch");
 }
 
+/// Images are written by tries, and the header before them by writes: three images and one.
+#[test]
+fn each_try_to_write_is_told(rt: HostRuntime) {
+    let watch = Told::of_streams(&["a", "b"]);
+    serves_two_under(&rt, rt.alloc(), TWO, "a.y4m", &watch, BOTH, 0);
+    for (stream, images) in [(0, 3), (1, 1)] {
+        let (writes, came_back) = watch.writes(stream);
+        let least = images + 1;
+        let told = (writes.min(least), came_back);
+        same_at(&rt, told, (least, true), stream);
+    }
+}
+
 #[test]
 fn a_stream_keeps_its_number_where_one_before_it_stops(rt: HostRuntime) {
     let watch = Told::of_streams(&["a", "b"]);
