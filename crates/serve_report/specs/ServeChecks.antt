@@ -73,7 +73,8 @@ is_named name streams = list_any (λ stream. bytes_eq name stream.name) streams
 -- the operations of the stream of this name, or what is wrong with them
 abbrev pub ops_given : List ℕ → Option (List Op) → Result (List Op) Fault
 ops_given name None = Err (BadOps filter.BadOp name)
-ops_given name (Some ops) = if nat_lt MOST_OPS (length ops) then Err (BadOps filter.TooManyOps name) else Ok ops
+ops_given name (Some ops) =
+    if nat_lt MOST_OPS (length ops) then Err (BadOps filter.TooManyOps name) else Ok ops
 
 -- what comes of the first is passed on
 abbrev pub then_given : {S T : Type 0} → (S → Result T Fault) → Result S Fault → Result T Fault

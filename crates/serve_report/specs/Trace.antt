@@ -1,5 +1,6 @@
 -- The records of a trace: objects of the Trace Event Format. Workers are the lanes of process 1, and streams
--- those of process 2. A name is a stream's, of letters, digits, `_` and `-` alone, so that none needs an escape.
+-- those of process 2. A name is a stream's, of letters, digits, `_` and `-` alone, so that none needs an
+-- escape.
 use Rattle.std.specs.Prelude.{ℕ, ◌-◌, List, ◌++◌, Option, None, Some, codes, decimal, nat_le, if◌then◌else◌}
 use Rattle.serve_report.specs.declared.trace.record.Client.{Client}
 use Rattle.serve_report.specs.declared.trace.record.Doing.{Doing}

@@ -165,7 +165,8 @@ where
     )
 }
 
-/// Opens those of the first streams one after the other for which nobody is waited for, and refuses the others.
+/// Opens those of the first streams one after the other for which nobody is waited for, and refuses the
+/// others.
 fn open_prompt<R, W, S, O, E, T, P>(
     rt: &T,
     lobby: &Lobby<'_, R, W, S, O, E>,

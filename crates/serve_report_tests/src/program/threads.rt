@@ -54,8 +54,8 @@ impl Course {
         }
     }
 
-    /// So many bytes more were read. With the second frame's samples it is held until the first image is being
-    /// written, for a while.
+    /// So many bytes more were read. With the second frame's samples it is held until the first image is
+    /// being written, for a while.
     fn read(&self, taken: u64) {
         let before = self.read.fetch_add(taken, SeqCst);
         let is_second = before.saturating_add(taken) > self.before_second;
