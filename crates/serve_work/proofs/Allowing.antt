@@ -13,8 +13,9 @@ use Rattle.serve_work.specs.declared.stop.Halt.TheVariants.{Full, Stopped}
 use Rattle.serve_work.specs.declared.stop.Stop.{Stop}
 use Rattle.serve_work.specs.declared.stop.Stop.TheVariants.{Whole, Read, Write, Refused, Torn}
 use Rattle.serve_work.specs.Clients.{AllowsStop}
-use Rattle.serve_work.specs.ClientInside.{AllowsFed, Flushes, IsFirst, IsNoNewEnd, IsOfCollection, IsOfDelivery, IsOffered, IsUnread}
-use Rattle.serve_work.specs.ClientInside.{KeepsAllowed, TellsKept, fed_before, fed_of}
+use Rattle.serve_work.specs.ClientInside.{AllowsFed, IsFirst, IsNoNewEnd, IsOfCollection, IsOfDelivery, IsOffered, IsUnread}
+use Rattle.serve_work.specs.ClientInside.{KeepsAllowed, fed_before, fed_of}
+use Rattle.serve_work.specs.Sends.{Flushes, TellsKept}
 use Rattle.serve_work.specs.Hands.{IsOfEnding}
 use Rattle.serve_work.specs.Rests.{CourseValue, Discarding, Draining, Feeding, Holding, course_image, course_stop, stop_kept}
 

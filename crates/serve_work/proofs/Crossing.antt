@@ -12,7 +12,8 @@ use Rattle.serve_hub.specs.Seats.{StreamSeatValue}
 use Rattle.serve_work.specs.declared.stop.Stop.{Stop}
 use Rattle.serve_work.specs.Clients.{ClientEnds, ClientOutcome, ClientStart, ClientStopsAt, CutsHeader}
 use Rattle.serve_work.specs.Clients.{WroteNothing, collections_in, offers_in}
-use Rattle.serve_work.specs.ClientInside.{Feeds, HasInHand, IsCounted, IsUseful, Moves, Passes, Serves, Stays, texts_of}
+use Rattle.serve_work.specs.ClientInside.{Feeds, HasInHand, IsCounted, IsUseful, Moves, Passes, Stays, texts_of}
+use Rattle.serve_work.specs.Sends.{Serves}
 use Rattle.serve_work.specs.Hands.{IsBegunPair, counted_with, with_kept}
 use Rattle.serve_work.proofs.Hands.{IsReopened-kept}
 use Rattle.serve_work.specs.Epochs.{IsReopened, NewStreamIsUnbegun, StreamsCross}

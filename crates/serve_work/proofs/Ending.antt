@@ -24,7 +24,8 @@ use Rattle.serve_work.specs.declared.stop.Stop.{Stop}
 use Rattle.serve_work.specs.declared.stop.Stop.TheVariants.{Whole, Read, Write, Refused, Torn}
 use Rattle.serve_work.specs.Clients.{ClientOutcome, ClientProgress, ClientStart, CutsHeader, Ends, GivesUpAt}
 use Rattle.serve_work.specs.Clients.{ClientStopsAt, StreamStopsAt, WroteImages, WroteNothing, reads_at}
-use Rattle.serve_work.specs.ClientInside.{BreaksOff, Flushes, IsSent, SendsWhole, ServesTo, TalliesSeat, TellsKept}
+use Rattle.serve_work.specs.ClientInside.{TalliesSeat}
+use Rattle.serve_work.specs.Sends.{BreaksOff, Flushes, IsSent, SendsWhole, ServesTo, TellsKept}
 use Rattle.serve_work.specs.Rests.{IsFresh, IsTallied, IsUnbegun}
 use Rattle.serve_work.proofs.Tallying.{counted_later, if_more}
 

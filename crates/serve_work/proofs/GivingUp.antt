@@ -14,9 +14,10 @@ use Rattle.serve_work.specs.declared.stop.Cause.TheVariants.{NoMemory}
 use Rattle.serve_work.specs.declared.stop.Stop.{Stop}
 use Rattle.serve_work.specs.declared.stop.Stop.TheVariants.{Whole, Read, Write, Refused, Torn}
 use Rattle.serve_work.specs.Clients.{StreamStopsAt}
-use Rattle.serve_work.specs.ClientInside.{Feeds, HasInHand, IsSent, IsUseful}
-use Rattle.serve_work.specs.ClientInside.{Moves, Serves, ServesTo, StopsReading, StopsReadingAt}
+use Rattle.serve_work.specs.ClientInside.{Feeds, HasInHand, IsUseful}
+use Rattle.serve_work.specs.ClientInside.{Moves, StopsReading, StopsReadingAt}
 use Rattle.serve_work.specs.ClientInside.{IsFirst}
+use Rattle.serve_work.specs.Sends.{IsSent, Serves, ServesTo}
 use Rattle.serve_work.specs.Hands.{EndsImage, EndsPair, IsBegunPair, counted_with, with_kept}
 use Rattle.serve_work.specs.Rests.{CourseValue, Feeding, Draining, Discarding}
 use Rattle.serve_work.specs.Rests.{Holding, IsAt, IsOutset, IsTallied, Outset}

@@ -1,8 +1,8 @@
 -- How a session comes from one epoch to the next.
-use Rattle.std.specs.Prelude.{All, Bool, drop}
+use Rattle.std.specs.Prelude.{All, Bool}
 use Rattle.std.specs.List.{AllByRecursion}
 use Rattle.std.proofs.Common.{append-nil, append_assoc, inl, ◌≡◌, ◌≢◌, ℕ, zero, suc, ◌≤◌, List, [], ◌∷◌, ◌++◌}
-use Rattle.std.proofs.Common.{Option, Result, Ok, Err, OnOk, length, get_or, map, refl, sym, ap, ◌∙◌, subst}
+use Rattle.std.proofs.Common.{Option, Result, Ok, Err, OnOk, length, map, refl, sym, ap, ◌∙◌, subst}
 use Rattle.std.proofs.Common.{arith}
 use Rattle.std.proofs.Common.{length-append}
 use Rattle.y4m_stream.specs.Reader.{ReaderState}
@@ -24,39 +24,28 @@ use Rattle.serve_work.specs.Epochs.{IsReopened}
 use Rattle.serve_work.specs.Intervals.{Beginning, HasNoCalls, IsBeginning, IsBetween, IsLater, IsSizedStart, LeadsTo, beginning_of}
 use Rattle.serve_work.specs.Rests.{IsRestOf, Unbegun}
 use Rattle.serve_work.specs.Sessions.{AllTimed, AreInputs, IsInput, IsOfEpochs, acts_in, start_of, starts_of}
-use Rattle.serve_work.specs.SessionInside.{AllBegin, AllStand, HeldValue, IsReady, IsReadyAt, Over, StandsAt}
-use Rattle.serve_work.specs.SessionInside.{StreamValue, Waiting, held_at, held_with, unread}
+use Rattle.serve_work.specs.SessionInside.{AllBegin, AllStand, HeldValue, IsReady, IsReadyAt, StandsAt}
+use Rattle.serve_work.specs.SessionInside.{held_with, unread}
+use Rattle.serve_work.specs.StreamInside.{Over, StreamValue, Waiting}
 use Rattle.serve_work.proofs.Crossing.{new_stream_is_unbegun, streams_cross}
 use Rattle.serve_work.proofs.SessionCharges.{are_from}
 use Rattle.serve_work.proofs.SessionTurns.{rest_sized, same_length}
 
--- streams that are seen as the same, with the same seats
-held_same : {S T : Type 0} (f : S → StreamValue) (h : T → StreamValue) (seats : List StreamSeatValue) (xs : List S) (ys : List T)
-    → map f xs ≡ map h ys → held_with f seats xs ≡ held_with h seats ys
-held_same f h [] xs ys e = refl
-held_same f h (seat ∷ seats) [] [] e = refl
-held_same f h (seat ∷ seats) [] (y ∷ ys) e = absurd (omega (arith, ap length e))
-held_same f h (seat ∷ seats) (x ∷ xs) [] e = absurd (omega (arith, ap length e))
-held_same f h (seat ∷ seats) (x ∷ xs) (y ∷ ys) e =
-    let here : f x ≡ h y = ap (λ (vs : List StreamValue). get_or vs 0 (f x)) e in
-    let rest : held_with f seats xs ≡ held_with h seats ys = held_same f h seats xs ys (ap (λ (vs : List StreamValue). drop 1 vs) e) in
-    ap (λ (v : StreamValue). held_at seat v ∷ held_with f seats xs) here ∙ ap (λ (helds : List HeldValue). held_at seat (h y) ∷ helds) rest
-
-pub held_length : {S : Type 0} (value : S → StreamValue) (seats : List StreamSeatValue) (streams : List S)
-    → length (held_with value seats streams) ≤ length streams
-held_length value [] streams = omega arith
-held_length value (seat ∷ seats) [] = omega arith
-held_length value (seat ∷ seats) (stream ∷ streams) = omega (arith, held_length value seats streams)
+pub held_length : (seats : List StreamSeatValue) (streams : List StreamValue)
+    → length (held_with seats streams) ≤ length streams
+held_length [] streams = omega arith
+held_length (seat ∷ seats) [] = omega arith
+held_length (seat ∷ seats) (stream ∷ streams) = omega (arith, held_length seats streams)
 
 -- the streams that have seats, where all have
-pub streams_held : {S : Type 0} (value : S → StreamValue) (seats : List StreamSeatValue) (streams : List S)
-    → length (held_with value seats streams) ≡ length streams
-    → map (λ held. held.stream) (held_with value seats streams) ≡ map value streams
-streams_held value [] [] e = refl
-streams_held value [] (stream ∷ streams) e = absurd (omega (arith, e))
-streams_held value (seat ∷ seats) [] e = refl
-streams_held value (seat ∷ seats) (stream ∷ streams) e =
-    ap (λ (these : List StreamValue). value stream ∷ these) (streams_held value seats streams (omega (arith, e)))
+pub streams_held : (seats : List StreamSeatValue) (streams : List StreamValue)
+    → length (held_with seats streams) ≡ length streams
+    → map (λ held. held.stream) (held_with seats streams) ≡ streams
+streams_held [] [] e = refl
+streams_held [] (stream ∷ streams) e = absurd (omega (arith, e))
+streams_held (seat ∷ seats) [] e = refl
+streams_held (seat ∷ seats) (stream ∷ streams) e =
+    ap (λ (these : List StreamValue). stream ∷ these) (streams_held seats streams (omega (arith, e)))
 
 -- how a session begins
 
@@ -70,21 +59,21 @@ module _ {W : Type 0} (contents : W → Option (List ℕ)) (failures : W → ℕ
 
   all_begin : (first : ℕ) (specs : List StreamSpec) (inputs : List (ReaderState × W)) → AreInputs specs inputs
       → AllBegin [] (starts_of contents failures (opened_streams limit first specs) inputs)
-      (held_with (unread contents failures) (opened_streams limit first specs) inputs)
+      (held_with (opened_streams limit first specs) (map (unread contents failures) inputs))
   all_begin first [] [] p = tt
   all_begin first [] (input ∷ inputs) p = absurd p
   all_begin first (spec ∷ specs) [] p = absurd p
   all_begin first (spec ∷ specs) (input ∷ inputs) p = (unbegun first spec input p.0, all_begin (suc first) specs inputs p.1)
 
   -- new seats, and streams that are seen as these inputs, stand where they begin
-  pub begins_at : {S : Type 0} (value : S → StreamValue) (specs : List StreamSpec) (inputs : List (ReaderState × W))
-      (seats : List StreamSeatValue) (streams : List S) → AreInputs specs inputs → seats ≡ opened_streams limit 0 specs
-      → map value streams ≡ map (unread contents failures) inputs
-      → AllBegin [] (starts_of contents failures (opened_streams limit 0 specs) inputs) (held_with value seats streams)
-  begins_at value specs inputs seats streams p e f =
+  pub begins_at : (specs : List StreamSpec) (inputs : List (ReaderState × W))
+      (seats : List StreamSeatValue) (streams : List StreamValue) → AreInputs specs inputs → seats ≡ opened_streams limit 0 specs
+      → streams ≡ map (unread contents failures) inputs
+      → AllBegin [] (starts_of contents failures (opened_streams limit 0 specs) inputs) (held_with seats streams)
+  begins_at specs inputs seats streams p e f =
       subst (AllBegin [] (starts_of contents failures (opened_streams limit 0 specs) inputs))
-      (sym (ap (λ (these : List StreamSeatValue). held_with value these streams) e
-      ∙ held_same value (unread contents failures) (opened_streams limit 0 specs) streams inputs f))
+      (sym (ap (λ (these : List StreamSeatValue). held_with these streams) e
+      ∙ ap (λ (these : List StreamValue). held_with (opened_streams limit 0 specs) these) f))
       (all_begin 0 specs inputs p)
 
   all_sized : (first : ℕ) (specs : List StreamSpec) (inputs : List (ReaderState × W)) → AreInputs specs inputs
@@ -227,7 +216,7 @@ abbrev stream_in : HeldValue → StreamValue
 stream_in held = held.stream
 
 all_cross : (limit : ℕ) (journal : List Entry) (starts : List ClientStart) (helds : List HeldValue) → AllStand journal starts helds
-    → AllBegin journal starts (held_with stream_in (map (seat_over limit) (rests_of helds)) helds)
+    → AllBegin journal starts (held_with (map (seat_over limit) (rests_of helds)) (map stream_in helds))
 all_cross limit journal [] [] p = tt
 all_cross limit journal [] (held ∷ helds) p = absurd p
 all_cross limit journal (start ∷ starts) [] p = absurd p
@@ -244,32 +233,31 @@ pub new_seats : (limit : ℕ) (rests : List StreamRest) → AllByRecursion HasNo
 new_seats limit [] = tt
 new_seats limit (rest ∷ rests) = ((refl, refl), new_seats limit rests)
 
-pub held_new : {S : Type 0} (value : S → StreamValue) (seats : List StreamSeatValue) (streams : List S)
-    → AllByRecursion HasNoCalls seats → AllByRecursion (λ held. HasNoCalls held.seat) (held_with value seats streams)
-held_new value [] streams none = tt
-held_new value (seat ∷ seats) [] none = tt
-held_new value (seat ∷ seats) (stream ∷ streams) none = (none.0, held_new value seats streams none.1)
+pub held_new : (seats : List StreamSeatValue) (streams : List StreamValue)
+    → AllByRecursion HasNoCalls seats → AllByRecursion (λ held. HasNoCalls held.seat) (held_with seats streams)
+held_new [] streams none = tt
+held_new (seat ∷ seats) [] none = tt
+held_new (seat ∷ seats) (stream ∷ streams) none = (none.0, held_new seats streams none.1)
 
 -- each stream stands with its seat of the next epoch where it stood
-pub stand_again : {S : Type 0} (value : S → StreamValue) (limit : ℕ) (journal : List Entry) (starts : List ClientStart)
-    (helds : List HeldValue) (seats : List StreamSeatValue) (streams : List S) → AllStand journal starts helds
+pub stand_again : (limit : ℕ) (journal : List Entry) (starts : List ClientStart)
+    (helds : List HeldValue) (seats : List StreamSeatValue) (streams : List StreamValue) → AllStand journal starts helds
     → seats ≡ map (seat_over limit) (rests_of helds)
-    → map value streams ≡ map (λ held. held.stream) helds → AllBegin journal starts (held_with value seats streams)
-stand_again value limit journal starts helds seats streams p e f =
-    subst (AllBegin journal starts) (sym (ap (λ (these : List StreamSeatValue). held_with value these streams) e
-    ∙ held_same value stream_in (map (seat_over limit) (rests_of helds)) streams helds f))
+    → streams ≡ map (λ held. held.stream) helds → AllBegin journal starts (held_with seats streams)
+stand_again limit journal starts helds seats streams p e f =
+    subst (AllBegin journal starts) (sym (ap (λ (these : List StreamSeatValue). held_with these streams) e
+    ∙ ap (λ (these : List StreamValue). held_with (map (seat_over limit) (rests_of helds)) these) f))
     (all_cross limit journal starts helds p)
 
 pub on_ok : {T E : Type 0} (r : Result T E) (P : Type 0) → P → OnOk r P
 on_ok (Ok t) P p = p
 on_ok (Err e) P p = tt
 
-module _ {R W : Type 0} (left : R → Option (List ℕ)) (read_failures : R → ℕ) (after : W → Option (List ℕ)) (failures : W → ℕ)
-    (is_flushed : W → Bool) (b : Beginning) (journal : List Entry) where
+module _ {R W : Type 0} (b : Beginning) (journal : List Entry) where
   -- an interval that is left as it was
   pub still_between : (old new : Interval R W) → new.ended ≡ old.ended → new.streams ≡ old.streams → new.served ≡ old.served
-      → IsBetween left read_failures after failures is_flushed b journal old
-      → IsBetween left read_failures after failures is_flushed b journal new
+      → IsBetween b journal old
+      → IsBetween b journal new
   still_between old new e f h at = record {
     begun = at.begun;
     past = rw e at.past;
@@ -285,20 +273,20 @@ module _ {R W : Type 0} (left : R → Option (List ℕ)) (read_failures : R → 
   }
 
   module _ (Gives : ℕ → Type 0) where
-    pub no_later : (went_on : Bool) (now : Interval R W) → IsBetween left read_failures after failures is_flushed b journal now
+    pub no_later : (went_on : Bool) (now : Interval R W) → IsBetween b journal now
         → (IsOfEpochs b.limit b.schedule went_on journal → IsOfEpochs b.limit b.schedule now.goes_on journal)
-        → IsLater left read_failures after failures is_flushed Gives b went_on journal now
+        → IsLater Gives b went_on journal now
     no_later went_on now at epochs = record { more = []; between = at; moments = λ given. given; epochs = epochs }
 
     -- what is later than what is later
     pub later_on : (went_on goes_on : Bool) (more : List Entry) (now : Interval R W)
         → (AllTimed Gives b.schedule journal b.starts → AllTimed Gives b.schedule (more ++ journal) b.starts)
         → (IsOfEpochs b.limit b.schedule went_on journal → IsOfEpochs b.limit b.schedule goes_on (more ++ journal))
-        → IsLater left read_failures after failures is_flushed Gives b goes_on (more ++ journal) now
-        → IsLater left read_failures after failures is_flushed Gives b went_on journal now
+        → IsLater Gives b goes_on (more ++ journal) now
+        → IsLater Gives b went_on journal now
     later_on went_on goes_on more now given epochs l = record {
       more = l.more ++ more;
-      between = subst (λ (j : List Entry). IsBetween left read_failures after failures is_flushed b j now)
+      between = subst (λ (j : List Entry). IsBetween b j now)
           (sym (append_assoc l.more more journal)) l.between;
       moments = λ before.
           subst (λ (j : List Entry). AllTimed Gives b.schedule j b.starts) (sym (append_assoc l.more more journal))

@@ -1,5 +1,5 @@
 -- How the streams of a session go on that come and go.
-use Rattle.std.specs.Prelude.{All, Bool, drop, reverse, slice_get, slice_set}
+use Rattle.std.specs.Prelude.{All, drop, reverse, slice_get, slice_set}
 use Rattle.std.specs.List.{AllByRecursion, AllZip}
 use Rattle.std.specs.Vec.{vec_len}
 use Rattle.std.proofs.Common.{◌≡◌, ℕ, zero, suc, ◌<◌, ◌≤◌, ◌+◌, List, [], ◌∷◌, ◌++◌, length, get_or, map, Option, Some, None}
@@ -18,7 +18,6 @@ use Rattle.serve_hub.specs.Seats.{StreamRest, StreamSeatValue, left_by, opened_r
 use Rattle.serve_work.specs.declared.live.guests.Guest.{Guest}
 use Rattle.serve_work.specs.declared.live.guests.Ticket.{Ticket}
 use Rattle.serve_work.specs.declared.live.opening.Hall.{Hall}
-use Rattle.serve_work.specs.declared.session.turn.Stream.{Stream}
 use Rattle.serve_work.specs.Clients.{AllowsStop, AreAtMoments, ClientStart, StreamEnds, offers_in}
 use Rattle.serve_work.specs.ClientInside.{KeepsMoments}
 use Rattle.serve_work.specs.Live.{IsBehind, IsNewIn, IsOfSpec, IsPart, IsRequest, IsSeatFor, IsServedSince, PartValue}
@@ -27,9 +26,9 @@ use Rattle.serve_work.specs.LiveInside.{AllAt, AreAllTold, AreAsAsked, AreGuests
 use Rattle.serve_work.specs.LiveInside.{HasTurn, IsGuestAt, IsGuestIn, Stood, TakesSeat, guests_of, helds_of, nobody, ticket_of, tickets_of}
 use Rattle.serve_work.specs.Rests.{IsFresh, Unbegun}
 use Rattle.serve_work.specs.Sessions.{AreTimed, IsStreamTold, ServedValue}
-use Rattle.serve_work.specs.SessionInside as sessions
-use Rattle.serve_work.specs.SessionInside.{AllGoOn, GoesOn, HeldValue, IsReady, IsReadyAt, StandsAt, StreamValue, stream_of}
-use Rattle.serve_work.specs.SessionInside.{stream_stop}
+use Rattle.serve_work.specs.StreamInside as sessions
+use Rattle.serve_work.specs.SessionInside.{AllGoOn, GoesOn, HeldValue, IsReady, IsReadyAt, StandsAt}
+use Rattle.serve_work.specs.StreamInside.{StreamValue, stream_stop}
 use Rattle.serve_work.proofs.Intervals.{ready_at, reopened, stands_across}
 use Rattle.serve_work.proofs.Journals.{ends_epoch}
 use Rattle.serve_work.proofs.Renumbered.{stream_before}
@@ -238,40 +237,42 @@ one_turn_more limit times opening [] (h ∷ helds) w held p one = absurd p
 one_turn_more limit times opening (v ∷ ws) [] w held p one = absurd p
 one_turn_more limit times opening (v ∷ ws) (h ∷ helds) w held p one = (p.0, one_turn_more limit times opening ws helds w held p.1 one)
 
-module _ {R W : Type 0} (value : Stream R W → StreamValue) (limit : ℕ) (times : ℕ → Type 0) (desk : ScheduleValue) where
-  nobody_at : (idle : List StreamSeatValue) → AllAt (IsGuestAt value limit times desk) (nobody idle) idle []
-  nobody_at [] = tt
-  nobody_at (seat ∷ idle) = nobody_at idle
+nobody_at : (R W : Type 0) (limit : ℕ) (times : ℕ → Type 0) (desk : ScheduleValue) (idle : List StreamSeatValue)
+    → AllAt (IsGuestAt {R = R} {W = W} limit times desk) (nobody idle) idle []
+nobody_at R W limit times desk [] = tt
+nobody_at R W limit times desk (seat ∷ idle) = nobody_at R W limit times desk idle
 
-  pub guests_at : (ws : List Waiting) (streams : List (Stream R W)) (after : List HeldValue) (idle : List StreamSeatValue)
-      → AllZip (HadTurn limit times desk) ws after → map value streams ≡ map (λ held. held.stream) after
-      → AreAsAsked desk (map left_by (map (λ held. held.seat) after ++ idle)) (guests_of (map ticket_of ws) streams ++ nobody idle)
-      → AllAt (IsGuestAt value limit times desk) (guests_of (map ticket_of ws) streams ++ nobody idle)
+module _ {R W : Type 0} (limit : ℕ) (times : ℕ → Type 0) (desk : ScheduleValue) where
+  pub guests_at : (ws : List Waiting) (streams : List StreamValue) (after : List HeldValue) (idle : List StreamSeatValue)
+      → AllZip (HadTurn limit times desk) ws after → streams ≡ map (λ held. held.stream) after
+      → AreAsAsked {R = R} {W = W} desk (map left_by (map (λ held. held.seat) after ++ idle))
+      (guests_of (map ticket_of ws) streams ++ nobody idle)
+      → AllAt (IsGuestAt {R = R} {W = W} limit times desk) (guests_of (map ticket_of ws) streams ++ nobody idle)
       (map (λ held. held.seat) after ++ idle) ws
-  guests_at [] streams [] idle p e asked = nobody_at idle
+  guests_at [] streams [] idle p e asked = nobody_at R W limit times desk idle
   guests_at [] streams (held ∷ after) idle p e asked = absurd p
   guests_at (w ∷ ws) [] [] idle p e asked = absurd p
   guests_at (w ∷ ws) [] (held ∷ after) idle p e asked = absurd (omega (arith, ap length e))
   guests_at (w ∷ ws) (stream ∷ streams) [] idle p e asked = absurd p
   guests_at (w ∷ ws) (stream ∷ streams) (held ∷ after) idle p e asked =
-      let here : value stream ≡ held.stream = ap (λ (vs : List StreamValue). get_or vs 0 (value stream)) e in (
+      let here : stream ≡ held.stream = ap (λ (vs : List StreamValue). get_or vs 0 stream) e in (
         (refl, rw here p.0, asked 0 (Some (record { ticket = ticket_of w; stream = stream })) refl),
         guests_at ws streams after idle p.1 (ap (λ (vs : List StreamValue). drop 1 vs) e) (λ place. asked (suc place)),
       )
 
   pub guests_in : (size : ℕ) (guests : List (Option (Guest R W))) (seats : List StreamSeatValue) (ws : List Waiting)
-      → AllAt (IsGuestAt value limit times desk) guests seats ws
-      → AllAt (IsGuestIn value limit times desk) guests (map (seat_over size) (map left_by seats)) ws
+      → AllAt (IsGuestAt limit times desk) guests seats ws
+      → AllAt (IsGuestIn limit times desk) guests (map (seat_over size) (map left_by seats)) ws
   guests_in size [] seats [] p = tt
   guests_in size [] seats (w ∷ ws) p = absurd p
   guests_in size (guest ∷ guests) [] ws p = absurd p
   guests_in size (None ∷ guests) (seat ∷ seats) ws p = guests_in size guests seats ws p
   guests_in size (Some guest ∷ guests) (seat ∷ seats) [] p = absurd p
   guests_in size (Some guest ∷ guests) (seat ∷ seats) (w ∷ ws) p =
-      ((p.0.0, again limit size times desk w.request (value guest.stream) seat p.0.1), guests_in size guests seats ws p.1)
+      ((p.0.0, again limit size times desk w.request guest.stream seat p.0.1), guests_in size guests seats ws p.1)
 
   pub seated_of : (seats : List StreamSeatValue) (guests : List (Option (Guest R W))) (ws : List Waiting)
-      → AllAt (IsGuestIn value limit times desk) guests seats ws → AllZip (HasTurn limit times desk) ws (helds_of value seats guests)
+      → AllAt (IsGuestIn limit times desk) guests seats ws → AllZip (HasTurn limit times desk) ws (helds_of seats guests)
   seated_of [] [] [] p = tt
   seated_of (seat ∷ seats) [] [] p = tt
   seated_of seats [] (w ∷ ws) p = absurd p
@@ -281,7 +282,7 @@ module _ {R W : Type 0} (value : Stream R W → StreamValue) (limit : ℕ) (time
   seated_of (seat ∷ seats) (Some guest ∷ guests) (w ∷ ws) p = (p.0.1, seated_of seats guests ws p.1)
 
   pub tickets_are : (seats : List StreamSeatValue) (guests : List (Option (Guest R W))) (ws : List Waiting)
-      → AllAt (IsGuestIn value limit times desk) guests seats ws → tickets_of seats guests ≡ map ticket_of ws
+      → AllAt (IsGuestIn limit times desk) guests seats ws → tickets_of seats guests ≡ map ticket_of ws
   tickets_are [] [] [] p = refl
   tickets_are (seat ∷ seats) [] [] p = refl
   tickets_are seats [] (w ∷ ws) p = absurd p
@@ -412,13 +413,12 @@ empty_seated limit times opening hall places turns tickets few =
     record { places = places; few = few; helds = []; turns = turns; tickets = tickets; each = tt }
 
 -- the streams between two epochs, of which one was told
-module _ {R W : Type 0} (left : R → Option (List ℕ)) (read_failures : R → ℕ) (after : W → Option (List ℕ)) (failures : W → ℕ)
-    (is_flushed : W → Bool) (limit : ℕ) (times : ℕ → Type 0) (ended : EndedValue) where
+module _ {R W : Type 0} (limit : ℕ) (times : ℕ → Type 0) (ended : EndedValue) where
   abbrev are_guests : List Waiting → List (Option (Guest R W)) → Type 0
-  are_guests ws guests = AreGuests left read_failures after failures is_flushed limit times ended ws guests
+  are_guests ws guests = AreGuests limit times ended ws guests
 
   abbrev is_guest : Guest R W → StreamSeatValue → Waiting → Type 0
-  is_guest = IsGuestAt (stream_of left read_failures after failures is_flushed) limit times ended.book.desk
+  is_guest = IsGuestAt limit times ended.book.desk
 
   pub with_guests : (ws vs : List Waiting) (guests others : List (Option (Guest R W))) (a : are_guests ws guests)
       → AllAt is_guest others a.seats vs → are_guests vs others
@@ -434,7 +434,7 @@ module _ {R W : Type 0} (left : R → Option (List ℕ)) (read_failures : R → 
 
   pub can_tell : (ws : List Waiting) (guests : List (Option (Guest R W))) (place : ℕ) (guest : Guest R W) (a : are_guests ws guests)
       (at : At is_guest guests a.seats ws place guest)
-      → CanTell left read_failures after failures is_flushed limit times ended place guest at.w
+      → CanTell limit times ended place guest at.w
   can_tell ws guests place guest a at = record {
     ticket = at.is.0;
     seat = at.seat;

@@ -13,12 +13,14 @@ use Rattle.serve_hub.specs.Seats.{StreamSeatValue}
 use Rattle.serve_work.specs.declared.stop.Stop.{Stop}
 use Rattle.serve_work.specs.Clients.{ClientEnds, ClientOutcome, ClientStart, ClientStopsAt, CutsHeader, WroteImages}
 use Rattle.serve_work.specs.Clients.{WroteNothing}
-use Rattle.serve_work.specs.ClientInside.{Feeds, HasInHand, IsUseful, Moves, Passes, Serves, StopsReading}
+use Rattle.serve_work.specs.ClientInside.{Feeds, HasInHand, IsUseful, Moves, Passes, StopsReading}
 use Rattle.serve_work.specs.Hands.{with_kept}
 use Rattle.serve_work.specs.Live.{IsKeptOver, numbered}
 use Rattle.serve_work.specs.Rests.{Begun, CourseValue, Discarding, Draining, Feeding, Holding, IsAt, IsFresh}
 use Rattle.serve_work.specs.Rests.{IsRestOf, RestValue, Unbegun, as_open}
-use Rattle.serve_work.specs.SessionInside.{Over, StandsAt, StreamValue, Waiting}
+use Rattle.serve_work.specs.SessionInside.{StandsAt}
+use Rattle.serve_work.specs.Sends.{Serves}
+use Rattle.serve_work.specs.StreamInside.{Over, StreamValue, Waiting}
 use Rattle.serve_work.proofs.Stopping.{moves_until, until_moves}
 
 abbrev pub starting : ℕ → ClientStart → ClientStart

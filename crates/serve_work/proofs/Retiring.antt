@@ -12,10 +12,9 @@ use Rattle.serve_hub.specs.Ends.{AreStreamsOf, EndedValue, IsCharged, IsStreamOf
 use Rattle.serve_hub.specs.Retired.{renumbered, rests_kept, retired_end}
 use Rattle.serve_hub.specs.Seats.{StreamRest, StreamSeatValue, left_by}
 use Rattle.serve_work.specs.declared.live.guests.Guest.{Guest}
-use Rattle.serve_work.specs.declared.session.turn.Stream.{Stream}
 use Rattle.serve_work.specs.Live.{IsOfSpec, RequestValue, Waiting, numbered, start_with}
 use Rattle.serve_work.specs.LiveInside.{AllAt, AreGuests, AreToldBut, IsGuestAt, Stood, at_marks}
-use Rattle.serve_work.specs.SessionInside.{StreamValue, stream_of}
+use Rattle.serve_work.specs.StreamInside.{StreamValue}
 use Rattle.serve_work.proofs.Renumbered.{once_more, stands_numbered}
 
 -- one stream that stays
@@ -166,42 +165,40 @@ told_more (mark ∷ marks) (y ∷ items) (suc n) item before now is (suc k) x le
 some_is_there : {A : Type 0} (x : A) → Some x ≡ None → ⊥
 some_is_there x e = cc
 
-module _ {R W : Type 0} (value : Stream R W → StreamValue) (limit : ℕ) (times : ℕ → Type 0) (desk : ScheduleValue) where
-  abbrev marks : List StreamSeatValue → List Bool
-  marks seats = map (λ rest. stays desk rest.number) (map left_by seats)
+abbrev marks_at : ScheduleValue → List StreamSeatValue → List Bool
+marks_at desk seats = map (λ rest. stays desk rest.number) (map left_by seats)
 
+module _ {R W : Type 0} (limit : ℕ) (times : ℕ → Type 0) (desk : ScheduleValue) where
   guests_kept : (guests : List (Option (Guest R W))) (seats : List StreamSeatValue) (ws : List Waiting)
-      → AllAt (IsGuestAt value limit times desk) guests seats ws → AreToldBut (marks seats) guests
-      → AllAt (IsGuestAt value limit times (retired_schedule desk)) (at_marks (marks seats) guests) (seats_kept desk seats) ws
+      → AllAt (IsGuestAt limit times desk) guests seats ws → AreToldBut (marks_at desk seats) guests
+      → AllAt (IsGuestAt limit times (retired_schedule desk)) (at_marks (marks_at desk seats) guests) (seats_kept desk seats) ws
   guests_kept [] seats [] p told = tt
   guests_kept [] seats (w ∷ ws) p told = absurd p
   guests_kept (guest ∷ guests) [] ws p told = absurd p
   guests_kept (None ∷ guests) (seat ∷ seats) ws p told =
-      none_picked (IsGuestAt value limit times (retired_schedule desk)) (stays desk seat.number)
-      (numbered (new_number desk seat.number) seat) (at_marks (marks seats) guests) (seats_kept desk seats) ws
+      none_picked (IsGuestAt limit times (retired_schedule desk)) (stays desk seat.number)
+      (numbered (new_number desk seat.number) seat) (at_marks (marks_at desk seats) guests) (seats_kept desk seats) ws
       (guests_kept guests seats ws p (λ k. told (suc k)))
   guests_kept (Some guest ∷ guests) (seat ∷ seats) [] p told = absurd p
   guests_kept (Some guest ∷ guests) (seat ∷ seats) (w ∷ ws) p told =
-      some_picked (IsGuestAt value limit times (retired_schedule desk)) (stays desk seat.number) guest
-      (numbered (new_number desk seat.number) seat) w (at_marks (marks seats) guests) (seats_kept desk seats) ws
+      some_picked (IsGuestAt limit times (retired_schedule desk)) (stays desk seat.number) guest
+      (numbered (new_number desk seat.number) seat) w (at_marks (marks_at desk seats) guests) (seats_kept desk seats) ws
       (λ e. some_is_there guest (told 0 (Some guest) (ap Some e) refl))
       (λ e. (
         p.0.0,
-        retired_one limit times desk w.request (value guest.stream) seat p.0.1 e,
+        retired_one limit times desk w.request guest.stream seat p.0.1 e,
         subst (λ (o : Option KeptStream). IsSomeAnd o (IsOfSpec w.request.spec)) (sym (number_is desk seat.number e)) p.0.2,
       ))
       (guests_kept guests seats ws p.1 (λ k. told (suc k)))
 
 -- the streams between two epochs, without those that are released, each of which was told
-module _ {R W : Type 0} (left : R → Option (List ℕ)) (read_failures : R → ℕ) (after : W → Option (List ℕ)) (failures : W → ℕ)
-    (is_flushed : W → Bool) (limit : ℕ) (times : ℕ → Type 0) (ended : EndedValue) (ws : List Waiting) where
+module _ {R W : Type 0} (limit : ℕ) (times : ℕ → Type 0) (ended : EndedValue) (ws : List Waiting) where
   pub guests_retired : (guests : List (Option (Guest R W)))
-      → AreGuests left read_failures after failures is_flushed limit times ended ws guests
+      → AreGuests limit times ended ws guests
       → AreToldBut (map (λ rest. stays ended.book.desk rest.number) ended.streams) guests
-      → AreGuests left read_failures after failures is_flushed limit times (retired_end ended) ws
+      → AreGuests limit times (retired_end ended) ws
       (at_marks (map (λ rest. stays ended.book.desk rest.number) ended.streams) guests)
   guests_retired guests a told =
-      let value : Stream R W → StreamValue = stream_of left read_failures after failures is_flushed in
       let desk = ended.book.desk in
       let f = λ (rest : StreamRest). stays desk rest.number in
       record {
@@ -211,10 +208,10 @@ module _ {R W : Type 0} (left : R → Option (List ℕ)) (read_failures : R → 
         kept = streams_kept desk a.seats a.kept;
         charges = all_filtered IsCharged _ desk.streams a.charges;
         of_limit = a.of_limit;
-        each = subst (λ (rests : List StreamRest). AllAt (IsGuestAt value limit times (retired_schedule desk))
+        each = subst (λ (rests : List StreamRest). AllAt (IsGuestAt limit times (retired_schedule desk))
             (at_marks (map f rests) guests)
             (seats_kept desk a.seats) ws) (sym a.rests)
-            (guests_kept value limit times desk guests a.seats ws a.each
+            (guests_kept limit times desk guests a.seats ws a.each
             (subst (λ (rests : List StreamRest). AreToldBut (map f rests) guests) a.rests told));
       }
 

@@ -11,10 +11,10 @@ use Rattle.serve_core.specs.Setup.{HasBandwidth, IsWithinLimits, StreamSpec, set
 use Rattle.serve_hub.specs.Seats.{StreamSeatValue}
 use Rattle.serve_work.specs.declared.live.guests.Guest.{Guest}
 use Rattle.serve_work.specs.declared.live.guests.Ticket.{Ticket}
-use Rattle.serve_work.specs.declared.session.turn.Stream.{Stream}
 use Rattle.serve_work.specs.Live.{AllowsRefusal, IsForm}
 use Rattle.serve_work.specs.LiveInside.{guests_of, helds_of, nobody, refusal_of, tickets_of}
-use Rattle.serve_work.specs.SessionInside.{HeldValue, IsReady, StreamValue}
+use Rattle.serve_work.specs.SessionInside.{HeldValue, IsReady}
+use Rattle.serve_work.specs.StreamInside.{StreamValue}
 
 -- a setup of one stream
 
@@ -48,19 +48,19 @@ refused_alone workers quantum spec (Overload s) form fault =
 
 module _ {R W : Type 0} where
   -- one stream more has its number
-  pub guests_more : (made made' all : List (Option (Guest R W))) (tickets tickets' : List Ticket) (streams streams' : List (Stream R W))
-      (ticket : Ticket) (stream : Stream R W) → tickets ≡ ticket ∷ tickets' → streams ≡ stream ∷ streams'
+  pub guests_more : (made made' all : List (Option (Guest R W))) (tickets tickets' : List Ticket) (streams streams' : List StreamValue)
+      (ticket : Ticket) (stream : StreamValue) → tickets ≡ ticket ∷ tickets' → streams ≡ stream ∷ streams'
       → made ++ guests_of tickets streams ≡ all → made' ≡ made ++ Some (record { ticket = ticket; stream = stream }) ∷ []
       → made' ++ guests_of tickets' streams' ≡ all
   guests_more made made' all tickets tickets' streams streams' ticket stream e f told more =
       let one : Guest R W = record { ticket = ticket; stream = stream } in
       let now : made ++ guests_of (ticket ∷ tickets') (stream ∷ streams') ≡ all =
-      subst (λ (these : List (Stream R W)). made ++ guests_of (ticket ∷ tickets') these ≡ all) f
+      subst (λ (these : List StreamValue). made ++ guests_of (ticket ∷ tickets') these ≡ all) f
       (subst (λ (these : List Ticket). made ++ guests_of these streams ≡ all) e told) in
       ap (λ (gs : List (Option (Guest R W))). gs ++ guests_of tickets' streams') more
       ∙ append_assoc made (Some one ∷ []) (guests_of tickets' streams') ∙ now
 
-  pub guests_made : (made all : List (Option (Guest R W))) (tickets : List Ticket) (streams : List (Stream R W))
+  pub guests_made : (made all : List (Option (Guest R W))) (tickets : List Ticket) (streams : List StreamValue)
       → (length tickets ≡ 0) ⊎ (length streams ≡ 0) → made ++ guests_of tickets streams ≡ all → made ≡ all
   guests_made made all [] streams p e = sym (append-nil made) ∙ e
   guests_made made all (ticket ∷ tickets) [] p e = sym (append-nil made) ∙ e
@@ -90,9 +90,9 @@ all_moved made all [] p e = sym (append-nil made) ∙ e
 all_moved made all (x ∷ items) p e = absurd (omega (arith, p))
 
 -- the streams with their seats, one by one
-module _ {R W : Type 0} (value : Stream R W → StreamValue) where
+module _ {R W : Type 0} where
   helds_split : (seat : StreamSeatValue) (guest : Option (Guest R W)) (seats : List StreamSeatValue) (guests : List (Option (Guest R W)))
-      → helds_of value (seat ∷ seats) (guest ∷ guests) ≡ helds_of value (seat ∷ []) (guest ∷ []) ++ helds_of value seats guests
+      → helds_of (seat ∷ seats) (guest ∷ guests) ≡ helds_of (seat ∷ []) (guest ∷ []) ++ helds_of seats guests
   helds_split seat None seats guests = refl
   helds_split seat (Some guest) seats guests = refl
 
@@ -103,14 +103,14 @@ module _ {R W : Type 0} (value : Stream R W → StreamValue) where
 
   pub turns_more : (made made' all : List (Option HeldValue)) (seats seats' : List StreamSeatValue) (seat : StreamSeatValue)
       (guests guests' : List (Option (Guest R W))) (guest : Option (Guest R W)) → seats ≡ seat ∷ seats' → guests ≡ guest ∷ guests'
-      → made ++ map Some (helds_of value seats guests) ≡ all → made' ≡ made ++ map Some (helds_of value (seat ∷ []) (guest ∷ []))
-      → made' ++ map Some (helds_of value seats' guests') ≡ all
+      → made ++ map Some (helds_of seats guests) ≡ all → made' ≡ made ++ map Some (helds_of (seat ∷ []) (guest ∷ []))
+      → made' ++ map Some (helds_of seats' guests') ≡ all
   turns_more made made' all seats seats' seat guests guests' guest e f told is =
-      let one : List HeldValue = helds_of value (seat ∷ []) (guest ∷ []) in
-      let rest : List HeldValue = helds_of value seats' guests' in
-      let now : made ++ map Some (helds_of value (seat ∷ seats') (guest ∷ guests')) ≡ all =
-      subst (λ (gs : List (Option (Guest R W))). made ++ map Some (helds_of value (seat ∷ seats') gs) ≡ all) f
-      (subst (λ (ss : List StreamSeatValue). made ++ map Some (helds_of value ss guests) ≡ all) e told) in
+      let one : List HeldValue = helds_of (seat ∷ []) (guest ∷ []) in
+      let rest : List HeldValue = helds_of seats' guests' in
+      let now : made ++ map Some (helds_of (seat ∷ seats') (guest ∷ guests')) ≡ all =
+      subst (λ (gs : List (Option (Guest R W))). made ++ map Some (helds_of (seat ∷ seats') gs) ≡ all) f
+      (subst (λ (ss : List StreamSeatValue). made ++ map Some (helds_of ss guests) ≡ all) e told) in
       ap (λ (ts : List (Option HeldValue)). ts ++ map Some rest) is ∙ append_assoc made (map Some one) (map Some rest)
       ∙ ap (λ (ts : List (Option HeldValue)). made ++ ts)
       (sym (map-append Some one rest) ∙ ap (map Some) (sym (helds_split seat guest seats' guests'))) ∙ now
@@ -129,22 +129,22 @@ module _ {R W : Type 0} (value : Stream R W → StreamValue) where
       ∙ ap (λ (ts : List Ticket). made ++ ts) (sym (tickets_split seat guest seats' guests')) ∙ now
 
   ready_both : (seat : StreamSeatValue) (guest : Option (Guest R W)) (seats : List StreamSeatValue) (guests : List (Option (Guest R W)))
-      → AllByRecursion IsReady (helds_of value (seat ∷ seats) (guest ∷ guests))
-      → AllByRecursion IsReady (helds_of value (seat ∷ []) (guest ∷ [])) × AllByRecursion IsReady (helds_of value seats guests)
+      → AllByRecursion IsReady (helds_of (seat ∷ seats) (guest ∷ guests))
+      → AllByRecursion IsReady (helds_of (seat ∷ []) (guest ∷ [])) × AllByRecursion IsReady (helds_of seats guests)
   ready_both seat None seats guests p = (tt, p)
   ready_both seat (Some guest) seats guests p = ((p.0, tt), p.1)
 
   pub ready_split : (seats seats' : List StreamSeatValue) (seat : StreamSeatValue) (guests guests' : List (Option (Guest R W)))
       (guest : Option (Guest R W)) → seats ≡ seat ∷ seats' → guests ≡ guest ∷ guests'
-      → AllByRecursion IsReady (helds_of value seats guests)
-      → AllByRecursion IsReady (helds_of value (seat ∷ []) (guest ∷ [])) × AllByRecursion IsReady (helds_of value seats' guests')
+      → AllByRecursion IsReady (helds_of seats guests)
+      → AllByRecursion IsReady (helds_of (seat ∷ []) (guest ∷ [])) × AllByRecursion IsReady (helds_of seats' guests')
   ready_split seats seats' seat guests guests' guest e f p =
       ready_both seat guest seats' guests'
-      (subst (λ (gs : List (Option (Guest R W))). AllByRecursion IsReady (helds_of value (seat ∷ seats') gs)) f
-      (subst (λ (ss : List StreamSeatValue). AllByRecursion IsReady (helds_of value ss guests)) e p))
+      (subst (λ (gs : List (Option (Guest R W))). AllByRecursion IsReady (helds_of (seat ∷ seats') gs)) f
+      (subst (λ (ss : List StreamSeatValue). AllByRecursion IsReady (helds_of ss guests)) e p))
 
   none_seated : (seats : List StreamSeatValue) (guests : List (Option (Guest R W))) → (length seats ≡ 0) ⊎ (length guests ≡ 0)
-      → (helds_of value seats guests ≡ []) × (tickets_of seats guests ≡ [])
+      → (helds_of seats guests ≡ []) × (tickets_of seats guests ≡ [])
   none_seated [] guests p = (refl, refl)
   none_seated (seat ∷ seats) [] p = (refl, refl)
   none_seated (seat ∷ seats) (guest ∷ guests) (inl p) = absurd (omega (arith, p))
@@ -152,7 +152,7 @@ module _ {R W : Type 0} (value : Stream R W → StreamValue) where
 
   pub all_made : (turns all : List (Option HeldValue)) (tickets all_tickets : List Ticket) (seats : List StreamSeatValue)
       (guests : List (Option (Guest R W))) → (length seats ≡ 0) ⊎ (length guests ≡ 0)
-      → turns ++ map Some (helds_of value seats guests) ≡ all → tickets ++ tickets_of seats guests ≡ all_tickets
+      → turns ++ map Some (helds_of seats guests) ≡ all → tickets ++ tickets_of seats guests ≡ all_tickets
       → (turns ≡ all) × (tickets ≡ all_tickets)
   all_made turns all tickets all_tickets seats guests p e f =
       let none = none_seated seats guests p in (

@@ -20,7 +20,8 @@ use Rattle.serve_work.specs.declared.stop.Stop.TheVariants.{Whole}
 use Rattle.serve_work.specs.Clients.{ClientOutcome, ClientStart, StreamEnds}
 use Rattle.serve_work.specs.Intervals.{AreFrom}
 use Rattle.serve_work.specs.Sessions.{AreServed, IsServed, IsStreamTold, IsServedBy, ServedValue, starts_of}
-use Rattle.serve_work.specs.SessionInside.{AllLeave, ClientLeft}
+use Rattle.serve_work.specs.SessionInside.{AllLeave, outcomes_of}
+use Rattle.serve_work.specs.Clients.{ClientLeft}
 use Rattle.serve_work.proofs.Tallying.{collections_both, collections_counted}
 
 -- the streams are numbered in order
@@ -95,25 +96,25 @@ stream_at desk n P Q p q = elim (slice_get_cases desk.streams n).1 [
   | inr past ↦ absurd (subst (λ o. IsSomeAnd o P) past.1 p)
 ]
 
-module _ {S : Type 0} (told : S → ServedValue) (journal : List Entry) (desk : ScheduleValue) (all : All IsCharged desk.streams) where
-  all_served_from : (first : ℕ) (starts : List ClientStart) (lefts : List ClientLeft) (served : List S)
+module _ (journal : List Entry) (desk : ScheduleValue) (all : All IsCharged desk.streams) where
+  all_served_from : (first : ℕ) (starts : List ClientStart) (lefts : List ClientLeft) (served : List ServedValue)
       → AllLeave journal starts lefts → AreFrom first starts → AreStreamsOf desk (map (λ left. left.seat) lefts)
-      → map (λ s. (told s).outcome) served ≡ map (λ left. left.outcome) lefts
-      → ((k n : ℕ) (d : S) → n ≡ first + k → k < length served
-      → HasStream desk n (λ stream. (told (get_or served k d)).charged ≡ stream.state.charged))
-      → AllZip (IsServedBy journal desk) starts (map told served)
+      → outcomes_of served ≡ map (λ left. left.outcome) lefts
+      → ((k n : ℕ) (d : ServedValue) → n ≡ first + k → k < length served
+      → HasStream desk n (λ stream. (get_or served k d).charged ≡ stream.state.charged))
+      → AllZip (IsServedBy journal desk) starts served
   all_served_from first [] [] [] p from streams e charges = tt
   all_served_from first [] [] (s ∷ served) p from streams e charges = absurd (omega (arith, ap length e))
   all_served_from first [] (left ∷ lefts) served p from streams e charges = absurd p
   all_served_from first (start ∷ starts) [] served p from streams e charges = absurd p
   all_served_from first (start ∷ starts) (left ∷ lefts) [] p from streams e charges = absurd (omega (arith, ap length e))
   all_served_from first (start ∷ starts) (left ∷ lefts) (s ∷ served) p from streams e charges =
-      let outcome : (told s).outcome ≡ left.outcome = ap (λ os. get_or os 0 left.outcome) e in
-      let ends : StreamEnds start p.0.0 left.seat (told s).outcome = subst (StreamEnds start p.0.0 left.seat) (sym outcome) p.0.1 in
+      let outcome : s.outcome ≡ left.outcome = ap (λ os. get_or os 0 left.outcome) e in
+      let ends : StreamEnds start p.0.0 left.seat s.outcome = subst (StreamEnds start p.0.0 left.seat) (sym outcome) p.0.1 in
       let here = subst (λ n. HasStream desk n (IsStreamOf left.seat)) (ends.number ∙ from.0) (streams 0 left.seat (omega arith)) in
       let at = stream_at desk first _ _ here (charges 0 first s (omega arith) (omega arith)) in
-      let cost = cost_between start p.0.0 left.seat (told s).outcome (told s).charged at.stream ends at.first at.second (at.among all) in
-      let is_told : IsStreamTold (told s) at.stream =
+      let cost = cost_between start p.0.0 left.seat s.outcome s.charged at.stream ends at.first at.second (at.among all) in
+      let is_told : IsStreamTold s at.stream =
       record { accepted = at.first.accepted ∙ ends.accepted; charged = sym at.second } in (
         record {
           is_served = record {
@@ -125,8 +126,8 @@ module _ {S : Type 0} (told : S → ServedValue) (journal : List Entry) (desk : 
             whole = cost.whole;
           };
           calls = p.0.2;
-          stream = subst (λ n. HasStream desk n (IsStreamTold (told s))) (sym from.0)
-              (subst (λ o. IsSomeAnd o (IsStreamTold (told s))) (sym at.here) is_told);
+          stream = subst (λ n. HasStream desk n (IsStreamTold s)) (sym from.0)
+              (subst (λ o. IsSomeAnd o (IsStreamTold s)) (sym at.here) is_told);
         },
         all_served_from (suc first) starts lefts served p.1 from.1
             (λ k d less. streams (suc k) d (omega (arith, less)))
@@ -135,15 +136,15 @@ module _ {S : Type 0} (told : S → ServedValue) (journal : List Entry) (desk : 
       )
 
   -- each stream was served, where the desk has of it what its client left, and what it is told to be charged
-  pub all_served : (starts : List ClientStart) (lefts : List ClientLeft) (served : List S)
+  pub all_served : (starts : List ClientStart) (lefts : List ClientLeft) (served : List ServedValue)
       → AllLeave journal starts lefts → AreFrom 0 starts → AreStreamsOf desk (map (λ left. left.seat) lefts)
-      → map (λ s. (told s).outcome) served ≡ map (λ left. left.outcome) lefts
-      → ((k : ℕ) (d : S) → k < length served
-      → HasStream desk k (λ stream. (told (get_or served k d)).charged ≡ stream.state.charged))
-      → AllZip (IsServedBy journal desk) starts (map told served)
+      → outcomes_of served ≡ map (λ left. left.outcome) lefts
+      → ((k : ℕ) (d : ServedValue) → k < length served
+      → HasStream desk k (λ stream. (get_or served k d).charged ≡ stream.state.charged))
+      → AllZip (IsServedBy journal desk) starts served
   all_served starts lefts served p from streams e charges =
       all_served_from 0 starts lefts served p from streams e
-      (λ k n d same less. subst (λ m. HasStream desk m (λ stream. (told (get_or served k d)).charged ≡ stream.state.charged))
+      (λ k n d same less. subst (λ m. HasStream desk m (λ stream. (get_or served k d).charged ≡ stream.state.charged))
       (omega (arith, same)) (charges k d less))
 
 -- one stream was served, and is told as the desk has it

@@ -1,5 +1,5 @@
 -- What the streams of a session come to, turn by turn.
-use Rattle.std.specs.Prelude.{All, IfSome, IsErrAnd, MatchOption, drop, take, unwrap_or, ⊤, Bool, true, false, filter, reverse}
+use Rattle.std.specs.Prelude.{All, IfOk, IfSome, IsErrAnd, MatchOption, drop, take, unwrap_or, ⊤, Bool, true, false, filter, reverse}
 use Rattle.std.specs.List.{AllByRecursion, AllZip}
 use Rattle.std.proofs.Common.{append_assoc, ◌≡◌, ◌≢◌, IfErr, ℕ, suc, ◌<◌, List, [], ◌∷◌, ◌++◌, length, get_or}
 use Rattle.std.proofs.Common.{map, Option, Some, None, append-nil, take_all, Result, Ok, Err, inl, inr, ◌⊎◌}
@@ -20,20 +20,20 @@ use Rattle.serve_hub.specs.Books.{specs_of}
 use Rattle.serve_hub.specs.Ends.{AreStreamCalls, ClockReached, acts_of, is_same_seat}
 use Rattle.serve_hub.specs.Journal.{AreEntries, transcript_of}
 use Rattle.serve_hub.specs.Seats.{StreamSeatValue}
-use Rattle.serve_work.specs.declared.session.Served.{Served}
 use Rattle.serve_work.specs.declared.session.SessionFault.{SessionFault}
 use Rattle.serve_work.specs.declared.session.SessionFault.TheVariants.{BadLimit, Mismatch, NoMemory}
 use Rattle.serve_work.specs.declared.session.unended.Unended.{Unended}
 use Rattle.serve_work.specs.declared.session.unended.Unended.TheVariants as unended
-use Rattle.serve_work.specs.declared.session.turn.Stream.{Stream}
-use Rattle.serve_work.specs.Clients.{AreAtMoments, ClientOutcome, ClientStart}
+use Rattle.serve_work.specs.Clients.{AreAtMoments, ClientStart}
 use Rattle.serve_work.specs.Intervals.{HasNoCalls, IsSizedStart}
 use Rattle.serve_work.specs.Rests.{Begun, IsRestOf, RestValue, Unbegun, reader_in}
-use Rattle.serve_work.specs.Sessions.{AllTimed, AreInputs, AreTimed, acts_in, outcome_of}
+use Rattle.serve_work.specs.Sessions.{AllTimed, AreInputs, AreTimed, ServedValue, acts_in}
 use Rattle.serve_work.specs.SessionInside.{AllBegin, AllGoOn, AllLeave, AllRun, AllStand, AreOver, AreUnread}
 use Rattle.serve_work.specs.SessionInside.{GivesBack, IsUnended, fault_of, unread}
-use Rattle.serve_work.specs.SessionInside.{ClientLeft, GoesOn, HeldValue, IsReady, Over, Runs, Stands}
-use Rattle.serve_work.specs.SessionInside.{StandsAt, StreamValue, Waiting, held_at, held_with, stream_of}
+use Rattle.serve_work.specs.SessionInside.{GoesOn, HeldValue, IsReady, Runs, Stands}
+use Rattle.serve_work.specs.SessionInside.{StandsAt, held_at, held_with, outcomes_of}
+use Rattle.serve_work.specs.Clients.{ClientLeft}
+use Rattle.serve_work.specs.StreamInside.{Over, StreamValue, Waiting}
 use Rattle.serve_work.proofs.Tallying.{KeepsMoments-same}
 use Rattle.serve_work.proofs.Timing.{timed, timed_on}
 
@@ -208,34 +208,33 @@ first_held turn turns [] e = absurd (omega (arith, ap length e))
 first_held turn turns (held ∷ rest) e = (held, rest, refl, cc, cc)
 
 -- where no seat or no stream is left, all turns are there
-pub all_seated : {S : Type 0} (value : S
-    → StreamValue) (turns all : List (Option HeldValue)) (seats : List StreamSeatValue) (streams : List S)
-    → (length seats ≡ 0) ⊎ (length streams ≡ 0) → turns ++ map Some (held_with value seats streams) ≡ all → turns ≡ all
-all_seated value turns all [] streams p e = sym (append-nil turns) ∙ e
-all_seated value turns all (seat ∷ seats) [] p e = sym (append-nil turns) ∙ e
-all_seated value turns all (seat ∷ seats) (stream ∷ streams) (inl p) e = absurd (omega (arith, p))
-all_seated value turns all (seat ∷ seats) (stream ∷ streams) (inr p) e = absurd (omega (arith, p))
+pub all_seated : (turns all : List (Option HeldValue)) (seats : List StreamSeatValue) (streams : List StreamValue)
+    → (length seats ≡ 0) ⊎ (length streams ≡ 0) → turns ++ map Some (held_with seats streams) ≡ all → turns ≡ all
+all_seated turns all [] streams p e = sym (append-nil turns) ∙ e
+all_seated turns all (seat ∷ seats) [] p e = sym (append-nil turns) ∙ e
+all_seated turns all (seat ∷ seats) (stream ∷ streams) (inl p) e = absurd (omega (arith, p))
+all_seated turns all (seat ∷ seats) (stream ∷ streams) (inr p) e = absurd (omega (arith, p))
 
 -- one seat more has its stream
-pub seated_more : {S : Type 0} (value : S → StreamValue) (turns turns' all : List (Option HeldValue)) (seats seats' : List StreamSeatValue)
-    (streams streams' : List S) (seat : StreamSeatValue) (s : S) (turn : Option HeldValue) → seats ≡ seat ∷ seats' → streams ≡ s ∷ streams'
-    → turns ++ map Some (held_with value seats streams) ≡ all → turn ≡ Some (held_at seat (value s)) → turns' ≡ turns ++ turn ∷ []
-    → turns' ++ map Some (held_with value seats' streams') ≡ all
-seated_more value turns turns' all seats seats' streams streams' seat s turn e f told is more =
-    let now : turns ++ map Some (held_with value (seat ∷ seats') (s ∷ streams')) ≡ all =
-    subst (λ (these : List _). turns ++ map Some (held_with value (seat ∷ seats') these) ≡ all) f
-    (subst (λ (these : List StreamSeatValue). turns ++ map Some (held_with value these streams) ≡ all) e told) in
-    ap (λ (ts : List (Option HeldValue)). ts ++ map Some (held_with value seats' streams'))
+pub seated_more : (turns turns' all : List (Option HeldValue)) (seats seats' : List StreamSeatValue)
+    (streams streams' : List StreamValue) (seat : StreamSeatValue) (s : StreamValue) (turn : Option HeldValue) → seats ≡ seat ∷ seats' → streams ≡ s ∷ streams'
+    → turns ++ map Some (held_with seats streams) ≡ all → turn ≡ Some (held_at seat s) → turns' ≡ turns ++ turn ∷ []
+    → turns' ++ map Some (held_with seats' streams') ≡ all
+seated_more turns turns' all seats seats' streams streams' seat s turn e f told is more =
+    let now : turns ++ map Some (held_with (seat ∷ seats') (s ∷ streams')) ≡ all =
+    subst (λ (these : List _). turns ++ map Some (held_with (seat ∷ seats') these) ≡ all) f
+    (subst (λ (these : List StreamSeatValue). turns ++ map Some (held_with these streams) ≡ all) e told) in
+    ap (λ (ts : List (Option HeldValue)). ts ++ map Some (held_with seats' streams'))
     (more ∙ ap (λ (t : Option HeldValue). turns ++ t ∷ []) is)
-    ∙ append_assoc turns (Some (held_at seat (value s)) ∷ []) (map Some (held_with value seats' streams')) ∙ now
+    ∙ append_assoc turns (Some (held_at seat s) ∷ []) (map Some (held_with seats' streams')) ∙ now
 
-pub ready_more : {S : Type 0} (value : S → StreamValue) (seats seats' : List StreamSeatValue) (streams streams' : List S)
-    (seat : StreamSeatValue) (s : S) → seats ≡ seat ∷ seats' → streams ≡ s ∷ streams'
-    → AllByRecursion IsReady (held_with value seats streams)
-    → AllByRecursion IsReady (held_with value seats' streams')
-ready_more value seats seats' streams streams' seat s e f ready =
-    (subst (λ (these : List _). AllByRecursion IsReady (held_with value (seat ∷ seats') these)) f
-    (subst (λ (these : List StreamSeatValue). AllByRecursion IsReady (held_with value these streams)) e ready)).1
+pub ready_more : (seats seats' : List StreamSeatValue) (streams streams' : List StreamValue)
+    (seat : StreamSeatValue) (s : StreamValue) → seats ≡ seat ∷ seats' → streams ≡ s ∷ streams'
+    → AllByRecursion IsReady (held_with seats streams)
+    → AllByRecursion IsReady (held_with seats' streams')
+ready_more seats seats' streams streams' seat s e f ready =
+    (subst (λ (these : List _). AllByRecursion IsReady (held_with (seat ∷ seats') these)) f
+    (subst (λ (these : List StreamSeatValue). AllByRecursion IsReady (held_with these streams)) e ready)).1
 
 pub one_empty : {S T : Type 0} {P : S → Type 0} {Q : T → Type 0} (m n a b : ℕ) → a ≡ m → b ≡ n
     → ((u : S) × ((m ≡ 0) × P u)) ⊎ ((u : T) × ((n ≡ 0) × Q u)) → (a ≡ 0) ⊎ (b ≡ 0)
@@ -247,29 +246,29 @@ map_more f [] x = refl
 map_more f (y ∷ xs) x = ap (λ ys. f y ∷ ys) (map_more f xs x)
 
 -- all turns are parted but these, into the seats and the streams
-abbrev pub Parted : {S : Type 0} (value : S → StreamValue) (all items : List (Option HeldValue))
-    (seats : List StreamSeatValue) (streams : List S) → Type 0
-Parted value all items seats streams = (helds : List HeldValue) → all ≡ map Some helds
+abbrev pub Parted : (all items : List (Option HeldValue))
+    (seats : List StreamSeatValue) (streams : List StreamValue) → Type 0
+Parted all items seats streams = (helds : List HeldValue) → all ≡ map Some helds
     → (rest : List HeldValue) × (items ≡ map Some rest)
     × (seats ++ map (λ held. held.seat) rest ≡ map (λ held. held.seat) helds)
-    × (map value streams ++ map (λ held. held.stream) rest ≡ map (λ held. held.stream) helds)
+    × (streams ++ map (λ held. held.stream) rest ≡ map (λ held. held.stream) helds)
 
-pub parted_none : {S : Type 0} (value : S → StreamValue) (all items : List (Option HeldValue))
-    (seats : List StreamSeatValue) (streams : List S) → seats ≡ [] → streams ≡ [] → items ≡ all
-    → Parted value all items seats streams
-parted_none value all items seats streams e f i helds p = (
+pub parted_none : (all items : List (Option HeldValue))
+    (seats : List StreamSeatValue) (streams : List StreamValue) → seats ≡ [] → streams ≡ [] → items ≡ all
+    → Parted all items seats streams
+parted_none all items seats streams e f i helds p = (
   helds,
   i ∙ p,
   ap (λ (z : List StreamSeatValue). z ++ map (λ (held : HeldValue). held.seat) helds) e,
-  ap (λ (z : List _). map value z ++ map (λ (held : HeldValue). held.stream) helds) f,
+  ap (λ (z : List _). z ++ map (λ (held : HeldValue). held.stream) helds) f,
 )
 
-pub parted_more : {S : Type 0} (value : S → StreamValue) (all items later : List (Option HeldValue)) (turn : Option HeldValue)
-    (seats seats' : List StreamSeatValue) (streams streams' : List S) (held : HeldValue) (seat : StreamSeatValue) (s : S)
-    → Parted value all items seats streams → items ≡ turn ∷ later → turn ≡ Some held
-    → seat ≡ held.seat → seats' ≡ seats ++ seat ∷ [] → streams' ≡ streams ++ s ∷ [] → value s ≡ held.stream
-    → Parted value all later seats' streams'
-parted_more value all items later turn seats seats' streams streams' held seat s parted i e own q r o helds p =
+pub parted_more : (all items later : List (Option HeldValue)) (turn : Option HeldValue)
+    (seats seats' : List StreamSeatValue) (streams streams' : List StreamValue) (held : HeldValue) (seat : StreamSeatValue) (s : StreamValue)
+    → Parted all items seats streams → items ≡ turn ∷ later → turn ≡ Some held
+    → seat ≡ held.seat → seats' ≡ seats ++ seat ∷ [] → streams' ≡ streams ++ s ∷ [] → s ≡ held.stream
+    → Parted all later seats' streams'
+parted_more all items later turn seats seats' streams streams' held seat s parted i e own q r o helds p =
     let was = parted helds p in
     let first = first_held turn later was.0 (sym i ∙ was.1) in
     let seat_in : HeldValue → StreamSeatValue = λ l. l.seat in
@@ -280,26 +279,25 @@ parted_more value all items later turn seats seats' streams streams' held seat s
       ap (λ z. z ++ map seat_in first.1) q ∙ append_assoc seats (seat ∷ []) (map seat_in first.1)
           ∙ ap (λ z. seats ++ z ∷ map seat_in first.1) (own ∙ ap seat_in (sym same))
           ∙ ap (λ (z : List HeldValue). seats ++ map seat_in z) (sym first.2) ∙ was.2,
-      ap (λ z. map value z ++ map stream_in first.1) r ∙ ap (λ z. z ++ map stream_in first.1) (map_more value streams s)
-          ∙ append_assoc (map value streams) (value s ∷ []) (map stream_in first.1)
-          ∙ ap (λ (z : StreamValue). map value streams ++ z ∷ map stream_in first.1) (o ∙ ap stream_in (sym same))
-          ∙ ap (λ (z : List HeldValue). map value streams ++ map stream_in z) (sym first.2) ∙ was.3,
+      ap (λ z. z ++ map stream_in first.1) r ∙ append_assoc streams (s ∷ []) (map stream_in first.1)
+          ∙ ap (λ (z : StreamValue). streams ++ z ∷ map stream_in first.1) (o ∙ ap stream_in (sym same))
+          ∙ ap (λ (z : List HeldValue). streams ++ map stream_in z) (sym first.2) ∙ was.3,
     )
 
 no_rest : (items : List (Option HeldValue)) (rest : List HeldValue) → length items ≡ 0 → items ≡ map Some rest → rest ≡ []
 no_rest items [] len e = refl
 no_rest items (held ∷ rest) len e = absurd (omega (arith, len, ap length e))
 
-pub parted_all : {S : Type 0} (value : S → StreamValue) (all items : List (Option HeldValue))
-    (seats : List StreamSeatValue) (streams : List S) → Parted value all items seats streams → length items ≡ 0
+pub parted_all : (all items : List (Option HeldValue))
+    (seats : List StreamSeatValue) (streams : List StreamValue) → Parted all items seats streams → length items ≡ 0
     → (helds : List HeldValue) → all ≡ map Some helds
-    → (seats ≡ map (λ held. held.seat) helds) × (map value streams ≡ map (λ held. held.stream) helds)
-parted_all value all items seats streams parted len helds p =
+    → (seats ≡ map (λ held. held.seat) helds) × (streams ≡ map (λ held. held.stream) helds)
+parted_all all items seats streams parted len helds p =
     let was = parted helds p in
     let none = no_rest items was.0 len was.1 in (
       sym (append-nil seats) ∙ ap (λ (z : List HeldValue). seats ++ map (λ held. held.seat) z) (sym none) ∙ was.2,
-      sym (append-nil (map value streams))
-          ∙ ap (λ (z : List HeldValue). map value streams ++ map (λ held. held.stream) z) (sym none) ∙ was.3,
+      sym (append-nil streams)
+          ∙ ap (λ (z : List HeldValue). streams ++ map (λ held. held.stream) z) (sym none) ∙ was.3,
     )
 
 -- a turn that has a stream isn't empty
@@ -318,27 +316,28 @@ pub all_unended : {T E : Type 0} (P Q : E → Type 0) (r : Result T E) → ((e :
 all_unended P Q (Ok t) on p = tt
 all_unended P Q (Err e) on p = on e p
 
+pub all_oks : {T E : Type 0} (P Q : T → Type 0) (r : Result T E) → ((t : T) → P t → Q t) → IfOk r P → IfOk r Q
+all_oks P Q (Ok t) on p = on t p
+all_oks P Q (Err e) on p = tt
+
 -- the fault of an epoch that came to no end
-module _ {R W : Type 0} (left : R → Option (List ℕ)) (read_failures : R → ℕ) (after : W → Option (List ℕ)) (failures : W → ℕ)
-    (is_flushed : W → Bool) (helds : List HeldValue) where
-  pub unended_limit : (is_first : Bool) (e : Unended R W) → IsUnended left read_failures after failures is_flushed is_first helds e
-      → fault_of e ≢ BadLimit
+module _ {R W : Type 0} (helds : List HeldValue) where
+  pub unended_limit : (is_first : Bool) (e : Unended R W) → IsUnended is_first helds e → fault_of e ≢ BadLimit
   unended_limit is_first (unended.Unopened fault inputs) p = absurd p
   unended_limit is_first (unended.Unbegun back) p = no_memory NoMemory refl
   unended_limit is_first unended.Mismatch p = mismatch Mismatch refl
 
-  pub later_mismatch : (e : Unended R W) → IsUnended left read_failures after failures is_flushed false helds e → fault_of e ≡ Mismatch
+  pub later_mismatch : (e : Unended R W) → IsUnended false helds e → fault_of e ≡ Mismatch
   later_mismatch (unended.Unopened fault inputs) p = absurd p
   later_mismatch (unended.Unbegun back) p = let no : false ≡ true = p.0 in absurd (cc)
   later_mismatch unended.Mismatch p = refl
 
-  pub still_unread : (inputs : List (ReaderState × W)) (e : Unended R W)
-      → map (λ held. held.stream) helds ≡ map (unread after failures) inputs
-      → IsUnended left read_failures after failures is_flushed true helds e
-      → GivesBack left read_failures after failures is_flushed inputs e
-  still_unread inputs (unended.Unopened fault back) same p = absurd p
-  still_unread inputs (unended.Unbegun back) same p = p.1 ∙ same
-  still_unread inputs unended.Mismatch same p = tt
+  pub still_unread : (contents : W → Option (List ℕ)) (failures : W → ℕ) (inputs : List (ReaderState × W)) (e : Unended R W)
+      → map (λ held. held.stream) helds ≡ map (unread contents failures) inputs → IsUnended true helds e
+      → GivesBack contents failures inputs e
+  still_unread contents failures inputs (unended.Unopened fault back) same p = absurd p
+  still_unread contents failures inputs (unended.Unbegun back) same p = p.1 ∙ same
+  still_unread contents failures inputs unended.Mismatch same p = tt
 
 pub fault_stays : {T : Type 0} (r : Result T SessionFault) (e : SessionFault) → IsErrAnd r (λ told. told ≡ e) → e ≢ BadLimit
     → IfErr r (λ told. told ≢ BadLimit)
@@ -354,43 +353,34 @@ pub no_bad_limit : {T : Type 0} (r : Result T SessionFault) (e : SessionFault) �
 no_bad_limit r e p other is = never_bad_limit r (fault_stays r e p other) is
 
 -- what the streams leave, where no epoch comes any more
-pub all_over : {R W : Type 0} (left : R → Option (List ℕ)) (read_failures : R → ℕ) (after : W → Option (List ℕ)) (failures : W
-    → ℕ) (is_flushed : W → Bool)
-    (journal : List Entry) (starts : List ClientStart) (helds : List HeldValue) (streams : List (Stream R W)) (served : List (Served R W))
-    → AllStand journal starts helds
-    → map (stream_of left read_failures after failures is_flushed) streams ≡ map (λ held. held.stream) helds
-    → AreOver left read_failures after failures is_flushed streams served
+pub all_over : (journal : List Entry) (starts : List ClientStart) (helds : List HeldValue) (streams : List StreamValue)
+    (served : List ServedValue) → AllStand journal starts helds → streams ≡ map (λ held. held.stream) helds
+    → AreOver streams served
     → (lefts : List ClientLeft) × (map (λ l. l.seat) lefts ≡ map (λ held. held.seat) helds)
-    × (map (outcome_of left read_failures after failures is_flushed) served ≡ map (λ l. l.outcome) lefts) × AllLeave journal starts lefts
-all_over left read_failures after failures is_flushed journal [] [] [] [] p e q = ([], refl, refl, tt)
-all_over left read_failures after failures is_flushed journal [] [] [] (s ∷ served) p e q = absurd q
-all_over left read_failures after failures is_flushed journal [] [] (stream ∷ streams) served p e q = absurd (omega (arith, ap length e))
-all_over left read_failures after failures is_flushed journal [] (held ∷ helds) streams served p e q = absurd p
-all_over left read_failures after failures is_flushed journal (start ∷ starts) [] streams served p e q = absurd p
-all_over left read_failures after failures is_flushed journal (start ∷ starts) (held ∷ helds) [] served p e q =
-    absurd (omega (arith, ap length e))
-all_over left read_failures after failures is_flushed journal (start ∷ starts) (held ∷ helds) (stream ∷ streams) [] p e q = absurd q
-all_over left read_failures after failures is_flushed journal (start ∷ starts) (held ∷ helds) (stream ∷ streams) (s ∷ served) p e q =
-    let outcome : ClientOutcome = outcome_of left read_failures after failures is_flushed s in
-    let here : stream_of left read_failures after failures is_flushed stream ≡ held.stream = ap (λ vs. get_or vs 0 held.stream) e in
-    let rest = all_over left read_failures after failures is_flushed journal starts helds streams served p.1 (ap (λ vs. drop 1 vs) e) q.1 in
-    let stand : Stands start p.0.0 (record { seat = held.seat; stream = stream_of left read_failures after failures is_flushed stream }) =
-    subst (λ (v : StreamValue). Stands start p.0.0 (record { seat = held.seat; stream = v })) (sym here) p.0.1 in (
-      record { seat = held.seat; outcome = outcome } ∷ rest.0,
+    × (outcomes_of served ≡ map (λ l. l.outcome) lefts) × AllLeave journal starts lefts
+all_over journal [] [] [] [] p e q = ([], refl, refl, tt)
+all_over journal [] [] [] (s ∷ served) p e q = absurd q
+all_over journal [] [] (stream ∷ streams) served p e q = absurd (omega (arith, ap length e))
+all_over journal [] (held ∷ helds) streams served p e q = absurd p
+all_over journal (start ∷ starts) [] streams served p e q = absurd p
+all_over journal (start ∷ starts) (held ∷ helds) [] served p e q = absurd (omega (arith, ap length e))
+all_over journal (start ∷ starts) (held ∷ helds) (stream ∷ streams) [] p e q = absurd q
+all_over journal (start ∷ starts) (held ∷ helds) (stream ∷ streams) (s ∷ served) p e q =
+    let here : stream ≡ held.stream = ap (λ vs. get_or vs 0 held.stream) e in
+    let rest = all_over journal starts helds streams served p.1 (ap (λ vs. drop 1 vs) e) q.1 in
+    let stand : Stands start p.0.0 (held_at held.seat stream) =
+    subst (λ (v : StreamValue). Stands start p.0.0 (held_at held.seat v)) (sym here) p.0.1 in (
+      record { seat = held.seat; outcome = s.outcome } ∷ rest.0,
       ap (λ seats. held.seat ∷ seats) rest.1,
-      ap (λ outcomes. outcome ∷ outcomes) rest.2,
-      ((p.0.0, q.0.0 start p.0.0 held.seat stand, p.0.2), rest.3),
+      ap (λ outcomes. s.outcome ∷ outcomes) rest.2,
+      ((p.0.0, q.0.ends start p.0.0 held.seat stand, p.0.2), rest.3),
     )
 
-pub over_length : {R W : Type 0} (left : R → Option (List ℕ)) (read_failures : R → ℕ) (after : W → Option (List ℕ)) (failures : W
-    → ℕ) (is_flushed : W → Bool)
-    (streams : List (Stream R W)) (served : List (Served R W)) → AreOver left read_failures after failures is_flushed streams served
-    → length served ≡ length streams
-over_length left read_failures after failures is_flushed [] [] q = refl
-over_length left read_failures after failures is_flushed [] (s ∷ served) q = absurd q
-over_length left read_failures after failures is_flushed (stream ∷ streams) [] q = absurd q
-over_length left read_failures after failures is_flushed (stream ∷ streams) (s ∷ served) q =
-    ap suc (over_length left read_failures after failures is_flushed streams served q.1)
+pub over_length : (streams : List StreamValue) (served : List ServedValue) → AreOver streams served → length served ≡ length streams
+over_length [] [] q = refl
+over_length [] (s ∷ served) q = absurd q
+over_length (stream ∷ streams) [] q = absurd q
+over_length (stream ∷ streams) (s ∷ served) q = ap suc (over_length streams served q.1)
 
 -- the first of all are told, and these are left
 pub record Told {A B : Type 0} (All : List A → List B → Type 0) (all items : List A) (told : List B) : Type 0 where
@@ -408,40 +398,30 @@ pub all_told : {A B : Type 0} (All : List A → List B → Type 0) (all items : 
 all_told All all [] told t e = subst (λ done. All done told) (sym (append-nil t.done) ∙ t.parts) t.each
 all_told All all (x ∷ items) told t e = absurd (omega (arith, e))
 
-over_more : {R W : Type 0} (left : R → Option (List ℕ)) (read_failures : R → ℕ) (after : W → Option (List ℕ)) (failures : W
-    → ℕ) (is_flushed : W → Bool)
-    (streams : List (Stream R W)) (served : List (Served R W)) (stream : Stream R W) (s : Served R W)
-    → AreOver left read_failures after failures is_flushed streams served
-    → AreOver left read_failures after failures is_flushed (stream ∷ []) (s ∷ [])
-    → AreOver left read_failures after failures is_flushed (streams ++ stream ∷ []) (served ++ s ∷ [])
-over_more left read_failures after failures is_flushed [] [] stream s p q = q
-over_more left read_failures after failures is_flushed [] (t ∷ served) stream s p q = absurd p
-over_more left read_failures after failures is_flushed (x ∷ streams) [] stream s p q = absurd p
-over_more left read_failures after failures is_flushed (x ∷ streams) (t ∷ served) stream s p q =
-    (p.0, over_more left read_failures after failures is_flushed streams served stream s p.1 q)
+over_more : (streams : List StreamValue) (served : List ServedValue) (stream : StreamValue) (s : ServedValue)
+    → AreOver streams served → AreOver (stream ∷ []) (s ∷ []) → AreOver (streams ++ stream ∷ []) (served ++ s ∷ [])
+over_more [] [] stream s p q = q
+over_more [] (t ∷ served) stream s p q = absurd p
+over_more (x ∷ streams) [] stream s p q = absurd p
+over_more (x ∷ streams) (t ∷ served) stream s p q = (p.0, over_more streams served stream s p.1 q)
 
-pub told_one : {R W : Type 0} (left : R → Option (List ℕ)) (read_failures : R → ℕ) (after : W → Option (List ℕ)) (failures : W
-    → ℕ) (is_flushed : W → Bool)
-    (all items later : List (Stream R W)) (served served' : List (Served R W)) (stream : Stream R W) (s : Served R W)
-    → Told (AreOver left read_failures after failures is_flushed) all items served → items ≡ stream ∷ later → served' ≡ served ++ s ∷ []
-    → AreOver left read_failures after failures is_flushed (stream ∷ []) (s ∷ [])
-    → Told (AreOver left read_failures after failures is_flushed) all later served'
-told_one left read_failures after failures is_flushed all items later served served' stream s t i more one = record {
+pub told_one : (all items later : List StreamValue) (served served' : List ServedValue) (stream : StreamValue) (s : ServedValue)
+    → Told AreOver all items served → items ≡ stream ∷ later → served' ≡ served ++ s ∷ [] → AreOver (stream ∷ []) (s ∷ [])
+    → Told AreOver all later served'
+told_one all items later served served' stream s t i more one = record {
   done = t.done ++ stream ∷ [];
   parts = append_assoc t.done (stream ∷ []) later ∙ ap (λ l. t.done ++ l) (sym i) ∙ t.parts;
-  each = subst (AreOver left read_failures after failures is_flushed (t.done ++ stream ∷ [])) (sym more)
-      (over_more left read_failures after failures is_flushed t.done served stream s t.each one);
+  each = subst (AreOver (t.done ++ stream ∷ [])) (sym more) (over_more t.done served stream s t.each one);
 }
 
 -- one more was made
-pub made_more : {A B C : Type 0} (f : A → C) (h : B → C) (xs xs' : List A) (x : A) (ys ys' : List B) (y : B) (all : List C)
-    → map f xs ++ map h ys ≡ all → ys ≡ y ∷ ys' → xs' ≡ xs ++ x ∷ [] → f x ≡ h y → map f xs' ++ map h ys' ≡ all
-made_more f h xs xs' x ys ys' y all told i more same =
-    ap (λ z. map f z ++ map h ys') more ∙ ap (λ z. z ++ map h ys') (map_more f xs x)
-    ∙ append_assoc (map f xs) (f x ∷ []) (map h ys') ∙ ap (λ z. map f xs ++ z ∷ map h ys') same
-    ∙ ap (λ z. map f xs ++ map h z) (sym i) ∙ told
+pub made_more : {A B : Type 0} (h : B → A) (xs xs' : List A) (x : A) (ys ys' : List B) (y : B) (all : List A)
+    → xs ++ map h ys ≡ all → ys ≡ y ∷ ys' → xs' ≡ xs ++ x ∷ [] → x ≡ h y → xs' ++ map h ys' ≡ all
+made_more h xs xs' x ys ys' y all told i more same =
+    ap (λ z. z ++ map h ys') more ∙ append_assoc xs (x ∷ []) (map h ys') ∙ ap (λ z. xs ++ z ∷ map h ys') same
+    ∙ ap (λ z. xs ++ map h z) (sym i) ∙ told
 
 -- where nothing is left, all were made
-pub all_made : {A B : Type 0} (f : A → B) (xs all : List B) (items : List A) → length items ≡ 0 → xs ++ map f items ≡ all → xs ≡ all
-all_made f xs all [] e p = sym (append-nil xs) ∙ p
-all_made f xs all (x ∷ items) e p = absurd (omega (arith, e))
+pub all_made : {A B : Type 0} (h : B → A) (xs all : List A) (items : List B) → length items ≡ 0 → xs ++ map h items ≡ all → xs ≡ all
+all_made h xs all [] e p = sym (append-nil xs) ∙ p
+all_made h xs all (y ∷ items) e p = absurd (omega (arith, e))

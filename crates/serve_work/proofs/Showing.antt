@@ -1,5 +1,5 @@
 -- How the streams of a session are shown.
-use Rattle.std.specs.Prelude.{Bool, IsSomeAnd}
+use Rattle.std.specs.Prelude.{IsSomeAnd}
 use Rattle.std.specs.Option.{option_map}
 use Rattle.std.proofs.Common.{ℕ, ◌≡◌, ◌∙◌, ◌+◌, ◌++◌, List, Option, Some, None, true, ap, arith, sym}
 use Rattle.serve_core.specs.declared.counts.Counts.{Counts}
@@ -9,13 +9,12 @@ use Rattle.serve_hub.specs.declared.entry.Act.{Act}
 use Rattle.serve_hub.specs.Ends.{IsStreamOf}
 use Rattle.serve_hub.specs.Seats.{StreamSeatValue}
 use Rattle.serve_work.specs.declared.request.Standing.{Standing}
-use Rattle.serve_work.specs.declared.session.turn.Stream.{Stream}
-use Rattle.serve_work.specs.declared.session.turn.Stream.TheVariants as streams
 use Rattle.serve_work.specs.Clients.{ClientStart, collections_in, offers_in}
 use Rattle.serve_work.specs.Live.{IsOfSpec, IsStanding, IsStandingOf, RequestValue, start_with}
 use Rattle.serve_work.specs.LiveInside.{Stood}
 use Rattle.serve_work.specs.Rests.{Begun, IsRestOf, RestValue, Unbegun}
-use Rattle.serve_work.specs.SessionInside.{StandsAt, is_waiting, stream_of}
+use Rattle.serve_work.specs.SessionInside.{StandsAt}
+use Rattle.serve_work.specs.StreamInside.{Over, StreamValue, Waiting, is_waiting}
 use Rattle.serve_work.proofs.Renumbered.{stream_before}
 use Rattle.serve_work.proofs.SessionCharges.{stream_at}
 use Rattle.serve_work.proofs.Tallying.{collections_both, collections_counted}
@@ -58,46 +57,42 @@ counted : (start : ClientStart) (past : List Act) (seat : StreamSeatValue) (rest
 counted start past seat (Unbegun reader contents failures) a = record { offers = a.offers; before = a.before }
 counted start past seat (Begun begun) a = record { offers = a.tally.offers; before = a.tally.before }
 
-module _ {R W : Type 0} (left : R → Option (List ℕ)) (read_failures : R → ℕ) (after : W → Option (List ℕ)) (failures : W → ℕ)
-    (is_flushed : W → Bool) where
-  rest_left : (stream : Stream R W) (start : ClientStart) (past : List Act) (seat : StreamSeatValue) → is_waiting stream ≡ true
-      → StandsAt (stream_of left read_failures after failures is_flushed stream) start past seat
-      → (rest : RestValue) × IsRestOf start past seat rest
-  rest_left (streams.Waiting rest) start past seat e stands = (rest, stands)
-  rest_left (streams.Over served) start past seat e stands = absurd (cc)
+rest_left : (stream : StreamValue) (start : ClientStart) (past : List Act) (seat : StreamSeatValue) → is_waiting stream ≡ true
+    → StandsAt stream start past seat → (rest : RestValue) × IsRestOf start past seat rest
+rest_left (Waiting rest) start past seat e stands = (rest, stands)
+rest_left (Over outcome) start past seat e stands = absurd (cc)
 
-  -- a stream that isn't over is shown as it stands
-  pub can_show : (limit : ℕ) (times : ℕ → Type 0) (desk : ScheduleValue) (request : RequestValue) (stream : Stream R W)
-      (seat : StreamSeatValue) (standing : Standing)
-      → Stood limit times desk request (stream_of left read_failures after failures is_flushed stream) seat
-      → is_waiting stream ≡ true → HasStream desk seat.number (IsStreamOf seat) → HasStream desk seat.number (IsOfSpec request.spec)
-      → HasStream desk seat.number (IsStandingOf standing) → IsStanding limit times request standing
-  can_show limit times desk request stream seat standing s waits of asked has =
-      let start = start_with request s.first in
-      let rest = rest_left stream start s.past seat waits s.stands in
-      let count = counted start s.past seat rest.0 rest.1 in
-      let at = stream_at desk seat.number (IsStreamOf seat) (IsStandingOf standing) of has in
-      record {
-        first = s.first;
-        is_new = s.is_new;
-        past = s.past;
-        seat = seat;
-        rest = rest.0;
-        left = rest.1;
-        part = s.part;
-        before = s.before;
-        parts = s.are;
-        calls = s.calls;
-        accepted = at.second.accepted ∙ at.first.accepted ∙ sym count.offers;
-        collected = omega (
-          arith,
-          at.second.collected,
-          at.first.collected,
-          count.before,
-          s.is_new.before,
-          collections_both s.past seat.calls.list,
-          collections_counted seat.calls.list,
-        );
-        stream = stream_before s.behind.0 s.part.last s.part.number desk seat.number (IsStandingOf standing) s.behind.1 has;
-        spec = stream_before s.behind.0 s.part.last s.part.number desk seat.number (IsOfSpec request.spec) s.behind.1 asked;
-      }
+-- a stream that isn't over is shown as it stands
+pub can_show : (limit : ℕ) (times : ℕ → Type 0) (desk : ScheduleValue) (request : RequestValue) (stream : StreamValue)
+    (seat : StreamSeatValue) (standing : Standing) → Stood limit times desk request stream seat
+    → is_waiting stream ≡ true → HasStream desk seat.number (IsStreamOf seat) → HasStream desk seat.number (IsOfSpec request.spec)
+    → HasStream desk seat.number (IsStandingOf standing) → IsStanding limit times request standing
+can_show limit times desk request stream seat standing s waits of asked has =
+    let start = start_with request s.first in
+    let rest = rest_left stream start s.past seat waits s.stands in
+    let count = counted start s.past seat rest.0 rest.1 in
+    let at = stream_at desk seat.number (IsStreamOf seat) (IsStandingOf standing) of has in
+    record {
+      first = s.first;
+      is_new = s.is_new;
+      past = s.past;
+      seat = seat;
+      rest = rest.0;
+      left = rest.1;
+      part = s.part;
+      before = s.before;
+      parts = s.are;
+      calls = s.calls;
+      accepted = at.second.accepted ∙ at.first.accepted ∙ sym count.offers;
+      collected = omega (
+        arith,
+        at.second.collected,
+        at.first.collected,
+        count.before,
+        s.is_new.before,
+        collections_both s.past seat.calls.list,
+        collections_counted seat.calls.list,
+      );
+      stream = stream_before s.behind.0 s.part.last s.part.number desk seat.number (IsStandingOf standing) s.behind.1 has;
+      spec = stream_before s.behind.0 s.part.last s.part.number desk seat.number (IsOfSpec request.spec) s.behind.1 asked;
+    }

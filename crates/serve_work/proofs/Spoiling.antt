@@ -15,8 +15,9 @@ use Rattle.serve_work.specs.declared.stop.Halt.TheVariants.{Stopped}
 use Rattle.serve_work.specs.declared.stop.Stop.{Stop}
 use Rattle.serve_work.specs.declared.stop.Stop.TheVariants.{Whole, Read, Write, Refused, Torn}
 use Rattle.serve_work.specs.Clients.{ClientProgress, ClientStopsAt, GivesUpAt, HasMoreOrEnds, StreamStopsAt, reads_at}
-use Rattle.serve_work.specs.ClientInside.{Breaks, Feeds, GivesUp, HasInHand, Holds, IsFirst, IsNoWrite, IsOfCollection, IsSent, IsUseful}
-use Rattle.serve_work.specs.ClientInside.{SendsWhole, Serves, ServesTo, StopsReading, StopsReadingAt, StopsWith, Takes}
+use Rattle.serve_work.specs.ClientInside.{Breaks, Feeds, GivesUp, HasInHand, Holds, IsFirst, IsNoWrite, IsOfCollection, IsUseful}
+use Rattle.serve_work.specs.ClientInside.{StopsReading, StopsReadingAt, StopsWith, Takes}
+use Rattle.serve_work.specs.Sends.{IsSent, SendsWhole, Serves, ServesTo}
 use Rattle.serve_work.specs.Rests.{IsOutset, Outset, Spoils}
 use Rattle.serve_work.proofs.Staying.{stays_frames}
 use Rattle.serve_work.proofs.Moving.{StopsWith-later}

@@ -20,8 +20,9 @@ use Rattle.serve_work.specs.declared.stop.Halt.TheVariants.{Stopped}
 use Rattle.serve_work.specs.declared.stop.Stop.{Stop}
 use Rattle.serve_work.specs.declared.stop.Stop.TheVariants.{Whole, Read, Write, Refused, Torn}
 use Rattle.serve_work.specs.Clients.{ClientProgress, ClientStopsAt, HasOtherNumber, IsDrained}
-use Rattle.serve_work.specs.ClientInside.{Accounted, BreaksOff, Cuts, Feeds, IsFirst, IsNoWrite, IsOfCollection, IsSent, IsUseful}
-use Rattle.serve_work.specs.ClientInside.{KeepsMoments, MayClose, Moves, SendsWhole, Serves, StopsReading, StopsWith, TalliesSeat, texts_of}
+use Rattle.serve_work.specs.ClientInside.{Accounted, Cuts, Feeds, IsFirst, IsNoWrite, IsOfCollection, IsUseful}
+use Rattle.serve_work.specs.ClientInside.{KeepsMoments, MayClose, Moves, StopsReading, StopsWith, TalliesSeat, texts_of}
+use Rattle.serve_work.specs.Sends.{BreaksOff, IsSent, SendsWhole, Serves}
 use Rattle.serve_work.specs.Rests.{as_open}
 use Rattle.serve_work.specs.Hands.{Behind}
 use Rattle.serve_work.proofs.Hands.{Behind-map, stood_tally}

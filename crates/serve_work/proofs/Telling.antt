@@ -1,64 +1,54 @@
 -- What is told of a session where no epoch comes any more.
-use Rattle.std.specs.Prelude.{Bool, ⊤}
+use Rattle.std.specs.Prelude.{⊤}
 use Rattle.std.specs.List.{AllZip}
-use Rattle.std.proofs.Common.{◌≡◌, ℕ, ◌<◌, ◌^◌, ◌∙◌, List, Option, length, map, ap, arith, subst, sym}
+use Rattle.std.proofs.Common.{◌≡◌, ℕ, ◌<◌, ◌^◌, ◌∙◌, List, length, ap, arith, subst, sym}
 use Rattle.serve_core.specs.Schedule.{HasStream}
 use Rattle.serve_hub.specs.declared.entry.Entry.{Entry}
 use Rattle.serve_hub.specs.Ends.{AreStreamsOf}
 use Rattle.serve_work.specs.declared.session.interval.Interval.{Interval}
-use Rattle.serve_work.specs.declared.session.Served.{Served}
 use Rattle.serve_work.specs.Intervals.{Beginning, IsBetween}
-use Rattle.serve_work.specs.Sessions.{IsServedBy, outcome_of, served_of}
-use Rattle.serve_work.specs.SessionInside.{AreOver, AreTold, ClientLeft, HasStand, HeldValue, stream_of}
+use Rattle.serve_work.specs.Sessions.{IsServedBy, ServedValue}
+use Rattle.serve_work.specs.SessionInside.{AreOver, AreTold, HasStand, HeldValue, outcomes_of}
+use Rattle.serve_work.specs.Clients.{ClientLeft}
 use Rattle.serve_work.proofs.SessionCharges.{all_served, each_kept}
 use Rattle.serve_work.proofs.SessionTurns.{all_over, over_length, same_length, zip_length}
 
-module _ {R W : Type 0} (left : R → Option (List ℕ)) (read_failures : R → ℕ) (after : W → Option (List ℕ)) (failures : W → ℕ)
-    (is_flushed : W → Bool) (b : Beginning) (journal : List Entry) (now : Interval R W)
-    (at : IsBetween left read_failures after failures is_flushed b journal now) where
+module _ {R W : Type 0} (b : Beginning) (journal : List Entry) (now : Interval R W) (at : IsBetween b journal now) where
   pub as_many : length now.streams.items ≡ length at.helds
   as_many = omega (
     arith,
     ap length at.streams,
-    same_length (stream_of left read_failures after failures is_flushed) now.streams.items,
     same_length (λ (held : HeldValue). held.stream) at.helds,
   )
 
-  pub few_told : (served : List (Served R W)) → AreOver left read_failures after failures is_flushed now.streams.items served
-      → length served < 2 ^ 32
+  pub few_told : (served : List ServedValue) → AreOver now.streams.items served → length served < 2 ^ 32
   few_told served over = omega (
     arith,
-    over_length left read_failures after failures is_flushed now.streams.items served over,
+    over_length now.streams.items served over,
     as_many,
     zip_length (HasStand journal) b.starts at.helds at.stand,
     at.begun.few,
   )
 
   -- the desk has each stream
-  pub streams_told : (served : List (Served R W)) → AreOver left read_failures after failures is_flushed now.streams.items served
+  pub streams_told : (served : List ServedValue) → AreOver now.streams.items served
       → (n : ℕ) → n < length served → HasStream now.ended.book.desk n (λ _. ⊤)
   streams_told served over n less =
-      let all = all_over left read_failures after failures is_flushed journal b.starts at.helds now.streams.items served at.stand
-      at.streams over in
+      let all = all_over journal b.starts at.helds now.streams.items served at.stand at.streams over in
       each_kept journal now.ended.book.desk 0 b.starts all.0 all.3 at.begun.numbers
       (subst (AreStreamsOf now.ended.book.desk) (sym all.1) at.kept) n n (omega arith)
       (omega (
         arith,
         less,
         ap length all.2,
-        same_length (outcome_of left read_failures after failures is_flushed) served,
+        same_length (λ (s : ServedValue). s.outcome) served,
         same_length (λ (l : ClientLeft). l.outcome) all.0,
       ))
 
   -- what is told of each stream, and what it was charged
-  pub served_told : (served charged : List (Served R W)) → AreOver left read_failures after failures is_flushed now.streams.items served
-      → map (outcome_of left read_failures after failures is_flushed) charged ≡ map
-      (outcome_of left read_failures after failures is_flushed) served
-      → AreTold now.ended.book.desk (length charged) charged
-      → AllZip (IsServedBy journal now.ended.book.desk) b.starts (map (served_of left read_failures after failures is_flushed) charged)
+  pub served_told : (served charged : List ServedValue) → AreOver now.streams.items served → outcomes_of charged ≡ outcomes_of served
+      → AreTold now.ended.book.desk (length charged) charged → AllZip (IsServedBy journal now.ended.book.desk) b.starts charged
   served_told served charged over same told =
-      let all = all_over left read_failures after failures is_flushed journal b.starts at.helds now.streams.items served at.stand
-      at.streams over in
-      all_served (served_of left read_failures after failures is_flushed) journal now.ended.book.desk at.charges b.starts all.0 charged
-      all.3
-      at.begun.numbers (subst (AreStreamsOf now.ended.book.desk) (sym all.1) at.kept) (same ∙ all.2) told
+      let all = all_over journal b.starts at.helds now.streams.items served at.stand at.streams over in
+      all_served journal now.ended.book.desk at.charges b.starts all.0 charged all.3 at.begun.numbers
+      (subst (AreStreamsOf now.ended.book.desk) (sym all.1) at.kept) (same ∙ all.2) told

@@ -43,6 +43,11 @@ pub record ClientOutcome : Type 0 where
   pub failures : ℕ
   pub is_flushed : Bool
 
+-- what a client leaves
+pub record ClientLeft : Type 0 where
+  pub seat : StreamSeatValue
+  pub outcome : ClientOutcome
+
 -- the seat made no call
 pub record IsNewSeat (seat : StreamSeatValue) : Type 0 where
   pub calls : seat.calls.list ≡ []

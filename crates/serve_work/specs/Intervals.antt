@@ -1,5 +1,5 @@
 -- What contracts inside the crate say of a session from one epoch to the next.
-use Rattle.std.specs.Prelude.{ℕ, suc, ◌≡◌, ◌≤◌, ◌<◌, ◌^◌, ⊤, All, Bool, List, [], ◌∷◌, ◌++◌, Option, None}
+use Rattle.std.specs.Prelude.{ℕ, suc, ◌≡◌, ◌≤◌, ◌<◌, ◌^◌, ⊤, All, Bool, true, List, [], ◌∷◌, ◌++◌, Option, None}
 use Rattle.std.specs.Prelude.{length, map}
 use Rattle.std.specs.List.{AllByRecursion}
 use Rattle.std.specs.Vec.{vec_capacity, vec_len}
@@ -17,7 +17,7 @@ use Rattle.serve_work.specs.declared.session.opening.Opening.{Opening}
 use Rattle.serve_work.specs.declared.session.room.Room.{Room}
 use Rattle.serve_work.specs.Clients.{ClientStart}
 use Rattle.serve_work.specs.Sessions.{AllTimed, IsOfEpochs, starts_of}
-use Rattle.serve_work.specs.SessionInside.{AllBegin, AllStand, HeldValue, held_with, stream_of}
+use Rattle.serve_work.specs.SessionInside.{AllBegin, AllStand, AreAllowed, HeldValue, held_with}
 
 -- streams whose seats have the numbers from this one on
 abbrev pub AreFrom : ℕ → List ClientStart → Type 0
@@ -57,15 +57,12 @@ pub record LeadsTo (first : ScheduleValue) (journal : List Entry) (last : Schedu
 -- a session that began so stands between two epochs, with this journal of all until now: each stream where
 -- its client came to, with its seat of the epoch that ended, whose journal had the session's limit; none is
 -- told yet, and there is a place for each that is
-pub record IsBetween {R W : Type 0} (left : R → Option (List ℕ)) (read_failures : R → ℕ)
-    (after : W → Option (List ℕ)) (failures : W → ℕ) (is_flushed : W → Bool) (b : Beginning)
-    (journal : List Entry) (now : Interval R W) : Type 0 where
+pub record IsBetween {R W : Type 0} (b : Beginning) (journal : List Entry) (now : Interval R W) : Type 0 where
   pub begun : IsBeginning b
   pub past : LeadsTo b.schedule journal now.ended.book.desk
   pub helds : List HeldValue
   pub stand : AllStand journal b.starts helds
-  pub streams : map (stream_of left read_failures after failures is_flushed) now.streams.items
-      ≡ map (λ held. held.stream) helds
+  pub streams : now.streams.items ≡ map (λ held. held.stream) helds
   pub seats : now.ended.streams ≡ map left_by (map (λ held. held.seat) helds)
   pub kept : AreStreamsOf now.ended.book.desk (map (λ held. held.seat) helds)
   pub charges : All IsCharged now.ended.book.desk.streams
@@ -76,15 +73,24 @@ pub record IsBetween {R W : Type 0} (left : R → Option (List ℕ)) (read_failu
 -- the same, with more entries behind those of this journal. Where its frames have moments that the clock may
 -- give, so have those of both together. Where it is that of epochs of a session that went on so, both are
 -- that of epochs of one that goes on as it does now
-pub record IsLater {R W : Type 0} (left : R → Option (List ℕ)) (read_failures : R → ℕ)
-    (after : W → Option (List ℕ)) (failures : W → ℕ) (is_flushed : W → Bool) (Gives : ℕ → Type 0)
-    (b : Beginning) (went_on : Bool) (journal : List Entry) (now : Interval R W) : Type 0 where
+pub record IsLater {R W : Type 0} (Gives : ℕ → Type 0) (b : Beginning) (went_on : Bool) (journal : List Entry)
+    (now : Interval R W) : Type 0 where
   pub more : List Entry
-  pub between : IsBetween left read_failures after failures is_flushed b (more ++ journal) now
+  pub between : IsBetween b (more ++ journal) now
   pub moments : AllTimed Gives b.schedule journal b.starts
       → AllTimed Gives b.schedule (more ++ journal) b.starts
   pub epochs : IsOfEpochs b.limit b.schedule went_on journal
       → IsOfEpochs b.limit b.schedule now.goes_on (more ++ journal)
+
+-- a session stands so between two epochs, whatever it began with
+abbrev pub IsBetweenEpochs : {R W : Type 0} → Interval R W → Type 0
+IsBetweenEpochs now = (b : Beginning) × (journal : List Entry) × IsBetween b journal now
+
+-- and later so, with no other stops than the clock allows
+pub record GoesLater {R W : Type 0} (Gives : ℕ → Type 0) (went_on : Bool) (old now : Interval R W) : Type 0 where
+  pub between : (b : Beginning) (journal : List Entry) → IsBetween b journal old
+      → IsLater Gives b went_on journal now
+  pub stops : AreAllowed Gives old.streams.items → AreAllowed Gives now.streams.items
 
 -- the seat has made no call
 abbrev pub HasNoCalls : StreamSeatValue → Type 0
@@ -101,15 +107,24 @@ pub record IsRoomFor {L R W : Type 0} (count : ℕ) (room : Room L R W) : Type 0
 
 -- an epoch of a session that began so can begin from this schedule, behind this journal, by a hub of the
 -- session's limit: each stream stands with its seat, and there is room for what comes of all
-pub record CanBegin {L R W : Type 0} (left : R → Option (List ℕ)) (read_failures : R → ℕ)
-    (after : W → Option (List ℕ)) (failures : W → ℕ) (is_flushed : W → Bool) (b : Beginning)
-    (journal : List Entry) (from : ScheduleValue) (now : Opening L R W) : Type 0 where
+pub record CanBegin {L R W : Type 0} (b : Beginning) (journal : List Entry) (from : ScheduleValue)
+    (now : Opening L R W) : Type 0 where
   pub begun : IsBeginning b
   pub past : LeadsTo b.schedule journal from
-  pub stand : AllBegin journal b.starts (held_with (stream_of left read_failures after failures is_flushed)
-      now.opened.1.items now.streams.items)
+  pub stand : AllBegin journal b.starts (held_with now.opened.1.items now.streams.items)
   pub room : IsRoomFor (vec_len now.streams) now.room
   pub untold : now.served.items ≡ []
   pub places : vec_len now.streams ≤ vec_capacity now.served
   pub no_calls : AllByRecursion HasNoCalls now.opened.1.items
   pub limit : now.opened.0.limit ≡ b.limit
+
+-- the same, whatever it began with
+abbrev pub MayBegin : {L R W : Type 0} → ScheduleValue → Opening L R W → Type 0
+MayBegin from now = (b : Beginning) × (journal : List Entry) × CanBegin b journal from now
+
+-- a session comes to this from where an epoch began, with no other stops than the clock allows
+pub record Continues {L R W : Type 0} (Gives : ℕ → Type 0) (from : ScheduleValue) (opening : Opening L R W)
+    (now : Interval R W) : Type 0 where
+  pub between : (b : Beginning) (journal : List Entry) → CanBegin b journal from opening
+      → IsLater Gives b true journal now
+  pub stops : AreAllowed Gives opening.streams.items → AreAllowed Gives now.streams.items

@@ -7,8 +7,10 @@ pub mod Intervals
 pub mod Laws
 pub mod RestInside
 pub mod Rests
+pub mod Sends
 pub mod SessionInside
 pub mod Sessions
+pub mod StreamInside
 pub mod Turns
 pub mod Workers
 pub mod Words

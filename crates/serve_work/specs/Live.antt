@@ -1,5 +1,5 @@
 -- What is told of the streams of a session that come and go.
-use Rattle.std.specs.Prelude.{ℕ, zero, suc, IsTrue, ◌+◌, ◌≡◌, ◌≤◌, ◌⊎◌, ◌++◌, ⊤, Bool, false, List, [], ◌∷◌, Option, None, length, reverse}
+use Rattle.std.specs.Prelude.{ℕ, zero, suc, IsTrue, ◌+◌, ◌≡◌, ◌≤◌, ◌⊎◌, ◌++◌, ⊤, false, List, [], ◌∷◌, Option, None, length, reverse}
 use Rattle.cbs_account.specs.declared.limits.TheConstants.{MOST_WORKERS}
 use Rattle.y4m_stream.specs.declared.reader.Phase.TheVariants.{Open}
 use Rattle.y4m_stream.specs.Reader.{IsOfHeader, ReaderState}
@@ -27,7 +27,7 @@ use Rattle.serve_work.specs.declared.request.Request.{Request}
 use Rattle.serve_work.specs.declared.request.Standing.{Standing}
 use Rattle.serve_work.specs.Clients.{AllowsStop, ClientStart, collections_in, offers_in}
 use Rattle.serve_work.specs.Rests.{IsRestOf, RestValue}
-use Rattle.serve_work.specs.Sessions.{AreTimed, IsServed, IsStreamTold, ServedValue, open_streams, served_of}
+use Rattle.serve_work.specs.Sessions.{AreTimed, IsServed, IsStreamTold, ServedValue, open_streams}
 
 -- a stream that is to be served: what it is served with, its reader, and what is known of its writer
 pub record RequestValue : Type 0 where
@@ -210,11 +210,9 @@ AllowsRefusal spec e = AllowsAdmission spec e ⊎ (e ≡ Core cores.NoMemory)
 
 -- what is told of a request: that the stream isn't served, whose reader and writer come back as they were, or
 -- what it came to
-abbrev pub IsAnswer : {R W : Type 0} (left : R → Option (List ℕ)) (read_failures : R → ℕ)
-    (after : W → Option (List ℕ)) (failures : W → ℕ) (is_flushed : W → Bool) (limit : ℕ)
+abbrev pub IsAnswer : {R W : Type 0} (contents : W → Option (List ℕ)) (failures : W → ℕ) (limit : ℕ)
     (times : ℕ → Type 0) → RequestValue → Answer R W → Type 0
-IsAnswer left read_failures after failures is_flushed limit times request (answers.Refused e reader writer) =
-    AllowsRefusal request.spec e × (reader ≡ request.reader) × (after writer ≡ request.before)
+IsAnswer contents failures limit times request (answers.Refused e reader writer) =
+    AllowsRefusal request.spec e × (reader ≡ request.reader) × (contents writer ≡ request.before)
     × (failures writer ≡ request.failures)
-IsAnswer left read_failures after failures is_flushed limit times request (answers.Ended served) =
-    IsServedSince limit times request (served_of left read_failures after failures is_flushed served)
+IsAnswer contents failures limit times request (answers.Ended served) = IsServedSince limit times request served

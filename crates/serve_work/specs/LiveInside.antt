@@ -14,14 +14,15 @@ use Rattle.serve_hub.specs.declared.refusal.Refusal.TheVariants.{Core}
 use Rattle.serve_hub.specs.Ends.{AreStreamsOf, EndedValue, IsCharged, IsStreamOf}
 use Rattle.serve_hub.specs.Seats.{StreamRest, StreamSeatValue, left_by}
 use Rattle.serve_work.specs.declared.live.guests.Guest.{Guest}
+use Rattle.serve_work.specs.declared.live.guests.Interval.{Interval}
 use Rattle.serve_work.specs.declared.live.guests.Ticket.{Ticket}
 use Rattle.serve_work.specs.declared.live.opening.FirstStream.{FirstStream}
 use Rattle.serve_work.specs.declared.live.opening.Hall.{Hall}
-use Rattle.serve_work.specs.declared.session.turn.Stream.{Stream}
 use Rattle.serve_work.specs.Clients.{AllowsStop, offers_in}
 use Rattle.serve_work.specs.Live.{AreParts, IsBehind, IsOfSpec, IsRequest, IsSeatFor, PartValue, RequestValue}
 use Rattle.serve_work.specs.Live.{Waiting, acts_in_parts, start_with}
-use Rattle.serve_work.specs.SessionInside.{HeldValue, StandsAt, StreamValue, held_at, stream_of, stream_stop}
+use Rattle.serve_work.specs.SessionInside.{HeldValue, StandsAt, held_at}
+use Rattle.serve_work.specs.StreamInside.{StreamValue, stream_stop}
 
 -- where the stream of this request stands with its seat where an epoch opens: the seat has offered no frame
 pub record Begins (limit : ℕ) (times : ℕ → Type 0) (opening : ScheduleValue) (request : RequestValue) (stream : StreamValue)
@@ -65,16 +66,16 @@ ticket_of w = record { number = w.ticket; spec = w.request.spec }
 
 -- the stream of a request that waits, with its seat of the epoch that ended, and of the next one. It is served
 -- with what the request asked for
-abbrev pub IsGuestAt : {R W : Type 0} (value : Stream R W → StreamValue) (limit : ℕ) (times : ℕ → Type 0)
-    (last : ScheduleValue) → Guest R W → StreamSeatValue → Waiting → Type 0
-IsGuestAt value limit times last guest seat w =
-    (guest.ticket ≡ ticket_of w) × Stood limit times last w.request (value guest.stream) seat
+abbrev pub IsGuestAt : {R W : Type 0} (limit : ℕ) (times : ℕ → Type 0) (last : ScheduleValue) → Guest R W
+    → StreamSeatValue → Waiting → Type 0
+IsGuestAt limit times last guest seat w =
+    (guest.ticket ≡ ticket_of w) × Stood limit times last w.request guest.stream seat
     × HasStream last seat.number (IsOfSpec w.request.spec)
 
-abbrev pub IsGuestIn : {R W : Type 0} (value : Stream R W → StreamValue) (limit : ℕ) (times : ℕ → Type 0)
-    (opening : ScheduleValue) → Guest R W → StreamSeatValue → Waiting → Type 0
-IsGuestIn value limit times opening guest seat w =
-    (guest.ticket ≡ ticket_of w) × Begins limit times opening w.request (value guest.stream) seat
+abbrev pub IsGuestIn : {R W : Type 0} (limit : ℕ) (times : ℕ → Type 0) (opening : ScheduleValue) → Guest R W
+    → StreamSeatValue → Waiting → Type 0
+IsGuestIn limit times opening guest seat w =
+    (guest.ticket ≡ ticket_of w) × Begins limit times opening w.request guest.stream seat
 
 -- each place has a seat, and each stream a request, in the same order
 abbrev pub AllAt : {A B C : Type 0} (P : A → B → C → Type 0) → List (Option A) → List B → List C → Type 0
@@ -114,7 +115,7 @@ AreAsAsked {R} {W} desk rests guests =
     → IsAsAsked desk rests place guest
 
 -- the streams with what is kept of their requests
-abbrev pub guests_of : {R W : Type 0} → List Ticket → List (Stream R W) → List (Option (Guest R W))
+abbrev pub guests_of : {R W : Type 0} → List Ticket → List StreamValue → List (Option (Guest R W))
 guests_of (ticket ∷ tickets) (stream ∷ streams) =
     Some (record { ticket = ticket; stream = stream }) ∷ guests_of tickets streams
 guests_of tickets streams = []
@@ -126,26 +127,31 @@ nobody (seat ∷ idle) = None ∷ nobody idle
 
 -- the streams of a session between two epochs, by the seats of the one that ended, and their requests, which
 -- wait
-pub record AreGuests {R W : Type 0} (left : R → Option (List ℕ)) (read_failures : R → ℕ)
-    (after : W → Option (List ℕ)) (failures : W → ℕ) (is_flushed : W → Bool) (limit : ℕ)
-    (times : ℕ → Type 0) (ended : EndedValue) (ws : List Waiting) (guests : List (Option (Guest R W))) : Type 0 where
+pub record AreGuests {R W : Type 0} (limit : ℕ) (times : ℕ → Type 0) (ended : EndedValue) (ws : List Waiting)
+    (guests : List (Option (Guest R W))) : Type 0 where
   pub seats : List StreamSeatValue
   pub rests : ended.streams ≡ map left_by seats
   pub few : length seats ≤ MOST_STREAMS
   pub kept : AreStreamsOf ended.book.desk seats
   pub charges : All IsCharged ended.book.desk.streams
   pub of_limit : ended.book.limit ≡ limit
-  pub each : AllAt (IsGuestAt (stream_of left read_failures after failures is_flushed) limit times
-      ended.book.desk) guests seats ws
+  pub each : AllAt (IsGuestAt limit times ended.book.desk) guests seats ws
+
+-- the same, whatever requests these are that wait
+abbrev pub HaveWaited : {R W : Type 0} (waits : List Waiting → Type 0) (limit : ℕ) (times : ℕ → Type 0)
+    → EndedValue → List (Option (Guest R W)) → Type 0
+HaveWaited waits limit times ended guests = (ws : List Waiting) × waits ws × AreGuests limit times ended ws guests
+
+abbrev pub IsLiveInterval : {R W : Type 0} (waits : List Waiting → Type 0) (limit : ℕ) (times : ℕ → Type 0)
+    → Interval R W → Type 0
+IsLiveInterval waits limit times now = HaveWaited waits limit times now.ended now.guests.items
 
 -- the stream whose seat was handed over at this place can be told, and its request is this one
-pub record CanTell {R W : Type 0} (left : R → Option (List ℕ)) (read_failures : R → ℕ)
-    (after : W → Option (List ℕ)) (failures : W → ℕ) (is_flushed : W → Bool) (limit : ℕ)
-    (times : ℕ → Type 0) (ended : EndedValue) (place : ℕ) (guest : Guest R W) (w : Waiting) : Type 0 where
+pub record CanTell {R W : Type 0} (limit : ℕ) (times : ℕ → Type 0) (ended : EndedValue) (place : ℕ)
+    (guest : Guest R W) (w : Waiting) : Type 0 where
   pub ticket : guest.ticket ≡ ticket_of w
   pub seat : StreamSeatValue
-  pub stood : Stood limit times ended.book.desk w.request
-      (stream_of left read_failures after failures is_flushed guest.stream) seat
+  pub stood : Stood limit times ended.book.desk w.request guest.stream seat
   pub asked : HasStream ended.book.desk seat.number (IsOfSpec w.request.spec)
   pub here : slice_get ended.streams place ≡ Some (left_by seat)
   pub kept : HasStream ended.book.desk seat.number (IsStreamOf seat)
@@ -174,12 +180,10 @@ pub record TakesSeat {L R W : Type 0} (ticket : Ticket) (held : HeldValue) (old 
   pub idle : new.idle ≡ old.idle
 
 -- the streams with their seats, and what is kept of their requests
-abbrev pub helds_of : {R W : Type 0} (value : Stream R W → StreamValue) → List StreamSeatValue
-    → List (Option (Guest R W)) → List HeldValue
-helds_of value (seat ∷ seats) (Some guest ∷ guests) =
-    held_at seat (value guest.stream) ∷ helds_of value seats guests
-helds_of value (seat ∷ seats) (None ∷ guests) = helds_of value seats guests
-helds_of value seats guests = []
+abbrev pub helds_of : {R W : Type 0} → List StreamSeatValue → List (Option (Guest R W)) → List HeldValue
+helds_of (seat ∷ seats) (Some guest ∷ guests) = held_at seat guest.stream ∷ helds_of seats guests
+helds_of (seat ∷ seats) (None ∷ guests) = helds_of seats guests
+helds_of seats guests = []
 
 abbrev pub tickets_of : {R W : Type 0} → List StreamSeatValue → List (Option (Guest R W)) → List Ticket
 tickets_of (seat ∷ seats) (Some guest ∷ guests) = guest.ticket ∷ tickets_of seats guests

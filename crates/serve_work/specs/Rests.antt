@@ -24,8 +24,9 @@ use Rattle.serve_work.specs.declared.stop.Stop.TheVariants.{Torn, Whole}
 use Rattle.serve_core.specs.declared.collected.Collected.{Collected}
 use Rattle.serve_work.specs.Clients.{ClientStart, collections_in}
 use Rattle.serve_work.specs.Hands.{Behind, CanPutOn, IsBegunPair, IsPairOf, counted_with, with_kept}
-use Rattle.serve_work.specs.ClientInside.{Accounted, AreBuffersFor, Feeds, HasInHand, Holds, IsCounted, IsSent, IsSized}
-use Rattle.serve_work.specs.ClientInside.{IsUseful, Serves, Stays, Takes, text_in}
+use Rattle.serve_work.specs.ClientInside.{Accounted, AreBuffersFor, Feeds, HasInHand, Holds, IsCounted, IsSized}
+use Rattle.serve_work.specs.ClientInside.{IsUseful, Stays, Takes, text_in}
+use Rattle.serve_work.specs.Sends.{IsSent, Serves}
 
 -- what a client does next
 pub data CourseValue : Type 0 where

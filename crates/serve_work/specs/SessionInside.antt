@@ -1,65 +1,31 @@
 -- What contracts inside the crate say of the streams of a session, from epoch to epoch.
-use Rattle.std.specs.Prelude.{ℕ, ◌≡◌, ◌<◌, ⊤, All, Bool, true, false, IsFalse, List, [], ◌∷◌, ◌++◌, Option}
-use Rattle.std.specs.Prelude.{None, Some, IfSome, IsSomeAnd, IsTrue, map, slice_index_or}
+use Rattle.std.specs.Prelude.{ℕ, ◌≡◌, ◌<◌, ⊤, All, Bool, IsFalse, List, [], ◌∷◌, ◌++◌, Option, Some}
+use Rattle.std.specs.Prelude.{IfSome, IsSomeAnd, IsTrue, map, slice_index_or}
 use Rattle.std.specs.List.{AllByRecursion, AllZip}
 use Rattle.y4m_stream.specs.declared.reader.Phase.TheVariants.{Open}
 use Rattle.y4m_stream.specs.Reader.{IsOfHeader, ReaderState}
 use Rattle.serve_core.specs.Schedule.{HasStream, ScheduleValue}
-use Rattle.serve_core.specs.declared.collected.Collected.{Collected}
 use Rattle.serve_hub.specs.declared.entry.Act.{Act}
 use Rattle.serve_hub.specs.declared.entry.Entry.{Entry}
 use Rattle.serve_hub.specs.Seats.{StreamSeatValue}
-use Rattle.serve_work.specs.declared.session.Served.{Served}
 use Rattle.serve_work.specs.declared.session.SessionFault.{SessionFault}
 use Rattle.serve_work.specs.declared.session.SessionFault.TheVariants as faults
 use Rattle.serve_work.specs.declared.session.unended.Unended.{Unended}
 use Rattle.serve_work.specs.declared.session.unended.Unended.TheVariants as unended
-use Rattle.serve_work.specs.declared.session.turn.Stream.{Stream}
-use Rattle.serve_work.specs.declared.session.turn.Stream.TheVariants as streams
-use Rattle.serve_work.specs.declared.stop.Stop.{Stop}
-use Rattle.serve_work.specs.Clients.{AllowsStop, ClientEnds, ClientOutcome, ClientStart, StreamEnds}
-use Rattle.serve_work.specs.ClientInside.{IsNoNewEnd, KeepsAllowed, KeepsMoments, TellsKept}
-use Rattle.serve_work.specs.Rests.{IsRest, IsRestOf, RestValue, Unbegun, reader_in, rest_image, rest_stop}
-use Rattle.serve_work.specs.Sessions.{acts_in, outcome_of}
-
--- a stream of a session, whatever the epoch: what is left to do of it, or what it came to
-pub data StreamValue : Type 0 where
-  Waiting : (rest : RestValue) → StreamValue
-  Over : (outcome : ClientOutcome) → StreamValue
-
-abbrev pub stream_of : {R W : Type 0} (left : R → Option (List ℕ)) (read_failures : R → ℕ)
-    (after : W → Option (List ℕ)) (failures : W → ℕ) (is_flushed : W → Bool) → Stream R W → StreamValue
-stream_of left read_failures after failures is_flushed (streams.Waiting rest) = Waiting rest
-stream_of left read_failures after failures is_flushed (streams.Over served) =
-    Over (outcome_of left read_failures after failures is_flushed served)
-
--- whether something is left to do of a stream
-abbrev pub is_waiting : {R W : Type 0} → Stream R W → Bool
-is_waiting (streams.Waiting rest) = true
-is_waiting (streams.Over served) = false
+use Rattle.serve_work.specs.Clients.{AllowsStop, ClientEnds, ClientLeft, ClientOutcome, ClientStart, StreamEnds}
+use Rattle.serve_work.specs.ClientInside.{IsNoNewEnd, KeepsAllowed, KeepsMoments}
+use Rattle.serve_work.specs.Rests.{IsRest, IsRestOf, Unbegun, reader_in}
+use Rattle.serve_work.specs.Sessions.{ServedValue, acts_in}
+use Rattle.serve_work.specs.Sends.{TellsKept}
+use Rattle.serve_work.specs.StreamInside.{Over, StreamValue, Waiting, is_waiting, stream_image, stream_stop}
 
 -- nothing is left to do of these
-abbrev pub AreAllOver : {R W : Type 0} → List (Stream R W) → Type 0
+abbrev pub AreAllOver : List StreamValue → Type 0
 AreAllOver streams = All (λ stream. IsFalse (is_waiting stream)) streams
 
--- the stop that is kept for a stream, or that it came to
-abbrev pub stream_stop : StreamValue → Option Stop
-stream_stop (Waiting rest) = rest_stop rest
-stream_stop (Over outcome) = Some outcome.stop
-
--- the same, as the code has it
-abbrev pub kept_stop : {R W : Type 0} → Stream R W → Option Stop
-kept_stop (streams.Waiting rest) = rest_stop rest
-kept_stop (streams.Over served) = Some served.stop
-
--- the image that a stream's client has in hand, if there is one
-abbrev pub kept_image : {R W : Type 0} → Stream R W → Option Collected
-kept_image (streams.Waiting rest) = rest_image rest
-kept_image (streams.Over served) = None
-
--- the clock allows each of these stops
-abbrev pub AreAllowed : (Gives : ℕ → Type 0) → List (Option Stop) → Type 0
-AreAllowed Gives stops = AllByRecursion (λ stop. IfSome stop (AllowsStop Gives)) stops
+-- the clock allows each stop that these keep, or came to
+abbrev pub AreAllowed : (Gives : ℕ → Type 0) → List StreamValue → Type 0
+AreAllowed Gives streams = AllByRecursion (λ stream. IfSome (stream_stop stream) (AllowsStop Gives)) streams
 
 -- the fault that a session tells where an epoch came to no end
 abbrev pub fault_of : {R W : Type 0} → Unended R W → SessionFault
@@ -76,22 +42,17 @@ abbrev pub held_at : StreamSeatValue → StreamValue → HeldValue
 held_at seat stream = record { seat = seat; stream = stream }
 
 -- streams with their seats, both in order
-abbrev pub held_with : {S : Type 0} (value : S → StreamValue) → List StreamSeatValue → List S → List HeldValue
-held_with value (seat ∷ seats) (stream ∷ streams) =
-    held_at seat (value stream) ∷ held_with value seats streams
-held_with value seats streams = []
+abbrev pub held_with : List StreamSeatValue → List StreamValue → List HeldValue
+held_with (seat ∷ seats) (stream ∷ streams) = held_at seat stream ∷ held_with seats streams
+held_with seats streams = []
 
 -- why an epoch of these streams came to no end: all threads are needed in the first alone, and where one is
 -- refused the streams come back as they were
-abbrev pub IsUnended : {R W : Type 0} (left : R → Option (List ℕ)) (read_failures : R → ℕ)
-    (after : W → Option (List ℕ)) (failures : W → ℕ) (is_flushed : W → Bool) → (is_first : Bool)
-    → List HeldValue → Unended R W → Type 0
-IsUnended left read_failures after failures is_flushed is_first helds (unended.Unopened fault inputs) = ⊥
-IsUnended left read_failures after failures is_flushed is_first helds (unended.Unbegun back) =
-    IsTrue is_first
-    × (map (stream_of left read_failures after failures is_flushed) back.items
-    ≡ map (λ held. held.stream) helds)
-IsUnended left read_failures after failures is_flushed is_first helds unended.Mismatch = ⊤
+abbrev pub IsUnended : {R W : Type 0} → (is_first : Bool) → List HeldValue → Unended R W → Type 0
+IsUnended is_first helds (unended.Unopened fault inputs) = ⊥
+IsUnended is_first helds (unended.Unbegun back) =
+    IsTrue is_first × (back.items ≡ map (λ held. held.stream) helds)
+IsUnended is_first helds unended.Mismatch = ⊤
 
 -- nothing was done of the stream of this input
 abbrev pub unread : {W : Type 0} (contents : W → Option (List ℕ)) (failures : W → ℕ) → ReaderState × W
@@ -100,15 +61,11 @@ unread contents failures input = Waiting (Unbegun input.0 (contents input.1) (fa
 
 -- what comes back where a session's first epoch came to no end: its inputs as they were, or their streams
 -- with nothing done of them
-abbrev pub GivesBack : {R W : Type 0} (left : R → Option (List ℕ)) (read_failures : R → ℕ)
-    (after : W → Option (List ℕ)) (failures : W → ℕ) (is_flushed : W → Bool) → List (ReaderState × W)
-    → Unended R W → Type 0
-GivesBack left read_failures after failures is_flushed inputs (unended.Unopened fault back) =
-    back.items ≡ inputs
-GivesBack left read_failures after failures is_flushed inputs (unended.Unbegun back) =
-    map (stream_of left read_failures after failures is_flushed) back.items
-    ≡ map (unread after failures) inputs
-GivesBack left read_failures after failures is_flushed inputs unended.Mismatch = ⊤
+abbrev pub GivesBack : {R W : Type 0} (contents : W → Option (List ℕ)) (failures : W → ℕ)
+    → List (ReaderState × W) → Unended R W → Type 0
+GivesBack contents failures inputs (unended.Unopened fault back) = back.items ≡ inputs
+GivesBack contents failures inputs (unended.Unbegun back) = back.items ≡ map (unread contents failures) inputs
+GivesBack contents failures inputs unended.Mismatch = ⊤
 
 abbrev pub AreUnread : {W : Type 0} → List (ReaderState × W) → Type 0
 AreUnread inputs = AllByRecursion (λ input. input.0.phase ≡ Open) inputs
@@ -156,11 +113,7 @@ BeginsAgain journal start held = Stands start (acts_in journal start) held
 abbrev pub AllBegin : List Entry → List ClientStart → List HeldValue → Type 0
 AllBegin journal starts helds = AllZip (BeginsAgain journal) starts helds
 
--- what a stream leaves when it is over
-pub record ClientLeft : Type 0 where
-  pub seat : StreamSeatValue
-  pub outcome : ClientOutcome
-
+-- the same, where it is over
 abbrev pub Leaves : List Entry → ClientStart → ClientLeft → Type 0
 Leaves journal start left =
     (past : List Act) × StreamEnds start past left.seat left.outcome
@@ -180,27 +133,24 @@ AllRun Gives old new = (helds : List HeldValue) → old ≡ map Some helds
 
 -- what is told of a stream is its end, from whatever it began with; the clock's end only where it was kept,
 -- and a fault that was kept
-abbrev pub IsOver : {R W : Type 0} (left : R → Option (List ℕ)) (read_failures : R → ℕ)
-    (after : W → Option (List ℕ)) (failures : W → ℕ) (is_flushed : W → Bool) → Stream R W → Served R W
-    → Type 0
-IsOver left read_failures after failures is_flushed stream served =
-    ((start : ClientStart) (past : List Act) (seat : StreamSeatValue)
-    → StandsAt (stream_of left read_failures after failures is_flushed stream) start past seat
-    → StreamEnds start past seat (outcome_of left read_failures after failures is_flushed served))
-    × IsNoNewEnd (kept_stop stream) (Some served.stop)
-    × TellsKept (kept_stop stream) (kept_image stream) served.stop
+pub record IsOver (stream : StreamValue) (served : ServedValue) : Type 0 where
+  pub ends : (start : ClientStart) (past : List Act) (seat : StreamSeatValue) → StandsAt stream start past seat
+      → StreamEnds start past seat served.outcome
+  pub stop : IsNoNewEnd (stream_stop stream) (Some served.outcome.stop)
+  pub kept : TellsKept (stream_stop stream) (stream_image stream) served.outcome.stop
 
-abbrev pub AreOver : {R W : Type 0} (left : R → Option (List ℕ)) (read_failures : R → ℕ)
-    (after : W → Option (List ℕ)) (failures : W → ℕ) (is_flushed : W → Bool) → List (Stream R W)
-    → List (Served R W) → Type 0
-AreOver left read_failures after failures is_flushed streams served =
-    AllZip (IsOver left read_failures after failures is_flushed) streams served
+abbrev pub AreOver : List StreamValue → List ServedValue → Type 0
+AreOver streams served = AllZip IsOver streams served
 
 -- of streams that kept these stops, the clock's end is told only where it was kept
-abbrev pub BringNoEnd : List (Option Stop) → List ClientOutcome → Type 0
-BringNoEnd stops outcomes = AllZip (λ kept outcome. IsNoNewEnd kept (Some outcome.stop)) stops outcomes
+abbrev pub BringNoEnd : List StreamValue → List ServedValue → Type 0
+BringNoEnd streams served =
+    AllZip (λ stream told. IsNoNewEnd (stream_stop stream) (Some told.outcome.stop)) streams served
+
+abbrev pub outcomes_of : List ServedValue → List ClientOutcome
+outcomes_of served = map (λ told. told.outcome) served
 
 -- the first of these streams are told what they were charged
-abbrev pub AreTold : {R W : Type 0} → ScheduleValue → ℕ → List (Served R W) → Type 0
-AreTold {R} {W} desk count served = (k : ℕ) (d : Served R W) → k < count
+abbrev pub AreTold : ScheduleValue → ℕ → List ServedValue → Type 0
+AreTold desk count served = (k : ℕ) (d : ServedValue) → k < count
     → HasStream desk k (λ stream. (slice_index_or served k d).charged ≡ stream.state.charged)

@@ -19,7 +19,6 @@ use Rattle.serve_hub.specs.Books.{specs_of}
 use Rattle.serve_hub.specs.Ends.{AreFree, acts_of}
 use Rattle.serve_hub.specs.Journal.{IsJournal, clock_in, transcript_of}
 use Rattle.serve_hub.specs.Seats.{StreamSeatValue}
-use Rattle.serve_work.specs.declared.session.Served.{Served}
 use Rattle.serve_work.specs.declared.stop.Stop.TheVariants.{Whole}
 use Rattle.serve_work.specs.Clients.{AllowsStop, ClientOutcome, ClientStart, IsAtMoment, StreamEnds}
 
@@ -52,27 +51,6 @@ starts_of contents failures seats inputs = []
 pub record ServedValue : Type 0 where
   pub outcome : ClientOutcome
   pub charged : ℕ
-
--- the same, by what is known of the stream's source and its writer
-abbrev pub outcome_of : {R W : Type 0} (left : R → Option (List ℕ)) (read_failures : R → ℕ)
-    (after : W → Option (List ℕ)) (failures : W → ℕ) (is_flushed : W → Bool) → Served R W → ClientOutcome
-outcome_of left read_failures after failures is_flushed served = record {
-  stop = served.stop;
-  accepted = served.accepted;
-  delivered = served.delivered;
-  left = left served.source;
-  read_failures = read_failures served.source;
-  after = after served.writer;
-  failures = failures served.writer;
-  is_flushed = is_flushed served.writer;
-}
-
-abbrev pub served_of : {R W : Type 0} (left : R → Option (List ℕ)) (read_failures : R → ℕ)
-    (after : W → Option (List ℕ)) (failures : W → ℕ) (is_flushed : W → Bool) → Served R W → ServedValue
-served_of left read_failures after failures is_flushed served = record {
-  outcome = outcome_of left read_failures after failures is_flushed served;
-  charged = served.charged;
-}
 
 -- a client came from this beginning to what is told, and the stream was charged for all images that were
 -- delivered, and for no more than the frames that were accepted

@@ -1,17 +1,14 @@
 //! A client whose header line was written, where the journal is full.
-ghost use Rattle.serve_hub.specs.declared.entry.Act.{Act};
-ghost use Rattle.serve_hub.specs.Seats.{StreamSeatValue};
 ghost use Rattle.filters.specs.Chain.{ChainValue};
-ghost use Rattle.std.specs.Prelude.{◌≡◌, IfNone, IfSome, List, Some};
-ghost use Rattle.serve_work.specs.Clients.{ClientStart, StreamEnds};
-ghost use Rattle.serve_work.specs.ClientInside.{IsNoNewEnd, TellsKept};
+ghost use Rattle.std.specs.Prelude.{◌≡◌, IfNone, IfSome, Some};
 ghost use Rattle.serve_work.specs.declared.stop.Stop.TheVariants as stops;
+ghost use Rattle.serve_work.specs.Rests as rests;
 ghost use Rattle.serve_work.specs.Hands.{CanPutOn, EndsImage, IsOfEnding};
-ghost use Rattle.serve_work.specs.Rests.{IsBegun, course_image, course_stop};
-ghost use Rattle.serve_work.specs.Sessions.{outcome_of};
+ghost use Rattle.serve_work.specs.SessionInside.{IsOver};
+ghost use Rattle.serve_work.specs.StreamInside.{Waiting};
 
 use crate::buffers::Buffers;
-use crate::clients::flushed;
+use crate::clients::stop_after_flush;
 use crate::course::Course;
 use crate::session::Served;
 use crate::stop::{Cause, Stop};
@@ -67,11 +64,7 @@ impl<R: Source + Drop, W: Sink> Begun<R, W> {
     /// The end of the stream where no epoch comes any more. An image in hand is written to its end first. It
     /// stops for the fault that it keeps, else for that of this write, and else for want of memory.
     pub(crate) fn give_up(self) -> Served<R, W>
-        ensures ends { (start : ClientStart) (past : List Act) (seat : StreamSeatValue)
-            → IsBegun start past seat self → StreamEnds start past seat
-            (outcome_of R.remaining R.failures W.contents W.failures W.is_flushed result) }
-        ensures stop { IsNoNewEnd (course_stop self.course) (Some result.stop) }
-        ensures kept { TellsKept (course_stop self.course) (course_image self.course) result.stop }
+        ensures { IsOver (Waiting (rests.Begun self)) result }
     {
         let Begun {
             reader,
@@ -80,7 +73,7 @@ impl<R: Source + Drop, W: Sink> Begun<R, W> {
             accepted,
             ..
         } = self;
-        let (kept, image) = course.kept();
+        let (kept, image) = course.into_kept();
         let ended = end_image(&mut writer, image);
         let stop = kept.or(ended).or(Stop::Refused(Cause::NoMemory));
         let delivered = writer.frames();
@@ -89,7 +82,7 @@ impl<R: Source + Drop, W: Sink> Begun<R, W> {
             accepted,
             delivered,
             charged: 0,
-            stop: flushed(stop, flush),
+            stop: stop_after_flush(stop, flush),
             source: reader.into_source(),
             writer,
         }

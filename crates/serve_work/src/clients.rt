@@ -1,18 +1,18 @@
 //! A client: one stream, from its reader through its seat to its writer.
-ghost use Rattle.std.specs.Prelude.{◌≡◌, ◌≤◌, ℕ, List, IfOk, IfSome, Option, Some, unwrap_or};
+ghost use Rattle.std.specs.Prelude.{◌≡◌, ◌≤◌, List, IfOk, IfSome, Option, Some, unwrap_or};
 ghost use Rattle.serve_hub.specs.declared.entry.Act.{Act};
-ghost use Rattle.serve_hub.specs.Seats.{StreamSeatValue};
 ghost use Rattle.y4m_header.specs.Header.{HeaderValue};
 ghost use Rattle.y4m_header.specs.declared.limits.TheConstants.{MOST_FRAMES};
 ghost use Rattle.y4m_stream.specs.Reader.{IsOfHeader};
 ghost use Rattle.y4m_stream.specs.Served.{IsHeaderOfImages};
 ghost use Rattle.y4m_stream.specs.Writer.{IsOpenedFor, WriterState};
-ghost use Rattle.serve_work.specs.ClientInside.{AreBuffersFor, HasPlaces, Flushes, IsCounted, IsNoNewEnd};
-ghost use Rattle.serve_work.specs.ClientInside.{KeepsAllowed, KeepsMoments, Serves, TalliesSeat};
+ghost use Rattle.serve_work.specs.ClientInside.{AreBuffersFor, HasPlaces, IsCounted, IsNoNewEnd};
+ghost use Rattle.serve_work.specs.ClientInside.{KeepsAllowed, KeepsMoments, TalliesSeat};
 ghost use Rattle.serve_work.specs.Clients.{AllowsStop, ClientEnds, ClientStart};
 ghost use Rattle.serve_work.specs.Rests.{CanGoOn, IsFresh, IsRest, IsRestOf, IsRunning, IsTallied, IsUnbegun};
 ghost use Rattle.serve_work.specs.Rests.{course_stop_before, reader_in, rest_stop};
-ghost use Rattle.serve_work.specs.Turns.{PausesAtFull, Turns, end_of, seat_in, turn_stop};
+ghost use Rattle.serve_work.specs.Turns.{PausesAtFull, Turns, left_unread, seat_in, turn_stop};
+ghost use Rattle.serve_work.specs.Sends.{Flushes, Serves};
 
 use crate::begun::{Begun, State};
 use crate::buffers::Buffers;
@@ -24,6 +24,7 @@ use crate::stop::{Cause, Stop};
 use filters::FilterError;
 use serve_hub::{Epoch, Hub, RoomLeft, StreamSeat};
 use std::alloc::Global;
+use std::marker::Model;
 use std::sync::Wait;
 use y4m_header::Header;
 use y4m_stream::reader::Phase;
@@ -33,6 +34,7 @@ use y4m_stream::{
 
 /// What a client leaves: its seat, which is closed and keeps no frame where all went well, its source without
 /// the bytes that were read ahead, and its writer, which is flushed unless it failed or nothing was written.
+/// Contracts see the `ClientLeft` of `specs/Clients.antt`.
 #[derive(Drop)]
 pub struct ClientEnd<L: Epoch, R: Source, W: Sink> {
     pub seat: StreamSeat<L>,
@@ -46,6 +48,26 @@ pub struct ClientEnd<L: Epoch, R: Source, W: Sink> {
     pub stop: Stop,
 }
 
+impl<L: Epoch, R: Source, W: Sink> Model for ClientEnd<L, R, W> {
+    ghost use Rattle.serve_work.specs.Clients.{ClientLeft};
+
+    ghost Value = { ClientLeft };
+
+    ghost view = { λ a. record {
+      seat = a.seat;
+      outcome = record {
+        stop = a.stop;
+        accepted = a.accepted;
+        delivered = a.delivered;
+        left = R.remaining a.source;
+        read_failures = R.failures a.source;
+        after = W.contents a.writer;
+        failures = W.failures a.writer;
+        is_flushed = W.is_flushed a.writer;
+      };
+    } };
+}
+
 /// What a client comes to in an epoch.
 #[derive(Drop)]
 pub enum ClientTurn<L: Epoch, R: Source, W: Sink> {
@@ -56,7 +78,7 @@ pub enum ClientTurn<L: Epoch, R: Source, W: Sink> {
 }
 
 /// The stop, or the fault of the flush where all went well before.
-pub(crate) fn flushed(stop: Stop, flush: Result<(), WriteFault>) -> Stop
+pub(crate) fn stop_after_flush(stop: Stop, flush: Result<(), WriteFault>) -> Stop
     ensures { Flushes stop flush result }
 {
     match (stop, flush) {
@@ -66,7 +88,7 @@ pub(crate) fn flushed(stop: Stop, flush: Result<(), WriteFault>) -> Stop
 }
 
 /// Where nothing was written, or not all of the header line: the stream is closed, and nothing is offered.
-fn unopened<L: Epoch, R: Source + Drop, W: Sink, T: Wait>(
+fn end_unopened<L: Epoch, R: Source + Drop, W: Sink, T: Wait>(
     rt: &T,
     hub: &Hub<L>,
     mut seat: StreamSeat<L>,
@@ -76,11 +98,8 @@ fn unopened<L: Epoch, R: Source + Drop, W: Sink, T: Wait>(
 ) -> ClientEnd<L, R, W>
     ensures tally { TalliesSeat seat result.seat }
     ensures accepted { result.seat.accepted ≡ seat.accepted }
-    ensures remaining { R.remaining result.source ≡ reader.left }
-    ensures failures { R.failures result.source ≡ reader.failures }
-    ensures writer { result.writer ≡ writer }
-    ensures none { (result.accepted ≡ 0) × (result.delivered ≡ 0) }
-    ensures stop { result.stop ≡ stop }
+    ensures outcome { result.outcome ≡ left_unread reader (W.contents writer) (W.failures writer)
+        (W.is_flushed writer) stop }
 {
     let _ = hub.close(rt, &mut seat);
     ClientEnd {
@@ -119,14 +138,13 @@ fn end<L: Epoch, R: Source + Drop, W: Sink>(
     stop: Stop,
 ) -> ClientEnd<L, R, W>
     ensures seat { result.seat ≡ seat }
-    ensures stop { IsNoNewEnd (Some stop) (Some result.stop) }
+    ensures stop { IsNoNewEnd (Some stop) (Some result.outcome.stop) }
     ensures ends { (start : ClientStart) (past : List Act) (shown : HeaderValue) (opened : WriterState)
         → IsHeaderOfImages start.seat.chain start.reader.header shown
         → IsOpenedFor shown start.before start.failures opened → IsFresh start.seat
         → Serves past stop start.reader reader start.seat seat opened writer
         → IsTallied past start.seat seat writer
-        → ClientEnds start past result.seat
-        (end_of R.remaining R.failures W.contents W.failures W.is_flushed result) }
+        → ClientEnds start past result.seat result.outcome }
 {
     let accepted = seat.accepted();
     let delivered = writer.frames();
@@ -137,7 +155,7 @@ fn end<L: Epoch, R: Source + Drop, W: Sink>(
         writer,
         accepted,
         delivered,
-        stop: flushed(stop, flush),
+        stop: stop_after_flush(stop, flush),
     }
 }
 
@@ -156,7 +174,7 @@ fn run<L: Epoch, R: Source + Drop, W: Sink, K: Clock, T: Wait>(
     requires header { IsOfHeader reader.header seat.chain.geometry }
     requires can { CanGoOn course reader seat writer buffers }
     ensures turn { (start : ClientStart) (past : List Act) → IsRunning course start past reader seat writer
-        → Turns R.remaining R.failures W.contents W.failures W.is_flushed start past result }
+        → Turns start past result }
     ensures moments { KeepsMoments (K.gives clock.now) seat (seat_in result) }
     ensures stop { KeepsAllowed (K.gives clock.now) (course_stop_before course) (turn_stop result) }
 {
@@ -207,17 +225,17 @@ fn begin<L: Epoch, R: Source + Drop, W: Sink, K: Clock, T: Wait>(
     requires most { seat.frames ≤ MOST_FRAMES }
     ensures turn { (start : ClientStart) (past : List Act)
         → IsUnbegun start past seat reader (W.contents writer) (W.failures writer)
-        → Turns R.remaining R.failures W.contents W.failures W.is_flushed start past result }
+        → Turns start past result }
     ensures moments { KeepsMoments (K.gives clock.now) seat (seat_in result) }
     ensures stop { IfSome (turn_stop result) (AllowsStop (K.gives clock.now)) }
 {
     let Ok((resized, buffers)) = prepare(alloc, &seat, reader.header()) else {
         let stop = Stop::Refused(Cause::NoMemory);
-        return ClientTurn::Ended(unopened(rt, hub, seat, reader, writer, stop));
+        return ClientTurn::Ended(end_unopened(rt, hub, seat, reader, writer, stop));
     };
     match StreamWriter::open(writer, shown_header(&resized, reader.header())) {
         Err((writer, fault)) => {
-            ClientTurn::Ended(unopened(rt, hub, seat, reader, writer, Stop::Write(fault)))
+            ClientTurn::Ended(end_unopened(rt, hub, seat, reader, writer, Stop::Write(fault)))
         }
         Ok(output) => run(rt, alloc, hub, seat, reader, output, buffers, clock, None),
     }
@@ -235,7 +253,7 @@ fn go_on<L: Epoch, R: Source + Drop, W: Sink, K: Clock, T: Wait>(
     requires header { IsOfHeader (reader_in rest).header seat.chain.geometry }
     requires rest { IsRest seat rest }
     ensures turn { (start : ClientStart) (past : List Act) → IsRestOf start past seat rest
-        → Turns R.remaining R.failures W.contents W.failures W.is_flushed start past result }
+        → Turns start past result }
     ensures moments { KeepsMoments (K.gives clock.now) seat (seat_in result) }
     ensures stop { KeepsAllowed (K.gives clock.now) (rest_stop rest) (turn_stop result) }
 {
@@ -289,7 +307,7 @@ pub fn client<L: Epoch, R: Source + Drop, W: Sink, K: Clock, T: Wait>(
     requires header { IsOfHeader (reader_in rest).header seat.chain.geometry }
     requires rest { IsRest seat rest }
     ensures turn { (start : ClientStart) (past : List Act) → IsRestOf start past seat rest
-        → Turns R.remaining R.failures W.contents W.failures W.is_flushed start past result }
+        → Turns start past result }
     ensures moments { KeepsMoments (K.gives clock.now) seat (seat_in result) }
     ensures stop { KeepsAllowed (K.gives clock.now) (rest_stop rest) (turn_stop result) }
     ensures full { PausesAtFull result }

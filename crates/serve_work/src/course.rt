@@ -25,7 +25,7 @@ pub(crate) enum Course {
 
 impl Course {
     /// The fault that a client keeps, or `Whole`; and the image in hand, if there is one.
-    pub(crate) fn kept(self) -> (Stop, Option<Collected>)
+    pub(crate) fn into_kept(self) -> (Stop, Option<Collected>)
         ensures stop { result.0 ≡ stop_kept (course_of self) }
         ensures image { result.1 ≡ course_image (course_of self) }
     {

@@ -39,7 +39,7 @@ pub trait Door<R: Source, W: Sink>: Bell {
         requires answer { (before : List Waiting) × (w : Waiting) × (after : List Waiting)
             × waits self.old (before ++ w ∷ after) × (w.ticket ≡ ticket)
             × IsSomeAnd answer.old
-            (IsAnswer R.remaining R.failures W.contents W.failures W.is_flushed limit times w.request) }
+            (IsAnswer W.contents W.failures limit times w.request) }
         ensures told { (before : List Waiting) (w : Waiting) (after : List Waiting)
             → waits self.old (before ++ w ∷ after) → w.ticket ≡ ticket → waits self.new (before ++ after) };
 

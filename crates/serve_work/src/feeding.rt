@@ -60,7 +60,7 @@ impl Fed {
     }
 
     /// Why no frame is read, where an image couldn't be delivered.
-    fn halted(halt: Halt) -> Fed
+    fn without_frame(halt: Halt) -> Fed
         ensures { result ≡ fed_before halt }
     {
         match halt {
@@ -158,7 +158,7 @@ pub(crate) fn offer_once<L: Epoch, T: Wait>(
                     refusal,
                     frame: Some(frame),
                 },
-            ) => refused(refusal, frame, None),
+            ) => offered_of(refusal, frame, None),
         },
         Some(image) => match hub.offer_over(rt, alloc, seat, at, frame, image) {
             Ok(_) => Offered::Accepted,
@@ -168,13 +168,13 @@ pub(crate) fn offer_once<L: Epoch, T: Wait>(
                     refusal,
                     back: Some((frame, image)),
                 },
-            ) => refused(refusal, frame, Some(image)),
+            ) => offered_of(refusal, frame, Some(image)),
         },
     }
 }
 
 /// What a frame comes to that was refused and came back, with the memory of an image if one was at hand.
-fn refused(refusal: Refusal, frame: Arc<Frame>, image: Option<Frame>) -> Offered
+fn offered_of(refusal: Refusal, frame: Arc<Frame>, image: Option<Frame>) -> Offered
     ensures { (at : ℕ) (seat : StreamSeatValue) → seat.is_closed ≡ false
         → (arc_value frame).geometry ≡ seat.chain.geometry
         → IsOfferTold seat at (arc_value frame).geometry refusal
@@ -264,7 +264,7 @@ fn feed_once<L: Epoch, R: Source + Drop, W: Sink, K: Clock, T: Wait>(
     let ahead = reads_ahead(seat, reader);
     match deliver_ready(rt, hub, seat, writer, buffers, ahead) {
         Ok(()) => {}
-        Err(halt) => return Err(Fed::halted(halt)),
+        Err(halt) => return Err(Fed::without_frame(halt)),
     }
     match await_input(rt, hub, reader) {
         Input::Ready => {}

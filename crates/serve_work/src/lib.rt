@@ -6,6 +6,7 @@
 #![tactic(auto)]
 
 mod begun;
+mod bounds;
 mod buffers;
 pub mod clients;
 mod course;

@@ -2,10 +2,10 @@
 //!
 //! It goes from epoch to epoch. Where a request is at the door, or a stream is over, the epoch is ended; the
 //! streams that are over are told then, and those that came are admitted before the next one begins.
-ghost use Rattle.std.specs.Prelude.{ℕ, ◌≡◌, ◌↔◌, ◌⊎◌, List, [], ◌∷◌, IfErr, IfOk, IsErrOf};
-ghost use Rattle.serve_work.specs.Live.{IsForm, IsLiveLimit, Waiting, waiting_of};
-ghost use Rattle.serve_work.specs.LiveInside.{AreGuests};
+ghost use Rattle.std.specs.Prelude.{ℕ, ◌≡◌, ◌↔◌, ◌⊎◌, [], ◌∷◌, IfErr, IfOk, IsErrOf};
+ghost use Rattle.serve_work.specs.Live.{IsForm, IsLiveLimit, waiting_of};
 ghost use Rattle.serve_work.specs.Sessions.{IsInput};
+ghost use Rattle.serve_work.specs.LiveInside.{IsLiveInterval};
 
 mod admission;
 mod epochs;
@@ -14,11 +14,12 @@ mod opening;
 mod retirement;
 mod threads;
 
+use crate::bounds::{Runtime, SentSink, SentSource, SharedClock, SharedDoor, SharedGate};
 use crate::door::Door;
 use crate::gate::{Clock, Gate};
 use crate::request::Request;
 use crate::session::SessionFault;
-use epochs::{first, later};
+use epochs::{first_epoch, next_epoch};
 use guests::{Interval, show_guests, show_none, tell_guests};
 use opening::Form;
 use retirement::without_released;
@@ -36,12 +37,12 @@ const LEAST_LIMIT: usize = 130;
 
 /// Serves the stream of a request, and those that come while any is served.
 fn serve_from<
-    R: Source + Drop + Send,
-    W: Sink + Drop + Send,
-    D: Door<R, W> + Sync,
-    G: Gate + Sync,
-    K: Clock + Sync,
-    T: Threads + Wait + Sync,
+    R: SentSource,
+    W: SentSink,
+    D: SharedDoor<R, W>,
+    G: SharedGate,
+    K: SharedClock,
+    T: Runtime,
 >(
     rt: &T,
     alloc: Global,
@@ -63,7 +64,7 @@ fn serve_from<
         return Ok(());
     };
     let blank = Blank::new(MOST_SEATS);
-    match first::<Brand, R, W, D, G, K, T>(
+    match first_epoch::<Brand, R, W, D, G, K, T>(
         rt, alloc, blank, stream, form.limit, door, gate, clock,
     )? {
         None => Ok(()),
@@ -73,12 +74,12 @@ fn serve_from<
 
 /// Goes on from epoch to epoch, until no stream is left.
 fn go_on<
-    R: Source + Drop + Send,
-    W: Sink + Drop + Send,
-    D: Door<R, W> + Sync,
-    G: Gate + Sync,
-    K: Clock + Sync,
-    T: Threads + Wait + Sync,
+    R: SentSource,
+    W: SentSink,
+    D: SharedDoor<R, W>,
+    G: SharedGate,
+    K: SharedClock,
+    T: Runtime,
 >(
     rt: &T,
     alloc: Global,
@@ -88,9 +89,7 @@ fn go_on<
     clock: &K,
 ) -> Result<(), SessionFault>
     requires times { (at : ℕ) → K.gives clock.now at → D.times at }
-    requires guests { (ws : List Waiting) × D.waits door.old ws
-        × AreGuests R.remaining R.failures W.contents W.failures W.is_flushed D.limit D.times interval.ended
-        ws interval.guests.items }
+    requires guests { IsLiveInterval (D.waits door.old) D.limit D.times interval }
     ensures fault { IfErr result (λ e. e ≡ SessionFault.Mismatch) }
     ensures answered { IfOk result (λ _. D.waits door.new []) }
 {
@@ -103,7 +102,9 @@ fn go_on<
         show_guests(door, &interval.ended, &interval.guests);
         let left = without_released::<R, W, D>(alloc, interval);
         let blank = Blank::new(MOST_SEATS);
-        interval = later::<Brand, R, W, D, G, K, T>(rt, alloc, blank, left, door, gate, clock)?;
+        interval = next_epoch::<Brand, R, W, D, G, K, T>(
+            rt, alloc, blank, left, door, gate, clock,
+        )?;
     }
     unreachable!()
 }

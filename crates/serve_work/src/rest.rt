@@ -1,12 +1,8 @@
 //! What is left to do of a stream where the journal is full.
-ghost use Rattle.std.specs.Prelude.{◌≡◌, List, Some};
-ghost use Rattle.serve_hub.specs.declared.entry.Act.{Act};
-ghost use Rattle.serve_hub.specs.Seats.{StreamSeatValue};
-ghost use Rattle.serve_work.specs.Clients.{ClientStart, StreamEnds};
-ghost use Rattle.serve_work.specs.ClientInside.{IsNoNewEnd, TellsKept};
-ghost use Rattle.serve_work.specs.Rests.{IsRestOf, Unbegun, accepted_in, collected_in, delivered_in};
-ghost use Rattle.serve_work.specs.Rests.{rest_image, rest_stop};
-ghost use Rattle.serve_work.specs.Sessions.{outcome_of};
+ghost use Rattle.std.specs.Prelude.{◌≡◌};
+ghost use Rattle.serve_work.specs.Rests.{Unbegun, accepted_in, collected_in, delivered_in};
+ghost use Rattle.serve_work.specs.SessionInside.{IsOver};
+ghost use Rattle.serve_work.specs.StreamInside.{Waiting};
 
 use crate::begun::State;
 use crate::session::Served;
@@ -79,11 +75,7 @@ impl<R: Source + Drop, W: Sink> ClientRest<R, W> {
     /// The end of a stream where no epoch comes any more: it stops for the fault that it keeps, and else for
     /// want of memory. What it was charged isn't told here.
     pub(crate) fn give_up(self) -> Served<R, W>
-        ensures ends { (start : ClientStart) (past : List Act) (seat : StreamSeatValue)
-            → IsRestOf start past seat self → StreamEnds start past seat
-            (outcome_of R.remaining R.failures W.contents W.failures W.is_flushed result) }
-        ensures stop { IsNoNewEnd (rest_stop self) (Some result.stop) }
-        ensures kept { TellsKept (rest_stop self) (rest_image self) result.stop }
+        ensures { IsOver (Waiting self) result }
     {
         match self.state {
             State::Unbegun(reader, writer) => Served {

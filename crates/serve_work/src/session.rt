@@ -1,8 +1,8 @@
 //! A session: streams that clients serve, each by a thread, and workers beside them.
-ghost use Rattle.std.specs.Prelude.{◌≡◌, ◌↔◌, IfOk, IsErrOf, length, map};
+ghost use Rattle.std.specs.Prelude.{◌≡◌, ◌↔◌, IfOk, IsErrOf, length};
 ghost use Rattle.serve_hub.specs.Books.{IsLimit};
 ghost use Rattle.serve_hub.specs.Seats.{opened_streams};
-ghost use Rattle.serve_work.specs.Sessions.{AreInputs, AreServed, IsSession, served_of, starts_of};
+ghost use Rattle.serve_work.specs.Sessions.{AreInputs, AreServed, IsSession, starts_of};
 
 mod epochs;
 mod interval;
@@ -15,20 +15,21 @@ mod unended;
 
 use crate::gate::{Clock, Gate};
 use crate::stop::Stop;
-use epochs::{first, go_on};
+use epochs::{first_epoch, go_on};
 use interval::report;
 use serve_core::Setup;
 use serve_hub::HubError;
 use serve_hub::limits::MOST_SEATS;
 use std::alloc::{AllocError, Global};
-use std::marker::Brand;
+use std::marker::{Brand, Model};
 use std::sync::Wait;
 use std::sync::ledger::Blank;
 use std::thread::Threads;
 use thiserror::Error;
 use y4m_stream::{Sink, Source, StreamReader};
 
-/// What became of a stream, with its source and its writer.
+/// What became of a stream, with its source and its writer. Contracts see the `ServedValue` of
+/// `specs/Sessions.antt`.
 #[derive(Drop)]
 pub struct Served<R: Source, W: Sink> {
     /// How many of its frames were accepted.
@@ -41,6 +42,26 @@ pub struct Served<R: Source, W: Sink> {
     pub stop: Stop,
     pub source: R,
     pub writer: W,
+}
+
+impl<R: Source, W: Sink> Model for Served<R, W> {
+    ghost use Rattle.serve_work.specs.Sessions.{ServedValue};
+
+    ghost Value = { ServedValue };
+
+    ghost view = { λ a. record {
+      outcome = record {
+        stop = a.stop;
+        accepted = a.accepted;
+        delivered = a.delivered;
+        left = R.remaining a.source;
+        read_failures = R.failures a.source;
+        after = W.contents a.writer;
+        failures = W.failures a.writer;
+        is_flushed = W.is_flushed a.writer;
+      };
+      charged = a.charged;
+    } };
 }
 
 /// Why a session tells nothing of its streams.
@@ -110,14 +131,14 @@ pub fn serve_session<
     requires inputs { AreInputs setup.streams inputs.items }
     ensures streams { IfOk result (λ served. AreServed
         (starts_of W.contents W.failures (opened_streams limit 0 setup.streams) inputs.items)
-        (map (served_of R.remaining R.failures W.contents W.failures W.is_flushed) served.items)) }
+        served.items) }
     ensures session { IfOk result (λ served. IsSession (K.gives clock.now) setup limit
         (starts_of W.contents W.failures (opened_streams limit 0 setup.streams) inputs.items)
-        (map (served_of R.remaining R.failures W.contents W.failures W.is_flushed) served.items)) }
+        served.items) }
     ensures bad_limit { IsErrOf result SessionFault.BadLimit ↔ ¬ IsLimit (length setup.streams) limit }
 {
     let blank = Blank::new(MOST_SEATS);
-    let opened = match first::<Brand, R, W, G, K, T>(
+    let opened = match first_epoch::<Brand, R, W, G, K, T>(
         rt, alloc, blank, setup, inputs, limit, gate, clock,
     ) {
         Ok(opened) => opened,

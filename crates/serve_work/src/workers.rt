@@ -60,7 +60,7 @@ fn tell<L: Epoch, G: Gate, T: Wait>(rt: &T, hub: &Hub<L>, worker: u32, stint: St
 }
 
 /// Why a settlement was refused. A lease that came back is given up, with its job.
-fn given_up(refused: LeaseRefused) -> Refusal
+fn drop_lease(refused: LeaseRefused) -> Refusal
     ensures { result ≡ refused.refusal }
 {
     let LeaseRefused { refusal, lease } = refused;
@@ -93,7 +93,7 @@ pub fn work<L: Epoch, G: Gate + Sync, T: Threads + Wait>(
         spend(rt, seat.worker(), &mut lease, gate);
         let stint = stint_of(&lease);
         if let Err(refused) = hub.settle(rt, &mut seat, lease) {
-            return (seat, given_up(refused));
+            return (seat, drop_lease(refused));
         }
         tell(rt, hub, seat.worker(), stint, gate);
     }

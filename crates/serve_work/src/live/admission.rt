@@ -7,8 +7,9 @@ ghost use Rattle.serve_work.specs.Sessions.{IsInput};
 
 use crate::door::Door;
 use crate::live::guests::Ticket;
-use crate::live::opening::{Hall, new_stream};
+use crate::live::opening::Hall;
 use crate::request::{Answer, Request};
+use crate::session::turn::Stream;
 use edf_pool::limits::MOST_STREAMS;
 use serve_core::{Refusal as Core, StreamSpec};
 use serve_hub::{Epoch, Hub, Refusal, StreamSeat};
@@ -17,7 +18,7 @@ use std::sync::Wait;
 use y4m_stream::{Sink, Source};
 
 /// The seat of a stream that is admitted, with its spec once more, or why it isn't.
-fn admitted<L: Epoch, T: Wait>(
+fn take_seat<L: Epoch, T: Wait>(
     rt: &T,
     alloc: Global,
     hub: &Hub<L>,
@@ -64,11 +65,11 @@ fn admit<L: Epoch, R: Source + Drop, W: Sink + Drop, D: Door<R, W>, T: Wait>(
         door.tell(ticket, &mut Some(Answer::Refused(refusal, reader, writer)));
         return;
     }
-    match admitted(rt, alloc, hub, spec) {
+    match take_seat(rt, alloc, hub, spec) {
         Ok(made) => {
             let (seat, spec) = made;
             let number = ticket;
-            hall.seat(seat, Ticket { number, spec }, new_stream(reader, writer));
+            hall.seat(seat, Ticket { number, spec }, Stream::new(reader, writer));
         }
         Err(refusal) => {
             door.tell(ticket, &mut Some(Answer::Refused(refusal, reader, writer)));

@@ -6,26 +6,24 @@ ghost use Rattle.serve_core.specs.Setup.{StreamSpec};
 ghost use Rattle.serve_work.specs.Intervals.{HasNoCalls};
 ghost use Rattle.serve_work.specs.Live.{IsSeatFor, Waiting};
 ghost use Rattle.serve_work.specs.LiveInside.{AreGuests, AreSeated, HasPlaces, IsFirst, guests_of};
-ghost use Rattle.serve_work.specs.LiveInside.{nobody};
+ghost use Rattle.serve_work.specs.LiveInside.{IsLiveInterval, nobody};
 
+use crate::bounds::{Runtime, SentSink, SentSource, SharedClock, SharedDoor, SharedGate};
 use crate::door::Door;
-use crate::gate::{Clock, Gate};
 use crate::live::admission::admit_all;
 use crate::live::guests::{Guest, Interval, Ticket, are_as_asked};
-use crate::live::opening::{FirstStream, Hall, Opening, new_stream};
+use crate::live::opening::{FirstStream, Hall, Opening};
 use crate::live::threads::run_threads;
 use crate::request::Answer;
 use crate::session::SessionFault;
 use crate::session::places::Places;
-use crate::session::room::{Room, slotted, unslotted};
+use crate::session::room::{Room, empty_slots, fill_slots};
 use crate::session::turn::Stream;
 use serve_core::{Refusal as Core, Setup};
 use serve_hub::limits::MOST_SEATS;
 use serve_hub::{Epoch, Hub, Refusal, StreamSeat};
 use std::alloc::Global;
-use std::sync::Wait;
 use std::sync::ledger::Blank;
-use std::thread::Threads;
 use y4m_stream::{Sink, Source};
 
 /// The streams with what is kept of their requests.
@@ -66,12 +64,12 @@ fn with_idle<L: Epoch, R: Source + Drop, W: Sink + Drop>(
 /// ended.
 fn epoch<
     L: Epoch + Send + Sync,
-    R: Source + Drop + Send,
-    W: Sink + Drop + Send,
-    D: Door<R, W> + Sync,
-    G: Gate + Sync,
-    K: Clock + Sync,
-    T: Threads + Wait + Sync,
+    R: SentSource,
+    W: SentSink,
+    D: SharedDoor<R, W>,
+    G: SharedGate,
+    K: SharedClock,
+    T: Runtime,
 >(
     rt: &T,
     alloc: Global,
@@ -85,9 +83,7 @@ fn epoch<
     requires limit { opening.hub.limit ≡ D.limit }
     requires times { (at : ℕ) → K.gives clock.now at → D.times at }
     ensures fault { IfErr result (λ e. e ≡ SessionFault.Mismatch) }
-    ensures guests { IfOk result (λ now. (ws : List Waiting) × D.waits door.new ws
-        × AreGuests R.remaining R.failures W.contents W.failures W.is_flushed D.limit D.times now.ended ws
-        now.guests.items) }
+    ensures guests { IfOk result (IsLiveInterval (D.waits door.new) D.limit D.times) }
 {
     let Opening {
         hub,
@@ -109,11 +105,11 @@ fn epoch<
     } = room;
     gate.epoch_begins();
     let workers = work_seats.len();
-    slotted(&mut slots, work_seats);
+    fill_slots(&mut slots, work_seats);
     let (turns, goes_on) = run_threads::<L, R, W, D, G, K, T>(
         rt, alloc, &hub, &slots, turns, &*door, gate, clock,
     );
-    unslotted(slots, &mut back);
+    empty_slots(slots, &mut back);
     places.fill(turns);
     let Places { mut seats, streams } = places;
     with_tickets(&mut guests, tickets, streams);
@@ -172,14 +168,14 @@ fn first_seat<L: Epoch, R: Source + Drop, W: Sink + Drop>(
 }
 
 /// The first epoch of a hub. Where it can't be opened, the request is told.
-pub(super) fn first<
+pub(super) fn first_epoch<
     L: Epoch + Send + Sync,
-    R: Source + Drop + Send,
-    W: Sink + Drop + Send,
-    D: Door<R, W> + Sync,
-    G: Gate + Sync,
-    K: Clock + Sync,
-    T: Threads + Wait + Sync,
+    R: SentSource,
+    W: SentSink,
+    D: SharedDoor<R, W>,
+    G: SharedGate,
+    K: SharedClock,
+    T: Runtime,
 >(
     rt: &T,
     alloc: Global,
@@ -199,9 +195,7 @@ pub(super) fn first<
     requires first { (w : Waiting) × D.waits door.old (w ∷ []) × IsFirst W.contents W.failures w stream }
     ensures fault { IfErr result (λ e. e ≡ SessionFault.Mismatch) }
     ensures answered { IfOk result (λ o. IfNone o (D.waits door.new [])) }
-    ensures guests { IfOk result (λ o. IfSome o (λ now. (ws : List Waiting) × D.waits door.new ws
-        × AreGuests R.remaining R.failures W.contents W.failures W.is_flushed D.limit D.times now.ended ws
-        now.guests.items)) }
+    ensures guests { IfOk result (λ o. IfSome o (IsLiveInterval (D.waits door.new) D.limit D.times)) }
 {
     let FirstStream {
         setup,
@@ -220,7 +214,7 @@ pub(super) fn first<
         }
         Some(made) => {
             let (mut opening, seat) = made;
-            opening.hall.seat(seat, ticket, new_stream(reader, writer));
+            opening.hall.seat(seat, ticket, Stream::new(reader, writer));
             match epoch(rt, alloc, opening, door, gate, clock) {
                 Ok(now) => Ok(Some(now)),
                 Err(fault) => Err(fault),
@@ -230,14 +224,14 @@ pub(super) fn first<
 }
 
 /// The next epoch of a session. Where none can be opened, the session doesn't go on.
-pub(super) fn later<
+pub(super) fn next_epoch<
     L: Epoch + Send + Sync,
-    R: Source + Drop + Send,
-    W: Sink + Drop + Send,
-    D: Door<R, W> + Sync,
-    G: Gate + Sync,
-    K: Clock + Sync,
-    T: Threads + Wait + Sync,
+    R: SentSource,
+    W: SentSink,
+    D: SharedDoor<R, W>,
+    G: SharedGate,
+    K: SharedClock,
+    T: Runtime,
 >(
     rt: &T,
     alloc: Global,
@@ -252,13 +246,9 @@ pub(super) fn later<
     requires enough { blank.parts ≡ MOST_SEATS }
     requires opening { interval.ended.book.desk ≡ L.opening }
     requires times { (at : ℕ) → K.gives clock.now at → D.times at }
-    requires guests { (ws : List Waiting) × D.waits door.old ws
-        × AreGuests R.remaining R.failures W.contents W.failures W.is_flushed D.limit D.times interval.ended
-        ws interval.guests.items }
+    requires guests { IsLiveInterval (D.waits door.old) D.limit D.times interval }
     ensures fault { IfErr result (λ e. e ≡ SessionFault.Mismatch) }
-    ensures guests { IfOk result (λ now. (ws : List Waiting) × D.waits door.new ws
-        × AreGuests R.remaining R.failures W.contents W.failures W.is_flushed D.limit D.times now.ended ws
-        now.guests.items) }
+    ensures guests { IfOk result (IsLiveInterval (D.waits door.new) D.limit D.times) }
 {
     match open_next::<L, R, W, D>(alloc, blank, interval) {
         Err(interval) => Ok(interval),
@@ -277,11 +267,9 @@ fn open_next<L: Epoch, R: Source + Drop, W: Sink + Drop, D: Door<R, W>>(
     requires enough { blank.parts ≡ MOST_SEATS }
     requires opening { interval.ended.book.desk ≡ L.opening }
     requires guests { (ws : List Waiting)
-        × AreGuests R.remaining R.failures W.contents W.failures W.is_flushed D.limit D.times interval.ended
-        ws interval.guests.items }
+        × AreGuests D.limit D.times interval.ended ws interval.guests.items }
     ensures seated { (ws : List Waiting)
-        → AreGuests R.remaining R.failures W.contents W.failures W.is_flushed D.limit D.times interval.ended
-        ws interval.guests.items
+        → AreGuests D.limit D.times interval.ended ws interval.guests.items
         → IfOk result (λ opening. AreSeated D.limit D.times L.opening ws opening.hall) }
     ensures limit { IfOk result (λ opening. opening.hub.limit ≡ interval.ended.book.limit) }
     ensures back { IfErr result (λ back. (back.ended ≡ interval.ended)

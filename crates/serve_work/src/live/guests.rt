@@ -4,11 +4,11 @@ ghost use Rattle.std.specs.Prelude.{slice_get, slice_set, vec_len, ⊤};
 ghost use Rattle.serve_core.specs.Schedule.{HasStream};
 ghost use Rattle.serve_hub.specs.Seats.{StreamRest};
 ghost use Rattle.serve_work.specs.Live.{IsStandingOf, Waiting};
-ghost use Rattle.serve_work.specs.LiveInside.{AreAllTold, AreAsAsked, AreGuests, CanTell, IsAsAsked};
+ghost use Rattle.serve_work.specs.LiveInside.{AreAllTold, AreAsAsked, CanTell, HaveWaited, IsAsAsked};
 
 use crate::door::Door;
 use crate::request::{Answer, Standing};
-use crate::session::turn::{Stream, told};
+use crate::session::turn::Stream;
 use serve_core::StreamSpec;
 use serve_hub::Ended;
 use y4m_stream::{Sink, Source};
@@ -80,14 +80,14 @@ fn tell<R: Source + Drop, W: Sink + Drop, D: Door<R, W>>(
 )
     requires can { (before : List Waiting) × (w : Waiting) × (after : List Waiting)
         × D.waits door.old (before ++ w ∷ after)
-        × CanTell R.remaining R.failures W.contents W.failures W.is_flushed D.limit D.times ended.now
+        × CanTell D.limit D.times ended.now
         place guest w }
     ensures told { (before : List Waiting) (w : Waiting) (after : List Waiting)
         → D.waits door.old (before ++ w ∷ after) → w.ticket ≡ guest.ticket.number
         → D.waits door.new (before ++ after) }
 {
     let Guest { ticket, stream } = guest;
-    let mut served = told(stream);
+    let mut served = stream.into_served();
     let Some(number) = ended.number(place) else {
         unreachable!()
     };
@@ -105,12 +105,8 @@ pub(super) fn tell_guests<R: Source + Drop, W: Sink + Drop, D: Door<R, W>>(
     guests: &mut Vec<Option<Guest<R, W>>>,
     gives_up: bool,
 ) -> bool
-    requires guests { (ws : List Waiting) × D.waits door.old ws
-        × AreGuests R.remaining R.failures W.contents W.failures W.is_flushed D.limit D.times ended.now ws
-        guests.old.items }
-    ensures guests { (ws : List Waiting) × D.waits door.new ws
-        × AreGuests R.remaining R.failures W.contents W.failures W.is_flushed D.limit D.times ended.now ws
-        guests.new.items }
+    requires guests { HaveWaited (D.waits door.old) D.limit D.times ended.now guests.old.items }
+    ensures guests { HaveWaited (D.waits door.new) D.limit D.times ended.now guests.new.items }
     ensures answered { IsFalse result → D.waits door.new [] }
 {
     for place in 0..guests.len() {
@@ -128,12 +124,8 @@ fn tell_at<R: Source + Drop, W: Sink + Drop, D: Door<R, W>>(
     gives_up: bool,
 )
     requires within { place < vec_len guests.old }
-    requires guests { (ws : List Waiting) × D.waits door.old ws
-        × AreGuests R.remaining R.failures W.contents W.failures W.is_flushed D.limit D.times ended.now ws
-        guests.old.items }
-    ensures guests { (ws : List Waiting) × D.waits door.new ws
-        × AreGuests R.remaining R.failures W.contents W.failures W.is_flushed D.limit D.times ended.now ws
-        guests.new.items }
+    requires guests { HaveWaited (D.waits door.old) D.limit D.times ended.now guests.old.items }
+    ensures guests { HaveWaited (D.waits door.new) D.limit D.times ended.now guests.new.items }
     ensures len { vec_len guests.new ≡ vec_len guests.old }
 {
     if !is_due(&guests[place], gives_up) {
@@ -151,9 +143,7 @@ pub(super) fn show_guests<R: Source + Drop, W: Sink + Drop, D: Door<R, W>>(
     ended: &Ended,
     guests: &Vec<Option<Guest<R, W>>>,
 )
-    requires guests { (ws : List Waiting) × D.waits door.old ws
-        × AreGuests R.remaining R.failures W.contents W.failures W.is_flushed D.limit D.times ended.now ws
-        guests.now.items }
+    requires guests { HaveWaited (D.waits door.old) D.limit D.times ended.now guests.now.items }
     ensures waits { (ws : List Waiting) → D.waits door.old ws → D.waits door.new ws }
 {
     if !door.asks() {
@@ -182,9 +172,7 @@ fn show_at<R: Source + Drop, W: Sink + Drop, D: Door<R, W>>(
     place: usize,
 )
     requires within { place < vec_len guests.now }
-    requires guests { (ws : List Waiting) × D.waits door.old ws
-        × AreGuests R.remaining R.failures W.contents W.failures W.is_flushed D.limit D.times ended.now ws
-        guests.now.items }
+    requires guests { HaveWaited (D.waits door.old) D.limit D.times ended.now guests.now.items }
     ensures waits { (ws : List Waiting) → D.waits door.old ws → D.waits door.new ws }
 {
     if let Some(guest) = &guests[place] {

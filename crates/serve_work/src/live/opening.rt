@@ -2,17 +2,14 @@
 ghost use Rattle.std.specs.Prelude.{◌≡◌, ◌+◌, ◌<◌, ◌≤◌, ◌++◌, [], ◌∷◌, IfErr, IfNone, IfOk, IfSome, Some};
 ghost use Rattle.std.specs.Prelude.{map, vec_len};
 ghost use Rattle.std.specs.List.{AllByRecursion};
-ghost use Rattle.y4m_stream.specs.declared.reader.Phase.TheVariants.{Open};
 ghost use Rattle.serve_work.specs.Live.{AllowsRefusal, IsForm, waiting_of};
 ghost use Rattle.serve_work.specs.LiveInside as rules;
 ghost use Rattle.serve_work.specs.LiveInside.{HasPlaces, TakesSeat, helds_of, ticket_of, tickets_of};
-ghost use Rattle.serve_work.specs.Rests.{Unbegun};
-ghost use Rattle.serve_work.specs.SessionInside.{IsReady, Waiting, held_at, stream_of};
+ghost use Rattle.serve_work.specs.SessionInside.{IsReady, held_at};
 
 use crate::door::Door;
 use crate::live::guests::{Guest, Ticket};
 use crate::request::{Answer, Request};
-use crate::rest::ClientRest;
 use crate::session::room::Room;
 use crate::session::turn::{Stream, Turn};
 use edf_pool::limits::MOST_STREAMS;
@@ -39,7 +36,7 @@ pub(super) struct FirstStream<R: Source, W: Sink> {
 }
 
 /// A list of this spec alone.
-fn only(alloc: Global, spec: StreamSpec) -> Result<Vec<StreamSpec>, AllocError>
+fn list_of(alloc: Global, spec: StreamSpec) -> Result<Vec<StreamSpec>, AllocError>
     ensures { IfOk result (λ specs. specs.items ≡ spec ∷ []) }
 {
     let mut specs = Vec::new(alloc);
@@ -57,7 +54,7 @@ fn setup_of(alloc: Global, form: Form, spec: StreamSpec) -> Result<(Setup, Strea
     let Ok(same) = spec.try_clone() else {
         return Err(Refusal::Core(Core::NoMemory));
     };
-    let Ok(specs) = only(alloc, spec) else {
+    let Ok(specs) = list_of(alloc, spec) else {
         return Err(Refusal::Core(Core::NoMemory));
     };
     match Setup::new(form.workers, form.quantum, specs) {
@@ -147,10 +144,8 @@ impl<L: Epoch, R: Source + Drop, W: Sink + Drop> Hall<L, R, W> {
         requires places { HasPlaces self.old }
         requires few { vec_len self.old.room.turns + vec_len self.old.idle < MOST_STREAMS }
         requires many { vec_len self.old.tickets ≤ vec_len self.old.room.turns }
-        requires ready { IsReady (held_at seat
-            (stream_of R.remaining R.failures W.contents W.failures W.is_flushed stream)) }
-        ensures { TakesSeat ticket (held_at seat
-            (stream_of R.remaining R.failures W.contents W.failures W.is_flushed stream)) self.old self.new }
+        requires ready { IsReady (held_at seat stream) }
+        ensures { TakesSeat ticket (held_at seat stream) self.old self.new }
     {
         self.room.turns.push_reserved(Turn::new(seat, stream));
         self.tickets.push_reserved(ticket);
@@ -161,13 +156,10 @@ impl<L: Epoch, R: Source + Drop, W: Sink + Drop> Hall<L, R, W> {
         requires places { HasPlaces self.old }
         requires few { vec_len self.old.room.turns + vec_len self.old.idle < MOST_STREAMS }
         requires many { vec_len self.old.tickets ≤ vec_len self.old.room.turns }
-        requires ready { AllByRecursion IsReady
-            (helds_of (stream_of R.remaining R.failures W.contents W.failures W.is_flushed) (seat ∷ [])
-            (guest ∷ [])) }
+        requires ready { AllByRecursion IsReady (helds_of (seat ∷ []) (guest ∷ [])) }
         ensures places { HasPlaces self.new }
         ensures turns { self.new.room.turns.items ≡ self.old.room.turns.items
-            ++ map Some (helds_of (stream_of R.remaining R.failures W.contents W.failures W.is_flushed)
-            (seat ∷ []) (guest ∷ [])) }
+            ++ map Some (helds_of (seat ∷ []) (guest ∷ [])) }
         ensures tickets { self.new.tickets.items ≡ self.old.tickets.items
             ++ tickets_of (seat ∷ []) (guest ∷ []) }
         ensures few { vec_len self.new.room.turns + vec_len self.new.idle
@@ -189,13 +181,9 @@ impl<L: Epoch, R: Source + Drop, W: Sink + Drop> Hall<L, R, W> {
         requires empty { (self.old.room.turns.items ≡ []) × (self.old.tickets.items ≡ [])
             × (self.old.idle.items ≡ []) }
         requires few { vec_len seats ≤ MOST_STREAMS }
-        requires ready { AllByRecursion IsReady
-            (helds_of (stream_of R.remaining R.failures W.contents W.failures W.is_flushed) seats.items
-            guests.items) }
+        requires ready { AllByRecursion IsReady (helds_of seats.items guests.items) }
         ensures places { HasPlaces self.new }
-        ensures turns { self.new.room.turns.items
-            ≡ map Some (helds_of (stream_of R.remaining R.failures W.contents W.failures W.is_flushed)
-            seats.items guests.items) }
+        ensures turns { self.new.room.turns.items ≡ map Some (helds_of seats.items guests.items) }
         ensures tickets { self.new.tickets.items ≡ tickets_of seats.items guests.items }
         ensures few { vec_len self.new.room.turns + vec_len self.new.idle ≤ vec_len seats }
     {
@@ -211,16 +199,4 @@ pub(super) struct Opening<L: Epoch, R: Source, W: Sink> {
     pub(super) hub: Hub<L>,
     pub(super) work_seats: Vec<WorkSeat<L>>,
     pub(super) hall: Hall<L, R, W>,
-}
-
-/// The stream of a request, of which nothing is done yet.
-pub(super) fn new_stream<R: Source + Drop, W: Sink + Drop>(
-    reader: StreamReader<R>,
-    writer: W,
-) -> Stream<R, W>
-    requires open { reader.phase ≡ Open }
-    ensures { stream_of R.remaining R.failures W.contents W.failures W.is_flushed result
-        ≡ Waiting (Unbegun reader (W.contents writer) (W.failures writer)) }
-{
-    Stream::Waiting(ClientRest::new(reader, writer))
 }

@@ -19,10 +19,8 @@ pub(super) fn without_released<R: Source + Drop, W: Sink + Drop, D: Door<R, W>>(
     interval: Interval<R, W>,
 ) -> Interval<R, W>
     ensures guests { (ws : List Waiting)
-        → AreGuests R.remaining R.failures W.contents W.failures W.is_flushed D.limit D.times interval.ended
-        ws interval.guests.items
-        → AreGuests R.remaining R.failures W.contents W.failures W.is_flushed D.limit D.times result.ended ws
-        result.guests.items }
+        → AreGuests D.limit D.times interval.ended ws interval.guests.items
+        → AreGuests D.limit D.times result.ended ws result.guests.items }
 {
     let Interval {
         ended,

@@ -3,8 +3,8 @@ ghost use Rattle.std.specs.Prelude.{◌≡◌, vec_len};
 ghost use Rattle.std.specs.Thread.{IsSend, IsSync};
 ghost use Rattle.serve_work.specs.SessionInside.{AllRun, Runs};
 
-use crate::door::{Bell, Door};
-use crate::gate::{Clock, Gate};
+use crate::bounds::{Runtime, SentSink, SentSource, SharedClock, SharedDoor, SharedGate};
+use crate::door::Bell;
 use crate::session::room::Slot;
 use crate::session::threads::work_in;
 use crate::session::turn::Turn;
@@ -13,8 +13,6 @@ use serve_hub::{Epoch, Hub};
 use std::alloc::Global;
 use std::sync::Wait;
 use std::thread;
-use std::thread::Threads;
-use y4m_stream::{Sink, Source};
 
 /// For how many milliseconds it is waited at the door before it is looked whether the epoch ends.
 const PATIENCE: u64 = 5;
@@ -34,13 +32,13 @@ fn watch<L: Epoch, B: Bell, T: Wait>(rt: &T, hub: &Hub<L>, door: &B) {
 
 /// Runs each client that waits, in a thread of its own, or on the one that asked for it where it is refused.
 /// Where one is done it ends the epoch.
-fn run_guests<
-    L: Epoch + Send + Sync,
-    R: Source + Drop + Send,
-    W: Sink + Drop + Send,
-    K: Clock + Sync,
-    T: Threads + Wait + Sync,
->(rt: &T, alloc: Global, hub: &Hub<L>, turns: &mut [Turn<L, R, W>], clock: &K)
+fn run_guests<L: Epoch + Send + Sync, R: SentSource, W: SentSink, K: SharedClock, T: Runtime>(
+    rt: &T,
+    alloc: Global,
+    hub: &Hub<L>,
+    turns: &mut [Turn<L, R, W>],
+    clock: &K,
+)
     requires sharing { IsSync T.row × IsSync K.row × IsSync L.row × IsSend L.row }
     ensures { AllRun (K.gives clock.now) turns.old turns.new }
 {
@@ -56,13 +54,7 @@ fn run_guests<
 }
 
 /// Runs the clients where a worker runs beside them, and ends the epoch when all are done or paused.
-fn run_beside<
-    L: Epoch + Send + Sync,
-    R: Source + Drop + Send,
-    W: Sink + Drop + Send,
-    K: Clock + Sync,
-    T: Threads + Wait + Sync,
->(
+fn run_beside<L: Epoch + Send + Sync, R: SentSource, W: SentSink, K: SharedClock, T: Runtime>(
     rt: &T,
     alloc: Global,
     hub: &Hub<L>,
@@ -88,12 +80,12 @@ fn run_beside<
 /// worker started, no client runs. Tells whether one did.
 pub(super) fn run_threads<
     L: Epoch + Send + Sync,
-    R: Source + Drop + Send,
-    W: Sink + Drop + Send,
-    D: Door<R, W> + Sync,
-    G: Gate + Sync,
-    K: Clock + Sync,
-    T: Threads + Wait + Sync,
+    R: SentSource,
+    W: SentSink,
+    D: SharedDoor<R, W>,
+    G: SharedGate,
+    K: SharedClock,
+    T: Runtime,
 >(
     rt: &T,
     alloc: Global,

@@ -1,31 +1,30 @@
 //! The epochs of a session, each with a journal of its own.
-ghost use Rattle.std.specs.Prelude.{◌≡◌, ◌<◌, ◌↔◌, true, List, [], IfErr, IfOk, IsFalse, IsTrue, OnOk};
-ghost use Rattle.std.specs.Prelude.{length, map};
+ghost use Rattle.std.specs.Prelude.{◌≡◌, ◌<◌, ◌↔◌, true, [], IfErr, IfOk, IsFalse, IsTrue, OnOk};
+ghost use Rattle.std.specs.Prelude.{length};
 ghost use Rattle.serve_core.specs.Schedule.{opened_schedule};
 ghost use Rattle.serve_hub.specs.Books.{IsLimit, entries_left};
-ghost use Rattle.serve_hub.specs.declared.entry.Entry.{Entry};
-ghost use Rattle.serve_work.specs.Intervals.{Beginning, CanBegin, IsBetween, IsLater, beginning_of};
+ghost use Rattle.serve_work.specs.Intervals.{Continues, GoesLater, IsBetweenEpochs, IsLater, MayBegin};
+ghost use Rattle.serve_work.specs.Intervals.{beginning_of};
 ghost use Rattle.serve_work.specs.Sessions.{AreInputs};
-ghost use Rattle.serve_work.specs.SessionInside.{AreAllOver, AreAllowed, IsUnended, GivesBack, fault_of};
-ghost use Rattle.serve_work.specs.SessionInside.{held_with, kept_stop, stream_of};
+ghost use Rattle.serve_work.specs.SessionInside.{AreAllOver, AreAllowed, GivesBack, IsUnended, fault_of};
+ghost use Rattle.serve_work.specs.SessionInside.{held_with};
 
 use super::SessionFault;
 use super::interval::Interval;
-use super::opening::{Opening, opened, reopened};
+use super::opening::{Opening, open_first, open_next};
 use super::places::Places;
-use super::room::{Room, slotted, unslotted};
+use super::room::{Room, empty_slots, fill_slots};
 use super::threads::run_threads;
-use super::turn::{Stream, seated};
+use super::turn::{Stream, pair_with_seats};
 use super::unended::Unended;
-use crate::gate::{Clock, Gate};
+use crate::bounds::{Runtime, SentSink, SentSource, SharedClock, SharedGate};
 use serve_core::Setup;
 use serve_hub::limits::MOST_SEATS;
 use serve_hub::{Ended, Epoch};
 use std::alloc::Global;
 use std::marker::Brand;
+use std::sync::Mutex;
 use std::sync::ledger::Blank;
-use std::sync::{Mutex, Wait};
-use std::thread::Threads;
 use y4m_stream::{Sink, Source, StreamReader};
 
 /// Whether anything is left to do of a stream.
@@ -53,11 +52,11 @@ fn another_comes<R: Source, W: Sink>(ended: &Ended, streams: &Vec<Stream<R, W>>)
 /// epoch all workers have to start; in a later one it goes on with those that do.
 fn epoch<
     L: Epoch + Send + Sync,
-    R: Source + Drop + Send,
-    W: Sink + Drop + Send,
-    G: Gate + Sync,
-    K: Clock + Sync,
-    T: Threads + Wait + Sync,
+    R: SentSource,
+    W: SentSink,
+    G: SharedGate,
+    K: SharedClock,
+    T: Runtime,
 >(
     rt: &T,
     alloc: Global,
@@ -66,17 +65,10 @@ fn epoch<
     gate: &G,
     clock: &K,
 ) -> Result<Interval<R, W>, Unended<R, W>>
-    requires at { (b : Beginning) × (journal : List Entry)
-        × CanBegin R.remaining R.failures W.contents W.failures W.is_flushed b journal L.opening opening }
-    ensures between { (b : Beginning) (journal : List Entry)
-        → CanBegin R.remaining R.failures W.contents W.failures W.is_flushed b journal L.opening opening
-        → IfOk result (IsLater R.remaining R.failures W.contents W.failures W.is_flushed
-        (K.gives clock.now) b true journal) }
-    ensures stops { AreAllowed (K.gives clock.now) (map kept_stop opening.streams.items)
-        → IfOk result (λ now. AreAllowed (K.gives clock.now) (map kept_stop now.streams.items)) }
-    ensures unended { IfErr result (IsUnended R.remaining R.failures W.contents W.failures W.is_flushed
-        is_first (held_with (stream_of R.remaining R.failures W.contents W.failures W.is_flushed)
-        opening.opened.1.items opening.streams.items)) }
+    requires at { MayBegin L.opening opening }
+    ensures later { IfOk result (Continues (K.gives clock.now) L.opening opening) }
+    ensures unended { IfErr result (IsUnended is_first
+        (held_with opening.opened.1.items opening.streams.items)) }
 {
     let Opening {
         opened,
@@ -93,8 +85,8 @@ fn epoch<
     } = room;
     gate.epoch_begins();
     let workers = work_seats.len();
-    let turns = seated(turns, seats, streams);
-    slotted(&mut slots, work_seats);
+    let turns = pair_with_seats(turns, seats, streams);
+    fill_slots(&mut slots, work_seats);
     let start = Mutex::new(false);
     let turns = match run_threads(
         rt, alloc, &hub, &slots, &start, turns, is_first, gate, clock,
@@ -105,7 +97,7 @@ fn epoch<
             return Err(Unended::Unbegun(places.streams));
         }
     };
-    unslotted(slots, &mut back);
+    empty_slots(slots, &mut back);
     places.fill(turns);
     let Places { seats, streams } = places;
     let Ok(ended) = hub.finish(seats, back) else {
@@ -123,13 +115,13 @@ fn epoch<
 
 /// The first epoch of a session. All that it needs is taken before a frame is read. Where some of it is
 /// refused, the inputs come back as they were, or the streams with nothing done of them.
-pub(super) fn first<
+pub(super) fn first_epoch<
     L: Epoch + Send + Sync,
-    R: Source + Drop + Send,
-    W: Sink + Drop + Send,
-    G: Gate + Sync,
-    K: Clock + Sync,
-    T: Threads + Wait + Sync,
+    R: SentSource,
+    W: SentSink,
+    G: SharedGate,
+    K: SharedClock,
+    T: Runtime,
 >(
     rt: &T,
     alloc: Global,
@@ -145,27 +137,26 @@ pub(super) fn first<
     requires enough { blank.parts ≡ MOST_SEATS }
     requires opening { opened_schedule setup ≡ L.opening }
     requires inputs { AreInputs setup.streams inputs.items }
-    ensures between { IfOk result (IsLater R.remaining R.failures W.contents W.failures W.is_flushed
-        (K.gives clock.now) (beginning_of W.contents W.failures setup limit inputs.items) true []) }
-    ensures stops { IfOk result (λ now. AreAllowed (K.gives clock.now) (map kept_stop now.streams.items)) }
+    ensures between { IfOk result (IsLater (K.gives clock.now)
+        (beginning_of W.contents W.failures setup limit inputs.items) true []) }
+    ensures stops { IfOk result (λ now. AreAllowed (K.gives clock.now) now.streams.items) }
     ensures limit { OnOk result (IsLimit (length setup.streams) limit) }
     ensures bad_limit { IfErr result (λ e.
         (fault_of e ≡ SessionFault.BadLimit) ↔ ¬ IsLimit (length setup.streams) limit) }
-    ensures unread { IfErr result
-        (GivesBack R.remaining R.failures W.contents W.failures W.is_flushed inputs.items) }
+    ensures unread { IfErr result (GivesBack W.contents W.failures inputs.items) }
 {
-    let opening = opened::<L, R, W>(alloc, blank, setup, inputs, limit)?;
+    let opening = open_first::<L, R, W>(alloc, blank, setup, inputs, limit)?;
     epoch(rt, alloc, opening, true, gate, clock)
 }
 
 /// The next epoch of a session. Where none can be opened, the session doesn't go on.
-fn later<
+fn next_epoch<
     L: Epoch + Send + Sync,
-    R: Source + Drop + Send,
-    W: Sink + Drop + Send,
-    G: Gate + Sync,
-    K: Clock + Sync,
-    T: Threads + Wait + Sync,
+    R: SentSource,
+    W: SentSink,
+    G: SharedGate,
+    K: SharedClock,
+    T: Runtime,
 >(
     rt: &T,
     alloc: Global,
@@ -178,17 +169,11 @@ fn later<
     requires parts { blank.parts ≡ L.parts }
     requires enough { blank.parts ≡ MOST_SEATS }
     requires opening { interval.ended.book.desk ≡ L.opening }
-    requires at { (b : Beginning) × (journal : List Entry)
-        × IsBetween R.remaining R.failures W.contents W.failures W.is_flushed b journal interval }
-    ensures between { (b : Beginning) (journal : List Entry)
-        → IsBetween R.remaining R.failures W.contents W.failures W.is_flushed b journal interval
-        → IfOk result (IsLater R.remaining R.failures W.contents W.failures W.is_flushed
-        (K.gives clock.now) b true journal) }
-    ensures stops { AreAllowed (K.gives clock.now) (map kept_stop interval.streams.items)
-        → IfOk result (λ now. AreAllowed (K.gives clock.now) (map kept_stop now.streams.items)) }
+    requires at { IsBetweenEpochs interval }
+    ensures later { IfOk result (GoesLater (K.gives clock.now) true interval) }
     ensures fault { IfErr result (λ e. e ≡ SessionFault.Mismatch) }
 {
-    match reopened::<L, R, W>(alloc, blank, interval) {
+    match open_next::<L, R, W>(alloc, blank, interval) {
         Err(interval) => Ok(interval),
         Ok(opening) => match epoch(rt, alloc, opening, false, gate, clock) {
             Ok(interval) => Ok(interval),
@@ -198,27 +183,15 @@ fn later<
 }
 
 /// Goes on with a session from epoch to epoch, until all its streams are over or no epoch comes any more.
-pub(super) fn go_on<
-    R: Source + Drop + Send,
-    W: Sink + Drop + Send,
-    G: Gate + Sync,
-    K: Clock + Sync,
-    T: Threads + Wait + Sync,
->(
+pub(super) fn go_on<R: SentSource, W: SentSink, G: SharedGate, K: SharedClock, T: Runtime>(
     rt: &T,
     alloc: Global,
     interval: Interval<R, W>,
     gate: &G,
     clock: &K,
 ) -> Result<Interval<R, W>, SessionFault>
-    requires at { (b : Beginning) × (journal : List Entry)
-        × IsBetween R.remaining R.failures W.contents W.failures W.is_flushed b journal interval }
-    ensures between { (b : Beginning) (journal : List Entry)
-        → IsBetween R.remaining R.failures W.contents W.failures W.is_flushed b journal interval
-        → IfOk result (IsLater R.remaining R.failures W.contents W.failures W.is_flushed
-        (K.gives clock.now) b interval.goes_on journal) }
-    ensures stops { AreAllowed (K.gives clock.now) (map kept_stop interval.streams.items)
-        → IfOk result (λ now. AreAllowed (K.gives clock.now) (map kept_stop now.streams.items)) }
+    requires at { IsBetweenEpochs interval }
+    ensures later { IfOk result (GoesLater (K.gives clock.now) interval.goes_on interval) }
     ensures fault { IfErr result (λ e. e ≡ SessionFault.Mismatch) }
 {
     let mut interval = interval;
@@ -228,7 +201,7 @@ pub(super) fn go_on<
             return Ok(interval);
         }
         let blank = Blank::new(MOST_SEATS);
-        interval = later::<Brand, R, W, G, K, T>(rt, alloc, blank, interval, gate, clock)?;
+        interval = next_epoch::<Brand, R, W, G, K, T>(rt, alloc, blank, interval, gate, clock)?;
     }
     unreachable!()
 }

@@ -1,14 +1,14 @@
 //! A session between two epochs.
-ghost use Rattle.std.specs.Prelude.{◌≡◌, ◌<◌, ◌≤◌, ◌^◌, ℕ, ⊤, List, [], map, vec_capacity, vec_len};
+ghost use Rattle.std.specs.Prelude.{◌≡◌, ◌<◌, ◌≤◌, ◌^◌, ℕ, ⊤, List, [], vec_capacity, vec_len};
 ghost use Rattle.std.specs.List.{AllZip};
 ghost use Rattle.serve_core.specs.Schedule.{HasStream};
 ghost use Rattle.serve_hub.specs.declared.entry.Entry.{Entry};
-ghost use Rattle.serve_work.specs.Intervals.{Beginning, IsBetween};
-ghost use Rattle.serve_work.specs.SessionInside.{AreOver, AreTold, BringNoEnd, kept_stop};
-ghost use Rattle.serve_work.specs.Sessions.{IsServedBy, outcome_of, served_of};
+ghost use Rattle.serve_work.specs.Intervals.{Beginning, IsBetween, IsBetweenEpochs};
+ghost use Rattle.serve_work.specs.SessionInside.{AreOver, AreTold, BringNoEnd, outcomes_of};
+ghost use Rattle.serve_work.specs.Sessions.{IsServedBy};
 
 use super::Served;
-use super::turn::{Stream, told};
+use super::turn::Stream;
 use serve_hub::Ended;
 use y4m_stream::{Sink, Source};
 
@@ -29,14 +29,10 @@ pub(super) struct Interval<R: Source, W: Sink> {
 pub(super) fn report<R: Source + Drop, W: Sink + Drop>(
     interval: Interval<R, W>,
 ) -> Vec<Served<R, W>>
-    requires at { (b : Beginning) × (journal : List Entry)
-        × IsBetween R.remaining R.failures W.contents W.failures W.is_flushed b journal interval }
-    ensures served { (b : Beginning) (journal : List Entry)
-        → IsBetween R.remaining R.failures W.contents W.failures W.is_flushed b journal interval
-        → AllZip (IsServedBy journal interval.ended.book.desk) b.starts
-        (map (served_of R.remaining R.failures W.contents W.failures W.is_flushed) result.items) }
-    ensures stops { BringNoEnd (map kept_stop interval.streams.items)
-        (map (outcome_of R.remaining R.failures W.contents W.failures W.is_flushed) result.items) }
+    requires at { IsBetweenEpochs interval }
+    ensures served { (b : Beginning) (journal : List Entry) → IsBetween b journal interval
+        → AllZip (IsServedBy journal interval.ended.book.desk) b.starts result.items }
+    ensures stops { BringNoEnd interval.streams.items result.items }
 {
     let Interval {
         ended,
@@ -56,11 +52,10 @@ fn tell<R: Source + Drop, W: Sink + Drop>(
 )
     requires none { served.old.items ≡ [] }
     requires room { vec_len streams ≤ vec_capacity served.old }
-    ensures { AreOver R.remaining R.failures W.contents W.failures W.is_flushed streams.items
-        served.new.items }
+    ensures { AreOver streams.items served.new.items }
 {
     for stream in streams {
-        served.push_reserved(told(stream));
+        served.push_reserved(stream.into_served());
     }
 }
 
@@ -68,15 +63,14 @@ fn tell<R: Source + Drop, W: Sink + Drop>(
 fn charge<R: Source, W: Sink>(ended: &Ended, served: &mut Vec<Served<R, W>>)
     requires few { vec_len served.old < 2 ^ 32 }
     requires kept { (n : ℕ) → n < vec_len served.old → HasStream ended.now.book.desk n (λ _. ⊤) }
-    ensures outcomes { map (outcome_of R.remaining R.failures W.contents W.failures W.is_flushed)
-        served.new.items
-        ≡ map (outcome_of R.remaining R.failures W.contents W.failures W.is_flushed) served.old.items }
+    ensures outcomes { outcomes_of served.new.items ≡ outcomes_of served.old.items }
     ensures told { AreTold ended.now.book.desk (vec_len served.new) served.new.items }
 {
     for n in 0..served.len() {
         let Some(counts) = ended.counts(n as u32) else {
             unreachable!()
         };
-        served[n].charged = counts.charged;
+        let told = &mut served[n];
+        told.charged = counts.charged;
     }
 }

@@ -7,11 +7,11 @@ ghost use Rattle.serve_hub.specs.declared.entry.Entry.{Entry};
 ghost use Rattle.serve_hub.specs.Seats.{hub_of, opened_streams};
 ghost use Rattle.serve_work.specs.Intervals.{Beginning, CanBegin, IsBetween, IsRoomFor, beginning_of};
 ghost use Rattle.serve_work.specs.Sessions.{AreInputs};
-ghost use Rattle.serve_work.specs.SessionInside.{GivesBack, fault_of, stream_of, unread};
+ghost use Rattle.serve_work.specs.SessionInside.{GivesBack, fault_of, unread};
 
 use super::interval::Interval;
 use super::room::Room;
-use super::turn::{Stream, waiting};
+use super::turn::{Stream, streams_of};
 use super::unended::Unended;
 use super::{Served, SessionFault};
 use serve_core::Setup;
@@ -61,7 +61,7 @@ fn lists<L: Epoch, R: Source + Drop, W: Sink + Drop>(
 }
 
 /// Opens the first epoch of a session, or gives the inputs back.
-pub(super) fn opened<L: Epoch, R: Source + Drop, W: Sink + Drop>(
+pub(super) fn open_first<L: Epoch, R: Source + Drop, W: Sink + Drop>(
     alloc: Global,
     blank: Blank,
     setup: Setup,
@@ -73,22 +73,20 @@ pub(super) fn opened<L: Epoch, R: Source + Drop, W: Sink + Drop>(
     requires enough { blank.parts ≡ MOST_SEATS }
     requires opening { opened_schedule setup ≡ L.opening }
     requires inputs { AreInputs setup.streams inputs.items }
-    ensures at { IfOk result (CanBegin R.remaining R.failures W.contents W.failures W.is_flushed
+    ensures at { IfOk result (CanBegin
         (beginning_of W.contents W.failures setup limit inputs.items) [] L.opening) }
     ensures unread { IfOk result (λ opening.
-        map (stream_of R.remaining R.failures W.contents W.failures W.is_flushed) opening.streams.items
-        ≡ map (unread W.contents W.failures) inputs.items) }
+        opening.streams.items ≡ map (unread W.contents W.failures) inputs.items) }
     ensures limit { OnOk result (IsLimit (length setup.streams) limit) }
     ensures bad_limit { IfErr result (λ e.
         (fault_of e ≡ SessionFault.BadLimit) ↔ ¬ IsLimit (length setup.streams) limit) }
-    ensures back { IfErr result
-        (GivesBack R.remaining R.failures W.contents W.failures W.is_flushed inputs.items) }
+    ensures back { IfErr result (GivesBack W.contents W.failures inputs.items) }
 {
     let (opened, room, served) = match lists(alloc, blank, setup, inputs.len(), limit) {
         Ok(lists) => lists,
         Err(fault) => return Err(Unended::Unopened(fault, inputs)),
     };
-    match waiting(alloc, inputs) {
+    match streams_of(alloc, inputs) {
         Err(inputs) => Err(Unended::Unopened(SessionFault::NoMemory, inputs)),
         Ok(streams) => Ok(Opening {
             opened,
@@ -101,7 +99,7 @@ pub(super) fn opened<L: Epoch, R: Source + Drop, W: Sink + Drop>(
 
 /// Opens the next epoch of a session, whose journal has the limit of the last one's. Where none can be
 /// opened, the session comes back, and doesn't go on.
-pub(super) fn reopened<L: Epoch, R: Source + Drop, W: Sink + Drop>(
+pub(super) fn open_next<L: Epoch, R: Source + Drop, W: Sink + Drop>(
     alloc: Global,
     blank: Blank,
     interval: Interval<R, W>,
@@ -110,12 +108,10 @@ pub(super) fn reopened<L: Epoch, R: Source + Drop, W: Sink + Drop>(
     requires parts { blank.parts ≡ L.parts }
     requires enough { blank.parts ≡ MOST_SEATS }
     requires opening { interval.ended.book.desk ≡ L.opening }
-    ensures at { (b : Beginning) (journal : List Entry)
-        → IsBetween R.remaining R.failures W.contents W.failures W.is_flushed b journal interval → IfOk result
-        (CanBegin R.remaining R.failures W.contents W.failures W.is_flushed b journal L.opening) }
-    ensures back { (b : Beginning) (journal : List Entry)
-        → IsBetween R.remaining R.failures W.contents W.failures W.is_flushed b journal interval
-        → IfErr result (IsBetween R.remaining R.failures W.contents W.failures W.is_flushed b journal) }
+    ensures at { (b : Beginning) (journal : List Entry) → IsBetween b journal interval
+        → IfOk result (CanBegin b journal L.opening) }
+    ensures back { (b : Beginning) (journal : List Entry) → IsBetween b journal interval
+        → IfErr result (IsBetween b journal) }
     ensures streams { IfOk result (λ opening. opening.streams ≡ interval.streams) }
     ensures same { IfErr result (λ back. back.streams ≡ interval.streams) }
     ensures over { IfErr result (λ back. IsFalse back.goes_on) }

@@ -1,6 +1,6 @@
 //! What is left of an epoch: the seats, and the streams.
 ghost use Rattle.std.specs.Prelude.{◌≡◌, ◌≤◌, List, [], IfOk, Some, map, vec_capacity, vec_len};
-ghost use Rattle.serve_work.specs.SessionInside.{HeldValue, stream_of};
+ghost use Rattle.serve_work.specs.SessionInside.{HeldValue};
 
 use super::turn::{Stream, Turn};
 use serve_hub::{Epoch, StreamSeat};
@@ -36,8 +36,7 @@ impl<L: Epoch, R: Source + Drop, W: Sink + Drop> Places<L, R, W> {
         ensures seats { (helds : List HeldValue) → turns.items ≡ map Some helds
             → self.new.seats.items ≡ map (λ held. held.seat) helds }
         ensures streams { (helds : List HeldValue) → turns.items ≡ map Some helds
-            → map (stream_of R.remaining R.failures W.contents W.failures W.is_flushed) self.new.streams.items
-            ≡ map (λ held. held.stream) helds }
+            → self.new.streams.items ≡ map (λ held. held.stream) helds }
         ensures same_room { vec_capacity self.new.seats ≡ vec_capacity self.old.seats }
     {
         for turn in turns {

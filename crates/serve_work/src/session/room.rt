@@ -40,14 +40,14 @@ impl<L: Epoch, R: Source + Drop, W: Sink + Drop> Room<L, R, W> {
 }
 
 /// Puts each worker's seat into a slot.
-pub(crate) fn slotted<L: Epoch>(slots: &mut Vec<Slot<L>>, seats: Vec<WorkSeat<L>>) {
+pub(crate) fn fill_slots<L: Epoch>(slots: &mut Vec<Slot<L>>, seats: Vec<WorkSeat<L>>) {
     for seat in seats {
         let _ = slots.push(Mutex::new(Some(seat)));
     }
 }
 
 /// Takes the workers' seats out of their slots.
-pub(crate) fn unslotted<L: Epoch>(slots: Vec<Slot<L>>, back: &mut Vec<WorkSeat<L>>) {
+pub(crate) fn empty_slots<L: Epoch>(slots: Vec<Slot<L>>, back: &mut Vec<WorkSeat<L>>) {
     for slot in slots {
         if let Some(seat) = slot.into_inner() {
             let _ = back.push(seat);

@@ -5,7 +5,7 @@ ghost use Rattle.serve_work.specs.SessionInside.{AllRun, Runs};
 
 use super::room::Slot;
 use super::turn::Turn;
-use crate::gate::{Clock, Gate};
+use crate::bounds::{Runtime, SentSink, SentSource, SharedClock, SharedGate};
 use crate::workers::work;
 use edf_pool::limits::MOST_STREAMS;
 use serve_hub::{Epoch, Hub};
@@ -13,15 +13,14 @@ use std::alloc::Global;
 use std::sync::{Mutex, Wait};
 use std::thread;
 use std::thread::Threads;
-use y4m_stream::{Sink, Source};
 
 /// Runs each client that waits, in a thread of its own, or on the one that asked for it where it is refused.
 pub(crate) fn run_clients<
     L: Epoch + Send + Sync,
-    R: Source + Drop + Send,
-    W: Sink + Drop + Send,
-    K: Clock + Sync,
-    T: Threads + Wait + Sync,
+    R: SentSource,
+    W: SentSink,
+    K: SharedClock,
+    T: Runtime,
 >(rt: &T, alloc: Global, hub: &Hub<L>, turns: &mut [Turn<L, R, W>], clock: &K)
     requires sharing { IsSync T.row × IsSync K.row × IsSync L.row × IsSend L.row }
     ensures { AllRun (K.gives clock.now) turns.old turns.new }
@@ -33,13 +32,7 @@ pub(crate) fn run_clients<
 }
 
 /// Runs the clients, where a worker runs beside them.
-fn run_beside<
-    L: Epoch + Send + Sync,
-    R: Source + Drop + Send,
-    W: Sink + Drop + Send,
-    K: Clock + Sync,
-    T: Threads + Wait + Sync,
->(
+fn run_beside<L: Epoch + Send + Sync, R: SentSource, W: SentSink, K: SharedClock, T: Runtime>(
     rt: &T,
     alloc: Global,
     hub: &Hub<L>,
@@ -63,7 +56,7 @@ fn run_beside<
 pub(super) type Start = Mutex<bool>;
 
 /// A worker takes its seat from its slot, and leaves it there at its end.
-pub(crate) fn work_in<L: Epoch, G: Gate + Sync, T: Threads + Wait>(
+pub(crate) fn work_in<L: Epoch, G: SharedGate, T: Threads + Wait>(
     rt: &T,
     hub: &Hub<L>,
     slot: &Slot<L>,
@@ -77,7 +70,7 @@ pub(crate) fn work_in<L: Epoch, G: Gate + Sync, T: Threads + Wait>(
 }
 
 /// The same, where the workers begin.
-fn begin_in<L: Epoch, G: Gate + Sync, T: Threads + Wait>(
+fn begin_in<L: Epoch, G: SharedGate, T: Threads + Wait>(
     rt: &T,
     hub: &Hub<L>,
     slot: &Slot<L>,
@@ -97,11 +90,11 @@ fn begin_in<L: Epoch, G: Gate + Sync, T: Threads + Wait>(
 /// and the streams come back as they were.
 pub(crate) fn run_threads<
     L: Epoch + Send + Sync,
-    R: Source + Drop + Send,
-    W: Sink + Drop + Send,
-    G: Gate + Sync,
-    K: Clock + Sync,
-    T: Threads + Wait + Sync,
+    R: SentSource,
+    W: SentSink,
+    G: SharedGate,
+    K: SharedClock,
+    T: Runtime,
 >(
     rt: &T,
     alloc: Global,

@@ -1,17 +1,10 @@
 //! The streams of a session: each waits for its client, which goes on with it in each epoch, until it is
 //! over.
-ghost use Rattle.std.specs.Prelude.{◌≡◌, ◌≤◌, List, [], IfErr, IfOk, Option, Some, map};
-ghost use Rattle.std.specs.Prelude.{vec_capacity, vec_len};
+ghost use Rattle.std.specs.Prelude.{◌≡◌, ◌≤◌, [], IfErr, IfOk, Some, map, vec_capacity, vec_len};
 ghost use Rattle.std.specs.List.{AllByRecursion};
-ghost use Rattle.serve_hub.specs.declared.entry.Act.{Act};
-ghost use Rattle.serve_hub.specs.Seats.{StreamSeatValue};
-ghost use Rattle.serve_work.specs.Clients.{ClientStart, StreamEnds};
-ghost use Rattle.serve_work.specs.Turns.{end_of};
-ghost use Rattle.serve_work.specs.Sessions.{outcome_of};
-ghost use Rattle.serve_work.specs.ClientInside.{IsNoNewEnd, TellsKept};
-ghost use Rattle.serve_work.specs.SessionInside as rules;
-ghost use Rattle.serve_work.specs.SessionInside.{AreUnread, GoesOn, IsReady, Runs, StandsAt, held_with};
-ghost use Rattle.serve_work.specs.SessionInside.{kept_image, kept_stop, stream_of, unread};
+ghost use Rattle.serve_work.specs.SessionInside.{AreUnread, GoesOn, IsOver, IsReady, Runs, held_at, held_with};
+ghost use Rattle.serve_work.specs.SessionInside.{unread};
+ghost use Rattle.serve_work.specs.StreamInside as rules;
 
 use super::Served;
 use crate::clients::{ClientEnd, ClientTurn, client};
@@ -21,37 +14,74 @@ use serve_hub::{Epoch, Hub, StreamSeat};
 use std::alloc::Global;
 use std::marker::Model;
 use std::sync::Wait;
+use y4m_stream::reader::Phase;
 use y4m_stream::{Sink, Source, StreamReader};
 
-/// A stream of a session, whatever the epoch.
+/// A stream of a session, whatever the epoch. Contracts see the `StreamValue` of `specs/StreamInside.antt`.
 #[derive(Drop)]
-pub(crate) enum Stream<R: Source, W: Sink> {
+pub(crate) struct Stream<R: Source, W: Sink> {
+    state: State<R, W>,
+}
+
+#[derive(Drop)]
+enum State<R: Source, W: Sink> {
     /// This is left to do of it.
     Waiting(ClientRest<R, W>),
     /// It came to this. What it was charged isn't told yet.
     Over(Served<R, W>),
 }
 
+impl<R: Source, W: Sink> Model for Stream<R, W> {
+    ghost use Rattle.serve_work.specs.StreamInside.{StreamValue, stream_of};
+
+    ghost Value = { StreamValue };
+
+    ghost view = { λ a. stream_of a.state };
+}
+
 impl<R: Source, W: Sink> Stream<R, W> {
     pub(crate) fn is_waiting(&self) -> bool
         ensures { result ≡ rules.is_waiting self.now }
     {
-        matches!(self, Stream::Waiting(_))
+        matches!(&self.state, State::Waiting(_))
     }
 }
 
-/// What is told of a stream, when no epoch comes any more.
-pub(crate) fn told<R: Source + Drop, W: Sink + Drop>(stream: Stream<R, W>) -> Served<R, W>
-    ensures ends { (start : ClientStart) (past : List Act) (seat : StreamSeatValue)
-        → StandsAt (stream_of R.remaining R.failures W.contents W.failures W.is_flushed stream)
-        start past seat → StreamEnds start past seat
-        (outcome_of R.remaining R.failures W.contents W.failures W.is_flushed result) }
-    ensures stop { IsNoNewEnd (kept_stop stream) (Some result.stop) }
-    ensures kept { TellsKept (kept_stop stream) (kept_image stream) result.stop }
-{
-    match stream {
-        Stream::Over(served) => served,
-        Stream::Waiting(rest) => rest.give_up(),
+impl<R: Source + Drop, W: Sink + Drop> Stream<R, W> {
+    /// The stream of an input of which nothing is done yet.
+    pub(crate) fn new(reader: StreamReader<R>, writer: W) -> Stream<R, W>
+        requires open { reader.phase ≡ Phase.Open }
+        ensures { result ≡ unread W.contents W.failures (reader, writer) }
+    {
+        Stream {
+            state: State::Waiting(ClientRest::new(reader, writer)),
+        }
+    }
+
+    fn waiting(rest: ClientRest<R, W>) -> Stream<R, W>
+        ensures { result ≡ rules.Waiting rest }
+    {
+        Stream {
+            state: State::Waiting(rest),
+        }
+    }
+
+    fn over(served: Served<R, W>) -> Stream<R, W>
+        ensures { result ≡ rules.Over served.outcome }
+    {
+        Stream {
+            state: State::Over(served),
+        }
+    }
+
+    /// What is told of it, when no epoch comes any more.
+    pub(crate) fn into_served(self) -> Served<R, W>
+        ensures { IsOver self result }
+    {
+        match self.state {
+            State::Over(served) => served,
+            State::Waiting(rest) => rest.give_up(),
+        }
     }
 }
 
@@ -63,31 +93,19 @@ pub(crate) struct Held<L: Epoch, R: Source, W: Sink> {
 }
 
 impl<L: Epoch, R: Source, W: Sink> Model for Held<L, R, W> {
-    ghost use Rattle.serve_work.specs.SessionInside.{HeldValue, IsReady, stream_of};
+    ghost use Rattle.serve_work.specs.SessionInside.{HeldValue, IsReady, held_at};
 
     ghost Value = { HeldValue };
 
-    ghost view = { λ a. record {
-      seat = a.seat;
-      stream = stream_of R.remaining R.failures W.contents W.failures W.is_flushed a.stream;
-    } };
+    ghost view = { λ a. held_at a.seat a.stream };
 
-    ghost invariant = { λ a. IsReady (record {
-      seat = a.seat;
-      stream = stream_of R.remaining R.failures W.contents W.failures W.is_flushed a.stream;
-    }) };
+    ghost invariant = { λ a. IsReady (held_at a.seat a.stream) };
 }
 
 impl<L: Epoch, R: Source + Drop, W: Sink + Drop> Held<L, R, W> {
     fn new(seat: StreamSeat<L>, stream: Stream<R, W>) -> Held<L, R, W>
-        requires ready { IsReady (record {
-          seat = seat;
-          stream = stream_of R.remaining R.failures W.contents W.failures W.is_flushed stream;
-        }) }
-        ensures { result ≡ record {
-          seat = seat;
-          stream = stream_of R.remaining R.failures W.contents W.failures W.is_flushed stream;
-        } }
+        requires ready { IsReady (held_at seat stream) }
+        ensures { result ≡ held_at seat stream }
     {
         Held { seat, stream }
     }
@@ -103,13 +121,13 @@ impl<L: Epoch, R: Source + Drop, W: Sink + Drop> Held<L, R, W> {
         ensures { GoesOn (K.gives clock.now) self result }
     {
         let Held { seat, stream } = self;
-        match stream {
-            Stream::Over(served) => Held::new(seat, Stream::Over(served)),
-            Stream::Waiting(rest) => match client(rt, alloc, hub, seat, rest, clock) {
-                ClientTurn::Paused(seat, rest, _) => Held::new(seat, Stream::Waiting(rest)),
+        match stream.state {
+            State::Over(served) => Held::new(seat, Stream::over(served)),
+            State::Waiting(rest) => match client(rt, alloc, hub, seat, rest, clock) {
+                ClientTurn::Paused(seat, rest, _) => Held::new(seat, Stream::waiting(rest)),
                 ClientTurn::Ended(end) => {
                     let (seat, served) = part(end);
-                    Held::new(seat, Stream::Over(served))
+                    Held::new(seat, Stream::over(served))
                 }
             },
         }
@@ -118,8 +136,7 @@ impl<L: Epoch, R: Source + Drop, W: Sink + Drop> Held<L, R, W> {
     /// The seat, and the stream.
     pub(crate) fn part(self) -> (StreamSeat<L>, Stream<R, W>)
         ensures seat { result.0 ≡ self.seat }
-        ensures stream { stream_of R.remaining R.failures W.contents W.failures W.is_flushed result.1
-            ≡ self.stream }
+        ensures stream { result.1 ≡ self.stream }
     {
         (self.seat, self.stream)
     }
@@ -130,8 +147,7 @@ fn part<L: Epoch, R: Source + Drop, W: Sink + Drop>(
     end: ClientEnd<L, R, W>,
 ) -> (StreamSeat<L>, Served<R, W>)
     ensures seat { result.0 ≡ end.seat }
-    ensures outcome { outcome_of R.remaining R.failures W.contents W.failures W.is_flushed result.1
-        ≡ end_of R.remaining R.failures W.contents W.failures W.is_flushed end }
+    ensures outcome { result.1.outcome ≡ end.outcome }
 {
     let ClientEnd {
         seat,
@@ -170,14 +186,8 @@ impl<L: Epoch, R: Source, W: Sink> Model for Turn<L, R, W> {
 impl<L: Epoch, R: Source + Drop, W: Sink + Drop> Turn<L, R, W> {
     /// A stream with its seat.
     pub(crate) fn new(seat: StreamSeat<L>, stream: Stream<R, W>) -> Turn<L, R, W>
-        requires ready { IsReady (record {
-          seat = seat;
-          stream = stream_of R.remaining R.failures W.contents W.failures W.is_flushed stream;
-        }) }
-        ensures { result ≡ Some (record {
-          seat = seat;
-          stream = stream_of R.remaining R.failures W.contents W.failures W.is_flushed stream;
-        }) }
+        requires ready { IsReady (held_at seat stream) }
+        ensures { result ≡ Some (held_at seat stream) }
     {
         Turn {
             held: Some(Held::new(seat, stream)),
@@ -211,39 +221,33 @@ impl<L: Epoch, R: Source + Drop, W: Sink + Drop> Turn<L, R, W> {
 
 /// The streams of these inputs, with nothing done of them. Where there is no memory for their list, the
 /// inputs come back.
-pub(crate) fn waiting<R: Source + Drop, W: Sink + Drop>(
+pub(crate) fn streams_of<R: Source + Drop, W: Sink + Drop>(
     alloc: Global,
     inputs: Vec<(StreamReader<R>, W)>,
 ) -> Result<Vec<Stream<R, W>>, Vec<(StreamReader<R>, W)>>
     requires unread { AreUnread inputs.items }
-    ensures streams { IfOk result (λ streams.
-        map (stream_of R.remaining R.failures W.contents W.failures W.is_flushed) streams.items
-        ≡ map (unread W.contents W.failures) inputs.items) }
+    ensures streams { IfOk result (λ streams. streams.items ≡ map (unread W.contents W.failures) inputs.items) }
     ensures back { IfErr result (λ back. back ≡ inputs) }
 {
     let Ok(mut streams) = Vec::with_capacity(alloc, inputs.len()) else {
         return Err(inputs);
     };
     for (reader, writer) in inputs {
-        streams.push_reserved(Stream::Waiting(ClientRest::new(reader, writer)));
+        streams.push_reserved(Stream::new(reader, writer));
     }
     Ok(streams)
 }
 
 /// The streams with their seats of this epoch, in a list that has the places for them.
-pub(crate) fn seated<L: Epoch, R: Source + Drop, W: Sink + Drop>(
+pub(crate) fn pair_with_seats<L: Epoch, R: Source + Drop, W: Sink + Drop>(
     turns: Vec<Turn<L, R, W>>,
     seats: Vec<StreamSeat<L>>,
     streams: Vec<Stream<R, W>>,
 ) -> Vec<Turn<L, R, W>>
     requires none { turns.items ≡ [] }
     requires room { vec_len streams ≤ vec_capacity turns }
-    requires ready { AllByRecursion IsReady
-        (held_with (stream_of R.remaining R.failures W.contents W.failures W.is_flushed) seats.items
-        streams.items) }
-    ensures { result.items ≡ map Some
-        (held_with (stream_of R.remaining R.failures W.contents W.failures W.is_flushed) seats.items
-        streams.items) }
+    requires ready { AllByRecursion IsReady (held_with seats.items streams.items) }
+    ensures { result.items ≡ map Some (held_with seats.items streams.items) }
 {
     let mut turns = turns;
     for (seat, stream) in seats.into_iter().zip(streams) {

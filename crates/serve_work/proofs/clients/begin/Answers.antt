@@ -1,4 +1,4 @@
-use Rattle.std.proofs.Common.{◌∙◌, ◌+◌, ◌≤◌, ◌++◌, ◌∷◌, [], ap, arith, inl, inr, subst, sym}
+use Rattle.std.proofs.Common.{◌∙◌, ◌+◌, ◌≤◌, ◌++◌, ◌∷◌, [], ap, arith, inl, inr, refl, subst, sym}
 use Rattle.std.proofs.KnownBytes.{Keeps-refl}
 use Rattle.std.specs.Io.KnownBytes.{Keeps}
 use Rattle.filters.specs.Chain.{ChainValue}
@@ -6,7 +6,7 @@ use Rattle.y4m_stream.specs.Failures.{one_more}
 use Rattle.y4m_stream.specs.Reader.{ReaderState}
 use Rattle.y4m_stream.specs.Served.{IsHeaderOfImages}
 use Rattle.y4m_stream.specs.Writer.{CutsShort, IsOpenedFor}
-use Rattle.serve_work.specs.Clients.{AllowsStop, ClientStopsAt}
+use Rattle.serve_work.specs.Clients.{AllowsStop, ClientEnds, ClientOutcome, ClientStopsAt}
 use Rattle.serve_work.proofs.Ending.{Ends-unopened, shown_for}
 use Rattle.serve_work.proofs.Resting.{can_begin, feeding_first, opened_size}
 use Rattle.serve_work.proofs.Tallying.{if_none, none_accepted}
@@ -14,22 +14,22 @@ use Rattle.serve_work.proofs.clients.begin.Goals as goal
 
 pub returns-in_default-clause-turn : goal.returns-in_default-clause-turn
 returns-in_default-clause-turn g c = λ start past is.
-    let u = c.unopened.ensures in
-    Ends-unopened start _ ClientStopsAt past c.args.seat _ _ _ _ is u.tally u.accepted u.none.0
-    (u.failures ∙ ap (λ (r : ReaderState). r.failures) is.same_reader) (inl (record {
-      stop = u.stop;
-      unread = u.remaining ∙ ap (λ (r : ReaderState). r.left) is.same_reader;
-      unaccepted = u.none.0;
-      none = u.none.1;
-      kept = rw (sym is.same_contents) (subst (λ w. Keeps (g.W.Sink.contents c.args.writer) (g.W.Sink.contents w)) (sym u.writer)
-          (Keeps-refl (g.W.Sink.contents c.args.writer)));
-      no_failure = ap (g.W.Sink.failures) u.writer ∙ is.same_failures;
-    }))
+    let u = c.end_unopened.ensures in
+    let contents = g.W.Sink.contents c.args.writer in
+    subst (λ (o : ClientOutcome). ClientEnds start past c.end_unopened.result.seat o) (sym u.outcome)
+    (Ends-unopened start _ ClientStopsAt past c.args.seat _ _ _ _ is u.tally u.accepted refl
+    (ap (λ (r : ReaderState). r.failures) is.same_reader) (inl (record {
+      stop = refl;
+      unread = ap (λ (r : ReaderState). r.left) is.same_reader;
+      unaccepted = refl;
+      none = refl;
+      kept = subst (λ b. Keeps b contents) is.same_contents (Keeps-refl contents);
+      no_failure = is.same_failures;
+    })))
 
 pub returns-in-Err-clause-turn : goal.returns-in-Err-clause-turn
 returns-in-Err-clause-turn g c = λ start past is.
-    let u = c.unopened-in-Err.ensures in
-    let before = g.W.Sink.contents c.args.writer in
+    let u = c.end_unopened-in-Err.ensures in
     let h = c.shown_header.result.now in
     let own : IsHeaderOfImages c.args.seat.chain c.args.reader.header h = shown_for c.args.seat.chain c.args.reader.header _ _ _
     c.in-Ok.resized
@@ -37,21 +37,19 @@ returns-in-Err-clause-turn g c = λ start past is.
     let shown : IsHeaderOfImages start.seat.chain start.reader.header h =
     subst (λ (r : ReaderState). IsHeaderOfImages start.seat.chain r.header h) is.same_reader
     (subst (λ (chain : ChainValue). IsHeaderOfImages chain c.args.reader.header h) is.stays.chain own) in
-    Ends-unopened start _ ClientStopsAt past c.args.seat _ _ _ _ is u.tally u.accepted u.none.0
-    (u.failures ∙ ap (λ (r : ReaderState). r.failures) is.same_reader) (inr (record {
+    let contents = g.W.Sink.contents c.in-Err.writer in
+    subst (λ (o : ClientOutcome). ClientEnds start past c.end_unopened-in-Err.result.seat o) (sym u.outcome)
+    (Ends-unopened start _ ClientStopsAt past c.args.seat _ _ _ _ is u.tally u.accepted refl
+    (ap (λ (r : ReaderState). r.failures) is.same_reader) (inr (record {
       fault = c.in-Err.fault;
-      stop = u.stop;
-      unread = u.remaining ∙ ap (λ (r : ReaderState). r.left) is.same_reader;
-      unaccepted = u.none.0;
-      none = u.none.1;
-      cut = subst (λ l. CutsShort start.before (g.W.Sink.contents c.unopened-in-Err.result.writer) (l ++ 10 ∷ []) 0 c.in-Err.fault)
-          shown.line
-          (subst (λ b. CutsShort b (g.W.Sink.contents c.unopened-in-Err.result.writer) (h.line ++ 10 ∷ []) 0 c.in-Err.fault)
-          is.same_contents
-          (subst (λ w. CutsShort before (g.W.Sink.contents w) (h.line ++ 10 ∷ []) 0 c.in-Err.fault)
-          (sym u.writer) c.in-Err.ensures.cut));
-      failure = ap (g.W.Sink.failures) u.writer ∙ c.in-Err.ensures.told ∙ ap one_more is.same_failures;
-    }))
+      stop = refl;
+      unread = ap (λ (r : ReaderState). r.left) is.same_reader;
+      unaccepted = refl;
+      none = refl;
+      cut = subst (λ l. CutsShort start.before contents (l ++ 10 ∷ []) 0 c.in-Err.fault) shown.line
+          (subst (λ b. CutsShort b contents (h.line ++ 10 ∷ []) 0 c.in-Err.fault) is.same_contents c.in-Err.ensures.cut);
+      failure = c.in-Err.ensures.told ∙ ap one_more is.same_failures;
+    })))
 
 pub run-requires-clause-can : goal.run-requires-clause-can
 run-requires-clause-can g c =
@@ -96,18 +94,22 @@ returns-clause-turn g c = λ start past is.
 pub returns-in_default-clause-moments : goal.returns-in_default-clause-moments
 returns-in_default-clause-moments g c =
     let gives = g.K.Clock.gives c.args.clock.now in
-    none_accepted gives _ _ c.unopened.ensures.tally c.unopened.ensures.accepted
+    none_accepted gives _ _ c.end_unopened.ensures.tally c.end_unopened.ensures.accepted
 
 pub returns-in-Err-clause-moments : goal.returns-in-Err-clause-moments
 returns-in-Err-clause-moments g c =
     let gives = g.K.Clock.gives c.args.clock.now in
-    none_accepted gives _ _ c.unopened-in-Err.ensures.tally c.unopened-in-Err.ensures.accepted
+    none_accepted gives _ _ c.end_unopened-in-Err.ensures.tally c.end_unopened-in-Err.ensures.accepted
 
 pub returns-in_default-clause-stop : goal.returns-in_default-clause-stop
-returns-in_default-clause-stop g c = subst (AllowsStop (g.K.Clock.gives c.args.clock.now)) (sym c.unopened.ensures.stop) tt
+returns-in_default-clause-stop g c =
+    subst (AllowsStop (g.K.Clock.gives c.args.clock.now)) (sym (ap (λ (o : ClientOutcome). o.stop) c.end_unopened.ensures.outcome))
+    tt
 
 pub returns-in-Err-clause-stop : goal.returns-in-Err-clause-stop
-returns-in-Err-clause-stop g c = subst (AllowsStop (g.K.Clock.gives c.args.clock.now)) (sym c.unopened-in-Err.ensures.stop) tt
+returns-in-Err-clause-stop g c =
+    subst (AllowsStop (g.K.Clock.gives c.args.clock.now)) (sym (ap (λ (o : ClientOutcome). o.stop) c.end_unopened-in-Err.ensures.outcome))
+    tt
 
 pub returns-clause-stop : goal.returns-clause-stop
 returns-clause-stop g c = c.run.ensures.stop tt

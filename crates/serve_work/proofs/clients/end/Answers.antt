@@ -16,8 +16,8 @@ returns-clause-ends g c = λ start past shown opened header is_opened fresh serv
       failed = finish.failed;
       told = finish.told;
     })
-    c.flushed.ensures c.accepted-accepted.ensures c.frames-delivered.ensures c.into_source.ensures.remaining
+    c.stop_after_flush.ensures c.accepted-accepted.ensures c.frames-delivered.ensures c.into_source.ensures.remaining
     c.into_source.ensures.failures
 
 pub returns-clause-stop : goal.returns-clause-stop
-returns-clause-stop g c = flushed_stop c.args.stop c.finish-writer.result.1 c.flushed.result c.flushed.ensures
+returns-clause-stop g c = flushed_stop c.args.stop c.finish-writer.result.1 c.stop_after_flush.result c.stop_after_flush.ensures

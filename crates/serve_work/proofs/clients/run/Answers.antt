@@ -42,5 +42,5 @@ returns-in-Done-clause-moments g c =
 
 pub returns-in-Done-clause-stop : goal.returns-in-Done-clause-stop
 returns-in-Done-clause-stop g c = λ was.
-    kept_allowed (g.K.Clock.gives c.args.clock.now) (Some c.in-Done.stop) (Some c.end.result.stop) c.end.ensures.stop
+    kept_allowed (g.K.Clock.gives c.args.clock.now) (Some c.in-Done.stop) (Some c.end.result.outcome.stop) c.end.ensures.stop
     (c.in-Done.ensures.stop was)

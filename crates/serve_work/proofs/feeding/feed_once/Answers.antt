@@ -19,13 +19,13 @@ returns-in-Err-clause-answer g c = λ past counted.
     let reader = c.args.reader.now in
     let seat = c.args.seat.now in
     let writer = c.args.writer.now in
-    rw c.halted.ensures (fed_broken reader reader seat seat writer writer [] (Passes-none reader seat writer) past c.in-Err.halt
+    rw c.without_frame.ensures (fed_broken reader reader seat seat writer writer [] (Passes-none reader seat writer) past c.in-Err.halt
     c.deliver_ready.new.seat c.deliver_ready.new.writer c.requires.open c.in-Err.ensures.own c.deliver_ready.ensures.kept
     c.in-Err.ensures.answer)
 
 pub returns-in-Err-clause-stop : goal.returns-in-Err-clause-stop
 returns-in-Err-clause-stop g c =
-    rw c.halted.ensures (delivery_allowed (g.K.Clock.gives c.args.clock.now) c.in-Err.halt c.in-Err.ensures.own)
+    rw c.without_frame.ensures (delivery_allowed (g.K.Clock.gives c.args.clock.now) c.in-Err.halt c.in-Err.ensures.own)
 
 pub returns-in-Err-read_into-clause-stop : goal.returns-in-Err-read_into-clause-stop
 returns-in-Err-read_into-clause-stop g c =
@@ -33,11 +33,11 @@ returns-in-Err-read_into-clause-stop g c =
 
 pub returns-in-Err-clause-frame : goal.returns-in-Err-clause-frame
 returns-in-Err-clause-frame g c =
-    rw c.halted.ensures (sized_before c.in-Err.halt c.args.seat.now c.deliver_ready.new.seat c.args.writer.now c.deliver_ready.new.writer
+    rw c.without_frame.ensures (sized_before c.in-Err.halt c.args.seat.now c.deliver_ready.new.seat c.args.writer.now c.deliver_ready.new.writer
     c.in-Err.ensures.answer c.in-Err.ensures.left c.requires.size)
 
 pub returns-in-Err-clause-tally : goal.returns-in-Err-clause-tally
-returns-in-Err-clause-tally g c = rw (c.halted.ensures, fed_image_before c.in-Err.halt) c.in-Err.ensures.tally
+returns-in-Err-clause-tally g c = rw (c.without_frame.ensures, fed_image_before c.in-Err.halt) c.in-Err.ensures.tally
 
 pub returns-in-Ok-Some-clause-tally : goal.returns-in-Ok-Some-clause-tally
 returns-in-Ok-Some-clause-tally g c =

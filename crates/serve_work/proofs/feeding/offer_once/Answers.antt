@@ -16,7 +16,7 @@ returns-in-Err-Some-clause-answer g c =
     let told = subst (λ (f : Frame). IsOfferTold c.args.seat.now c.args.at f.geometry e.field-0.refusal) (sym back.0) back.1.told
     in
     offered_back _ _ _ _ _ _ _ back.0 back.1.seat
-    (c.refused.ensures c.args.at c.args.seat.now c.requires.open (ap (λ (f : Frame). f.geometry) back.0 ∙ c.requires.size) told tt)
+    (c.offered_of.ensures c.args.at c.args.seat.now c.requires.open (ap (λ (f : Frame). f.geometry) back.0 ∙ c.requires.size) told tt)
 
 pub returns-in-Err-Some-offer_over-clause-answer : goal.returns-in-Err-Some-offer_over-clause-answer
 returns-in-Err-Some-offer_over-clause-answer g c =
@@ -26,7 +26,7 @@ returns-in-Err-Some-offer_over-clause-answer g c =
     let told = subst (λ (f : Frame). IsOfferTold c.args.seat.now c.args.at f.geometry e.field-0.refusal) (sym back.0) back.2.told
     in
     offered_back _ _ _ _ _ _ _ back.0 back.2.seat
-    (c.refused-in-Err-Some-offer_over.ensures c.args.at c.args.seat.now c.requires.open
+    (c.offered_of-in-Err-Some-offer_over.ensures c.args.at c.args.seat.now c.requires.open
     (ap (λ (f : Frame). f.geometry) back.0 ∙ c.requires.size) told back.1)
 
 pub returns-in-Err-Some-clause-moment : goal.returns-in-Err-Some-clause-moment

@@ -1,6 +1,6 @@
 use Rattle.serve_work.proofs.live.go_on.Goals as goal
 
-pub later-requires-clause-guests : goal.later-requires-clause-guests
-later-requires-clause-guests g c κs within =
+pub next_epoch-requires-clause-guests : goal.next_epoch-requires-clause-guests
+next_epoch-requires-clause-guests g c κs within =
     let at = c.tell_guests.ensures.guests in
     (at.0, c.show_guests.ensures.waits at.0 at.1, c.without_released-left.ensures.guests at.0 at.2)

@@ -3,16 +3,15 @@ use Rattle.serve_work.specs.Live.{Waiting}
 use Rattle.serve_work.specs.LiveInside.{AreGuests}
 use Rattle.serve_work.proofs.live.go_on.Given as goal
 
-abbrev pub ghosts-later-L-Ledger : goal.ghosts-later-L-Ledger
-ghosts-later-L-Ledger g a = record { name = a.blank.name; parts = a.blank.parts }
+abbrev pub ghosts-next_epoch-L-Ledger : goal.ghosts-next_epoch-L-Ledger
+ghosts-next_epoch-L-Ledger g a = record { name = a.blank.name; parts = a.blank.parts }
 
-abbrev pub ghosts-later-L-Epoch : goal.ghosts-later-L-Epoch
-ghosts-later-L-Epoch g a = record { opening = a.interval.ended.book.desk }
+abbrev pub ghosts-next_epoch-L-Epoch : goal.ghosts-next_epoch-L-Epoch
+ghosts-next_epoch-L-Epoch g a = record { opening = a.interval.ended.book.desk }
 
 -- the streams that are left stand between two epochs, and their requests wait
 abbrev pub invariant-loop : goal.invariant-loop
 invariant-loop g l = record {
   guests : (ws : List Waiting) × g.D.Door.waits l.door ws
-      × AreGuests g.R.Source.remaining g.R.Source.failures g.W.Sink.contents g.W.Sink.failures g.W.Sink.is_flushed
-      g.D.Door.limit g.D.Door.times l.interval.ended ws l.interval.guests.items;
+      × AreGuests g.D.Door.limit g.D.Door.times l.interval.ended ws l.interval.guests.items;
 }

@@ -2,8 +2,8 @@ use Rattle.std.proofs.Common.{ap}
 use Rattle.serve_work.specs.Live.{Waiting, waiting_of}
 use Rattle.serve_work.proofs.live.serve_from.Goals as goal
 
-pub first-requires-clause-first : goal.first-requires-clause-first
-first-requires-clause-first g c κs within =
+pub first_epoch-requires-clause-first : goal.first_epoch-requires-clause-first
+first_epoch-requires-clause-first g c κs within =
     let w : Waiting = waiting_of g.W.Sink.contents g.W.Sink.failures c.args.request in
     let stream = c.in-Some.ensures.stream in (
       w,

@@ -1,6 +1,5 @@
-use Rattle.std.proofs.Common.{true, [], ◌++◌, map}
+use Rattle.std.proofs.Common.{true, [], ◌++◌}
 use Rattle.serve_work.specs.Intervals.{beginning_of}
-use Rattle.serve_work.specs.SessionInside.{kept_stop}
 use Rattle.serve_work.proofs.Intervals.{from_setup}
 use Rattle.serve_work.proofs.Journals.{no_epochs, no_more_epochs}
 use Rattle.serve_work.proofs.SessionCharges.{are_served}
@@ -17,14 +16,14 @@ pub report-requires : goal.report-requires
 report-requires g c =
     let b = beginning_of g.W.Sink.contents g.W.Sink.failures c.args.setup c.args.limit c.args.inputs.items in
     let first = c.in-Ok.ensures.between in
-    let last = c.in_ok-ended.ensures.between b (first.more ++ []) first.between in
+    let last = c.in_ok-ended.ensures.later.between b (first.more ++ []) first.between in
     record { at = (b, last.more ++ (first.more ++ []), last.between) }
 
 pub returns-clause-streams : goal.returns-clause-streams
 returns-clause-streams g c =
     let b = beginning_of g.W.Sink.contents g.W.Sink.failures c.args.setup c.args.limit c.args.inputs.items in
     let first = c.in-Ok.ensures.between in
-    let last = c.in_ok-ended.ensures.between b (first.more ++ []) first.between in
+    let last = c.in_ok-ended.ensures.later.between b (first.more ++ []) first.between in
     are_served _ _ b.starts _ (c.report.ensures.served b (last.more ++ (first.more ++ [])) last.between)
 
 pub returns-clause-session : goal.returns-clause-session
@@ -32,7 +31,7 @@ returns-clause-session g c =
     let gives = g.K.Clock.gives c.args.clock.now in
     let b = beginning_of g.W.Sink.contents g.W.Sink.failures c.args.setup c.args.limit c.args.inputs.items in
     let first = c.in-Ok.ensures.between in
-    let last = c.in_ok-ended.ensures.between b (first.more ++ []) first.between in
+    let last = c.in_ok-ended.ensures.later.between b (first.more ++ []) first.between in
     let journal = last.more ++ (first.more ++ []) in
     record {
       journal = journal;
@@ -41,9 +40,8 @@ returns-clause-session g c =
       leads = from_setup c.args.setup journal _ last.between.past;
       streams = c.report.ensures.served b journal last.between;
       moments = last.moments (first.moments (none_yet gives b.schedule b.starts));
-      stops = stops_told gives g.R.Source.remaining g.R.Source.failures g.W.Sink.contents g.W.Sink.failures g.W.Sink.is_flushed
-          (map kept_stop c.in_ok-ended.ended.streams.items) c.report.result.items
-          (c.in_ok-ended.ensures.stops c.in-Ok.ensures.stops) c.report.ensures.stops;
+      stops = stops_told gives c.in_ok-ended.ended.streams.items c.report.result.items
+          (c.in_ok-ended.ensures.later.stops c.in-Ok.ensures.stops) c.report.ensures.stops;
     }
 
 pub returns-clause-bad_limit : goal.returns-clause-bad_limit

@@ -3,8 +3,9 @@ use Rattle.serve_core.specs.Setup.{StreamSpec}
 use Rattle.serve_work.specs.Live.{IsRequest, RequestValue, Waiting, request_of, waiting_of}
 use Rattle.serve_work.specs.LiveInside.{Begins, HasTurn, TakesSeat, ticket_of}
 use Rattle.serve_work.specs.Rests.{Unbegun}
-use Rattle.serve_work.specs.SessionInside as sessions
-use Rattle.serve_work.specs.SessionInside.{IsReadyAt, StreamValue, held_at, stream_of}
+use Rattle.serve_work.specs.StreamInside as sessions
+use Rattle.serve_work.specs.SessionInside.{IsReadyAt, held_at}
+use Rattle.serve_work.specs.StreamInside.{StreamValue}
 use Rattle.serve_work.proofs.Living.{admitted, began, may_go, seated_more}
 use Rattle.serve_work.proofs.SessionTurns.{same_length, zip_length}
 use Rattle.serve_work.proofs.live.admission.admit.Goals as goal
@@ -49,7 +50,7 @@ seat-requires-clause-ready g c =
     let is : IsRequest request = record { header = c.requires.input.header; is_open = c.requires.input.is_open } in
     let a = admitted c.args.request.spec seat c.in-Ok.ensures.seat in
     let b = began g.D.Door.limit g.D.Door.times g.L.Epoch.opening request seat is a.0 (inr c.in-Ok.ensures.behind) a.1 a.2 in
-    subst (λ (v : StreamValue). IsReadyAt v seat) (sym c.new_stream.ensures)
+    subst (λ (v : StreamValue). IsReadyAt v seat) (sym c.new.ensures)
     (may_go g.D.Door.limit g.D.Door.times g.L.Epoch.opening request
     (sessions.Waiting (Unbegun request.reader request.before request.failures)) seat b)
 
@@ -62,14 +63,13 @@ tell-requires-in-Err g c =
 pub returns-in-Ok : goal.returns-in-Ok
 returns-in-Ok g c =
     let seat = c.in-Ok.made.0 in
-    let value = stream_of g.R.Source.remaining g.R.Source.failures g.W.Sink.contents g.W.Sink.failures g.W.Sink.is_flushed in
     let w : Waiting = waiting_of g.W.Sink.contents g.W.Sink.failures c.args.request in
     let is : IsRequest w.request = record { header = c.requires.input.header; is_open = c.requires.input.is_open } in
     let a = admitted c.args.request.spec seat c.in-Ok.ensures.seat in
     let b = began g.D.Door.limit g.D.Door.times g.L.Epoch.opening w.request seat is a.0 (inr c.in-Ok.ensures.behind) a.1 a.2 in
-    let held = held_at seat (value c.new_stream.result) in
+    let held = held_at seat c.new.result in
     let turn : HasTurn g.D.Door.limit g.D.Door.times g.L.Epoch.opening w held =
-    subst (λ (v : StreamValue). Begins g.D.Door.limit g.D.Door.times g.L.Epoch.opening w.request v seat) (sym c.new_stream.ensures) b in
+    subst (λ (v : StreamValue). Begins g.D.Door.limit g.D.Door.times g.L.Epoch.opening w.request v seat) (sym c.new.ensures) b in
     let at = c.requires.seated in
     record {
       seated = (

@@ -6,7 +6,7 @@ use Rattle.serve_hub.specs.Seats.{StreamRest, StreamSeatValue, left_by}
 use Rattle.serve_work.specs.declared.live.guests.Guest.{Guest}
 use Rattle.serve_work.specs.declared.live.guests.Ticket.{Ticket}
 use Rattle.serve_work.specs.LiveInside.{AllAt, AreAsAsked, IsGuestAt, guests_of, nobody}
-use Rattle.serve_work.specs.SessionInside.{HeldValue, stream_of}
+use Rattle.serve_work.specs.SessionInside.{HeldValue}
 use Rattle.serve_work.proofs.Living.{all_had, guests_at}
 use Rattle.serve_work.proofs.SessionTurns.{same_length}
 use Rattle.serve_work.proofs.live.epochs.epoch.Goals as goal
@@ -26,7 +26,6 @@ fill-requires g c =
 
 pub with_tickets-requires : goal.with_tickets-requires
 with_tickets-requires g c =
-    let value = stream_of g.R.Source.remaining g.R.Source.failures g.W.Sink.contents g.W.Sink.failures g.W.Sink.is_flushed in
     let seated = c.admit_all.ensures.seated.2 in
     let ran = c.run_threads-turns.ensures.run seated.helds seated.turns in
     record {
@@ -34,7 +33,6 @@ with_tickets-requires g c =
       room = omega (
         arith,
         ap length (c.fill.ensures.streams ran.0 ran.1),
-        same_length value c.fill.new.self.streams.items,
         same_length (λ (held : HeldValue). held.stream) ran.0,
         ap length ran.1,
         same_length Some ran.0,
@@ -48,7 +46,6 @@ with_tickets-requires g c =
 
 pub with_idle-requires : goal.with_idle-requires
 with_idle-requires g c =
-    let value = stream_of g.R.Source.remaining g.R.Source.failures g.W.Sink.contents g.W.Sink.failures g.W.Sink.is_flushed in
     let seated = c.admit_all.ensures.seated.2 in
     let ran = c.run_threads-turns.ensures.run seated.helds seated.turns in
     let turns : vec_len c.run_threads-turns.result.0 ≡ length ran.0 =
@@ -68,7 +65,6 @@ with_idle-requires g c =
       guests_room = omega (
         arith,
         ap length (c.fill.ensures.streams ran.0 ran.1),
-        same_length value c.fill.new.self.streams.items,
         same_length (λ (held : HeldValue). held.stream) ran.0,
         turns,
         c.run_threads-turns.ensures.count,
@@ -82,7 +78,6 @@ with_idle-requires g c =
 
 pub returns-clause-guests : goal.returns-clause-guests
 returns-clause-guests g c =
-    let value = stream_of g.R.Source.remaining g.R.Source.failures g.W.Sink.contents g.W.Sink.failures g.W.Sink.is_flushed in
     let ws = c.admit_all.ensures.seated.0 in
     let gives = g.K.Clock.gives c.args.clock.now in
     let limit = g.D.Door.limit in
@@ -125,8 +120,8 @@ returns-clause-guests g c =
         kept = subst (AreStreamsOf ended.book.desk) own c.in-Ok.ensures.kept;
         charges = c.in-Ok.ensures.charges;
         of_limit = of_limit;
-        each = subst (λ (gs : List (Option (Guest _ _))). AllAt (IsGuestAt value limit times ended.book.desk) gs
+        each = subst (λ (gs : List (Option (Guest _ _))). AllAt (IsGuestAt limit times ended.book.desk) gs
             (map (λ (held : HeldValue). held.seat) ran.0 ++ idle) ws) (sym guests)
-            (guests_at value limit times ended.book.desk ws streams ran.0 idle had (c.fill.ensures.streams ran.0 ran.1) asked);
+            (guests_at limit times ended.book.desk ws streams ran.0 idle had (c.fill.ensures.streams ran.0 ran.1) asked);
       },
     )

@@ -1,14 +1,12 @@
 use Rattle.std.proofs.Common.{◌≡◌, ◌∙◌, List, ap, arith, length, map, subst, sym}
 use Rattle.serve_hub.specs.Seats.{HubValue, StreamSeatValue, left_by, seat_over}
 use Rattle.serve_work.specs.LiveInside.{AllAt, IsGuestIn, helds_of}
-use Rattle.serve_work.specs.SessionInside.{stream_of}
 use Rattle.serve_work.proofs.Living.{all_ready, guests_in, seated_of, tickets_are}
 use Rattle.serve_work.proofs.SessionTurns.{same_length}
 use Rattle.serve_work.proofs.live.epochs.open_next.Goals as goal
 
 pub seat_all-requires : goal.seat_all-requires
 seat_all-requires g c =
-    let value = stream_of g.R.Source.remaining g.R.Source.failures g.W.Sink.contents g.W.Sink.failures g.W.Sink.is_flushed in
     let limit = g.D.Door.limit in
     let times = g.D.Door.times in
     let ws = c.requires.guests.0 in
@@ -19,8 +17,8 @@ seat_all-requires g c =
     let seats = c.in-Ok-reopen.next.streams.items in
     let are : seats ≡ map (seat_over size) (map left_by at.seats) =
     c.in-Ok-reopen.ensures.streams ∙ ap (map (seat_over size)) at.rests in
-    let inside = subst (λ (these : List StreamSeatValue). AllAt (IsGuestIn value limit times desk) guests these ws) (sym are)
-    (guests_in value limit times desk size guests at.seats ws at.each) in
+    let inside = subst (λ (these : List StreamSeatValue). AllAt (IsGuestIn limit times desk) guests these ws) (sym are)
+    (guests_in limit times desk size guests at.seats ws at.each) in
     record {
       places = c.in-Ok.ensures.places;
       empty = c.in-Ok.ensures.empty;
@@ -32,22 +30,21 @@ seat_all-requires g c =
         at.few,
         c.in-Ok-reopen.next.streams.ok.0,
       );
-      ready = all_ready limit times desk ws _ (seated_of value limit times desk seats guests ws inside);
+      ready = all_ready limit times desk ws _ (seated_of limit times desk seats guests ws inside);
     }
 
 pub returns-in-Ok-reopen-clause-seated : goal.returns-in-Ok-reopen-clause-seated
 returns-in-Ok-reopen-clause-seated g c = λ ws at.
     let limit = g.D.Door.limit in
     let times = g.D.Door.times in
-    let value = stream_of g.R.Source.remaining g.R.Source.failures g.W.Sink.contents g.W.Sink.failures g.W.Sink.is_flushed in
     let size = c.limit-limit.result in
     let desk = c.args.interval.ended.book.desk in
     let guests = c.args.interval.guests.items in
     let seats = c.in-Ok-reopen.next.streams.items in
     let are : seats ≡ map (seat_over size) (map left_by at.seats) =
     c.in-Ok-reopen.ensures.streams ∙ ap (map (seat_over size)) at.rests in
-    let inside = subst (λ (these : List StreamSeatValue). AllAt (IsGuestIn value limit times desk) guests these ws) (sym are)
-    (guests_in value limit times desk size guests at.seats ws at.each) in
+    let inside = subst (λ (these : List StreamSeatValue). AllAt (IsGuestIn limit times desk) guests these ws) (sym are)
+    (guests_in limit times desk size guests at.seats ws at.each) in
     record {
       places = c.seat_all.ensures.places;
       few = omega (
@@ -59,10 +56,10 @@ returns-in-Ok-reopen-clause-seated g c = λ ws at.
         at.few,
         c.in-Ok-reopen.next.streams.ok.0,
       );
-      helds = helds_of value seats guests;
+      helds = helds_of seats guests;
       turns = c.seat_all.ensures.turns;
-      tickets = c.seat_all.ensures.tickets ∙ tickets_are value limit times desk seats guests ws inside;
-      each = rw (← c.requires.opening) (seated_of value limit times desk seats guests ws inside);
+      tickets = c.seat_all.ensures.tickets ∙ tickets_are limit times desk seats guests ws inside;
+      each = rw (← c.requires.opening) (seated_of limit times desk seats guests ws inside);
     }
 
 pub returns-in-Ok-reopen-clause-limit : goal.returns-in-Ok-reopen-clause-limit

@@ -5,7 +5,6 @@ use Rattle.serve_hub.specs.Ends.{IsStreamOf}
 use Rattle.serve_hub.specs.Seats.{left_by}
 use Rattle.serve_work.specs.declared.live.guests.Ticket.{Ticket}
 use Rattle.serve_work.specs.LiveInside.{IsGuestAt}
-use Rattle.serve_work.specs.SessionInside.{stream_of}
 use Rattle.serve_work.proofs.Living.{can_tell, guest_at}
 use Rattle.serve_work.proofs.Retiring.{some_and}
 use Rattle.serve_work.proofs.Showing.{can_show}
@@ -13,17 +12,14 @@ use Rattle.serve_work.proofs.live.guests.show_at.Goals as goal
 
 pub standing_at-requires : goal.standing_at-requires
 standing_at-requires g c =
-    let source = g.R.Source in
-    let sink = g.W.Sink in
-    let value = stream_of source.remaining source.failures sink.contents sink.failures sink.is_flushed in
     let a = c.requires.guests in
     let desk = c.args.ended.now.book.desk in
     let guests = c.args.guests.now.items in
     let here = slice_get_here guests c.args.place c.index.result.now (omega (arith, c.requires.within, c.args.guests.now.ok.0))
     c.index.ensures ∙ ap Some c.in-Some.is in
-    let at = guest_at (IsGuestAt value g.D.Door.limit g.D.Door.times desk) guests a.2.seats a.0 c.args.place c.in-Some.guest a.2.each
+    let at = guest_at (IsGuestAt g.D.Door.limit g.D.Door.times desk) guests a.2.seats a.0 c.args.place c.in-Some.guest a.2.each
     here in
-    let told = can_tell source.remaining source.failures sink.contents sink.failures sink.is_flushed g.D.Door.limit g.D.Door.times
+    let told = can_tell g.D.Door.limit g.D.Door.times
     c.args.ended.now a.0 guests c.args.place c.in-Some.guest a.2 at in (
       left_by told.seat,
       told.here,
@@ -32,17 +28,14 @@ standing_at-requires g c =
 
 pub show-requires : goal.show-requires
 show-requires g c =
-    let source = g.R.Source in
-    let sink = g.W.Sink in
-    let value = stream_of source.remaining source.failures sink.contents sink.failures sink.is_flushed in
     let a = c.requires.guests in
     let desk = c.args.ended.now.book.desk in
     let guests = c.args.guests.now.items in
     let here = slice_get_here guests c.args.place c.index.result.now (omega (arith, c.requires.within, c.args.guests.now.ok.0))
     c.index.ensures ∙ ap Some c.in-Some.is in
-    let at = guest_at (IsGuestAt value g.D.Door.limit g.D.Door.times desk) guests a.2.seats a.0 c.args.place c.in-Some.guest a.2.each
+    let at = guest_at (IsGuestAt g.D.Door.limit g.D.Door.times desk) guests a.2.seats a.0 c.args.place c.in-Some.guest a.2.each
     here in
-    let told = can_tell source.remaining source.failures sink.contents sink.failures sink.is_flushed g.D.Door.limit g.D.Door.times
+    let told = can_tell g.D.Door.limit g.D.Door.times
     c.args.ended.now a.0 guests c.args.place c.in-Some.guest a.2 at in
     record {
       standing = (
@@ -51,7 +44,7 @@ show-requires g c =
         at.after,
         subst (g.D.Door.waits c.args.door.now) at.split a.1,
         sym (ap (λ (t : Ticket). t.number) at.is.0),
-        can_show source.remaining source.failures sink.contents sink.failures sink.is_flushed g.D.Door.limit g.D.Door.times desk
+        can_show g.D.Door.limit g.D.Door.times desk
             at.w.request c.in-Some.guest.stream told.seat c.standing_at.result told.stood
             (sym c.is_waiting.ensures ∙ c.if-is_waiting.true) told.kept told.asked
             (c.standing_at.ensures (left_by told.seat) told.here),

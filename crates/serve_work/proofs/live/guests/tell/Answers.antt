@@ -1,16 +1,16 @@
-use Rattle.std.proofs.Common.{ℕ, ◌≡◌, ◌∙◌, IfSome, Option, Some, ap, subst, sym}
+use Rattle.std.proofs.Common.{ℕ, ◌≡◌, ◌∙◌, Option, Some, ap, subst, sym}
 use Rattle.std.specs.Prelude.{slice_get}
 use Rattle.std.specs.Option.{option_map}
 use Rattle.serve_core.specs.Schedule.{HasStream}
 use Rattle.serve_hub.specs.Seats.{StreamRest}
 use Rattle.serve_work.specs.declared.live.guests.Ticket.{Ticket}
-use Rattle.serve_work.specs.declared.stop.Stop.{Stop}
-use Rattle.serve_work.specs.Clients.{AllowsStop}
-use Rattle.serve_work.specs.SessionInside.{kept_stop}
+use Rattle.serve_work.specs.Clients.{ClientOutcome}
+use Rattle.serve_work.specs.Live.{IsServedSince}
+use Rattle.serve_work.specs.Sessions.{ServedValue}
+use Rattle.serve_work.specs.StreamInside.{stream_stop}
 use Rattle.serve_work.proofs.Allowing.{kept_allowed}
 use Rattle.serve_work.proofs.Living.{answered}
 use Rattle.serve_work.proofs.SessionCharges.{charge_told}
-use Rattle.serve_work.proofs.SessionStops.{one_stop}
 use Rattle.serve_work.proofs.live.guests.tell.Goals as goal
 
 pub tell-requires : goal.tell-requires
@@ -25,8 +25,7 @@ tell-requires g c =
     let counts = c.in-Some-counts.counts in
     let charged = subst (λ (n : ℕ). HasStream desk n (λ kept. counts.charged ≡ kept.state.charged)) same
     (charge_told (slice_get desk.streams c.in-Some.number) counts (sym c.in-Some-counts.is ∙ c.counts.ensures)) in
-    let stop = one_stop g.D.Door.times g.R.Source.remaining g.R.Source.failures g.W.Sink.contents g.W.Sink.failures
-    g.W.Sink.is_flushed c.args.guest.stream in
+    let over = c.into_served-served in
     record {
       answer = (
         can.0,
@@ -34,8 +33,11 @@ tell-requires g c =
         can.2,
         can.3,
         sym (ap (λ (t : Ticket). t.number) told.ticket),
-        answered _ _ _ _ _ _ _ told.stood c.told-served.ensures.ends told.charges told.kept charged told.asked
-            (kept_allowed g.D.Door.times (kept_stop c.args.guest.stream) (Some c.told-served.result.stop) c.told-served.ensures.stop
-            (subst (λ (o : Option Stop). IfSome o (AllowsStop g.D.Door.times)) stop told.stood.stop)),
+        subst (λ (o : ClientOutcome). IsServedSince g.D.Door.limit g.D.Door.times can.1.request
+            (record { outcome = o; charged = counts.charged })) (sym (ap (λ (s : ServedValue). s.outcome) c.served.view_is))
+            (answered _ _ _ _ _ _ (record { outcome = over.result.outcome; charged = counts.charged }) told.stood over.ensures.ends
+            told.charges told.kept charged told.asked
+            (kept_allowed g.D.Door.times (stream_stop c.args.guest.stream) (Some over.result.outcome.stop) over.ensures.stop
+            told.stood.stop)),
       );
     }

@@ -2,18 +2,14 @@ use Rattle.std.proofs.Common.{◌∙◌, ◌++◌, List, Option, Some, ap, subst
 use Rattle.serve_work.specs.declared.live.guests.Guest.{Guest}
 use Rattle.serve_work.specs.declared.live.guests.Ticket.{Ticket}
 use Rattle.serve_work.specs.LiveInside.{AreGuests, IsGuestAt}
-use Rattle.serve_work.specs.SessionInside.{stream_of}
 use Rattle.serve_work.proofs.Living.{can_tell, guest_at, nobody_leaves, with_guests}
 use Rattle.serve_work.proofs.live.guests.tell_at.Goals as goal
 
 pub tell-requires : goal.tell-requires
 tell-requires g c =
-    let source = g.R.Source in
-    let sink = g.W.Sink in
-    let value = stream_of source.remaining source.failures sink.contents sink.failures sink.is_flushed in
     let a = c.requires.guests in
     let guests = c.args.guests.now.items in
-    let at = guest_at (IsGuestAt value g.D.Door.limit g.D.Door.times c.args.ended.now.book.desk) guests a.2.seats a.0
+    let at = guest_at (IsGuestAt g.D.Door.limit g.D.Door.times c.args.ended.now.book.desk) guests a.2.seats a.0
     c.args.place c.in-Some.guest
     a.2.each (c.take_at.ensures.taken ∙ ap Some c.in-Some.is) in
     record {
@@ -22,7 +18,7 @@ tell-requires g c =
         at.w,
         at.after,
         subst (g.D.Door.waits c.args.door.now) at.split a.1,
-        can_tell source.remaining source.failures sink.contents sink.failures sink.is_flushed g.D.Door.limit
+        can_tell g.D.Door.limit
             g.D.Door.times c.args.ended.now a.0
             guests c.args.place c.in-Some.guest a.2 at,
       );
@@ -30,40 +26,32 @@ tell-requires g c =
 
 pub returns-in-Some-clause-guests : goal.returns-in-Some-clause-guests
 returns-in-Some-clause-guests g c =
-    let source = g.R.Source in
-    let sink = g.W.Sink in
-    let value = stream_of source.remaining source.failures sink.contents sink.failures sink.is_flushed in
     let a = c.requires.guests in
     let guests = c.args.guests.now.items in
-    let at = guest_at (IsGuestAt value g.D.Door.limit g.D.Door.times c.args.ended.now.book.desk) guests a.2.seats a.0
+    let at = guest_at (IsGuestAt g.D.Door.limit g.D.Door.times c.args.ended.now.book.desk) guests a.2.seats a.0
     c.args.place c.in-Some.guest
     a.2.each (c.take_at.ensures.taken ∙ ap Some c.in-Some.is) in
     let told = c.tell.ensures.told at.before at.w at.after (subst (g.D.Door.waits c.args.door.now) at.split a.1)
     (sym (ap (λ (t : Ticket). t.number) at.is.0)) in (
       at.before ++ at.after,
       told,
-      subst (λ (gs : List (Option (Guest _ _))). AreGuests source.remaining source.failures sink.contents sink.failures
-          sink.is_flushed g.D.Door.limit g.D.Door.times c.args.ended.now (at.before ++ at.after) gs) (sym c.take_at.ensures.rest)
-          (with_guests source.remaining source.failures sink.contents sink.failures sink.is_flushed g.D.Door.limit
+      subst (λ (gs : List (Option (Guest _ _))). AreGuests g.D.Door.limit g.D.Door.times c.args.ended.now (at.before ++ at.after) gs) (sym c.take_at.ensures.rest)
+          (with_guests g.D.Door.limit
           g.D.Door.times c.args.ended.now
           a.0 (at.before ++ at.after) guests _ a.2 at.others),
     )
 
 pub returns-in-None-clause-guests : goal.returns-in-None-clause-guests
 returns-in-None-clause-guests g c =
-    let source = g.R.Source in
-    let sink = g.W.Sink in
-    let value = stream_of source.remaining source.failures sink.contents sink.failures sink.is_flushed in
     let a = c.requires.guests in
     let guests = c.args.guests.now.items in
     let others =
-    nobody_leaves (IsGuestAt value g.D.Door.limit g.D.Door.times c.args.ended.now.book.desk) guests a.2.seats a.0 c.args.place a.2.each
+    nobody_leaves (IsGuestAt g.D.Door.limit g.D.Door.times c.args.ended.now.book.desk) guests a.2.seats a.0 c.args.place a.2.each
     (c.take_at.ensures.taken ∙ ap Some c.in-None.is) in (
       a.0,
       a.1,
-      subst (λ (gs : List (Option (Guest _ _))). AreGuests source.remaining source.failures sink.contents sink.failures
-          sink.is_flushed g.D.Door.limit g.D.Door.times c.args.ended.now a.0 gs) (sym c.take_at.ensures.rest)
-          (with_guests source.remaining source.failures sink.contents sink.failures sink.is_flushed g.D.Door.limit
+      subst (λ (gs : List (Option (Guest _ _))). AreGuests g.D.Door.limit g.D.Door.times c.args.ended.now a.0 gs) (sym c.take_at.ensures.rest)
+          (with_guests g.D.Door.limit
           g.D.Door.times c.args.ended.now
           a.0 a.0 guests _ a.2 others),
     )

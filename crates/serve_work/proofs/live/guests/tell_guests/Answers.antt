@@ -1,6 +1,5 @@
 use Rattle.std.proofs.Common.{◌∙◌, subst}
 use Rattle.serve_work.specs.LiveInside.{IsGuestAt}
-use Rattle.serve_work.specs.SessionInside.{stream_of}
 use Rattle.serve_work.proofs.Living.{nobody_waits}
 use Rattle.serve_work.proofs.live.guests.tell_guests.Goals as goal
 
@@ -10,11 +9,8 @@ loop-place-preserved g c =
 
 pub returns-clause-answered : goal.returns-clause-answered
 returns-clause-answered g c = λ none.
-    let source = g.R.Source in
-    let sink = g.W.Sink in
-    let value = stream_of source.remaining source.failures sink.contents sink.failures sink.is_flushed in
     let at = c.loop-place.invariant.guests in
     subst (g.D.Door.waits c.loop-place.door)
-    (nobody_waits (IsGuestAt value g.D.Door.limit g.D.Door.times c.args.ended.now.book.desk) c.loop-place.guests.items
+    (nobody_waits (IsGuestAt g.D.Door.limit g.D.Door.times c.args.ended.now.book.desk) c.loop-place.guests.items
     at.2.seats at.0 at.2.each
     (c.any_left.ensures none)) at.1

@@ -8,7 +8,6 @@ use Rattle.serve_work.proofs.live.guests.tell_guests.Given as goal
 abbrev pub invariant-loop-place : goal.invariant-loop-place
 invariant-loop-place g l = record {
   guests : (ws : List Waiting) × g.D.Door.waits l.door ws
-      × AreGuests g.R.Source.remaining g.R.Source.failures g.W.Sink.contents g.W.Sink.failures g.W.Sink.is_flushed
-      g.D.Door.limit g.D.Door.times l.fn.ended ws l.guests.items;
+      × AreGuests g.D.Door.limit g.D.Door.times l.fn.ended ws l.guests.items;
   len : vec_len l.guests ≡ vec_len l.initial.guests;
 }

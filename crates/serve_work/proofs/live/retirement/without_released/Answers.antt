@@ -9,8 +9,6 @@ use Rattle.serve_work.proofs.live.retirement.without_released.Goals as goal
 
 pub returns-in-Ok-retire : goal.returns-in-Ok-retire
 returns-in-Ok-retire g c =
-    let source = g.R.Source in
-    let sink = g.W.Sink in
     let ended = c.args.interval.ended in
     let guests = c.args.interval.guests.items in
     let f = λ (rest : StreamRest). stays ended.book.desk rest.number in
@@ -27,12 +25,10 @@ returns-in-Ok-retire g c =
     (c.are_told.ensures c.if-not-are_told.false))) in
     record {
       guests = λ ws at.
-          let there = guests_retired source.remaining source.failures sink.contents sink.failures sink.is_flushed
+          let there = guests_retired
           g.D.Door.limit g.D.Door.times ended ws
           guests at told in
-          subst (λ (gs : List (Option (Guest _ _))). AreGuests source.remaining source.failures sink.contents sink.failures
-          sink.is_flushed g.D.Door.limit g.D.Door.times c.in-Ok-retire.retired.ended ws gs) (sym kept)
-          (subst (λ (e : EndedValue). AreGuests source.remaining source.failures sink.contents sink.failures
-          sink.is_flushed g.D.Door.limit g.D.Door.times e ws (at_marks (map f ended.streams) guests))
+          subst (λ (gs : List (Option (Guest _ _))). AreGuests g.D.Door.limit g.D.Door.times c.in-Ok-retire.retired.ended ws gs) (sym kept)
+          (subst (λ (e : EndedValue). AreGuests g.D.Door.limit g.D.Door.times e ws (at_marks (map f ended.streams) guests))
           (sym c.in-Ok-retire.ensures.ended) there);
     }

@@ -2,17 +2,16 @@ use Rattle.std.proofs.Common.{◌≡◌, ◌≤◌, ◌∙◌, Some, ap, arith, 
 use Rattle.std.specs.Prelude.{reverse, vec_len}
 use Rattle.serve_hub.specs.Ends.{AreStreamCalls, AreStreamsOf, ClocksReached}
 use Rattle.serve_hub.specs.Seats.{left_by}
-use Rattle.serve_work.specs.SessionInside.{BeginsAgain, HeldValue, held_with, stream_of}
+use Rattle.serve_work.specs.SessionInside.{BeginsAgain, HeldValue, held_with}
 use Rattle.serve_work.proofs.Intervals.{all_back, all_ready, entries_on, held_length, held_new, leads_on, reached_on}
 use Rattle.serve_work.proofs.Journals.{ends_epoch, one_epoch_more}
 use Rattle.serve_work.proofs.SessionStops.{go_on_allowed}
 use Rattle.serve_work.proofs.SessionTurns.{all_timed, all_went, same_length, stand_on, zip_length}
 use Rattle.serve_work.proofs.session.epochs.epoch.Goals as goal
 
-pub seated-turns-requires : goal.seated-turns-requires
-seated-turns-requires g c =
-    let value = stream_of g.R.Source.remaining g.R.Source.failures g.W.Sink.contents g.W.Sink.failures g.W.Sink.is_flushed in
-    let helds = held_with value c.args.opening.opened.1.items c.args.opening.streams.items in
+pub pair_with_seats-turns-requires : goal.pair_with_seats-turns-requires
+pair_with_seats-turns-requires g c =
+    let helds = held_with c.args.opening.opened.1.items c.args.opening.streams.items in
     record {
       none = c.requires.at.2.room.no_turns;
       room = c.requires.at.2.room.turns;
@@ -21,18 +20,17 @@ seated-turns-requires g c =
 
 pub fill-requires-2 : goal.fill-requires-2
 fill-requires-2 g c =
-    let value = stream_of g.R.Source.remaining g.R.Source.failures g.W.Sink.contents g.W.Sink.failures g.W.Sink.is_flushed in
     let seats = c.args.opening.opened.1.items in
     let streams = c.args.opening.streams in
-    let helds = held_with value seats streams.items in
-    let ran = c.in-Ok.ensures.run helds c.seated-turns.ensures in
+    let helds = held_with seats streams.items in
+    let ran = c.in-Ok.ensures.run helds c.pair_with_seats-turns.ensures in
     let few : vec_len c.in-Ok.turns ≤ vec_len streams = omega (
       arith,
       c.in-Ok.ensures.count,
-      c.seated-turns.result.ok.0,
-      ap length c.seated-turns.ensures,
+      c.pair_with_seats-turns.result.ok.0,
+      ap length c.pair_with_seats-turns.ensures,
       same_length Some helds,
-      held_length value seats streams.items,
+      held_length seats streams.items,
       streams.ok.0,
     ) in
     record {
@@ -45,17 +43,16 @@ fill-requires-2 g c =
 
 pub fill-requires : goal.fill-requires
 fill-requires g c =
-    let value = stream_of g.R.Source.remaining g.R.Source.failures g.W.Sink.contents g.W.Sink.failures g.W.Sink.is_flushed in
     let seats = c.args.opening.opened.1.items in
     let streams = c.args.opening.streams in
-    let helds = held_with value seats streams.items in
+    let helds = held_with seats streams.items in
     let few : vec_len c.in-Err.turns ≤ vec_len streams = omega (
       arith,
       c.in-Err.ensures.all_back,
-      c.seated-turns.result.ok.0,
-      ap length c.seated-turns.ensures,
+      c.pair_with_seats-turns.result.ok.0,
+      ap length c.pair_with_seats-turns.ensures,
       same_length Some helds,
-      held_length value seats streams.items,
+      held_length seats streams.items,
       streams.ok.0,
     ) in
     record {
@@ -63,72 +60,62 @@ fill-requires g c =
       streams = c.requires.at.2.room.no_streams;
       seats_room = omega (arith, few, c.requires.at.2.room.seats);
       streams_room = omega (arith, few, c.requires.at.2.room.streams);
-      held = (helds, c.in-Err.ensures.back ∙ c.seated-turns.ensures);
+      held = (helds, c.in-Err.ensures.back ∙ c.pair_with_seats-turns.ensures);
     }
 
 pub returns-in-Err-clause-unended : goal.returns-in-Err-clause-unended
 returns-in-Err-clause-unended g c =
-    let value = stream_of g.R.Source.remaining g.R.Source.failures g.W.Sink.contents g.W.Sink.failures g.W.Sink.is_flushed in
-    let helds = held_with value c.args.opening.opened.1.items c.args.opening.streams.items in
-    (c.in-Err.ensures.needed refl, c.fill.ensures.streams helds (c.in-Err.ensures.back ∙ c.seated-turns.ensures))
+    let helds = held_with c.args.opening.opened.1.items c.args.opening.streams.items in
+    (c.in-Err.ensures.needed refl, c.fill.ensures.streams helds (c.in-Err.ensures.back ∙ c.pair_with_seats-turns.ensures))
 
-pub returns-clause-between : goal.returns-clause-between
-returns-clause-between g c =
+pub returns-clause-later : goal.returns-clause-later
+returns-clause-later g c =
     let gives = g.K.Clock.gives c.args.clock.now in
-    λ b journal at.
-    let value = stream_of g.R.Source.remaining g.R.Source.failures g.W.Sink.contents g.W.Sink.failures g.W.Sink.is_flushed in
     let seats = c.args.opening.opened.1.items in
     let streams = c.args.opening.streams in
-    let helds = held_with value seats streams.items in
-    let ran = c.in-Ok.ensures.run helds c.seated-turns.ensures in
+    let helds = held_with seats streams.items in
+    let ran = c.in-Ok.ensures.run helds c.pair_with_seats-turns.ensures in
     let ended = c.in-Ok-finish.ended in
     let own = c.fill-2.ensures.seats ran.0 ran.1 in
-    let as_many : length ended.book.desk.streams ≡ length b.schedule.streams = omega (
-      arith,
-      all_back _ _ _ _ c.in-Ok-finish.ensures.missing,
-      c.fill-2.new.self.seats.ok.0,
-      ap length own,
-      same_length (λ (held : HeldValue). held.seat) ran.0,
-      all_went gives helds ran.0 ran.2,
-      zip_length (BeginsAgain journal) b.starts helds at.stand,
-      at.begun.each,
-    ) in
-    let gives = g.K.Clock.gives c.args.clock.now in
-    let calls = subst (AreStreamCalls (reverse ended.book.past)) own c.in-Ok-finish.ensures.calls.of_streams in
-    let same = c.in-Ok-finish.ensures.history.same in
-    let on = leads_on b.schedule _ journal ended.book at.past c.in-Ok-finish.ensures.book same as_many in
-    let reached = subst (ClocksReached ended.book) own c.in-Ok-finish.ensures.clock_reached in
-    let hub_limit = c.in-Ok-finish.ensures.limit ∙ at.limit in
     record {
-      more = ended.book.past;
-      epochs = λ before.
-          one_epoch_more b.limit b.schedule _ _ journal ended.book.past before on
-          (ends_epoch b.limit _ ended.book c.in-Ok-finish.ensures.book hub_limit c.in-Ok-finish.ensures.free
-          (λ on. (c.another_comes-goes_on.ensures.0 on).0));
-      moments = all_timed gives journal ended.book.past b.schedule _ b.starts helds ran.0 at.past.is_journal.leads.1
-          (entries_on b.schedule _ ended.book c.in-Ok-finish.ensures.book same on.specs) at.stand ran.2 calls
-          (reached_on b.schedule _ ended.book _ same on.specs reached) (held_new value seats streams.items at.no_calls);
-      between = record {
-        begun = at.begun;
-        past = on;
-        helds = ran.0;
-        stand = stand_on gives journal ended.book.past b.starts helds ran.0 at.stand ran.2 calls;
-        streams = c.fill-2.ensures.streams ran.0 ran.1;
-        seats = c.in-Ok-finish.ensures.left ∙ ap (map left_by) own;
-        kept = subst (AreStreamsOf ended.book.desk) own c.in-Ok-finish.ensures.kept;
-        charges = c.in-Ok-finish.ensures.charges;
-        limit = hub_limit;
-        untold = at.untold;
-        places = omega (arith, all_went gives helds ran.0 ran.2, held_length value seats streams.items, streams.ok.0, at.places);
-      };
+      between = λ b journal at.
+          let as_many : length ended.book.desk.streams ≡ length b.schedule.streams = omega (
+            arith,
+            all_back _ _ _ _ c.in-Ok-finish.ensures.missing,
+            c.fill-2.new.self.seats.ok.0,
+            ap length own,
+            same_length (λ (held : HeldValue). held.seat) ran.0,
+            all_went gives helds ran.0 ran.2,
+            zip_length (BeginsAgain journal) b.starts helds at.stand,
+            at.begun.each,
+          ) in
+          let calls = subst (AreStreamCalls (reverse ended.book.past)) own c.in-Ok-finish.ensures.calls.of_streams in
+          let same = c.in-Ok-finish.ensures.history.same in
+          let on = leads_on b.schedule _ journal ended.book at.past c.in-Ok-finish.ensures.book same as_many in
+          let reached = subst (ClocksReached ended.book) own c.in-Ok-finish.ensures.clock_reached in
+          let hub_limit = c.in-Ok-finish.ensures.limit ∙ at.limit in
+          record {
+            more = ended.book.past;
+            epochs = λ before.
+                one_epoch_more b.limit b.schedule _ _ journal ended.book.past before on
+                (ends_epoch b.limit _ ended.book c.in-Ok-finish.ensures.book hub_limit c.in-Ok-finish.ensures.free
+                (λ on. (c.another_comes-goes_on.ensures.0 on).0));
+            moments = all_timed gives journal ended.book.past b.schedule _ b.starts helds ran.0 at.past.is_journal.leads.1
+                (entries_on b.schedule _ ended.book c.in-Ok-finish.ensures.book same on.specs) at.stand ran.2 calls
+                (reached_on b.schedule _ ended.book _ same on.specs reached) (held_new seats streams.items at.no_calls);
+            between = record {
+              begun = at.begun;
+              past = on;
+              helds = ran.0;
+              stand = stand_on gives journal ended.book.past b.starts helds ran.0 at.stand ran.2 calls;
+              streams = c.fill-2.ensures.streams ran.0 ran.1;
+              seats = c.in-Ok-finish.ensures.left ∙ ap (map left_by) own;
+              kept = subst (AreStreamsOf ended.book.desk) own c.in-Ok-finish.ensures.kept;
+              charges = c.in-Ok-finish.ensures.charges;
+              limit = hub_limit;
+              untold = at.untold;
+              places = omega (arith, all_went gives helds ran.0 ran.2, held_length seats streams.items, streams.ok.0, at.places);
+            };
+          };
+      stops = go_on_allowed gives seats streams.items c.fill-2.new.self.streams.items ran.0 ran.2 (c.fill-2.ensures.streams ran.0 ran.1);
     }
-
-pub returns-clause-stops : goal.returns-clause-stops
-returns-clause-stops g c =
-    let value = stream_of g.R.Source.remaining g.R.Source.failures g.W.Sink.contents g.W.Sink.failures g.W.Sink.is_flushed in
-    let seats = c.args.opening.opened.1.items in
-    let streams = c.args.opening.streams.items in
-    let ran = c.in-Ok.ensures.run (held_with value seats streams) c.seated-turns.ensures in
-    let sink = g.W.Sink in
-    go_on_allowed (g.K.Clock.gives c.args.clock.now) g.R.Source.remaining g.R.Source.failures sink.contents sink.failures sink.is_flushed
-    seats streams c.fill-2.new.self.streams.items ran.0 ran.2 (c.fill-2.ensures.streams ran.0 ran.1)

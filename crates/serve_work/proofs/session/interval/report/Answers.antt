@@ -1,6 +1,5 @@
-use Rattle.std.proofs.Common.{arith, map, subst, sym}
-use Rattle.serve_work.specs.SessionInside.{BringNoEnd, kept_stop}
-use Rattle.serve_work.proofs.SessionStops.{over_stops}
+use Rattle.std.proofs.Common.{arith}
+use Rattle.serve_work.proofs.SessionStops.{over_stops, stops_same}
 use Rattle.serve_work.proofs.Telling.{as_many, few_told, served_told, streams_told}
 use Rattle.serve_work.proofs.session.interval.report.Goals as goal
 
@@ -9,26 +8,24 @@ tell-requires-clause-none g c = c.requires.at.2.untold
 
 pub tell-requires-clause-room : goal.tell-requires-clause-room
 tell-requires-clause-room g c =
-    omega (arith, as_many _ _ _ _ _ _ _ c.args.interval c.requires.at.2, c.requires.at.2.places, c.args.interval.streams.ok.0)
+    omega (arith, as_many _ _ c.args.interval c.requires.at.2, c.requires.at.2.places, c.args.interval.streams.ok.0)
 
 pub charge-requires-clause-few : goal.charge-requires-clause-few
 charge-requires-clause-few g c =
-    omega (arith, few_told _ _ _ _ _ _ _ c.args.interval c.requires.at.2 c.tell.new.served.items c.tell.ensures, c.tell.new.served.ok.0)
+    omega (arith, few_told _ _ c.args.interval c.requires.at.2 c.tell.new.served.items c.tell.ensures, c.tell.new.served.ok.0)
 
 pub charge-requires-clause-kept : goal.charge-requires-clause-kept
 charge-requires-clause-kept g c n less =
-    streams_told _ _ _ _ _ _ _ c.args.interval c.requires.at.2 c.tell.new.served.items c.tell.ensures n
+    streams_told _ _ c.args.interval c.requires.at.2 c.tell.new.served.items c.tell.ensures n
     (omega (arith, less, c.tell.new.served.ok.0))
 
 pub returns-clause-served : goal.returns-clause-served
 returns-clause-served g c = λ b journal at.
-    served_told _ _ _ _ _ b journal c.args.interval at c.tell.new.served.items c.charge.new.served.items c.tell.ensures
+    served_told b journal c.args.interval at c.tell.new.served.items c.charge.new.served.items c.tell.ensures
     c.charge.ensures.outcomes
     (λ k d less. c.charge.ensures.told k d (omega (arith, less, c.charge.new.served.ok.0)))
 
 pub returns-clause-stops : goal.returns-clause-stops
 returns-clause-stops g c =
-    let sink = g.W.Sink in
-    subst (BringNoEnd (map kept_stop c.args.interval.streams.items)) (sym c.charge.ensures.outcomes)
-    (over_stops g.R.Source.remaining g.R.Source.failures sink.contents sink.failures sink.is_flushed c.args.interval.streams.items
-    c.tell.new.served.items c.tell.ensures)
+    stops_same c.args.interval.streams.items c.tell.new.served.items c.charge.new.served.items c.charge.ensures.outcomes
+    (over_stops c.args.interval.streams.items c.tell.new.served.items c.tell.ensures)

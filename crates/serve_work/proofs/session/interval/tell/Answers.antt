@@ -16,8 +16,8 @@ loop-stream-preserved g c =
     let inv = c.loop-stream.invariant in
     let steps = c.in-Some.ensures.steps in
     record {
-      told = told_one _ _ _ _ _ c.args.streams.items _ _ c.loop-stream.served.items _ c.in-Some.stream _ inv.told steps.0
-          c.push_reserved.ensures.items ((c.told.ensures.ends, c.told.ensures.stop, c.told.ensures.kept), tt);
+      told = told_one c.args.streams.items _ _ c.loop-stream.served.items _ c.in-Some.stream _ inv.told steps.0
+          c.push_reserved.ensures.items (c.into_served.ensures, tt);
       left = omega (arith, inv.left, ap length steps.0, steps.1);
       room = omega (arith, inv.room, steps.1, c.push_reserved.ensures.len, c.push_reserved.ensures.capacity);
     }

@@ -8,8 +8,7 @@ use Rattle.serve_work.proofs.session.interval.tell.Given as goal
 -- the first streams are told
 abbrev pub invariant-loop-stream : goal.invariant-loop-stream
 invariant-loop-stream g l = record {
-  told : Told (AreOver g.R.Source.remaining g.R.Source.failures g.W.Sink.contents g.W.Sink.failures g.W.Sink.is_flushed)
-      l.fn.streams.items (into_iter_items l.stream-iterator) l.served.items;
+  told : Told AreOver l.fn.streams.items (into_iter_items l.stream-iterator) l.served.items;
   left : length (into_iter_items l.stream-iterator) ≡ into_iter_len l.stream-iterator;
   room : vec_len l.served + into_iter_len l.stream-iterator ≤ vec_capacity l.served;
 }

@@ -1,31 +1,28 @@
 use Rattle.std.proofs.Common.{ap, arith, length}
-use Rattle.serve_work.specs.SessionInside.{stream_of}
 use Rattle.serve_work.proofs.Seating.{all_made, ready_split, tickets_more, turns_more}
 use Rattle.serve_work.proofs.SessionTurns.{one_empty}
 use Rattle.serve_work.proofs.live.opening.Hall.seat_all.Goals as goal
 
 pub seat_one-requires : goal.seat_one-requires
 seat_one-requires g c =
-    let value = stream_of g.R.Source.remaining g.R.Source.failures g.W.Sink.contents g.W.Sink.failures g.W.Sink.is_flushed in
     let inv = c.loop-seat.invariant in
     let steps = c.in-Some.ensures.steps in
     record {
       places = inv.places;
       few = omega (arith, inv.few, steps.0.1, c.requires.few);
       many = inv.many;
-      ready = (ready_split value _ _ _ _ _ _ steps.0.0 steps.1.0 inv.ready).0;
+      ready = (ready_split _ _ _ _ _ _ steps.0.0 steps.1.0 inv.ready).0;
     }
 
 pub loop-seat-preserved : goal.loop-seat-preserved
 loop-seat-preserved g c =
-    let value = stream_of g.R.Source.remaining g.R.Source.failures g.W.Sink.contents g.W.Sink.failures g.W.Sink.is_flushed in
     let inv = c.loop-seat.invariant in
     let steps = c.in-Some.ensures.steps in
     record {
       places = c.seat_one.ensures.places;
-      turns = turns_more value _ _ _ _ _ _ _ _ _ steps.0.0 steps.1.0 inv.turns c.seat_one.ensures.turns;
-      tickets = tickets_more value _ _ _ _ _ _ _ _ _ steps.0.0 steps.1.0 inv.tickets c.seat_one.ensures.tickets;
-      ready = (ready_split value _ _ _ _ _ _ steps.0.0 steps.1.0 inv.ready).1;
+      turns = turns_more _ _ _ _ _ _ _ _ _ steps.0.0 steps.1.0 inv.turns c.seat_one.ensures.turns;
+      tickets = tickets_more _ _ _ _ _ _ _ _ _ steps.0.0 steps.1.0 inv.tickets c.seat_one.ensures.tickets;
+      ready = (ready_split _ _ _ _ _ _ steps.0.0 steps.1.0 inv.ready).1;
       seats_left = omega (arith, inv.seats_left, ap length steps.0.0, steps.0.1);
       guests_left = omega (arith, inv.guests_left, ap length steps.1.0, steps.1.1);
       few = omega (arith, inv.few, steps.0.1, c.seat_one.ensures.few);
@@ -34,8 +31,7 @@ loop-seat-preserved g c =
 
 pub returns : goal.returns
 returns g c =
-    let value = stream_of g.R.Source.remaining g.R.Source.failures g.W.Sink.contents g.W.Sink.failures g.W.Sink.is_flushed in
     let inv = c.loop-seat.invariant in
-    let all = all_made value _ _ _ _ _ _ (one_empty _ _ _ _ inv.seats_left inv.guests_left c.in-None.ensures.steps) inv.turns inv.tickets
+    let all = all_made _ _ _ _ _ _ (one_empty _ _ _ _ inv.seats_left inv.guests_left c.in-None.ensures.steps) inv.turns inv.tickets
     in
     record { places = inv.places; turns = all.0; tickets = all.1; few = omega (arith, inv.few) }

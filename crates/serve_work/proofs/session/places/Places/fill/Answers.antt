@@ -8,7 +8,7 @@ loop-turn-init g c =
     let given = c.into_iter-turn-iterator.ensures.into_iter_gives in
     let places = c.args.self.now in
     record {
-      parts = parted_none _ c.args.turns.items _ places.seats.items places.streams.items c.requires.seats c.requires.streams given.0;
+      parts = parted_none c.args.turns.items _ places.seats.items places.streams.items c.requires.seats c.requires.streams given.0;
       left = omega (arith, ap length given.0, given.1, c.args.turns.ok.0);
       same_room = refl;
       seats = omega (arith, given.1, c.requires.seats_room, ap length c.requires.seats, places.seats.ok.0);
@@ -27,7 +27,7 @@ loop-turn-preserved g c =
     let steps = c.in-Some.ensures.steps in
     let places = c.loop-turn.self in
     record {
-      parts = parted_more _ c.args.turns.items _ _ c.in-Some.turn places.seats.items _ places.streams.items _
+      parts = parted_more c.args.turns.items _ _ c.in-Some.turn places.seats.items _ places.streams.items _
           c.in-Some-into_held.held _ c.part-seat.result.1 inv.parts steps.0
           (sym c.into_held.ensures ∙ c.in-Some-into_held.is) c.part-seat.ensures.seat
           c.push_reserved.ensures.items c.push_reserved-in-loop-turn.ensures.items c.part-seat.ensures.stream;
@@ -47,5 +47,5 @@ pub returns : goal.returns
 returns g c =
     let inv = c.loop-turn.invariant in
     let none : length (into_iter_items c.loop-turn.turn-iterator) ≡ 0 = omega (arith, inv.left, c.in-None.ensures.steps.0) in
-    let parted = parted_all _ c.args.turns.items _ c.loop-turn.self.seats.items c.loop-turn.self.streams.items inv.parts none in
+    let parted = parted_all c.args.turns.items _ c.loop-turn.self.seats.items c.loop-turn.self.streams.items inv.parts none in
     record { seats = λ helds e. (parted helds e).0; streams = λ helds e. (parted helds e).1; same_room = inv.same_room }

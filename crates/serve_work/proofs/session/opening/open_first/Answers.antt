@@ -2,28 +2,26 @@ use Rattle.std.proofs.Common.{◌≡◌, ◌≤◌, ℕ, ap, arith, length, subs
 use Rattle.std.specs.List.{AllByRecursion}
 use Rattle.serve_hub.specs.Seats.{HubValue, opened_rests}
 use Rattle.serve_work.specs.Intervals.{HasNoCalls, IsRoomFor}
-use Rattle.serve_work.specs.SessionInside.{stream_of, unread}
+use Rattle.serve_work.specs.SessionInside.{unread}
 use Rattle.serve_work.proofs.Intervals.{begins_at, is_beginning, new_seats, no_entry}
 use Rattle.serve_work.proofs.SessionTurns.{are_unread, same_length}
-use Rattle.serve_work.proofs.session.opening.opened.Goals as goal
+use Rattle.serve_work.proofs.session.opening.open_first.Goals as goal
 
-pub waiting-requires : goal.waiting-requires
-waiting-requires g c = record { unread = are_unread c.args.setup.streams c.args.inputs.items c.requires.inputs }
+pub streams_of-requires : goal.streams_of-requires
+streams_of-requires g c = record { unread = are_unread c.args.setup.streams c.args.inputs.items c.requires.inputs }
 
-pub returns-in-Ok-waiting-clause-at : goal.returns-in-Ok-waiting-clause-at
-returns-in-Ok-waiting-clause-at g c =
+pub returns-in-Ok-streams_of-clause-at : goal.returns-in-Ok-streams_of-clause-at
+returns-in-Ok-streams_of-clause-at g c =
     let contents = g.W.Sink.contents in
     let failures = g.W.Sink.failures in
-    let value = stream_of g.R.Source.remaining g.R.Source.failures contents failures g.W.Sink.is_flushed in
     let specs = c.args.setup.streams in
     let inputs = c.args.inputs.items in
-    let streams = c.in-Ok-waiting.streams in
+    let streams = c.in-Ok-streams_of.streams in
     let count : c.len.result ≡ vec_len streams = omega (
       arith,
       c.len.ensures,
       c.args.inputs.ok.0,
-      ap length c.in-Ok-waiting.ensures.streams,
-      same_length value streams.items,
+      ap length c.in-Ok-streams_of.ensures.streams,
       same_length (unread contents failures) inputs,
       streams.ok.0,
     ) in
@@ -31,8 +29,8 @@ returns-in-Ok-waiting-clause-at g c =
     record {
       begun = is_beginning contents failures c.args.limit c.args.setup inputs c.requires.inputs c.in-Ok.ensures.limit;
       past = no_entry _ _ c.requires.opening;
-      stand = begins_at contents failures c.args.limit value specs inputs c.in-Ok.lists.0.1.items c.in-Ok-waiting.streams.items
-          c.requires.inputs c.in-Ok.ensures.seats c.in-Ok-waiting.ensures.streams;
+      stand = begins_at contents failures c.args.limit specs inputs c.in-Ok.lists.0.1.items c.in-Ok-streams_of.streams.items
+          c.requires.inputs c.in-Ok.ensures.seats c.in-Ok-streams_of.ensures.streams;
       room = subst (λ (n : ℕ). IsRoomFor n c.in-Ok.lists.1) count c.in-Ok.ensures.room;
       untold = c.in-Ok.ensures.untold;
       no_calls = subst (AllByRecursion HasNoCalls) (sym c.in-Ok.ensures.seats)

@@ -1,5 +1,5 @@
 use Rattle.std.proofs.Common.{◌∙◌}
-use Rattle.serve_work.proofs.live.epochs.later.Goals as goal
+use Rattle.serve_work.proofs.live.epochs.next_epoch.Goals as goal
 
 pub open_next-requires-clause-guests : goal.open_next-requires-clause-guests
 open_next-requires-clause-guests g c = let at = c.requires.guests in (at.0, at.2)

@@ -3,31 +3,28 @@ use Rattle.std.specs.List.{AllByRecursion}
 use Rattle.serve_hub.specs.Seats.{HubValue, seat_over}
 use Rattle.serve_core.specs.Schedule.{ScheduleValue}
 use Rattle.serve_work.specs.Intervals.{HasNoCalls, IsRoomFor, LeadsTo}
-use Rattle.serve_work.specs.SessionInside.{stream_of}
 use Rattle.serve_work.proofs.Intervals.{new_seats, stand_again, still_between}
 use Rattle.serve_work.proofs.Telling.{as_many}
-use Rattle.serve_work.proofs.session.opening.reopened.Goals as goal
+use Rattle.serve_work.proofs.session.opening.open_next.Goals as goal
 
 pub returns-in_default-clause-back : goal.returns-in_default-clause-back
-returns-in_default-clause-back g c = λ b journal at. still_between _ _ _ _ _ b journal c.args.interval _ refl refl refl at
+returns-in_default-clause-back g c = λ b journal at. still_between b journal c.args.interval _ refl refl refl at
 
 pub returns-in-Err-clause-back : goal.returns-in-Err-clause-back
-returns-in-Err-clause-back g c = λ b journal at. still_between _ _ _ _ _ b journal c.args.interval _ c.in-Err.ensures.back refl refl at
+returns-in-Err-clause-back g c = λ b journal at. still_between b journal c.args.interval _ c.in-Err.ensures.back refl refl at
 
 pub returns-in-Ok-reopen-clause-at : goal.returns-in-Ok-reopen-clause-at
 returns-in-Ok-reopen-clause-at g c = λ b journal at.
     let limit = c.limit-limit.result in
-    let value = stream_of g.R.Source.remaining g.R.Source.failures g.W.Sink.contents g.W.Sink.failures g.W.Sink.is_flushed in
     record {
       begun = at.begun;
       past = subst (λ (x : ScheduleValue). LeadsTo b.schedule journal x) c.requires.opening at.past;
-      stand = stand_again value limit journal b.starts at.helds c.in-Ok-reopen.next.streams.items
-          c.args.interval.streams.items at.stand
-          (c.in-Ok-reopen.ensures.streams ∙ ap (map (seat_over limit)) at.seats) at.streams;
+      stand = stand_again limit journal b.starts at.helds c.in-Ok-reopen.next.streams.items c.args.interval.streams.items
+          at.stand (c.in-Ok-reopen.ensures.streams ∙ ap (map (seat_over limit)) at.seats) at.streams;
       room = subst (λ (n : ℕ). IsRoomFor n c.in-Ok.room) c.len.ensures c.in-Ok.ensures;
       untold = at.untold;
       no_calls = subst (AllByRecursion HasNoCalls) (sym c.in-Ok-reopen.ensures.streams)
           (new_seats limit c.args.interval.ended.streams);
-      places = omega (arith, as_many _ _ _ _ _ b journal c.args.interval at, at.places, c.args.interval.streams.ok.0);
+      places = omega (arith, as_many b journal c.args.interval at, at.places, c.args.interval.streams.ok.0);
       limit = ap (λ (hub : HubValue). hub.limit) c.in-Ok-reopen.ensures.hub ∙ c.limit-limit.ensures ∙ at.limit;
     }

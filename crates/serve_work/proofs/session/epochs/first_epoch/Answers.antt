@@ -1,11 +1,11 @@
 use Rattle.std.proofs.Common.{◌≡◌, ◌∙◌, [], ap, arith, length}
 use Rattle.serve_work.specs.Intervals.{beginning_of}
 use Rattle.serve_work.specs.Sessions.{IsInput}
-use Rattle.serve_work.specs.SessionInside.{BeginsAgain, held_with, stream_of, unread}
+use Rattle.serve_work.specs.SessionInside.{BeginsAgain, held_with, unread}
 use Rattle.serve_work.proofs.Intervals.{all_starts, on_ok, streams_held}
 use Rattle.serve_work.proofs.SessionStops.{begin_allowed}
-use Rattle.serve_work.proofs.SessionTurns.{all_unended, same_length, still_unread, unended_limit, zip_length}
-use Rattle.serve_work.proofs.session.epochs.first.Goals as goal
+use Rattle.serve_work.proofs.SessionTurns.{all_oks, all_unended, same_length, still_unread, unended_limit, zip_length}
+use Rattle.serve_work.proofs.session.epochs.first_epoch.Goals as goal
 
 pub epoch-requires-clause-at : goal.epoch-requires-clause-at
 epoch-requires-clause-at g c κs within = (
@@ -16,43 +16,39 @@ epoch-requires-clause-at g c κs within = (
 
 pub returns-clause-between : goal.returns-clause-between
 returns-clause-between g c =
-    c.epoch.ensures.between (beginning_of g.W.Sink.contents g.W.Sink.failures c.args.setup c.args.limit c.args.inputs.items) []
-    c.in_ok-opening.ensures.at
+    let b = beginning_of g.W.Sink.contents g.W.Sink.failures c.args.setup c.args.limit c.args.inputs.items in
+    all_oks _ _ c.epoch.result (λ now later. later.between b [] c.in_ok-opening.ensures.at) c.epoch.ensures.later
 
 pub returns-clause-limit : goal.returns-clause-limit
 returns-clause-limit g c = on_ok c.epoch.result _ c.in_ok-opening.ensures.limit
 
 pub returns-clause-bad_limit : goal.returns-clause-bad_limit
 returns-clause-bad_limit g c =
-    let sink = g.W.Sink in
     all_unended _ _ c.epoch.result (λ e p. (
-      λ is limit. unended_limit g.R.Source.remaining g.R.Source.failures sink.contents sink.failures sink.is_flushed _ _ e p is,
+      λ is limit. unended_limit _ _ e p is,
       λ not. absurd (not c.in_ok-opening.ensures.limit),
     )) c.epoch.ensures.unended
 
 pub returns-clause-unread : goal.returns-clause-unread
 returns-clause-unread g c =
     let sink = g.W.Sink in
-    let value = stream_of g.R.Source.remaining g.R.Source.failures sink.contents sink.failures sink.is_flushed in
     let b = beginning_of sink.contents sink.failures c.args.setup c.args.limit c.args.inputs.items in
     let seats = c.in_ok-opening.opening.opened.1.items in
     let streams = c.in_ok-opening.opening.streams.items in
     let inputs = c.args.inputs.items in
-    let all : length (held_with value seats streams) ≡ length streams = omega (
+    let all : length (held_with seats streams) ≡ length streams = omega (
       arith,
-      zip_length (BeginsAgain []) b.starts (held_with value seats streams) c.in_ok-opening.ensures.at.stand,
+      zip_length (BeginsAgain []) b.starts (held_with seats streams) c.in_ok-opening.ensures.at.stand,
       all_starts sink.contents sink.failures c.args.limit 0 c.args.setup.streams inputs c.requires.inputs,
       zip_length IsInput c.args.setup.streams inputs c.requires.inputs,
       ap length c.in_ok-opening.ensures.unread,
-      same_length value streams,
       same_length (unread sink.contents sink.failures) inputs,
     ) in
-    all_unended _ _ c.epoch.result (λ e p. still_unread g.R.Source.remaining g.R.Source.failures sink.contents sink.failures
-    sink.is_flushed (held_with value seats streams) inputs e (streams_held value seats streams all ∙ c.in_ok-opening.ensures.unread) p)
-    c.epoch.ensures.unended
+    all_unended _ _ c.epoch.result (λ e p. still_unread (held_with seats streams) sink.contents sink.failures inputs e
+    (streams_held seats streams all ∙ c.in_ok-opening.ensures.unread) p) c.epoch.ensures.unended
 
 pub returns-clause-stops : goal.returns-clause-stops
 returns-clause-stops g c =
-    let sink = g.W.Sink in
-    c.epoch.ensures.stops (begin_allowed (g.K.Clock.gives c.args.clock.now) g.R.Source.remaining g.R.Source.failures sink.contents
-    sink.failures sink.is_flushed c.in_ok-opening.opening.streams.items c.args.inputs.items c.in_ok-opening.ensures.unread)
+    let allowed = begin_allowed (g.K.Clock.gives c.args.clock.now) g.W.Sink.contents g.W.Sink.failures
+    c.in_ok-opening.opening.streams.items c.args.inputs.items c.in_ok-opening.ensures.unread in
+    all_oks _ _ c.epoch.result (λ now later. later.stops allowed) c.epoch.ensures.later

@@ -4,10 +4,11 @@ use Rattle.serve_work.specs.declared.live.guests.Ticket.{Ticket}
 use Rattle.serve_work.specs.Live.{IsNewIn, RequestValue, Waiting}
 use Rattle.serve_work.specs.LiveInside.{AreSeated, Begins, HasTurn, TakesSeat}
 use Rattle.serve_work.specs.Rests.{Unbegun}
-use Rattle.serve_work.specs.SessionInside as sessions
-use Rattle.serve_work.specs.SessionInside.{IsReadyAt, StreamValue, held_at, stream_of}
+use Rattle.serve_work.specs.StreamInside as sessions
+use Rattle.serve_work.specs.SessionInside.{IsReadyAt, held_at}
+use Rattle.serve_work.specs.StreamInside.{StreamValue}
 use Rattle.serve_work.proofs.Living.{began, empty_seated, may_go, seated_more}
-use Rattle.serve_work.proofs.live.epochs.first.Goals as goal
+use Rattle.serve_work.proofs.live.epochs.first_epoch.Goals as goal
 
 pub tell-requires : goal.tell-requires
 tell-requires g c =
@@ -24,8 +25,8 @@ tell-requires g c =
       );
     }
 
-pub new_stream-requires : goal.new_stream-requires
-new_stream-requires g c =
+pub new-requires : goal.new-requires
+new-requires g c =
     let first = c.requires.first.2 in
     record { «open» = rw first.reader first.is_request.is_open }
 
@@ -42,7 +43,7 @@ seat-requires g c =
     inl (record { setup = c.args.stream.setup; streams = first.streams; opened = sym c.requires.opening; first = new.2 }) in
     let b = began g.D.Door.limit g.D.Door.times g.L.Epoch.opening request seat first.is_request new.0 there none new.1.1 in
     let rest = sessions.Waiting (Unbegun request.reader request.before request.failures) in
-    let is : _ ≡ rest = c.new_stream.ensures ∙ rw (first.reader, first.before, first.failures_of) refl in
+    let is : _ ≡ rest = c.new.ensures ∙ rw (first.reader, first.before, first.failures_of) refl in
     record {
       places = c.in-Some.ensures.places;
       few = omega (arith, ap length empty.0, ap length empty.2, hall.room.turns.ok.0, hall.idle.ok.0);
@@ -53,7 +54,6 @@ seat-requires g c =
 
 pub epoch-requires-clause-seated : goal.epoch-requires-clause-seated
 epoch-requires-clause-seated g c κs within =
-    let value = stream_of g.R.Source.remaining g.R.Source.failures g.W.Sink.contents g.W.Sink.failures g.W.Sink.is_flushed in
     let limit = g.D.Door.limit in
     let times = g.D.Door.times in
     let opening = g.L.Epoch.opening in
@@ -69,8 +69,8 @@ epoch-requires-clause-seated g c κs within =
     inl (record { setup = c.args.stream.setup; streams = first.streams; opened = sym c.requires.opening; first = new.2 }) in
     let b = began limit times opening request seat first.is_request new.0 there none new.1.1 in
     let rest = sessions.Waiting (Unbegun request.reader request.before request.failures) in
-    let is : value c.new_stream.result ≡ rest = c.new_stream.ensures ∙ rw (first.reader, first.before, first.failures_of) refl in
-    let held = held_at seat (value c.new_stream.result) in
+    let is : c.new.result ≡ rest = c.new.ensures ∙ rw (first.reader, first.before, first.failures_of) refl in
+    let held = held_at seat c.new.result in
     let turn : HasTurn limit times opening w held = subst (λ (v : StreamValue). Begins limit times opening request v seat) (sym is) b in
     let empty_hall : AreSeated limit times opening [] hall =
     empty_seated limit times opening hall c.in-Some.ensures.places empty.0 empty.1

@@ -1,0 +1,31 @@
+use Rattle.std.proofs.Common.{◌∙◌, Bool, true, subst, sym}
+use Rattle.serve_work.specs.Sessions.{IsOfEpochs}
+use Rattle.serve_work.proofs.Intervals.{no_later}
+use Rattle.serve_work.proofs.Journals.{no_more_epochs}
+use Rattle.serve_work.proofs.SessionTurns.{later_mismatch}
+use Rattle.serve_work.proofs.session.epochs.next_epoch.Goals as goal
+
+pub epoch-requires-clause-at : goal.epoch-requires-clause-at
+epoch-requires-clause-at g c κs within =
+    (c.requires.at.0, c.requires.at.1, c.in-Ok.ensures.at c.requires.at.0 c.requires.at.1 c.requires.at.2)
+
+pub returns-in-Ok-epoch-clause-later : goal.returns-in-Ok-epoch-clause-later
+returns-in-Ok-epoch-clause-later g c = record {
+  between = λ b journal at. c.in-Ok-epoch.ensures.later.between b journal (c.in-Ok.ensures.at b journal at);
+  stops = λ allowed. c.in-Ok-epoch.ensures.later.stops (rw c.in-Ok.ensures.streams allowed);
+}
+
+pub returns-in-Err-clause-later : goal.returns-in-Err-clause-later
+returns-in-Err-clause-later g c =
+    let gives = g.K.Clock.gives c.args.clock.now in
+    record {
+      between = λ b journal at. no_later b journal gives true _ (c.in-Err.ensures.back b journal at) (λ full.
+          subst (λ (on : Bool). IsOfEpochs b.limit b.schedule on journal) (sym c.in-Err.ensures.over)
+          (no_more_epochs b.limit b.schedule true journal full));
+      stops = λ allowed. rw c.in-Err.ensures.same allowed;
+    }
+
+pub returns-in-Err-epoch-clause-fault : goal.returns-in-Err-epoch-clause-fault
+returns-in-Err-epoch-clause-fault g c =
+    c.fault.ensures ∙ later_mismatch _
+    c.in-Err-epoch.unended c.in-Err-epoch.ensures.unended
