@@ -21,7 +21,6 @@ use Rattle.serve_report.specs.declared.serve.report.StreamStop.TheVariants as st
 use Rattle.serve_report.specs.declared.words.ServeWords.{ServeWords}
 use Rattle.serve_work.specs.Clients.{ClientStart}
 use Rattle.serve_work.specs.Sessions.{IsSession, ServedValue}
-use Rattle.serve_work.specs.declared.session.Served.{Served}
 use Rattle.serve_work.specs.declared.stop.Cause.TheVariants.{ClockEnd}
 use Rattle.serve_work.specs.declared.stop.Stop.TheVariants.{Refused}
 
@@ -38,18 +37,8 @@ abbrev pub stopped_row : Bor (List ℕ) → StreamStop → StreamRow
 stopped_row name stop = record { name = name; accepted = 0; delivered = 0; charged = 0; stop = stop }
 
 -- what is reported of one of which the session left this
-abbrev pub served_row : {R W : Type 0} → Bor (List ℕ) → Served R W → StreamRow
+abbrev pub served_row : Bor (List ℕ) → ServedValue → StreamRow
 served_row name served = record {
-  name = name;
-  accepted = served.accepted;
-  delivered = served.delivered;
-  charged = served.charged;
-  stop = stop_told served.stop;
-}
-
--- the same by what is told of it
-abbrev pub told_row : Bor (List ℕ) → ServedValue → StreamRow
-told_row name served = record {
   name = name;
   accepted = served.outcome.accepted;
   delivered = served.outcome.delivered;
@@ -115,7 +104,7 @@ pub record Tells (Gives : ℕ → Type 0) (workers quantum journal : ℕ) (openi
     (rows : List StreamRow) : Type 0 where
   pub left : List ServedValue
   pub session : Leaves Gives workers quantum journal (specs_in openings) (starts_in journal openings) left
-  pub given : rows_given told_row (map entrant_of openings) left ≡ Some rows
+  pub given : rows_given served_row (map entrant_of openings) left ≡ Some rows
   pub in_time : AreMoments Gives → AllByRecursion IsInTime left
 
 -- the streams were opened as their words ask, and the rows tell of them

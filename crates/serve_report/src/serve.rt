@@ -7,7 +7,7 @@ ghost use Rattle.serve_report.specs.Apart.{FilesGive};
 ghost use Rattle.serve_report.specs.Entrants.{Leaves, Reports, Serves, ServesAll, Tells};
 ghost use Rattle.serve_report.specs.Openings.{openings_of};
 ghost use Rattle.serve_report.specs.ServeChecks.{all_told};
-ghost use Rattle.serve_work.specs.Sessions.{AreInputs, served_of, starts_of};
+ghost use Rattle.serve_work.specs.Sessions.{AreInputs, starts_of};
 
 pub use self::apart::FileUse;
 use self::apart::{tell_apart, tell_control_apart, tell_trace_apart};
@@ -404,7 +404,7 @@ where
     requires inputs { AreInputs specs.items inputs.items }
     ensures { IfOk result (λ left. Leaves (K.gives clock.now) workers quantum journal specs.items
         (starts_of W.contents W.failures (opened_streams journal 0 specs.items) inputs.items)
-        (map (served_of R.remaining R.failures W.contents W.failures W.is_flushed) left.items)) }
+        left.items) }
 {
     if specs.is_empty() {
         return Ok(Vec::new(alloc));
