@@ -256,9 +256,8 @@ on_ok (Err e) P p = tt
 module _ {R W : Type 0} (b : Beginning) (journal : List Entry) where
   -- an interval that is left as it was
   pub still_between : (old new : Interval R W) → new.ended ≡ old.ended → new.streams ≡ old.streams → new.served ≡ old.served
-      → IsBetween b journal old
-      → IsBetween b journal new
-  still_between old new e f h at = record {
+      → new.waits ≡ old.waits → IsBetween b journal old → IsBetween b journal new
+  still_between old new e f h w at = record {
     begun = at.begun;
     past = rw e at.past;
     helds = at.helds;
@@ -270,21 +269,20 @@ module _ {R W : Type 0} (b : Beginning) (journal : List Entry) where
     limit = rw e at.limit;
     untold = rw h at.untold;
     places = rw h at.places;
+    over = rw w (rw f at.over);
   }
 
   module _ (Gives : ℕ → Type 0) where
-    pub no_later : (went_on : Bool) (now : Interval R W) → IsBetween b journal now
-        → (IsOfEpochs b.limit b.schedule went_on journal → IsOfEpochs b.limit b.schedule now.goes_on journal)
-        → IsLater Gives b went_on journal now
-    no_later went_on now at epochs = record { more = []; between = at; moments = λ given. given; epochs = epochs }
+    pub no_later : (Before : List Entry → Type 0) (now : Interval R W) → IsBetween b journal now
+        → (Before journal → IsOfEpochs b.limit b.schedule now.waits journal) → IsLater Gives b Before journal now
+    no_later Before now at epochs = record { more = []; between = at; moments = λ given. given; epochs = epochs }
 
     -- what is later than what is later
-    pub later_on : (went_on goes_on : Bool) (more : List Entry) (now : Interval R W)
+    pub later_on : (Before Between : List Entry → Type 0) (more : List Entry) (now : Interval R W)
         → (AllTimed Gives b.schedule journal b.starts → AllTimed Gives b.schedule (more ++ journal) b.starts)
-        → (IsOfEpochs b.limit b.schedule went_on journal → IsOfEpochs b.limit b.schedule goes_on (more ++ journal))
-        → IsLater Gives b goes_on (more ++ journal) now
-        → IsLater Gives b went_on journal now
-    later_on went_on goes_on more now given epochs l = record {
+        → (Before journal → Between (more ++ journal)) → IsLater Gives b Between (more ++ journal) now
+        → IsLater Gives b Before journal now
+    later_on Before Between more now given epochs l = record {
       more = l.more ++ more;
       between = subst (λ (j : List Entry). IsBetween b j now)
           (sym (append_assoc l.more more journal)) l.between;
@@ -292,5 +290,5 @@ module _ {R W : Type 0} (b : Beginning) (journal : List Entry) where
           subst (λ (j : List Entry). AllTimed Gives b.schedule j b.starts) (sym (append_assoc l.more more journal))
           (l.moments (given before));
       epochs = λ before.
-          subst (IsOfEpochs b.limit b.schedule now.goes_on) (sym (append_assoc l.more more journal)) (l.epochs (epochs before));
+          subst (IsOfEpochs b.limit b.schedule now.waits) (sym (append_assoc l.more more journal)) (l.epochs (epochs before));
     }

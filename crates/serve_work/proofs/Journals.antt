@@ -1,5 +1,5 @@
 -- The journals of a session's epochs, one behind the other.
-use Rattle.std.specs.Prelude.{IsTrue, flat_map, if◌then◌else◌, sum_by}
+use Rattle.std.specs.Prelude.{IsFalse, IsTrue, flat_map, if◌then◌else◌, sum_by}
 use Rattle.std.proofs.Common.{ℕ, ◌≡◌, ◌<◌, ◌++◌, ◌∙◌, Bool, true, false, List, [], ◌∷◌, map, refl, sym, ap, subst, arith}
 use Rattle.std.proofs.lemmas.List.Concat.{flat_map-cons}
 use Rattle.std.proofs.lemmas.List.Sums.{sum_by-cons}
@@ -15,26 +15,23 @@ use Rattle.serve_hub.specs.Books.{BookValue, IsBook, entries_left, one_open, spe
 use Rattle.serve_hub.specs.Ends.{AreFree}
 use Rattle.serve_hub.specs.Journal.{transcript_of}
 use Rattle.serve_hub.proofs.Opened.{only_closes}
-use Rattle.serve_work.specs.Intervals.{LeadsTo}
+use Rattle.serve_work.specs.Intervals.{Beginning, IsBehind, LeadsTo}
 use Rattle.serve_work.specs.Sessions.{AreEpochs, IsEpoch, IsOfEpochs, open_streams}
 
--- before its first epoch a session has no entry
-pub no_epochs : (limit : ℕ) (opening : ScheduleValue) (goes_on : Bool) → IsOfEpochs limit opening goes_on []
-no_epochs limit opening goes_on = record { epochs = []; joined = refl; each = tt }
+full_or_over : (limit : ℕ) (specs : List StreamSpec) (opening : State Blank) (waits : Bool) (epochs : List (List Entry))
+    → AreEpochs limit specs opening true epochs → AreEpochs limit specs opening waits epochs
+full_or_over limit specs opening waits [] are = tt
+full_or_over limit specs opening waits (epoch ∷ before) are =
+    (are.0, record { free = are.1.free; fits = are.1.fits; full = λ _. are.1.full refl })
 
-are_over : (limit : ℕ) (specs : List StreamSpec) (opening : State Blank) (goes_on : Bool) (epochs : List (List Entry))
-    → AreEpochs limit specs opening goes_on epochs → AreEpochs limit specs opening false epochs
-are_over limit specs opening goes_on [] are = tt
-are_over limit specs opening goes_on (epoch ∷ before) are =
-    (are.0, record { free = are.1.free; fits = are.1.fits; full = λ is. absurd (cc) })
-
--- where no epoch comes any more, the latest may have room
-pub no_more_epochs : (limit : ℕ) (opening : ScheduleValue) (goes_on : Bool) (journal : List Entry)
-    → IsOfEpochs limit opening goes_on journal → IsOfEpochs limit opening false journal
-no_more_epochs limit opening goes_on journal is = record {
+-- epochs that another may come behind are those of a session, whether a stream waits or not
+pub behind_full : (limit : ℕ) (opening : ScheduleValue) (waits : Bool) (journal : List Entry)
+    → IsOfEpochs limit opening true journal → IsOfEpochs limit opening waits journal
+behind_full limit opening waits journal is = record {
   epochs = is.epochs;
   joined = is.joined;
-  each = are_over limit (specs_of opening) (desk_state opening) goes_on is.epochs is.each;
+  each = full_or_over limit (specs_of opening) (desk_state opening) waits is.epochs is.each;
+  some = λ _. is.some refl;
 }
 
 -- as many streams are open in a desk's state as in the desk
@@ -52,9 +49,9 @@ as_open (stream ∷ streams) =
     )
 
 -- a book that is left with no lease out ends an epoch
-pub ends_epoch : (limit : ℕ) (goes_on : Bool) (book : BookValue) → IsBook book → book.limit ≡ limit → AreFree book.desk.workers
-    → (IsTrue goes_on → entries_left book < 2) → IsEpoch limit goes_on book.past (desk_state book.desk)
-ends_epoch limit goes_on book is same free few =
+pub ends_epoch : (limit : ℕ) (waits : Bool) (book : BookValue) → IsBook book → book.limit ≡ limit → AreFree book.desk.workers
+    → (IsTrue waits → entries_left book < 2) → IsEpoch limit waits book.past (desk_state book.desk)
+ends_epoch limit waits book is same free few =
     let closes = only_closes book.desk free in
     let are_open : open_streams (desk_state book.desk) ≡ sum_by one_open book.desk.streams = as_open book.desk.streams in
     record {
@@ -64,16 +61,32 @@ ends_epoch limit goes_on book is same free few =
     }
 
 -- behind the epochs of a session comes another
-pub one_epoch_more : (limit : ℕ) (opening last : ScheduleValue) (goes_on : Bool) (journal epoch : List Entry)
-    → IsOfEpochs limit opening true journal → LeadsTo opening (epoch ++ journal) last
-    → IsEpoch limit goes_on epoch (desk_state last) → IsOfEpochs limit opening goes_on (epoch ++ journal)
-one_epoch_more limit opening last goes_on journal epoch is led ends =
-    let joined : flat_map (λ (e : List Entry). e) (epoch ∷ is.epochs) ≡ epoch ++ journal =
-    flat_map-cons (λ (e : List Entry). e) epoch is.epochs ∙ ap (λ (before : List Entry). epoch ++ before) is.joined in
+one_epoch_more : (limit : ℕ) (opening last : ScheduleValue) (waits : Bool) (journal epoch : List Entry) (before : List (List Entry))
+    → flat_map (λ (e : List Entry). e) before ≡ journal → AreEpochs limit (specs_of opening) (desk_state opening) true before
+    → LeadsTo opening (epoch ++ journal) last → IsEpoch limit waits epoch (desk_state last)
+    → IsOfEpochs limit opening waits (epoch ++ journal)
+one_epoch_more limit opening last waits journal epoch before own each led ends =
+    let joined : flat_map (λ (e : List Entry). e) (epoch ∷ before) ≡ epoch ++ journal =
+    flat_map-cons (λ (e : List Entry). e) epoch before ∙ ap (λ (earlier : List Entry). epoch ++ earlier) own in
     let after : List Entry → State Blank =
     λ (past : List Entry). state_from (desk_state opening) (transcript_of (specs_of opening) (desk_state opening) past) in
     record {
-      epochs = epoch ∷ is.epochs;
+      epochs = epoch ∷ before;
       joined = joined;
-      each = (is.each, subst (IsEpoch limit goes_on epoch) (sym (ap after joined ∙ led.is_journal.leads.1)) ends);
+      each = (each, subst (IsEpoch limit waits epoch) (sym (ap after joined ∙ led.is_journal.leads.1)) ends);
+      some = λ _ none. absurd (cc);
     }
+
+-- where an epoch ends it is one more, unless it has no entry
+pub epoch_ends : (b : Beginning) (is_first is_cut waits : Bool) (journal epoch : List Entry) (last : ScheduleValue)
+    → (IsTrue is_cut → epoch ≡ []) → (IsTrue is_cut → IsFalse is_first)
+    → (IsFalse is_cut → IsEpoch b.limit waits epoch (desk_state last)) → LeadsTo b.schedule (epoch ++ journal) last
+    → IsBehind b is_first journal → IsOfEpochs b.limit b.schedule waits (epoch ++ journal)
+epoch_ends b true true waits journal epoch last empty later ends led is = absurd (let no = later refl in cc)
+epoch_ends b false true waits journal epoch last empty later ends led is =
+    subst (λ (past : List Entry). IsOfEpochs b.limit b.schedule waits (past ++ journal)) (sym (empty refl))
+    (behind_full b.limit b.schedule waits journal is)
+epoch_ends b true false waits journal epoch last empty later ends led is =
+    one_epoch_more b.limit b.schedule last waits journal epoch [] (sym is) tt led (ends refl)
+epoch_ends b false false waits journal epoch last empty later ends led is =
+    one_epoch_more b.limit b.schedule last waits journal epoch is.epochs is.joined is.each led (ends refl)

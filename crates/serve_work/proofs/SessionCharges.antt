@@ -1,5 +1,5 @@
 -- What the streams of a session are charged.
-use Rattle.std.specs.Prelude.{All, IsSomeAnd, drop, slice_get, slice_set, ⊤}
+use Rattle.std.specs.Prelude.{All, Bool, IsSomeAnd, drop, slice_get, slice_set, ⊤}
 use Rattle.std.specs.List.{AllZip}
 use Rattle.std.specs.Option.{option_map}
 use Rattle.std.proofs.Common.{◌≡◌, ℕ, suc, zero, ◌+◌, ◌*◌, ◌≤◌, ◌<◌, List, [], ◌∷◌, length, get_or, map}
@@ -17,7 +17,7 @@ use Rattle.serve_hub.specs.declared.entry.Entry.{Entry}
 use Rattle.serve_hub.specs.Ends.{AreStreamsOf, IsCharged, IsStreamOf}
 use Rattle.serve_hub.specs.Seats.{StreamSeatValue, collected_by, opened_streams}
 use Rattle.serve_work.specs.declared.stop.Stop.TheVariants.{Whole}
-use Rattle.serve_work.specs.Clients.{ClientOutcome, ClientStart, StreamEnds}
+use Rattle.serve_work.specs.Clients.{ClientEnds, ClientOutcome, ClientStart, StreamEnds}
 use Rattle.serve_work.specs.Intervals.{AreFrom}
 use Rattle.serve_work.specs.Sessions.{AreServed, IsServed, IsStreamTold, IsServedBy, ServedValue, starts_of}
 use Rattle.serve_work.specs.SessionInside.{AllLeave, outcomes_of}
@@ -96,13 +96,13 @@ stream_at desk n P Q p q = elim (slice_get_cases desk.streams n).1 [
   | inr past ↦ absurd (subst (λ o. IsSomeAnd o P) past.1 p)
 ]
 
-module _ (journal : List Entry) (desk : ScheduleValue) (all : All IsCharged desk.streams) where
+module _ (waits : Bool) (journal : List Entry) (desk : ScheduleValue) (all : All IsCharged desk.streams) where
   all_served_from : (first : ℕ) (starts : List ClientStart) (lefts : List ClientLeft) (served : List ServedValue)
-      → AllLeave journal starts lefts → AreFrom first starts → AreStreamsOf desk (map (λ left. left.seat) lefts)
+      → AllLeave waits journal starts lefts → AreFrom first starts → AreStreamsOf desk (map (λ left. left.seat) lefts)
       → outcomes_of served ≡ map (λ left. left.outcome) lefts
       → ((k n : ℕ) (d : ServedValue) → n ≡ first + k → k < length served
       → HasStream desk n (λ stream. (get_or served k d).charged ≡ stream.state.charged))
-      → AllZip (IsServedBy journal desk) starts served
+      → AllZip (IsServedBy waits journal desk) starts served
   all_served_from first [] [] [] p from streams e charges = tt
   all_served_from first [] [] (s ∷ served) p from streams e charges = absurd (omega (arith, ap length e))
   all_served_from first [] (left ∷ lefts) served p from streams e charges = absurd p
@@ -125,6 +125,7 @@ module _ (journal : List Entry) (desk : ScheduleValue) (all : All IsCharged desk
             most = cost.most;
             whole = cost.whole;
           };
+          own = λ none. subst (ClientEnds start p.0.0 left.seat) (sym outcome) (p.0.3 none);
           calls = p.0.2;
           stream = subst (λ n. HasStream desk n (IsStreamTold s)) (sym from.0)
               (subst (λ o. IsSomeAnd o (IsStreamTold s)) (sym at.here) is_told);
@@ -137,11 +138,11 @@ module _ (journal : List Entry) (desk : ScheduleValue) (all : All IsCharged desk
 
   -- each stream was served, where the desk has of it what its client left, and what it is told to be charged
   pub all_served : (starts : List ClientStart) (lefts : List ClientLeft) (served : List ServedValue)
-      → AllLeave journal starts lefts → AreFrom 0 starts → AreStreamsOf desk (map (λ left. left.seat) lefts)
+      → AllLeave waits journal starts lefts → AreFrom 0 starts → AreStreamsOf desk (map (λ left. left.seat) lefts)
       → outcomes_of served ≡ map (λ left. left.outcome) lefts
       → ((k : ℕ) (d : ServedValue) → k < length served
       → HasStream desk k (λ stream. (get_or served k d).charged ≡ stream.state.charged))
-      → AllZip (IsServedBy journal desk) starts served
+      → AllZip (IsServedBy waits journal desk) starts served
   all_served starts lefts served p from streams e charges =
       all_served_from 0 starts lefts served p from streams e
       (λ k n d same less. subst (λ m. HasStream desk m (λ stream. (get_or served k d).charged ≡ stream.state.charged))
@@ -178,25 +179,25 @@ served_one start past seat served desk all ends of charged =
     }
 
 -- each stream that is told was served
-pub are_served : (journal : List Entry) (last : ScheduleValue) (starts : List ClientStart) (served : List ServedValue)
-    → AllZip (IsServedBy journal last) starts served → AreServed starts served
-are_served journal last [] [] p = tt
-are_served journal last [] (s ∷ served) p = absurd p
-are_served journal last (start ∷ starts) [] p = absurd p
-are_served journal last (start ∷ starts) (s ∷ served) p = (p.0.is_served, are_served journal last starts served p.1)
+pub are_served : (is_cut : Bool) (journal : List Entry) (last : ScheduleValue) (starts : List ClientStart) (served : List ServedValue)
+    → AllZip (IsServedBy is_cut journal last) starts served → AreServed starts served
+are_served is_cut journal last [] [] p = tt
+are_served is_cut journal last [] (s ∷ served) p = absurd p
+are_served is_cut journal last (start ∷ starts) [] p = absurd p
+are_served is_cut journal last (start ∷ starts) (s ∷ served) p = (p.0.is_served, are_served is_cut journal last starts served p.1)
 
 -- the desk has each stream
-pub each_kept : (journal : List Entry) (desk : ScheduleValue) (first : ℕ) (starts : List ClientStart) (lefts : List ClientLeft)
-    → AllLeave journal starts lefts → AreFrom first starts → AreStreamsOf desk (map (λ left. left.seat) lefts)
+pub each_kept : (waits : Bool) (journal : List Entry) (desk : ScheduleValue) (first : ℕ) (starts : List ClientStart)
+    (lefts : List ClientLeft) → AllLeave waits journal starts lefts → AreFrom first starts → AreStreamsOf desk (map (λ left. left.seat) lefts)
     → (k n : ℕ) → n ≡ first + k → k < length lefts → HasStream desk n (λ _. ⊤)
-each_kept journal desk first starts [] p from streams k n same less = absurd (omega (arith, less))
-each_kept journal desk first [] (left ∷ lefts) p from streams k n same less = absurd p
-each_kept journal desk first (start ∷ starts) (left ∷ lefts) p from streams zero n same less =
+each_kept waits journal desk first starts [] p from streams k n same less = absurd (omega (arith, less))
+each_kept waits journal desk first [] (left ∷ lefts) p from streams k n same less = absurd p
+each_kept waits journal desk first (start ∷ starts) (left ∷ lefts) p from streams zero n same less =
     let here = subst (λ n. HasStream desk n (IsStreamOf left.seat)) (p.0.1.number ∙ from.0 ∙ (omega (arith, same)))
     (streams 0 left.seat (omega arith)) in
     is_there (slice_get desk.streams n) (IsStreamOf left.seat) here
-each_kept journal desk first (start ∷ starts) (left ∷ lefts) p from streams (suc k) n same less =
-    each_kept journal desk (suc first) starts lefts p.1 from.1 (λ j d more. streams (suc j) d (omega (arith, more)))
+each_kept waits journal desk first (start ∷ starts) (left ∷ lefts) p from streams (suc k) n same less =
+    each_kept waits journal desk (suc first) starts lefts p.1 from.1 (λ j d more. streams (suc j) d (omega (arith, more)))
     k n (omega (arith, same)) (omega (arith, less))
 
 -- what is told of the streams, one by one

@@ -1,5 +1,6 @@
 -- What the streams of a session come to, turn by turn.
-use Rattle.std.specs.Prelude.{All, IfOk, IfSome, IsErrAnd, MatchOption, drop, take, unwrap_or, ⊤, Bool, true, false, filter, reverse}
+use Rattle.std.specs.Prelude.{All, IfOk, IfSome, IsErrAnd, IsFalse, MatchOption, drop, take, unwrap_or, ⊤, Bool, true, false}
+use Rattle.std.specs.Prelude.{filter, reverse}
 use Rattle.std.specs.List.{AllByRecursion, AllZip}
 use Rattle.std.proofs.Common.{append_assoc, ◌≡◌, ◌≢◌, IfErr, ℕ, suc, ◌<◌, List, [], ◌∷◌, ◌++◌, length, get_or}
 use Rattle.std.proofs.Common.{map, Option, Some, None, append-nil, take_all, Result, Ok, Err, inl, inr, ◌⊎◌}
@@ -28,7 +29,7 @@ use Rattle.serve_work.specs.Clients.{AreAtMoments, ClientStart}
 use Rattle.serve_work.specs.Intervals.{HasNoCalls, IsSizedStart}
 use Rattle.serve_work.specs.Rests.{Begun, IsRestOf, RestValue, Unbegun, reader_in}
 use Rattle.serve_work.specs.Sessions.{AllTimed, AreInputs, AreTimed, ServedValue, acts_in}
-use Rattle.serve_work.specs.SessionInside.{AllBegin, AllGoOn, AllLeave, AllRun, AllStand, AreOver, AreUnread}
+use Rattle.serve_work.specs.SessionInside.{AllBegin, AllGoOn, AllLeave, AllRun, AllStand, AreAllOver, AreOver, AreUnread}
 use Rattle.serve_work.specs.SessionInside.{GivesBack, IsUnended, fault_of, unread}
 use Rattle.serve_work.specs.SessionInside.{GoesOn, HeldValue, IsReady, Runs, Stands}
 use Rattle.serve_work.specs.SessionInside.{StandsAt, held_at, held_with, outcomes_of}
@@ -353,27 +354,29 @@ pub no_bad_limit : {T : Type 0} (r : Result T SessionFault) (e : SessionFault) �
 no_bad_limit r e p other is = never_bad_limit r (fault_stays r e p other) is
 
 -- what the streams leave, where no epoch comes any more
-pub all_over : (journal : List Entry) (starts : List ClientStart) (helds : List HeldValue) (streams : List StreamValue)
-    (served : List ServedValue) → AllStand journal starts helds → streams ≡ map (λ held. held.stream) helds
-    → AreOver streams served
+pub all_over : (waits : Bool) (journal : List Entry) (starts : List ClientStart) (helds : List HeldValue) (streams : List StreamValue)
+    (served : List ServedValue) → (IsFalse waits → AreAllOver streams) → AllStand journal starts helds
+    → streams ≡ map (λ held. held.stream) helds → AreOver streams served
     → (lefts : List ClientLeft) × (map (λ l. l.seat) lefts ≡ map (λ held. held.seat) helds)
-    × (outcomes_of served ≡ map (λ l. l.outcome) lefts) × AllLeave journal starts lefts
-all_over journal [] [] [] [] p e q = ([], refl, refl, tt)
-all_over journal [] [] [] (s ∷ served) p e q = absurd q
-all_over journal [] [] (stream ∷ streams) served p e q = absurd (omega (arith, ap length e))
-all_over journal [] (held ∷ helds) streams served p e q = absurd p
-all_over journal (start ∷ starts) [] streams served p e q = absurd p
-all_over journal (start ∷ starts) (held ∷ helds) [] served p e q = absurd (omega (arith, ap length e))
-all_over journal (start ∷ starts) (held ∷ helds) (stream ∷ streams) [] p e q = absurd q
-all_over journal (start ∷ starts) (held ∷ helds) (stream ∷ streams) (s ∷ served) p e q =
+    × (outcomes_of served ≡ map (λ l. l.outcome) lefts) × AllLeave waits journal starts lefts
+all_over waits journal [] [] [] [] over p e q = ([], refl, refl, tt)
+all_over waits journal [] [] [] (s ∷ served) over p e q = absurd q
+all_over waits journal [] [] (stream ∷ streams) served over p e q = absurd (omega (arith, ap length e))
+all_over waits journal [] (held ∷ helds) streams served over p e q = absurd p
+all_over waits journal (start ∷ starts) [] streams served over p e q = absurd p
+all_over waits journal (start ∷ starts) (held ∷ helds) [] served over p e q = absurd (omega (arith, ap length e))
+all_over waits journal (start ∷ starts) (held ∷ helds) (stream ∷ streams) [] over p e q = absurd q
+all_over waits journal (start ∷ starts) (held ∷ helds) (stream ∷ streams) (s ∷ served) over p e q =
     let here : stream ≡ held.stream = ap (λ vs. get_or vs 0 held.stream) e in
-    let rest = all_over journal starts helds streams served p.1 (ap (λ vs. drop 1 vs) e) q.1 in
+    let rest = all_over waits journal starts helds streams served (λ none k d less. over none (suc k) d (omega (arith, less)))
+    p.1 (ap (λ vs. drop 1 vs) e) q.1 in
     let stand : Stands start p.0.0 (held_at held.seat stream) =
-    subst (λ (v : StreamValue). Stands start p.0.0 (held_at held.seat v)) (sym here) p.0.1 in (
+    subst (λ (v : StreamValue). Stands start p.0.0 (held_at held.seat v)) (sym here) p.0.1 in
+    let own = λ (none : IsFalse waits). q.0.own (over none 0 stream (omega arith)) start p.0.0 held.seat stand in (
       record { seat = held.seat; outcome = s.outcome } ∷ rest.0,
       ap (λ seats. held.seat ∷ seats) rest.1,
       ap (λ outcomes. s.outcome ∷ outcomes) rest.2,
-      ((p.0.0, q.0.ends start p.0.0 held.seat stand, p.0.2), rest.3),
+      ((p.0.0, q.0.ends start p.0.0 held.seat stand, p.0.2, own), rest.3),
     )
 
 pub over_length : (streams : List StreamValue) (served : List ServedValue) → AreOver streams served → length served ≡ length streams

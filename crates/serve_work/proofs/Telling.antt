@@ -34,8 +34,8 @@ module _ {R W : Type 0} (b : Beginning) (journal : List Entry) (now : Interval R
   pub streams_told : (served : List ServedValue) → AreOver now.streams.items served
       → (n : ℕ) → n < length served → HasStream now.ended.book.desk n (λ _. ⊤)
   streams_told served over n less =
-      let all = all_over journal b.starts at.helds now.streams.items served at.stand at.streams over in
-      each_kept journal now.ended.book.desk 0 b.starts all.0 all.3 at.begun.numbers
+      let all = all_over now.waits journal b.starts at.helds now.streams.items served at.over at.stand at.streams over in
+      each_kept now.waits journal now.ended.book.desk 0 b.starts all.0 all.3 at.begun.numbers
       (subst (AreStreamsOf now.ended.book.desk) (sym all.1) at.kept) n n (omega arith)
       (omega (
         arith,
@@ -47,8 +47,9 @@ module _ {R W : Type 0} (b : Beginning) (journal : List Entry) (now : Interval R
 
   -- what is told of each stream, and what it was charged
   pub served_told : (served charged : List ServedValue) → AreOver now.streams.items served → outcomes_of charged ≡ outcomes_of served
-      → AreTold now.ended.book.desk (length charged) charged → AllZip (IsServedBy journal now.ended.book.desk) b.starts charged
+      → AreTold now.ended.book.desk (length charged) charged
+      → AllZip (IsServedBy now.waits journal now.ended.book.desk) b.starts charged
   served_told served charged over same told =
-      let all = all_over journal b.starts at.helds now.streams.items served at.stand at.streams over in
-      all_served journal now.ended.book.desk at.charges b.starts all.0 charged all.3 at.begun.numbers
+      let all = all_over now.waits journal b.starts at.helds now.streams.items served at.over at.stand at.streams over in
+      all_served now.waits journal now.ended.book.desk at.charges b.starts all.0 charged all.3 at.begun.numbers
       (subst (AreStreamsOf now.ended.book.desk) (sym all.1) at.kept) (same ∙ all.2) told

@@ -1,6 +1,6 @@
 -- What contracts inside the crate say of a session from one epoch to the next.
-use Rattle.std.specs.Prelude.{ℕ, suc, ◌≡◌, ◌≤◌, ◌<◌, ◌^◌, ⊤, All, Bool, true, List, [], ◌∷◌, ◌++◌, Option, None}
-use Rattle.std.specs.Prelude.{length, map}
+use Rattle.std.specs.Prelude.{ℕ, suc, ◌≡◌, ◌≤◌, ◌<◌, ◌^◌, ⊤, All, Bool, true, false, List, [], ◌∷◌, ◌++◌}
+use Rattle.std.specs.Prelude.{IsFalse, Option, None, length, map}
 use Rattle.std.specs.List.{AllByRecursion}
 use Rattle.std.specs.Vec.{vec_capacity, vec_len}
 use Rattle.y4m_stream.specs.Reader.{IsOfHeader, ReaderState}
@@ -17,7 +17,7 @@ use Rattle.serve_work.specs.declared.session.opening.Opening.{Opening}
 use Rattle.serve_work.specs.declared.session.room.Room.{Room}
 use Rattle.serve_work.specs.Clients.{ClientStart}
 use Rattle.serve_work.specs.Sessions.{AllTimed, IsOfEpochs, starts_of}
-use Rattle.serve_work.specs.SessionInside.{AllBegin, AllStand, AreAllowed, HeldValue, held_with}
+use Rattle.serve_work.specs.SessionInside.{AllBegin, AllStand, AreAllOver, AreAllowed, HeldValue, held_with}
 
 -- streams whose seats have the numbers from this one on
 abbrev pub AreFrom : ℕ → List ClientStart → Type 0
@@ -56,7 +56,7 @@ pub record LeadsTo (first : ScheduleValue) (journal : List Entry) (last : Schedu
 
 -- a session that began so stands between two epochs, with this journal of all until now: each stream where
 -- its client came to, with its seat of the epoch that ended, whose journal had the session's limit; none is
--- told yet, and there is a place for each that is
+-- told yet, and there is a place for each that is. Where none waits, all are over
 pub record IsBetween {R W : Type 0} (b : Beginning) (journal : List Entry) (now : Interval R W) : Type 0 where
   pub begun : IsBeginning b
   pub past : LeadsTo b.schedule journal now.ended.book.desk
@@ -69,27 +69,32 @@ pub record IsBetween {R W : Type 0} (b : Beginning) (journal : List Entry) (now 
   pub limit : now.ended.book.limit ≡ b.limit
   pub untold : now.served.items ≡ []
   pub places : length helds ≤ vec_capacity now.served
+  pub over : IsFalse now.waits → AreAllOver now.streams.items
+
+-- an epoch may come behind this journal: the first where it has no entry, and else one that a stream waits
+-- for, behind epochs
+abbrev pub IsBehind : Beginning → (is_first : Bool) → List Entry → Type 0
+IsBehind b true journal = journal ≡ []
+IsBehind b false journal = IsOfEpochs b.limit b.schedule true journal
 
 -- the same, with more entries behind those of this journal. Where its frames have moments that the clock may
--- give, so have those of both together. Where it is that of epochs of a session that went on so, both are
--- that of epochs of one that goes on as it does now
-pub record IsLater {R W : Type 0} (Gives : ℕ → Type 0) (b : Beginning) (went_on : Bool) (journal : List Entry)
-    (now : Interval R W) : Type 0 where
+-- give, so have those of both together. Where this is so of it, both are that of epochs
+pub record IsLater {R W : Type 0} (Gives : ℕ → Type 0) (b : Beginning) (Before : List Entry → Type 0)
+    (journal : List Entry) (now : Interval R W) : Type 0 where
   pub more : List Entry
   pub between : IsBetween b (more ++ journal) now
   pub moments : AllTimed Gives b.schedule journal b.starts
       → AllTimed Gives b.schedule (more ++ journal) b.starts
-  pub epochs : IsOfEpochs b.limit b.schedule went_on journal
-      → IsOfEpochs b.limit b.schedule now.goes_on (more ++ journal)
+  pub epochs : Before journal → IsOfEpochs b.limit b.schedule now.waits (more ++ journal)
 
 -- a session stands so between two epochs, whatever it began with
 abbrev pub IsBetweenEpochs : {R W : Type 0} → Interval R W → Type 0
 IsBetweenEpochs now = (b : Beginning) × (journal : List Entry) × IsBetween b journal now
 
--- and later so, with no other stops than the clock allows
-pub record GoesLater {R W : Type 0} (Gives : ℕ → Type 0) (went_on : Bool) (old now : Interval R W) : Type 0 where
+-- and later so, behind epochs after which a stream waited or not, with no other stops than the clock allows
+pub record GoesLater {R W : Type 0} (Gives : ℕ → Type 0) (waited : Bool) (old now : Interval R W) : Type 0 where
   pub between : (b : Beginning) (journal : List Entry) → IsBetween b journal old
-      → IsLater Gives b went_on journal now
+      → IsLater Gives b (IsOfEpochs b.limit b.schedule waited) journal now
   pub stops : AreAllowed Gives old.streams.items → AreAllowed Gives now.streams.items
 
 -- the seat has made no call
@@ -123,8 +128,8 @@ abbrev pub MayBegin : {L R W : Type 0} → ScheduleValue → Opening L R W → T
 MayBegin from now = (b : Beginning) × (journal : List Entry) × CanBegin b journal from now
 
 -- a session comes to this from where an epoch began, with no other stops than the clock allows
-pub record Continues {L R W : Type 0} (Gives : ℕ → Type 0) (from : ScheduleValue) (opening : Opening L R W)
-    (now : Interval R W) : Type 0 where
+pub record Continues {L R W : Type 0} (Gives : ℕ → Type 0) (is_first : Bool) (from : ScheduleValue)
+    (opening : Opening L R W) (now : Interval R W) : Type 0 where
   pub between : (b : Beginning) (journal : List Entry) → CanBegin b journal from opening
-      → IsLater Gives b true journal now
+      → IsLater Gives b (IsBehind b is_first) journal now
   pub stops : AreAllowed Gives opening.streams.items → AreAllowed Gives now.streams.items

@@ -113,14 +113,15 @@ BeginsAgain journal start held = Stands start (acts_in journal start) held
 abbrev pub AllBegin : List Entry → List ClientStart → List HeldValue → Type 0
 AllBegin journal starts helds = AllZip (BeginsAgain journal) starts helds
 
--- the same, where it is over
-abbrev pub Leaves : List Entry → ClientStart → ClientLeft → Type 0
-Leaves journal start left =
+-- what a stream left by this journal; where none waits, it is its client's end
+abbrev pub Leaves : (waits : Bool) → List Entry → ClientStart → ClientLeft → Type 0
+Leaves waits journal start left =
     (past : List Act) × StreamEnds start past left.seat left.outcome
     × (past ++ left.seat.calls.list ≡ acts_in journal start)
+    × (IsFalse waits → ClientEnds start past left.seat left.outcome)
 
-abbrev pub AllLeave : List Entry → List ClientStart → List ClientLeft → Type 0
-AllLeave journal starts lefts = AllZip (Leaves journal) starts lefts
+abbrev pub AllLeave : (waits : Bool) → List Entry → List ClientStart → List ClientLeft → Type 0
+AllLeave waits journal starts lefts = AllZip (Leaves waits journal) starts lefts
 
 -- a turn has its stream, which goes on
 abbrev pub Runs : (Gives : ℕ → Type 0) → Option HeldValue → Option HeldValue → Type 0
@@ -132,12 +133,14 @@ AllRun Gives old new = (helds : List HeldValue) → old ≡ map Some helds
     → (after : List HeldValue) × (new ≡ map Some after) × AllGoOn Gives helds after
 
 -- what is told of a stream is its end, from whatever it began with; the clock's end only where it was kept,
--- and a fault that was kept
+-- and a fault that was kept. Where nothing is left to do of it, it is its client's end
 pub record IsOver (stream : StreamValue) (served : ServedValue) : Type 0 where
   pub ends : (start : ClientStart) (past : List Act) (seat : StreamSeatValue) → StandsAt stream start past seat
       → StreamEnds start past seat served.outcome
   pub stop : IsNoNewEnd (stream_stop stream) (Some served.outcome.stop)
   pub kept : TellsKept (stream_stop stream) (stream_image stream) served.outcome.stop
+  pub own : IsFalse (is_waiting stream) → (start : ClientStart) (past : List Act) (seat : StreamSeatValue)
+      → StandsAt stream start past seat → ClientEnds start past seat served.outcome
 
 abbrev pub AreOver : List StreamValue → List ServedValue → Type 0
 AreOver streams served = AllZip IsOver streams served

@@ -1,5 +1,6 @@
 -- What the streams of a session come to.
-use Rattle.std.specs.Prelude.{ℕ, ◌+◌, ◌*◌, ◌≡◌, ◌<◌, ◌≤◌, ◌++◌, ⊤, Bool, true, false, IsTrue, if◌then◌else◌}
+use Rattle.std.specs.Prelude.{ℕ, ◌+◌, ◌*◌, ◌≡◌, ◌≢◌, ◌<◌, ◌≤◌, ◌++◌, ⊤, Bool, true, IsFalse, IsTrue}
+use Rattle.std.specs.Prelude.{if◌then◌else◌}
 use Rattle.std.specs.Prelude.{List, [], ◌∷◌, Option, flat_map, length, reverse, sum_by}
 use Rattle.std.specs.List.{AllByRecursion, AllZip}
 use Rattle.filters.specs.Costs.{cost_of}
@@ -20,7 +21,8 @@ use Rattle.serve_hub.specs.Ends.{AreFree, acts_of}
 use Rattle.serve_hub.specs.Journal.{IsJournal, clock_in, transcript_of}
 use Rattle.serve_hub.specs.Seats.{StreamSeatValue}
 use Rattle.serve_work.specs.declared.stop.Stop.TheVariants.{Whole}
-use Rattle.serve_work.specs.Clients.{AllowsStop, ClientOutcome, ClientStart, IsAtMoment, StreamEnds}
+use Rattle.serve_work.specs.Clients.{AllowsStop, ClientEnds, ClientOutcome, ClientStart, IsAtMoment}
+use Rattle.serve_work.specs.Clients.{StreamEnds}
 
 -- nothing was read of a stream's frames, and its header has the size of the stream's chain
 pub record IsInput {W : Type 0} (spec : StreamSpec) (input : ReaderState × W) : Type 0 where
@@ -76,10 +78,12 @@ pub record IsStreamTold (served : ServedValue) (stream : KeptStream) : Type 0 wh
   pub accepted : stream.state.accepted ≡ served.outcome.accepted
   pub charged : stream.state.charged ≡ served.charged
 
--- a stream was served by the calls that it made in this journal, and is told as it stood at last
-pub record IsServedBy (journal : List Entry) (last : ScheduleValue) (start : ClientStart)
+-- a stream was served by the calls that it made in this journal, and is told as it stood at last. Where its
+-- session wasn't cut it wasn't given up: its client came to its end
+pub record IsServedBy (is_cut : Bool) (journal : List Entry) (last : ScheduleValue) (start : ClientStart)
     (served : ServedValue) : Type 0 where
   pub is_served : IsServed start served
+  pub own : IsFalse is_cut → ClientEnds start is_served.past is_served.seat served.outcome
   pub calls : is_served.past ++ is_served.seat.calls.list ≡ acts_in journal start
   pub stream : HasStream last start.seat.number (IsStreamTold served)
 
@@ -103,38 +107,43 @@ abbrev pub open_streams : State Blank → ℕ
 open_streams m = sum_by (λ x. if x.is_closed then 0 else 1) m.streams
 
 -- an epoch with this journal ends in this state: no worker holds a lease, and the journal has room for a
--- close of each open stream. Where another comes, it has none for a lease and its settlement beside these
-pub record IsEpoch (limit : ℕ) (goes_on : Bool) (epoch : List Entry) (m : State Blank) : Type 0 where
+-- close of each open stream. Where a stream waits for another, it has none for a lease and its settlement
+-- beside these
+pub record IsEpoch (limit : ℕ) (waits : Bool) (epoch : List Entry) (m : State Blank) : Type 0 where
   pub free : AreFree m.workers
   pub fits : length epoch + open_streams m ≤ limit
-  pub full : IsTrue goes_on → limit < length epoch + open_streams m + 2
+  pub full : IsTrue waits → limit < length epoch + open_streams m + 2
 
--- these are the journals of epochs, the latest first, from an opening state on. Behind each but the latest
--- comes another, and behind the latest too where the session goes on
-abbrev pub AreEpochs : (limit : ℕ) → List StreamSpec → (opening : State Blank) → (goes_on : Bool)
+-- these are the journals of epochs, the latest first, from an opening state on. A stream waited at the end of
+-- each but the latest, and perhaps at that of the latest
+abbrev pub AreEpochs : (limit : ℕ) → List StreamSpec → (opening : State Blank) → (waits : Bool)
     → List (List Entry) → Type 0
-AreEpochs limit specs opening goes_on [] = ⊤
-AreEpochs limit specs opening goes_on (epoch ∷ before) =
+AreEpochs limit specs opening waits [] = ⊤
+AreEpochs limit specs opening waits (epoch ∷ before) =
     AreEpochs limit specs opening true before
-    × IsEpoch limit goes_on epoch
+    × IsEpoch limit waits epoch
     (state_from opening (transcript_of specs opening (flat_map (λ journal. journal) (epoch ∷ before))))
 
--- a journal is that of epochs, one behind the other from where a schedule stood
-pub record IsOfEpochs (limit : ℕ) (opening : ScheduleValue) (goes_on : Bool) (journal : List Entry)
+-- a journal is that of epochs, one behind the other from where a schedule stood. Where a stream waits for
+-- another, there was one
+pub record IsOfEpochs (limit : ℕ) (opening : ScheduleValue) (waits : Bool) (journal : List Entry)
     : Type 0 where
   pub epochs : List (List Entry)
   pub joined : flat_map (λ epoch. epoch) epochs ≡ journal
-  pub each : AreEpochs limit (specs_of opening) (desk_state opening) goes_on epochs
+  pub each : AreEpochs limit (specs_of opening) (desk_state opening) waits epochs
+  pub some : IsTrue waits → epochs ≢ []
 
 -- one journal, the latest entry first, leads from where the setup opens to where the session ended. It is
 -- that of epochs of at most so many entries each. Each stream was served by its calls in it, with each frame
--- at a moment that the clock may give, and stopped as the clock allows
+-- at a moment that the clock may give, and stopped as the clock allows. Only where the session was cut may
+-- one have been given up: then some waited for another epoch, behind a full journal
 pub record IsSession (Gives : ℕ → Type 0) (setup : Setup) (limit : ℕ) (starts : List ClientStart)
     (served : List ServedValue) : Type 0 where
   pub journal : List Entry
   pub last : ScheduleValue
-  pub epochs : IsOfEpochs limit (opened_schedule setup) false journal
+  pub is_cut : Bool
+  pub epochs : IsOfEpochs limit (opened_schedule setup) is_cut journal
   pub leads : IsJournal setup.streams (desk_state (opened_schedule setup)) journal (desk_state last)
-  pub streams : AllZip (IsServedBy journal last) starts served
+  pub streams : AllZip (IsServedBy is_cut journal last) starts served
   pub moments : AllTimed Gives (opened_schedule setup) journal starts
   pub stops : AllByRecursion (λ s. AllowsStop Gives s.outcome.stop) served

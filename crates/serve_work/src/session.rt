@@ -112,7 +112,8 @@ impl From<HubError> for SessionFault {
 /// thread, or runs on the one that asked for it where it is refused. In the first epoch all that may be
 /// refused is taken before a frame is offered, but for what the clients take themselves. In a later one a
 /// worker whose thread is refused doesn't work. Where there is no memory for a further epoch, or no worker
-/// starts in it, each stream that isn't over stops for want of memory, unless it keeps a fault.
+/// starts in it, the session is cut, and each stream that isn't over is given up. It stops for the fault that
+/// it keeps, else for that of its image in hand, which is written to its end, and else for want of memory.
 pub fn serve_session<
     R: Source + Drop + Send,
     W: Sink + Drop + Send,

@@ -1,5 +1,5 @@
 //! The epochs of a session, each with a journal of its own.
-ghost use Rattle.std.specs.Prelude.{◌≡◌, ◌<◌, ◌↔◌, true, [], IfErr, IfOk, IsFalse, IsTrue, OnOk};
+ghost use Rattle.std.specs.Prelude.{◌≡◌, ◌<◌, ◌↔◌, true, [], IfErr, IfOk, IfSome, IsFalse, IsTrue, OnOk};
 ghost use Rattle.std.specs.Prelude.{length};
 ghost use Rattle.serve_core.specs.Schedule.{opened_schedule};
 ghost use Rattle.serve_hub.specs.Books.{IsLimit, entries_left};
@@ -40,12 +40,21 @@ fn any_waits<R: Source, W: Sink>(streams: &Vec<Stream<R, W>>) -> bool
     false
 }
 
-/// Whether another epoch is to come: the journal of this one is full, and a stream waits. Where no worker
-/// started it has no entry, so it isn't full.
-fn another_comes<R: Source, W: Sink>(ended: &Ended, streams: &Vec<Stream<R, W>>) -> bool
-    ensures { IsTrue result ↔ (entries_left ended.now.book < 2) × ¬ AreAllOver streams.now.items }
+/// Whether the session is cut where an epoch ended so. A stream waits for another behind a full journal.
+/// Where no worker started in a later epoch, it has no entry, and none can begin any more. There is no answer
+/// where streams wait behind other journals.
+fn is_cut(ended: &Ended, waits: bool, is_first: bool) -> Option<bool>
+    ensures full { IfSome result (λ cut. IsFalse cut → IsTrue waits → entries_left ended.now.book < 2) }
+    ensures empty { IfSome result (λ cut. IsTrue cut → ended.now.book.past ≡ []) }
+    ensures later { IfSome result (λ cut. IsTrue cut → IsFalse is_first) }
 {
-    ended.left() < 2 && any_waits(streams)
+    if !waits || ended.left() < 2 {
+        return Some(false);
+    }
+    if is_first || !ended.journal().is_empty() {
+        return None;
+    }
+    Some(true)
 }
 
 /// The streams go on with their seats of this epoch, until all are over or the journal is full. In the first
@@ -66,26 +75,20 @@ fn epoch<
     clock: &K,
 ) -> Result<Interval<R, W>, Unended<R, W>>
     requires at { MayBegin L.opening opening }
-    ensures later { IfOk result (Continues (K.gives clock.now) L.opening opening) }
+    ensures later { IfOk result (Continues (K.gives clock.now) is_first L.opening opening) }
     ensures unended { IfErr result (IsUnended is_first
         (held_with opening.opened.1.items opening.streams.items)) }
 {
-    let Opening {
-        opened,
-        room,
-        streams,
-        served,
-    } = opening;
-    let (hub, seats, work_seats) = opened;
+    let (hub, seats, work_seats) = opening.opened;
     let Room {
         turns,
         mut places,
         mut slots,
         mut back,
-    } = room;
+    } = opening.room;
     gate.epoch_begins();
     let workers = work_seats.len();
-    let turns = pair_with_seats(turns, seats, streams);
+    let turns = pair_with_seats(turns, seats, opening.streams);
     fill_slots(&mut slots, work_seats);
     let start = Mutex::new(false);
     let turns = match run_threads(
@@ -103,13 +106,17 @@ fn epoch<
     let Ok(ended) = hub.finish(seats, back) else {
         return Err(Unended::Mismatch);
     };
-    let goes_on = another_comes(&ended, &streams);
+    let waits = any_waits(&streams);
+    let Some(is_cut) = is_cut(&ended, waits, is_first) else {
+        return Err(Unended::Mismatch);
+    };
     Ok(Interval {
         ended,
         streams,
-        served,
+        served: opening.served,
         workers,
-        goes_on,
+        waits,
+        is_cut,
     })
 }
 
@@ -138,7 +145,7 @@ pub(super) fn first_epoch<
     requires opening { opened_schedule setup ≡ L.opening }
     requires inputs { AreInputs setup.streams inputs.items }
     ensures between { IfOk result (IsLater (K.gives clock.now)
-        (beginning_of W.contents W.failures setup limit inputs.items) true []) }
+        (beginning_of W.contents W.failures setup limit inputs.items) (λ journal. journal ≡ []) []) }
     ensures stops { IfOk result (λ now. AreAllowed (K.gives clock.now) now.streams.items) }
     ensures limit { OnOk result (IsLimit (length setup.streams) limit) }
     ensures bad_limit { IfErr result (λ e.
@@ -149,7 +156,7 @@ pub(super) fn first_epoch<
     epoch(rt, alloc, opening, true, gate, clock)
 }
 
-/// The next epoch of a session. Where none can be opened, the session doesn't go on.
+/// The next epoch of a session. Where none can be opened, the session is cut.
 fn next_epoch<
     L: Epoch + Send + Sync,
     R: SentSource,
@@ -182,7 +189,7 @@ fn next_epoch<
     }
 }
 
-/// Goes on with a session from epoch to epoch, until all its streams are over or no epoch comes any more.
+/// Goes on with a session from epoch to epoch, until all its streams are over or it is cut.
 pub(super) fn go_on<R: SentSource, W: SentSink, G: SharedGate, K: SharedClock, T: Runtime>(
     rt: &T,
     alloc: Global,
@@ -191,13 +198,13 @@ pub(super) fn go_on<R: SentSource, W: SentSink, G: SharedGate, K: SharedClock, T
     clock: &K,
 ) -> Result<Interval<R, W>, SessionFault>
     requires at { IsBetweenEpochs interval }
-    ensures later { IfOk result (GoesLater (K.gives clock.now) interval.goes_on interval) }
+    ensures later { IfOk result (GoesLater (K.gives clock.now) interval.waits interval) }
     ensures fault { IfErr result (λ e. e ≡ SessionFault.Mismatch) }
 {
     let mut interval = interval;
     for _ in rt.forever() {
-        let goes_on = interval.goes_on;
-        if !goes_on {
+        let waits = interval.waits;
+        if !waits || interval.is_cut {
             return Ok(interval);
         }
         let blank = Blank::new(MOST_SEATS);

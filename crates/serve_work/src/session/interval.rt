@@ -21,8 +21,10 @@ pub(super) struct Interval<R: Source, W: Sink> {
     pub(super) served: Vec<Served<R, W>>,
     /// How many workers there are.
     pub(super) workers: usize,
-    /// Whether another epoch is to come.
-    pub(super) goes_on: bool,
+    /// Whether a stream waits for another epoch.
+    pub(super) waits: bool,
+    /// Whether no epoch can begin any more.
+    pub(super) is_cut: bool,
 }
 
 /// What became of each stream, where no epoch comes any more.
@@ -31,7 +33,7 @@ pub(super) fn report<R: Source + Drop, W: Sink + Drop>(
 ) -> Vec<Served<R, W>>
     requires at { IsBetweenEpochs interval }
     ensures served { (b : Beginning) (journal : List Entry) → IsBetween b journal interval
-        → AllZip (IsServedBy journal interval.ended.book.desk) b.starts result.items }
+        → AllZip (IsServedBy interval.waits journal interval.ended.book.desk) b.starts result.items }
     ensures stops { BringNoEnd interval.streams.items result.items }
 {
     let Interval {

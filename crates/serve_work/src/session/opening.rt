@@ -1,5 +1,5 @@
 //! What an epoch begins with.
-ghost use Rattle.std.specs.Prelude.{◌≡◌, ◌≤◌, ◌↔◌, List, [], IfErr, IfOk, IsErrOf, IsFalse, OnOk, length};
+ghost use Rattle.std.specs.Prelude.{◌≡◌, ◌≤◌, ◌↔◌, List, [], IfErr, IfOk, IsErrOf, IsTrue, OnOk, length};
 ghost use Rattle.std.specs.Prelude.{map, vec_capacity};
 ghost use Rattle.serve_core.specs.Schedule.{opened_schedule};
 ghost use Rattle.serve_hub.specs.Books.{IsLimit};
@@ -98,7 +98,7 @@ pub(super) fn open_first<L: Epoch, R: Source + Drop, W: Sink + Drop>(
 }
 
 /// Opens the next epoch of a session, whose journal has the limit of the last one's. Where none can be
-/// opened, the session comes back, and doesn't go on.
+/// opened, the session comes back, and is cut.
 pub(super) fn open_next<L: Epoch, R: Source + Drop, W: Sink + Drop>(
     alloc: Global,
     blank: Blank,
@@ -114,13 +114,15 @@ pub(super) fn open_next<L: Epoch, R: Source + Drop, W: Sink + Drop>(
         → IfErr result (IsBetween b journal) }
     ensures streams { IfOk result (λ opening. opening.streams ≡ interval.streams) }
     ensures same { IfErr result (λ back. back.streams ≡ interval.streams) }
-    ensures over { IfErr result (λ back. IsFalse back.goes_on) }
+    ensures waits { IfErr result (λ back. back.waits ≡ interval.waits) }
+    ensures cut { IfErr result (λ back. IsTrue back.is_cut) }
 {
     let Interval {
         ended,
         streams,
         served,
         workers,
+        waits,
         ..
     } = interval;
     let Ok(room) = Room::<L, R, W>::new(alloc, streams.len(), workers) else {
@@ -129,7 +131,8 @@ pub(super) fn open_next<L: Epoch, R: Source + Drop, W: Sink + Drop>(
             streams,
             served,
             workers,
-            goes_on: false,
+            waits,
+            is_cut: true,
         });
     };
     let limit = ended.limit();
@@ -139,7 +142,8 @@ pub(super) fn open_next<L: Epoch, R: Source + Drop, W: Sink + Drop>(
             streams,
             served,
             workers,
-            goes_on: false,
+            waits,
+            is_cut: true,
         }),
         Ok(next) => Ok(Opening {
             opened: (next.hub, next.streams, next.workers),

@@ -13,7 +13,7 @@ pub(super) enum Unended<R: Source, W: Sink> {
     Unopened(SessionFault, Vec<(StreamReader<R>, W)>),
     /// The thread of a worker was refused, where all are needed. None began, and the streams come back.
     Unbegun(Vec<Stream<R, W>>),
-    /// The journal isn't what the seats and the hub tell.
+    /// The journal isn't what the seats and the hub tell, or isn't full where a stream waits.
     Mismatch,
 }
 

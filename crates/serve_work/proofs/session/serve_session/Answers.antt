@@ -1,7 +1,6 @@
-use Rattle.std.proofs.Common.{true, [], ◌++◌}
+use Rattle.std.proofs.Common.{[], ◌++◌, refl}
 use Rattle.serve_work.specs.Intervals.{beginning_of}
 use Rattle.serve_work.proofs.Intervals.{from_setup}
-use Rattle.serve_work.proofs.Journals.{no_epochs, no_more_epochs}
 use Rattle.serve_work.proofs.SessionCharges.{are_served}
 use Rattle.serve_work.proofs.SessionStops.{stops_told}
 use Rattle.serve_work.proofs.SessionTurns.{mismatch, no_bad_limit, none_yet}
@@ -24,7 +23,7 @@ returns-clause-streams g c =
     let b = beginning_of g.W.Sink.contents g.W.Sink.failures c.args.setup c.args.limit c.args.inputs.items in
     let first = c.in-Ok.ensures.between in
     let last = c.in_ok-ended.ensures.later.between b (first.more ++ []) first.between in
-    are_served _ _ b.starts _ (c.report.ensures.served b (last.more ++ (first.more ++ [])) last.between)
+    are_served _ _ _ b.starts _ (c.report.ensures.served b (last.more ++ (first.more ++ [])) last.between)
 
 pub returns-clause-session : goal.returns-clause-session
 returns-clause-session g c =
@@ -36,7 +35,8 @@ returns-clause-session g c =
     record {
       journal = journal;
       last = c.in_ok-ended.ended.ended.book.desk;
-      epochs = no_more_epochs b.limit b.schedule _ journal (last.epochs (first.epochs (no_epochs b.limit b.schedule true)));
+      is_cut = c.in_ok-ended.ended.waits;
+      epochs = last.epochs (first.epochs refl);
       leads = from_setup c.args.setup journal _ last.between.past;
       streams = c.report.ensures.served b journal last.between;
       moments = last.moments (first.moments (none_yet gives b.schedule b.starts));

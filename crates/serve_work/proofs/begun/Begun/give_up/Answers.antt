@@ -49,4 +49,5 @@ returns g c =
           (λ is. none (c.into_kept-kept.ensures.image ∙ is)) now c.or-stop.ensures in
           subst (λ (b : BegunValue). TellsKept (course_stop b.course) (course_image b.course) c.stop_after_flush.result) c.self.view_is
           (told_kept _ _ c.or-stop.result c.finish-writer.result.1 c.stop_after_flush.result c.stop_after_flush.ensures told);
+      own = λ over. absurd (cc);
     }

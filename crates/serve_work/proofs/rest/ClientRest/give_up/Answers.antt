@@ -35,4 +35,5 @@ returns-in-Unbegun g c =
           }));
       stop = λ is. absurd (cc);
       kept = subst (λ (r : RestValue). TellsKept (rest_stop r) (rest_image r) (Refused causes.NoMemory)) (sym rest) refl;
+      own = λ over. absurd (cc);
     }

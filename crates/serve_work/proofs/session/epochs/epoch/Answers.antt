@@ -4,7 +4,7 @@ use Rattle.serve_hub.specs.Ends.{AreStreamCalls, AreStreamsOf, ClocksReached}
 use Rattle.serve_hub.specs.Seats.{left_by}
 use Rattle.serve_work.specs.SessionInside.{BeginsAgain, HeldValue, held_with}
 use Rattle.serve_work.proofs.Intervals.{all_back, all_ready, entries_on, held_length, held_new, leads_on, reached_on}
-use Rattle.serve_work.proofs.Journals.{ends_epoch, one_epoch_more}
+use Rattle.serve_work.proofs.Journals.{ends_epoch, epoch_ends}
 use Rattle.serve_work.proofs.SessionStops.{go_on_allowed}
 use Rattle.serve_work.proofs.SessionTurns.{all_timed, all_went, same_length, stand_on, zip_length}
 use Rattle.serve_work.proofs.session.epochs.epoch.Goals as goal
@@ -96,10 +96,11 @@ returns-clause-later g c =
           let hub_limit = c.in-Ok-finish.ensures.limit ∙ at.limit in
           record {
             more = ended.book.past;
-            epochs = λ before.
-                one_epoch_more b.limit b.schedule _ _ journal ended.book.past before on
-                (ends_epoch b.limit _ ended.book c.in-Ok-finish.ensures.book hub_limit c.in-Ok-finish.ensures.free
-                (λ on. (c.another_comes-goes_on.ensures.0 on).0));
+            epochs =
+                epoch_ends b c.args.is_first c.in-Some.is_cut c.any_waits-waits.result journal ended.book.past ended.book.desk
+                c.in-Some.ensures.empty c.in-Some.ensures.later
+                (λ goes_on. ends_epoch b.limit _ ended.book c.in-Ok-finish.ensures.book hub_limit c.in-Ok-finish.ensures.free
+                (c.in-Some.ensures.full goes_on)) on;
             moments = all_timed gives journal ended.book.past b.schedule _ b.starts helds ran.0 at.past.is_journal.leads.1
                 (entries_on b.schedule _ ended.book c.in-Ok-finish.ensures.book same on.specs) at.stand ran.2 calls
                 (reached_on b.schedule _ ended.book _ same on.specs reached) (held_new seats streams.items at.no_calls);
@@ -115,6 +116,7 @@ returns-clause-later g c =
               limit = hub_limit;
               untold = at.untold;
               places = omega (arith, all_went gives helds ran.0 ran.2, held_length seats streams.items, streams.ok.0, at.places);
+              over = c.any_waits-waits.ensures.over;
             };
           };
       stops = go_on_allowed gives seats streams.items c.fill-2.new.self.streams.items ran.0 ran.2 (c.fill-2.ensures.streams ran.0 ran.1);

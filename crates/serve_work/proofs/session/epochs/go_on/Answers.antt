@@ -20,8 +20,8 @@ loop-preserved g c =
     record {
       between = λ b journal at.
           let l = c.loop.invariant.between b journal at in
-          later_on b journal gives c.args.interval.goes_on true l.more _ l.moments
-          (λ before. subst (λ (on : Bool). IsOfEpochs b.limit b.schedule on (l.more ++ journal)) c.if-not-goes_on.false (l.epochs before))
+          later_on b journal gives _ (IsOfEpochs b.limit b.schedule true) l.more _ l.moments
+          (λ before. subst (λ (on : Bool). IsOfEpochs b.limit b.schedule on (l.more ++ journal)) c.if-not-waits.false (l.epochs before))
           (c.in_ok-interval.ensures.later.between b (l.more ++ journal) l.between);
       stops = λ allowed. c.in_ok-interval.ensures.later.stops (c.loop.invariant.stops allowed);
     }

@@ -9,4 +9,4 @@ ghosts-next_epoch-L-Epoch g a = record { opening = a.interval.ended.book.desk }
 
 -- the session is later than it was, whatever it began with
 abbrev pub invariant-loop : goal.invariant-loop
-invariant-loop g l = GoesLater (g.K.Clock.gives l.fn.clock) l.fn.interval.goes_on l.fn.interval l.interval
+invariant-loop g l = GoesLater (g.K.Clock.gives l.fn.clock) l.fn.interval.waits l.fn.interval l.interval

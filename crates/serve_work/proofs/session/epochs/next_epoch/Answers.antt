@@ -1,7 +1,7 @@
-use Rattle.std.proofs.Common.{◌∙◌, Bool, true, subst, sym}
+use Rattle.std.proofs.Common.{◌∙◌, true}
 use Rattle.serve_work.specs.Sessions.{IsOfEpochs}
 use Rattle.serve_work.proofs.Intervals.{no_later}
-use Rattle.serve_work.proofs.Journals.{no_more_epochs}
+use Rattle.serve_work.proofs.Journals.{behind_full}
 use Rattle.serve_work.proofs.SessionTurns.{later_mismatch}
 use Rattle.serve_work.proofs.session.epochs.next_epoch.Goals as goal
 
@@ -19,9 +19,9 @@ pub returns-in-Err-clause-later : goal.returns-in-Err-clause-later
 returns-in-Err-clause-later g c =
     let gives = g.K.Clock.gives c.args.clock.now in
     record {
-      between = λ b journal at. no_later b journal gives true _ (c.in-Err.ensures.back b journal at) (λ full.
-          subst (λ (on : Bool). IsOfEpochs b.limit b.schedule on journal) (sym c.in-Err.ensures.over)
-          (no_more_epochs b.limit b.schedule true journal full));
+      between = λ b journal at.
+          no_later b journal gives (IsOfEpochs b.limit b.schedule true) _ (c.in-Err.ensures.back b journal at)
+          (behind_full b.limit b.schedule _ journal);
       stops = λ allowed. rw c.in-Err.ensures.same allowed;
     }
 

@@ -8,10 +8,10 @@ use Rattle.serve_work.proofs.Telling.{as_many}
 use Rattle.serve_work.proofs.session.opening.open_next.Goals as goal
 
 pub returns-in_default-clause-back : goal.returns-in_default-clause-back
-returns-in_default-clause-back g c = λ b journal at. still_between b journal c.args.interval _ refl refl refl at
+returns-in_default-clause-back g c = λ b journal at. still_between b journal c.args.interval _ refl refl refl refl at
 
 pub returns-in-Err-clause-back : goal.returns-in-Err-clause-back
-returns-in-Err-clause-back g c = λ b journal at. still_between b journal c.args.interval _ c.in-Err.ensures.back refl refl at
+returns-in-Err-clause-back g c = λ b journal at. still_between b journal c.args.interval _ c.in-Err.ensures.back refl refl refl at
 
 pub returns-in-Ok-reopen-clause-at : goal.returns-in-Ok-reopen-clause-at
 returns-in-Ok-reopen-clause-at g c = λ b journal at.
