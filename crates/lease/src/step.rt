@@ -33,7 +33,12 @@ fn write_between(chain: &Chain, op: usize, band: usize, source: &Frame, scratch:
         (frames_by source.now scratch.old last) (frames_by source.now scratch.new last) }
 {
     let (before, rest) = scratch.split_at_mut(op);
-    apply_at(chain.op(op), input_of_step(source, before), &mut rest[0], band);
+    apply_at(
+        chain.op(op),
+        input_of_step(source, before),
+        &mut rest[0],
+        band,
+    );
 }
 
 /// Writes a band of the image by the last operation.

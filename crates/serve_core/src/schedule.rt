@@ -169,7 +169,11 @@ impl Schedule {
         if !spec.is_within_limits() {
             return Some(Refusal::BadLimits);
         }
-        let mut admission = admission_of_held_shares(self.workers.len() as u64, self.clock, &self.streams);
+        let mut admission = admission_of_held_shares(
+            self.workers.len() as u64,
+            self.clock,
+            &self.streams,
+        );
         match admission.admit(spec.maximum, spec.period) {
             Ok(()) => None,
             Err(AdmissionError::BadBandwidth) => Some(Refusal::BadBandwidth),

@@ -140,8 +140,14 @@ fn run_setup<'a>(
         printed.old.items printed.new.items }
 {
     match command {
-        SetupCommand::Workers { count } => after_setup_line(preparation.with_workers(count), printed),
-        SetupCommand::Quantum { bands } => after_setup_line(preparation.with_quantum(bands), printed),
+        SetupCommand::Workers { count } => after_setup_line(
+            preparation.with_workers(count),
+            printed,
+        ),
+        SetupCommand::Quantum { bands } => after_setup_line(
+            preparation.with_quantum(bands),
+            printed,
+        ),
         SetupCommand::Band { rows } => run_band(preparation, rows, printed),
         SetupCommand::Frames { most } => after_setup_line(preparation.with_frames(most), printed),
         SetupCommand::Stream(stream) => run_stream(alloc, preparation, stream, printed),

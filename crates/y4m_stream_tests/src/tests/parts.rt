@@ -64,8 +64,7 @@ fn slow_room(room: &mut [u8], step: usize) -> Slow<OverWrite<Room<'_>>> {
 const HEADER: &[u8] = b"YUV4MPEG2 W2 H2 C444";
 
 /// The stream with two frames, the samples of whose planes are all 1, 2 and 3.
-const TEXT: &[u8] =
-    b"YUV4MPEG2 W2 H2 C444\n\
+const TEXT: &[u8] = b"YUV4MPEG2 W2 H2 C444\n\
     FRAME\n\x01\x01\x01\x01\x02\x02\x02\x02\x03\x03\x03\x03\
     FRAME\n\x01\x01\x01\x01\x02\x02\x02\x02\x03\x03\x03\x03";
 
