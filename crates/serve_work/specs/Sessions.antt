@@ -136,7 +136,7 @@ pub record IsOfEpochs (limit : ℕ) (opening : ScheduleValue) (waits : Bool) (jo
 -- one journal, the latest entry first, leads from where the setup opens to where the session ended. It is
 -- that of epochs of at most so many entries each. Each stream was served by its calls in it, with each frame
 -- at a moment that the clock may give, and stopped as the clock allows. Only where the session was cut may
--- one have been given up: then some waited for another epoch, behind a full journal
+-- one have been given up: behind a full journal, where streams wait for another epoch
 pub record IsSession (Gives : ℕ → Type 0) (setup : Setup) (limit : ℕ) (starts : List ClientStart)
     (served : List ServedValue) : Type 0 where
   pub journal : List Entry

@@ -1,6 +1,6 @@
 //! The epochs of a session, each with a journal of its own.
-ghost use Rattle.std.specs.Prelude.{◌≡◌, ◌<◌, ◌↔◌, true, [], IfErr, IfOk, IfSome, IsFalse, IsTrue, OnOk};
-ghost use Rattle.std.specs.Prelude.{length};
+ghost use Rattle.std.specs.Prelude.{◌≡◌, ◌<◌, ◌≤◌, ◌↔◌, true, [], IfErr, IfNone, IfOk, IfSome, IsFalse, IsTrue};
+ghost use Rattle.std.specs.Prelude.{OnOk, length};
 ghost use Rattle.serve_core.specs.Schedule.{opened_schedule};
 ghost use Rattle.serve_hub.specs.Books.{IsLimit, entries_left};
 ghost use Rattle.serve_work.specs.Intervals.{Continues, GoesLater, IsBetweenEpochs, IsLater, MayBegin};
@@ -47,6 +47,7 @@ fn is_cut(ended: &Ended, waits: bool, is_first: bool) -> Option<bool>
     ensures full { IfSome result (λ cut. IsFalse cut → IsTrue waits → entries_left ended.now.book < 2) }
     ensures empty { IfSome result (λ cut. IsTrue cut → ended.now.book.past ≡ []) }
     ensures later { IfSome result (λ cut. IsTrue cut → IsFalse is_first) }
+    ensures none { IfNone result (IsTrue waits × (2 ≤ entries_left ended.now.book)) }
 {
     if !waits || ended.left() < 2 {
         return Some(false);
