@@ -1,4 +1,4 @@
-// The program over any readers and writers.
+//! The program over any readers and writers.
 #![tactic(auto)]
 
 mod ahead;

@@ -1,4 +1,4 @@
-// The program, over any reader and writers.
+//! The program, over any reader and writers.
 ghost use Rattle.std.specs.Prelude.{ℕ, ◌≡◌, ◌≤◌, ◌⊎◌, ◌↔◌, Bool, IfOk, IsOk, List, Ok, Option, Result, true};
 ghost use Rattle.std.specs.Prelude.{map, string_bytes};
 ghost use Rattle.std.specs.Io.KnownBytes.{Appends, Keeps};

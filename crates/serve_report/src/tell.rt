@@ -1,4 +1,4 @@
-// What is said on the error stream.
+//! What is said on the error stream.
 use std::fmt::Display;
 use std::io::Write;
 

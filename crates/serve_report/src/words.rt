@@ -1,4 +1,4 @@
-// The words of the command line.
+//! The words of the command line.
 ghost use Rattle.std.specs.Prelude.{◌+◌, ◌≡◌, ◌≤◌};
 ghost use Rattle.cbs_account.specs.declared.limits.TheConstants.{MOST_WORKERS};
 ghost use Rattle.edf_pool.specs.declared.limits.TheConstants.{MOST_STREAMS};

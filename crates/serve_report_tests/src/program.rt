@@ -1,3 +1,4 @@
+//! Runs of the program: what it writes and says, and its status.
 use self::memory::NoFiles;
 use crate::compare::same_at;
 use serve_report::main_on;

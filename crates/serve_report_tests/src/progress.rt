@@ -1,3 +1,4 @@
+//! The line on a terminal that shows how far streams are.
 use crate::compare::same_at;
 use serve_report::progress::{Board, Line};
 use std::process::Abort;

@@ -1,3 +1,4 @@
+//! Replays of scripts, compared line by line.
 use crate::compare::{same, same_at};
 use serve_script::{ReplayFault, replay};
 use std::alloc::{AllocError, Global};

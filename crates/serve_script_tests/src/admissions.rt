@@ -1,3 +1,4 @@
+//! Streams that are admitted before the start or behind it.
 use crate::accounts::{Case, expect_each, expect_lines};
 use std::alloc::{AllocError, Global};
 

@@ -1,3 +1,4 @@
+//! Comparisons of what came with what is wanted.
 use std::fmt::{Debug, Display};
 use std::process::Abort;
 

@@ -1,3 +1,4 @@
+//! The lines that are printed for replies, refusals and states.
 use crate::compare::same;
 use serve_core::{Counts, Refusal, Reply};
 use serve_script::{push_reply, push_state};

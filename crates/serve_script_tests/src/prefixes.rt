@@ -1,3 +1,4 @@
+//! Scripts that are cut short.
 use crate::accounts::expect_lines;
 use std::alloc::{AllocError, Global};
 use std::process::Abort;

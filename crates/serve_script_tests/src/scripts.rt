@@ -1,3 +1,4 @@
+//! Scripts of whole sessions.
 use crate::accounts::{Case, expect_each, expect_lines};
 use crate::compare::{same, same_at};
 use serve_script::{ReplayFault, replay};

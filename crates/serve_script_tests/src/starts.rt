@@ -1,3 +1,4 @@
+//! Scripts up to their start, and the forms of their lines.
 use crate::accounts::{Case, expect_each, expect_lines};
 use std::alloc::{AllocError, Global};
 use std::process::Abort;

@@ -1,4 +1,4 @@
-// The files of the system.
+//! The files of the system.
 ghost use Rattle.std.specs.Prelude.{⊤};
 
 use serve_report::{FileId, Files, Inlet, Outlet, Place};

@@ -1,4 +1,4 @@
-// Filters YUV4MPEG2 streams, one in a pipe or many from file to file, and runs scripts.
+//! Filters YUV4MPEG2 streams, one in a pipe or many from file to file, and runs scripts.
 #![tactic(auto)]
 
 mod host_files;

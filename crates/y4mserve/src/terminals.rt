@@ -1,4 +1,4 @@
-// The terminals that the program's streams may be, and what the error stream's shows of a run.
+//! The terminals that the program's streams may be, and what the error stream's shows of a run.
 use serve_report::Watch;
 use serve_report::progress::{Board, Line};
 use std::io::{IsTerminal, Lock};

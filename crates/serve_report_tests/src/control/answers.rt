@@ -1,3 +1,4 @@
+//! The lines that a control answers with.
 use crate::compare::same_at;
 use serve_report::control::answer::{Said, Standing, say};
 use serve_report::control::line::LineFault;

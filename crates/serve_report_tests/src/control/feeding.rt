@@ -1,3 +1,4 @@
+//! How the lines of a control are taken from a reader.
 use crate::compare::same_at;
 use serve_report::control::feed::{Feed, Feeding};
 use std::io::ErrorKind;

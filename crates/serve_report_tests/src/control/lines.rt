@@ -1,3 +1,4 @@
+//! What the lines of a control ask for, and what is wrong with their streams.
 use crate::compare::same_at;
 use serve_report::control::line::{Ask, check_stream, parse_line};
 use std::alloc::Global;

@@ -1,3 +1,4 @@
+//! What is said of wrong words, and what help tells.
 use super::memory::NoFiles;
 use super::{Run, all_run, says, words_of, written};
 use crate::compare::same_at;

@@ -1,3 +1,4 @@
+//! What a watch is told of runs, and what comes of terminals.
 use super::memory::NoFiles;
 use super::{words_of, written};
 use crate::compare::same_at;
