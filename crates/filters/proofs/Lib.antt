@@ -17,3 +17,4 @@ pub mod ChainImages
 pub mod Front
 pub mod ChainGeometry
 pub mod OneImage
+pub mod KeptRows

@@ -14,3 +14,5 @@ pub mod ChainInside
 pub mod ChainImage
 pub mod Front
 pub mod Canvases
+pub mod Rows
+pub mod BlurInside

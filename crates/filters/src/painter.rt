@@ -5,7 +5,7 @@ ghost use Rattle.filters.specs.Image.{image_pixel};
 ghost use Rattle.filters.specs.Chain.{IsImageGeometry};
 
 use crate::op::Op;
-use crate::rows::fill_rows;
+use crate::rows::{RowSpan, blurred_rows, cropped_rows, mirrored_rows, opposite_rows, table_rows};
 use frame_view::{Frame, Geometry};
 use row_bands::Painter;
 
@@ -26,6 +26,19 @@ impl Painter for ImagePainter<'_> {
     ghost geometry = { λ painter. painter.target };
 
     fn paint(&self, p: usize, from: usize, to: usize, rows: &mut [u8]) {
-        fill_rows(self.op, self.source, self.target, p, from, to, rows);
+        let columns = self.target.plane_size(p).columns;
+        let span = RowSpan {
+            p,
+            columns,
+            from,
+            to,
+        };
+        match self.op {
+            Op::Table(table) => table_rows(table, self.source, span, rows),
+            Op::HFlip => mirrored_rows(self.source, span, rows),
+            Op::VFlip => opposite_rows(self.source, span, rows),
+            Op::Crop(crop) => cropped_rows(crop, self.source, self.target, span, rows),
+            Op::Blur(blur) => blurred_rows(blur, self.source, span, rows),
+        }
     }
 }

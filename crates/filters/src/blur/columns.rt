@@ -4,7 +4,8 @@
 //! that a square over it needs no clamping.
 
 ghost use Rattle.std.specs.Prelude.{◌≡◌, ◌+◌, ◌-◌, ◌*◌, ◌/◌, ◌≤◌, ◌<◌, ℕ, length, slice_index};
-ghost use Rattle.filters.specs.Blur.{clamped, column_sum, pixel_of, sum_below};
+ghost use Rattle.filters.specs.Blur.{clamped};
+ghost use Rattle.filters.specs.BlurInside.{AreColumnSums, AreSumsTo, IsRoomAt, IsRowOf, column};
 
 use super::source::{SourcePlane, clamped_place};
 use crate::limits::MOST_RADIUS;
@@ -14,7 +15,7 @@ fn add_row(columns: &mut [u16], radius: usize, row: &[u8])
     requires same { length row.now + 2 * radius ≡ length columns.old }
     requires room { (x : ℕ) → x < length row.now → slice_index columns.old (radius + x) ≤ 65280 }
     ensures { (x : ℕ) → x < length row.now →
-        slice_index columns.new (radius + x) ≡ slice_index columns.old (radius + x) + slice_index row.now x }
+        column columns.new radius x ≡ column columns.old radius x + slice_index row.now x }
 {
     for x in 0..row.len() {
         columns[radius + x] += row[x] as u16;
@@ -51,8 +52,7 @@ fn move_row(columns: &mut [u16], radius: usize, entering: &[u8], leaving: &[u8])
     requires enters { length entering.now + 2 * radius ≡ length columns.old }
     requires leaves { length leaving.now ≡ length entering.now }
     requires room { (x : ℕ) → x < length entering.now → slice_index columns.old (radius + x) ≤ 65280 }
-    requires kept { (x : ℕ) → x < length entering.now →
-        slice_index leaving.now x ≤ slice_index columns.old (radius + x) }
+    requires kept { (x : ℕ) → x < length entering.now → slice_index leaving.now x ≤ column columns.old radius x }
     ensures { (x : ℕ) → x < length entering.now →
         slice_index columns.new (radius + x) + slice_index leaving.now x
         ≡ slice_index columns.old (radius + x) + slice_index entering.now x }
@@ -63,71 +63,50 @@ fn move_row(columns: &mut [u16], radius: usize, entering: &[u8], leaving: &[u8])
 }
 
 /// Row `k` of those near `y`, from `y - radius` on.
-fn row_near<'a>(plane: &'a SourcePlane, radius: usize, y: usize, k: usize) -> &'a [u8]
+fn row_near<'a>(plane: &'a SourcePlane, y: usize, k: usize) -> &'a [u8]
     requires down { y < plane.now.height }
     requires few { k ≤ 2 * MOST_RADIUS + 1 }
-    ensures sized { length result.now ≡ plane.now.width }
-    ensures samples { (x : ℕ) → x < plane.now.width →
-        slice_index result.now x
-        ≡ pixel_of plane.now.samples.now plane.now.width (clamped plane.now.height radius y k) x }
-    ensures bytes { (x : ℕ) → slice_index result.now x ≤ 255 }
+    ensures { IsRowOf plane.now (clamped plane.now.height plane.now.radius y k) result.now }
 {
-    plane.row(clamped_place(plane.height, radius, y, k))
+    plane.row(clamped_place(plane.height, plane.radius, y, k))
 }
 
 /// Sets the sums of the columns to those over the rows near `y`, but for the last ones, which make no group
 /// of four.
-fn first_groups(plane: &SourcePlane, radius: usize, y: usize, columns: &mut [u16])
-    requires down { y < plane.now.height }
-    requires small { radius ≤ MOST_RADIUS }
-    requires sized { length columns.old ≡ plane.now.width + 2 * radius }
-    ensures sums { (x : ℕ) → x < plane.now.width →
-        slice_index columns.new (radius + x)
-        ≡ sum_below (λ i. pixel_of plane.now.samples.now plane.now.width
-        (clamped plane.now.height radius y i) x) (4 * (radius / 2)) }
-    ensures bytes { (x : ℕ) → x < plane.now.width →
-        slice_index columns.new (radius + x) ≤ 255 * (4 * (radius / 2)) }
+fn first_groups(plane: &SourcePlane, y: usize, columns: &mut [u16])
+    requires { IsRoomAt plane.now y columns.old }
+    ensures { AreSumsTo plane.now y (4 * (plane.now.radius / 2)) columns.new }
 {
     columns.fill(0);
-    for g in 0..radius / 2 {
-        let first = row_near(plane, radius, y, 4 * g);
-        let second = row_near(plane, radius, y, 4 * g + 1);
-        let third = row_near(plane, radius, y, 4 * g + 2);
-        let fourth = row_near(plane, radius, y, 4 * g + 3);
-        add_rows(columns, radius, first, second, third, fourth);
+    for g in 0..plane.radius / 2 {
+        let first = row_near(plane, y, 4 * g);
+        let second = row_near(plane, y, 4 * g + 1);
+        let third = row_near(plane, y, 4 * g + 2);
+        let fourth = row_near(plane, y, 4 * g + 3);
+        add_rows(columns, plane.radius, first, second, third, fourth);
     }
 }
 
 /// Sets the sums of the columns to those over the rows near `y`.
-pub fn first_columns(plane: &SourcePlane, radius: usize, y: usize, columns: &mut [u16])
-    requires down { y < plane.now.height }
-    requires small { radius ≤ MOST_RADIUS }
-    requires sized { length columns.old ≡ plane.now.width + 2 * radius }
-    ensures { (x : ℕ) → x < plane.now.width →
-        slice_index columns.new (radius + x)
-        ≡ column_sum (pixel_of plane.now.samples.now plane.now.width) plane.now.height radius y x }
+pub fn first_columns(plane: &SourcePlane, y: usize, columns: &mut [u16])
+    requires { IsRoomAt plane.now y columns.old }
+    ensures { AreColumnSums plane.now y columns.new }
 {
-    first_groups(plane, radius, y, columns);
-    for i in 4 * (radius / 2)..2 * radius + 1 {
-        add_row(columns, radius, row_near(plane, radius, y, i));
+    first_groups(plane, y, columns);
+    for i in 4 * (plane.radius / 2)..2 * plane.radius + 1 {
+        add_row(columns, plane.radius, row_near(plane, y, i));
     }
 }
 
 /// Moves the sums of the columns from the rows near `y` to those near `y + 1`.
-pub fn next_columns(plane: &SourcePlane, radius: usize, y: usize, columns: &mut [u16])
-    requires down { y < plane.now.height }
-    requires small { radius ≤ MOST_RADIUS }
-    requires sized { length columns.old ≡ plane.now.width + 2 * radius }
-    requires at { (x : ℕ) → x < plane.now.width →
-        slice_index columns.old (radius + x)
-        ≡ column_sum (pixel_of plane.now.samples.now plane.now.width) plane.now.height radius y x }
-    ensures { (x : ℕ) → x < plane.now.width →
-        slice_index columns.new (radius + x)
-        ≡ column_sum (pixel_of plane.now.samples.now plane.now.width) plane.now.height radius (y + 1) x }
+pub fn next_columns(plane: &SourcePlane, y: usize, columns: &mut [u16])
+    requires room { IsRoomAt plane.now y columns.old }
+    requires at { AreColumnSums plane.now y columns.old }
+    ensures { AreColumnSums plane.now (y + 1) columns.new }
 {
-    let entering = row_near(plane, radius, y, 2 * radius + 1);
-    let leaving = row_near(plane, radius, y, 0);
-    move_row(columns, radius, entering, leaving);
+    let entering = row_near(plane, y, 2 * plane.radius + 1);
+    let leaving = row_near(plane, y, 0);
+    move_row(columns, plane.radius, entering, leaving);
 }
 
 /// Repeats the first and the last column in the places before and after the columns.

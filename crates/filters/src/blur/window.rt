@@ -5,6 +5,7 @@
 
 ghost use Rattle.std.specs.Prelude.{◌≡◌, ◌+◌, ◌-◌, ◌*◌, ◌/◌, ◌≤◌, ◌<◌, ℕ, length, slice_index};
 ghost use Rattle.filters.specs.Blur.{side, sum_below};
+ghost use Rattle.filters.specs.BlurInside.{AreFours, AreMeans, AreSquares};
 
 use crate::limits::MOST_RADIUS;
 
@@ -95,8 +96,7 @@ fn fours_sum<const COUNT: usize>(fours: &[u16], x: usize) -> u16
 fn add_fours(columns: &[u16], fours: &mut [u16])
     requires sized { length fours.old + 3 ≡ length columns.now }
     requires small { (k : ℕ) → k < length columns.now → slice_index columns.now k ≤ 4335 }
-    ensures { (k : ℕ) → k < length fours.old →
-        slice_index fours.new k ≡ sum_below (λ j. slice_index columns.now (k + j)) 4 }
+    ensures { AreFours columns.now fours.new }
 {
     for x in 0..fours.len() {
         fours[x] = columns_sum::<4>(columns, x);
@@ -107,11 +107,8 @@ fn add_fours(columns: &[u16], fours: &mut [u16])
 fn narrow_means<const SIDE: usize>(columns: &[u16], target: &mut [u8])
     requires some { 0 < SIDE }
     requires few { SIDE ≤ 15 }
-    requires sized { length target.old + SIDE ≡ length columns.now + 1 }
-    requires bytes { (k : ℕ) → k < length columns.now → slice_index columns.now k ≤ 255 * SIDE }
-    ensures { (x : ℕ) → x < length target.old →
-        slice_index target.new x
-        ≡ (sum_below (λ j. slice_index columns.now (x + j)) SIDE + SIDE * SIDE / 2) / (SIDE * SIDE) }
+    requires squares { AreSquares SIDE (length target.old) columns.now }
+    ensures { AreMeans SIDE columns.now target.new }
 {
     for x in 0..target.len() {
         target[x] = mean::<SIDE>(columns_sum::<SIDE>(columns, x));
@@ -127,14 +124,9 @@ fn wide_means<const SIDE: usize, const FOURS: usize, const REST: usize>(
     requires parts { SIDE ≡ 4 * FOURS + REST }
     requires some { 0 < REST }
     requires few { SIDE ≤ 15 }
-    requires sized { length target.old + SIDE ≡ length columns.now + 1 }
-    requires fours_sized { length fours.now + 3 ≡ length columns.now }
-    requires bytes { (k : ℕ) → k < length columns.now → slice_index columns.now k ≤ 255 * SIDE }
-    requires fours { (k : ℕ) → k < length fours.now →
-        slice_index fours.now k ≡ sum_below (λ j. slice_index columns.now (k + j)) 4 }
-    ensures { (x : ℕ) → x < length target.old →
-        slice_index target.new x
-        ≡ (sum_below (λ j. slice_index columns.now (x + j)) SIDE + SIDE * SIDE / 2) / (SIDE * SIDE) }
+    requires squares { AreSquares SIDE (length target.old) columns.now }
+    requires fours { AreFours columns.now fours.now }
+    ensures { AreMeans SIDE columns.now target.new }
 {
     for x in 0..target.len() {
         let sum = fours_sum::<FOURS>(fours, x) + columns_sum::<REST>(columns, x + 4 * FOURS);
@@ -144,13 +136,9 @@ fn wide_means<const SIDE: usize, const FOURS: usize, const REST: usize>(
 
 /// As `wide_means`, for the widest square, of 17 columns, whose sum may exceed 16 bits.
 fn widest_means(columns: &[u16], fours: &[u16], target: &mut [u8])
-    requires sized { length target.old + 16 ≡ length columns.now }
-    requires fours_sized { length fours.now + 3 ≡ length columns.now }
-    requires bytes { (k : ℕ) → k < length columns.now → slice_index columns.now k ≤ 4335 }
-    requires fours { (k : ℕ) → k < length fours.now →
-        slice_index fours.now k ≡ sum_below (λ j. slice_index columns.now (k + j)) 4 }
-    ensures { (x : ℕ) → x < length target.old →
-        slice_index target.new x ≡ (sum_below (λ j. slice_index columns.now (x + j)) 17 + 144) / 289 }
+    requires squares { AreSquares 17 (length target.old) columns.now }
+    requires fours { AreFours columns.now fours.now }
+    ensures { AreMeans 17 columns.now target.new }
 {
     for x in 0..target.len() {
         let one = fours_sum::<2>(fours, x);
@@ -159,18 +147,21 @@ fn widest_means(columns: &[u16], fours: &[u16], target: &mut [u8])
     }
 }
 
-/// As `mean_squares`, from radius 4 on.
-fn mean_wide_squares(columns: &[u16], radius: usize, fours: &mut [u16], target: &mut [u8])
-    requires reach { 4 ≤ radius }
+/// The rounded means of the squares of columns that begin at each place, by their radius. `fours` is written
+/// over.
+pub fn mean_squares(columns: &[u16], radius: usize, fours: &mut [u16], target: &mut [u8])
+    requires reach { 1 ≤ radius }
     requires small { radius ≤ MOST_RADIUS }
-    requires sized { length target.old + 2 * radius ≡ length columns.now }
+    requires squares { AreSquares (side radius) (length target.old) columns.now }
     requires fours { length fours.old ≡ length columns.now }
-    requires bytes { (k : ℕ) → k < length columns.now → slice_index columns.now k ≤ 255 * side radius }
-    ensures { (x : ℕ) → x < length target.old →
-        slice_index target.new x
-        ≡ (sum_below (λ j. slice_index columns.now (x + j)) (side radius) + side radius * side radius / 2)
-        / (side radius * side radius) }
+    ensures { AreMeans (side radius) columns.now target.new }
 {
+    match radius {
+        1 => return narrow_means::<3>(columns, target),
+        2 => return narrow_means::<5>(columns, target),
+        3 => return narrow_means::<7>(columns, target),
+        _ => {}
+    }
     let fours = &mut fours[..columns.len() - 3];
     add_fours(columns, fours);
     match radius {
@@ -179,26 +170,5 @@ fn mean_wide_squares(columns: &[u16], radius: usize, fours: &mut [u16], target: 
         6 => wide_means::<13, 3, 1>(columns, fours, target),
         7 => wide_means::<15, 3, 3>(columns, fours, target),
         _ => widest_means(columns, fours, target),
-    }
-}
-
-/// The rounded means of the squares of columns that begin at each place, by their radius. `fours` is written
-/// over.
-pub fn mean_squares(columns: &[u16], radius: usize, fours: &mut [u16], target: &mut [u8])
-    requires reach { 1 ≤ radius }
-    requires small { radius ≤ MOST_RADIUS }
-    requires sized { length target.old + 2 * radius ≡ length columns.now }
-    requires fours { length fours.old ≡ length columns.now }
-    requires bytes { (k : ℕ) → k < length columns.now → slice_index columns.now k ≤ 255 * side radius }
-    ensures { (x : ℕ) → x < length target.old →
-        slice_index target.new x
-        ≡ (sum_below (λ j. slice_index columns.now (x + j)) (side radius) + side radius * side radius / 2)
-        / (side radius * side radius) }
-{
-    match radius {
-        1 => narrow_means::<3>(columns, target),
-        2 => narrow_means::<5>(columns, target),
-        3 => narrow_means::<7>(columns, target),
-        _ => mean_wide_squares(columns, radius, fours, target),
     }
 }

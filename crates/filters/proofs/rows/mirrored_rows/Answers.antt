@@ -13,15 +13,15 @@ pub loop-v-preserved : goal.loop-v-preserved
 loop-v-preserved c =
     let g = c.args.source.now.geometry in
     let samples = samples_of c.args.source.now in
-    let p = c.args.p in
-    let w = c.args.columns in
-    let y = c.args.from + c.loop-v.v in
+    let p = c.args.span.p in
+    let w = c.args.span.columns in
+    let y = c.args.span.from + c.loop-v.v in
     let row = c.row.result.now in
     let written = c.mirror_row.new.target in
     let fits : c.loop-v.v * w + w ≤ length c.loop-v.rows =
-    omega (arith, row_fits c.loop-v.v w (c.args.to - c.args.from) w (omega arith) (omega arith)) in
+    omega (arith, row_fits c.loop-v.v w (c.args.span.to - c.args.span.from) w (omega arith) (omega arith)) in
     let wide : length written ≡ w = omega (arith, length-take {A = ℕ}, length-drop {A = ℕ}) in
-    row_written (λ v x. image_pixel HFlip g samples p (c.args.from + v) x) w c.loop-v.v c.loop-v.rows written
+    row_written (λ v x. image_pixel HFlip g samples p (c.args.span.from + v) x) w c.loop-v.v c.loop-v.rows written
     _
     wide (omega arith) c.loop-v.invariant
     (λ x h. c.mirror_row.ensures x (omega arith)

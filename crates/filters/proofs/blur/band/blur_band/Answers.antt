@@ -8,21 +8,21 @@ use Rattle.filters.proofs.BlurRows.{row_written}
 use Rattle.filters.proofs.blur.band.blur_band.Goals as goal
 
 pub mean_row-requires-clause-bytes : goal.mean_row-requires-clause-bytes
-mean_row-requires-clause-bytes c x h =
+mean_row-requires-clause-bytes g c x h =
     let plane = c.args.plane.now in
     let within : x < plane.width = omega (arith, length-take {A = ℕ}) in
     let y = c.args.from + c.loop-v.v in
     let at = c.loop-v.invariant.0 x within in
     let most =
-    sum_below_most (λ i. pixel_of plane.samples.now plane.width (clamped plane.height c.args.radius y i) x)
-    255 (side c.args.radius)
-    (λ k p. plane.bytes (clamped plane.height c.args.radius y k * plane.width + x)) in
+    sum_below_most (λ i. pixel_of plane.samples.now plane.width (clamped plane.height c.args.plane.now.radius y i) x)
+    255 (side c.args.plane.now.radius)
+    (λ k p. plane.bytes (clamped plane.height c.args.plane.now.radius y k * plane.width + x)) in
     omega arith
 
 pub loop-v-preserved : goal.loop-v-preserved
-loop-v-preserved c =
+loop-v-preserved g c =
     let plane = c.args.plane.now in
-    let r = c.args.radius in
+    let r = c.args.plane.now.radius in
     let width = plane.width in
     let pixel = pixel_of plane.samples.now width in
     let n = side r * side r in

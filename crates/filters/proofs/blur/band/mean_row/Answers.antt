@@ -15,4 +15,4 @@ returns-clause-means c x h =
     (λ j p.
     let place : clamped (length columns - 2 * r) r 0 (x + j) ≡ clamped width r x j = omega arith in
     c.repeat_ends.ensures (x + j) (omega arith) ∙ ap (λ k. slice_index columns (r + k)) place) in
-    c.mean_squares.ensures x h ∙ ap (λ s. (s + n / 2) / n) terms
+    c.mean_squares.ensures x (omega arith) ∙ ap (λ s. (s + n / 2) / n) terms

@@ -9,9 +9,9 @@ move_row-requires-clause-room c x h =
     let at = c.requires.at x (omega arith) in
     let most =
     sum_below_most
-    (λ i. pixel_of plane.samples.now plane.width (clamped plane.height c.args.radius c.args.y i) x) 255
-    (side c.args.radius)
-    (λ k p. plane.bytes (clamped plane.height c.args.radius c.args.y k * plane.width + x)) in
+    (λ i. pixel_of plane.samples.now plane.width (clamped plane.height c.args.plane.now.radius c.args.y i) x) 255
+    (side c.args.plane.now.radius)
+    (λ k p. plane.bytes (clamped plane.height c.args.plane.now.radius c.args.y k * plane.width + x)) in
     omega arith
 
 pub move_row-requires-clause-kept : goal.move_row-requires-clause-kept
@@ -21,8 +21,8 @@ move_row-requires-clause-kept c x h =
     let read = c.row_near-leaving.ensures.samples x (omega arith) in
     let within =
     term_within
-    (λ i. pixel_of plane.samples.now plane.width (clamped plane.height c.args.radius c.args.y i) x)
-    (side c.args.radius) 0 (omega arith) in
+    (λ i. pixel_of plane.samples.now plane.width (clamped plane.height c.args.plane.now.radius c.args.y i) x)
+    (side c.args.plane.now.radius) 0 (omega arith) in
     omega arith
 
 pub returns : goal.returns
@@ -33,6 +33,6 @@ returns c x h =
     let leaves = c.row_near-leaving.ensures.samples x h in
     let enters = c.row_near-entering.ensures.samples x h in
     let slides =
-    sum_slides (λ v. pixel_of plane.samples.now plane.width v x) plane.height c.args.radius c.args.y
-    (side c.args.radius) in
+    sum_slides (λ v. pixel_of plane.samples.now plane.width v x) plane.height c.args.plane.now.radius c.args.y
+    (side c.args.plane.now.radius) in
     omega arith

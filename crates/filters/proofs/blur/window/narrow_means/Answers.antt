@@ -8,7 +8,7 @@ mean-requires-clause-bytes g c =
     let x = c.loop-x.x in
     let most =
     sum_of_bytes (λ k. slice_index c.args.columns.now k) x g.row.SIDE
-    (λ j h. c.requires.bytes (x + j) (omega arith)) in
+    (λ j h. c.requires.squares.bytes (x + j) (omega arith)) in
     omega arith
 
 pub loop-x-preserved : goal.loop-x-preserved

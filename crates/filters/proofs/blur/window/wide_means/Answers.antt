@@ -9,8 +9,8 @@ overflow_add-sum g c =
     let column : ℕ → ℕ = λ k. slice_index c.args.columns.now k in
     let whole =
     sum_of_groups column (λ k. slice_index c.args.fours.now k) x g.row.SIDE g.row.FOURS g.row.REST
-    c.requires.parts (λ k h. c.requires.fours (x + 4 * k) (omega arith)) in
-    let most = sum_of_bytes column x g.row.SIDE (λ j h. c.requires.bytes (x + j) (omega arith)) in
+    c.requires.parts (λ k h. c.requires.fours.sums (x + 4 * k) (omega arith)) in
+    let most = sum_of_bytes column x g.row.SIDE (λ j h. c.requires.squares.bytes (x + j) (omega arith)) in
     let fits =
     mean_fits (sum_below (λ j. column (x + j)) g.row.SIDE) g.row.SIDE (omega arith) c.requires.few most in
     omega arith
@@ -21,8 +21,8 @@ mean-requires-clause-bytes g c =
     let column : ℕ → ℕ = λ k. slice_index c.args.columns.now k in
     let whole =
     sum_of_groups column (λ k. slice_index c.args.fours.now k) x g.row.SIDE g.row.FOURS g.row.REST
-    c.requires.parts (λ k h. c.requires.fours (x + 4 * k) (omega arith)) in
-    let most = sum_of_bytes column x g.row.SIDE (λ j h. c.requires.bytes (x + j) (omega arith)) in
+    c.requires.parts (λ k h. c.requires.fours.sums (x + 4 * k) (omega arith)) in
+    let most = sum_of_bytes column x g.row.SIDE (λ j h. c.requires.squares.bytes (x + j) (omega arith)) in
     omega arith
 
 pub loop-x-preserved : goal.loop-x-preserved
@@ -33,7 +33,7 @@ loop-x-preserved g c =
     let n = side * side in
     let whole =
     sum_of_groups column (λ k. slice_index c.args.fours.now k) x side g.row.FOURS g.row.REST
-    c.requires.parts (λ k h. c.requires.fours (x + 4 * k) (omega arith)) in
+    c.requires.parts (λ k h. c.requires.fours.sums (x + 4 * k) (omega arith)) in
     let total : c.fours_sum.result + c.columns_sum.result ≡ sum_below (λ j. column (x + j)) side =
     omega arith in
     written_more (λ k. (sum_below (λ j. column (k + j)) side + n / 2) / n)
