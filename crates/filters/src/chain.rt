@@ -83,7 +83,8 @@ impl Chain {
     ghost use Rattle.filters.specs.Chain.{IsImageGeometry, format_of, format_at, last_format};
 
     /// The chain of these operations. `NoMemory` is answered where they make a chain, and the memory for the
-    /// sizes of its images is refused; the operations are let go with each refusal.
+    /// sizes of its images is refused; the operations are let go with each refusal. Each refusal comes only
+    /// where it is the first that holds, and there always; but for want of memory.
     pub fn new(
         alloc: Global,
         ops: Vec<Op>,
@@ -92,8 +93,6 @@ impl Chain {
     ) -> Result<Chain, FilterError>
         ensures ok { IfOk result (λ chain. chain ≡ chain_of ops.items geometry band_height) }
         ensures is_chain { IfOk result IsChain }
-
-        // Each refusal comes only where it is the first that holds, and there always; but for want of memory.
         ensures refused { IfErr result (λ e. IsChainRefusedAs e (chain_of ops.items geometry band_height)) }
         ensures each { (e : FilterError) → e ≢ FilterError.NoMemory
             → IsChainRefusedAs e (chain_of ops.items geometry band_height) → IsErrOf result e }

@@ -17,12 +17,11 @@ use y4m_header::text::cut;
 /// `crop:x,y,width,height` or `blur:radius`; a number is 1 to 9 decimal digits, leading zeros included.
 /// Samples are 0 to 255, `low` is at most `high`, and a radius is 1 to 8; whether a rectangle lies in a
 /// frame is seen when the chain is made. `NoMemory` is answered where the text says at most 8 operations
-/// and the memory of their list is refused; no other answer needs memory.
+/// and the memory of their list is refused; no other answer needs memory. A part that says none is told of
+/// before there are too many.
 pub fn parse_ops(alloc: Global, text: &[u8]) -> Result<Vec<Op>, FilterError>
     ensures ops { IfOk result (λ ops. ops_of text.now ≡ Some ops.items) }
     ensures few { IfOk result (λ ops. length ops.items ≤ MOST_OPS) }
-
-    // A part that says none is told of before there are too many.
     ensures bad { IsErrOf result FilterError.BadOp ↔ (ops_of text.now ≡ None) }
     ensures many { IsErrOf result FilterError.TooManyOps
         ↔ IsSomeAnd (ops_of text.now) (λ ops. MOST_OPS < length ops) }
