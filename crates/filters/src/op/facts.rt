@@ -1,6 +1,7 @@
 //! What holds of one operation: which frames it can be done on, the geometry of its images, what a band of it
 //! costs, and of which kind it is.
 ghost use Rattle.std.specs.Prelude.{◌≡◌, ◌≤◌, ◌<◌, ◌+◌, ◌%◌, ◌↔◌, IsTrue};
+ghost use Rattle.filters.specs.declared.op.Op.{Op};
 ghost use Rattle.filters.specs.Ops.{HasGoodRadius, IsDoable, IsRectangleOf, is_crop, is_table, op_cost};
 ghost use Rattle.filters.specs.Chain.{IsImageGeometry};
 
@@ -50,9 +51,7 @@ pub fn is_doable(op: Op, geometry: Geometry) -> bool
 
 fn cropped(crop: Crop, geometry: Geometry) -> Geometry
     requires { IsRectangleOf crop geometry }
-    ensures width { result.width ≡ crop.width }
-    ensures height { result.height ≡ crop.height }
-    ensures chroma { result.chroma ≡ geometry.chroma }
+    ensures { IsImageGeometry (Op.Crop crop) geometry result }
 {
     Geometry {
         width: crop.width,
