@@ -1,6 +1,6 @@
 -- A job: a frame, and what was made of it by now.
 use Rattle.std.specs.Prelude.{◌≡◌, ℕ, ◌+◌, ◌<◌, ◌≤◌, Option, Some, None}
-use Rattle.std.specs.Prelude.{List, [], ◌∷◌, ◌++◌, map, slice_index_or, slice_set}
+use Rattle.std.specs.Prelude.{List, [], ◌∷◌, ◌++◌, length, map, slice_index_or, slice_set}
 use Rattle.std.specs.Option.{unwrap_or}
 use Rattle.y4m_header.specs.Chroma.{plane_count}
 use Rattle.frame_view.specs.declared.frame.Frame.{Frame}
@@ -53,6 +53,21 @@ AreDone chain frames done = (k op band : ℕ) (o : Op) (d : Frame) → k < done
     → IsStep (counts_of chain) k op band → HoldsBand (picture_of chain frames op o d)
     chain.band_height.rows band (slice_index_or frames (op + 1) d)
 
+-- a frame of the chain's, and canvases for all of its operations
+pub record HasCanvases (chain : ChainValue) (frame : Frame) (canvases : List Canvas)
+    (last : Canvas) : Type 0 where
+  pub source : frame.geometry ≡ chain.geometry
+  pub scratch : IsScratch chain canvases
+  pub canvas : IsImageCanvas chain last
+
+-- a frame of the chain's, canvases for all of its operations but the last, and a band of one of them
+pub record HasBandBetween (chain : ChainValue) (i k : ℕ) (frame : Frame) (canvases : List Canvas)
+    : Type 0 where
+  pub op : i < length canvases
+  pub band : k < slice_index_or (counts_of chain) i 0
+  pub source : frame.geometry ≡ chain.geometry
+  pub scratch : IsScratch chain canvases
+
 -- what a job always is
 pub record IsJob (job : JobValue) : Type 0 where
   pub geometry : job.source.geometry ≡ job.chain.geometry
@@ -81,6 +96,16 @@ pub record WritesBand (chain : ChainValue) (op band : ℕ) (frames frames' : Lis
       let before = slice_index_or frames (op + 1) d in
       HasBand (picture_of chain frames op o d) (luma_from b band) (luma_to before.geometry b band)
       before image
+
+-- step k of the chain is done in these canvases: its band is written, and all else stays
+pub record WritesStep (chain : ChainValue) (k : ℕ) (source : Frame) (old new : List Canvas)
+    (before after : Canvas) : Type 0 where
+  pub scratch : IsScratch chain new
+  pub canvas : IsImageCanvas chain after
+  pub line : line_of (frame_of after) ≡ line_of (frame_of before)
+  pub written : (op band : ℕ) → IsStep (counts_of chain) k op band
+      → WritesBand chain op band (frames_by source old before) (frames_by source new after)
+  pub done : AreDone chain (frames_by source old before) k → AreDone chain (frames_by source new after) (k + 1)
 
 -- one step more is done: its band is written, and all else stays
 pub record StepsOn (old new : JobValue) : Type 0 where

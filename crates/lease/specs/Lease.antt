@@ -1,8 +1,9 @@
 -- A lease: the leave to do some steps of a job.
-use Rattle.std.specs.Prelude.{ℕ, ◌+◌, ◌-◌, ◌≤◌, IsSome, take, drop, sum}
+use Rattle.std.specs.Prelude.{◌≡◌, ◌↔◌, ℕ, ◌+◌, ◌-◌, ◌≤◌, IsSome, take, drop, sum}
+use Rattle.std.specs.Prelude.{Result, IsErr, OnOk, OnErr, slice_index}
 use Rattle.filters.specs.Steps.{steps_of}
 use Rattle.filters.specs.Costs.{step_costs}
-use Rattle.lease.specs.Job.{JobValue}
+use Rattle.lease.specs.Job.{JobValue, StepsOn}
 
 pub record LeaseValue : Type 0 where
   pub job : JobValue
@@ -24,6 +25,19 @@ pub record IsLease (lease : LeaseValue) : Type 0 where
   pub within : lease.used ≤ lease.granted
   pub own : lease.used ≤ lease.job.done
   pub left : lease.job.done + (lease.granted - lease.used) ≤ steps_of lease.job.chain
+
+-- what a step under a lease does: it is refused where all that were granted are done; else the job has one
+-- step more, which counts and is paid for
+pub record TakesStep {T E : Type 0} (old new : LeaseValue) (answer : Result T E) : Type 0 where
+  pub refused : IsErr answer ↔ (old.used ≡ old.granted)
+  pub err : OnErr answer (new ≡ old)
+  pub chain : new.job.chain ≡ old.job.chain
+  pub source : new.job.source ≡ old.job.source
+  pub done : OnOk answer (new.job.done ≡ old.job.done + 1)
+  pub step : OnOk answer (StepsOn old.job new.job)
+  pub used : OnOk answer (new ≡ record old { job = new.job; used = old.used + 1 })
+  pub spent : OnOk answer (spent_of new
+      ≡ spent_of old + slice_index (step_costs old.job.chain) old.job.done)
 
 -- no step is done under the lease
 abbrev pub granted_of : JobValue → ℕ → ℕ → ℕ → LeaseValue

@@ -1,5 +1,5 @@
 //! Writing the band of one step by two threads.
-ghost use Rattle.std.specs.Prelude.{◌≡◌, ℕ, ◌+◌, ◌<◌, length, slice_index_or};
+ghost use Rattle.std.specs.Prelude.{◌≡◌, ◌<◌, length, slice_index_or};
 ghost use Rattle.frame_view.specs.Frame.{line_of, samples_of};
 ghost use Rattle.row_bands.specs.declared.canvas.Canvas.{Canvas};
 ghost use Rattle.row_bands.specs.Bands.{band_count, luma_from, luma_to, CanBeHalved};
@@ -7,10 +7,10 @@ ghost use Rattle.row_bands.specs.Canvas.{frame_of, height_of};
 ghost use Rattle.row_bands.specs.Written.{HasBand};
 ghost use Rattle.filters.specs.Image.{IsDoable, image_pixel};
 ghost use Rattle.filters.specs.Chain.{IsImageGeometry};
-ghost use Rattle.filters.specs.Steps.{IsStep, counts_of, steps_of};
+ghost use Rattle.filters.specs.Steps.{counts_of, steps_of};
 ghost use Rattle.lease.specs.Canvases.{IsImageCanvas, IsScratch};
 ghost use Rattle.lease.specs.Halved.{CanHalveBand, CanHalveStep};
-ghost use Rattle.lease.specs.Job.{frames_by, AreDone, WritesBand};
+ghost use Rattle.lease.specs.Job.{frames_by, HasBandBetween, HasCanvases, WritesBand, WritesStep};
 
 use crate::step::input_of_step;
 use filters::painter::ImagePainter;
@@ -63,10 +63,7 @@ fn halve_between<R: Threads, N: Fn(u32) + Sync>(
     note: &N,
 )
     requires callable { N.pre note.now 0 × N.pre note.now 1 }
-    requires op { op < length scratch.old }
-    requires band { band < slice_index_or (counts_of chain.now) op 0 }
-    requires source { source.now.geometry ≡ chain.now.geometry }
-    requires scratch { IsScratch chain.now scratch.old }
+    requires between { HasBandBetween chain.now op band source.now scratch.old }
     ensures scratch { IsScratch chain.now scratch.new }
     ensures written { (last : Canvas) → WritesBand chain.now op band
         (frames_by source.now scratch.old last) (frames_by source.now scratch.new last) }
@@ -95,9 +92,7 @@ fn halve_last<R: Threads, N: Fn(u32) + Sync>(
 )
     requires callable { N.pre note.now 0 × N.pre note.now 1 }
     requires band { band < slice_index_or (counts_of chain.now) (length scratch.now) 0 }
-    requires source { source.now.geometry ≡ chain.now.geometry }
-    requires scratch { IsScratch chain.now scratch.now }
-    requires canvas { IsImageCanvas chain.now canvas.old }
+    requires canvases { HasCanvases chain.now source.now scratch.now canvas.old }
     ensures canvas { IsImageCanvas chain.now canvas.new }
     ensures line { line_of (frame_of canvas.new) ≡ line_of (frame_of canvas.old) }
     ensures written { WritesBand chain.now (length scratch.now) band
@@ -115,7 +110,7 @@ fn halve_last<R: Threads, N: Fn(u32) + Sync>(
     );
 }
 
-/// Does what `write_step` does, by two threads where the band can be halved.
+/// Does what `do_step` does, by two threads where the band can be halved.
 pub fn halve_step<R: Threads, N: Fn(u32) + Sync>(
     rt: &R,
     chain: &Chain,
@@ -127,16 +122,8 @@ pub fn halve_step<R: Threads, N: Fn(u32) + Sync>(
 )
     requires callable { N.pre note.now 0 × N.pre note.now 1 }
     requires step { k < steps_of chain.now }
-    requires source { source.now.geometry ≡ chain.now.geometry }
-    requires scratch { IsScratch chain.now scratch.old }
-    requires canvas { IsImageCanvas chain.now canvas.old }
-    ensures scratch { IsScratch chain.now scratch.new }
-    ensures canvas { IsImageCanvas chain.now canvas.new }
-    ensures line { line_of (frame_of canvas.new) ≡ line_of (frame_of canvas.old) }
-    ensures written { (op band : ℕ) → IsStep (counts_of chain.now) k op band → WritesBand chain.now op band
-        (frames_by source.now scratch.old canvas.old) (frames_by source.now scratch.new canvas.new) }
-    ensures done { AreDone chain.now (frames_by source.now scratch.old canvas.old) k
-        → AreDone chain.now (frames_by source.now scratch.new canvas.new) (k + 1) }
+    requires canvases { HasCanvases chain.now source.now scratch.old canvas.old }
+    ensures writes { WritesStep chain.now k source.now scratch.old scratch.new canvas.old canvas.new }
     ensures noted { CanHalveStep chain.now k → N.post note.now 0 tt × N.post note.now 1 tt }
 {
     let (op, band) = chain.op_of_step(k);

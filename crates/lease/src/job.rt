@@ -3,7 +3,7 @@ use crate::halves::halve_step;
 use crate::job_spec::JobSpec;
 use crate::refused::{JobRefused, OverRefused};
 use crate::scratch::Scratch;
-use crate::step::write_step;
+use crate::step::do_step;
 use filters::MOST_COST;
 use frame_view::Frame;
 use row_bands::Canvas;
@@ -222,7 +222,7 @@ impl Job {
         let Some(scratch) = &mut self.scratch else {
             unreachable!()
         };
-        write_step(
+        do_step(
             self.spec.chain(),
             self.done,
             &self.source,

@@ -36,12 +36,10 @@ impl Model for Lease {
 }
 
 impl Lease {
-    ghost use Rattle.std.specs.Prelude.{◌≡◌, ◌+◌, ◌≤◌, ◌↔◌, IsSome, IsErr, OnOk, OnErr, slice_index};
+    ghost use Rattle.std.specs.Prelude.{◌≡◌, ◌+◌, ◌≤◌, IsSome, OnOk};
     ghost use Rattle.filters.specs.Steps.{steps_of};
-    ghost use Rattle.filters.specs.Costs.{step_costs};
     ghost use Rattle.lease.specs.Halved.{CanHalveStep};
-    ghost use Rattle.lease.specs.Job.{StepsOn};
-    ghost use Rattle.lease.specs.Lease.{granted_of, spent_of};
+    ghost use Rattle.lease.specs.Lease.{granted_of, spent_of, TakesStep};
 
     /// A lease of this many steps of the job of frame `number` of its stream.
     pub fn new(job: Job, stream: u32, number: u64, grant: u32) -> Lease
@@ -62,16 +60,7 @@ impl Lease {
 
     /// Does the next step of the job. It takes no memory and waits for nobody.
     pub fn step(&mut self) -> Result<(), GrantSpent>
-        ensures refused { IsErr result ↔ (self.old.used ≡ self.old.granted) }
-        ensures err { OnErr result (self.new ≡ self.old) }
-        ensures chain { self.new.job.chain ≡ self.old.job.chain }
-        ensures source { self.new.job.source ≡ self.old.job.source }
-        ensures done { OnOk result (self.new.job.done ≡ self.old.job.done + 1) }
-        ensures step { OnOk result (StepsOn self.old.job self.new.job) }
-        ensures used { OnOk result (self.new
-            ≡ record self.old { job = self.new.job; used = self.old.used + 1 }) }
-        ensures spent { OnOk result (spent_of self.new
-            ≡ spent_of self.old + slice_index (step_costs self.old.job.chain) self.old.job.done) }
+        ensures { TakesStep self.old self.new result }
     {
         if self.used == self.granted {
             return Err(GrantSpent);
@@ -92,16 +81,7 @@ impl Lease {
         note: &N,
     ) -> Result<(), GrantSpent>
         requires { N.pre note.now 0 × N.pre note.now 1 }
-        ensures refused { IsErr result ↔ (self.old.used ≡ self.old.granted) }
-        ensures err { OnErr result (self.new ≡ self.old) }
-        ensures chain { self.new.job.chain ≡ self.old.job.chain }
-        ensures source { self.new.job.source ≡ self.old.job.source }
-        ensures done { OnOk result (self.new.job.done ≡ self.old.job.done + 1) }
-        ensures step { OnOk result (StepsOn self.old.job self.new.job) }
-        ensures used { OnOk result (self.new
-            ≡ record self.old { job = self.new.job; used = self.old.used + 1 }) }
-        ensures spent { OnOk result (spent_of self.new
-            ≡ spent_of self.old + slice_index (step_costs self.old.job.chain) self.old.job.done) }
+        ensures step { TakesStep self.old self.new result }
         ensures noted { OnOk result (CanHalveStep self.old.job.chain self.old.job.done
             → N.post note.now 0 tt × N.post note.now 1 tt) }
     {

@@ -1,11 +1,11 @@
 //! Writing the band of one step.
-ghost use Rattle.std.specs.Prelude.{◌≡◌, ℕ, ◌+◌, ◌<◌, ◌∷◌, length, map, slice_index_or};
+ghost use Rattle.std.specs.Prelude.{◌≡◌, ◌<◌, ◌∷◌, length, map, slice_index_or};
 ghost use Rattle.frame_view.specs.Frame.{line_of};
 ghost use Rattle.row_bands.specs.declared.canvas.Canvas.{Canvas};
 ghost use Rattle.row_bands.specs.Canvas.{frame_of};
-ghost use Rattle.filters.specs.Steps.{IsStep, counts_of, steps_of};
+ghost use Rattle.filters.specs.Steps.{counts_of, steps_of};
 ghost use Rattle.lease.specs.Canvases.{IsImageCanvas, IsScratch};
-ghost use Rattle.lease.specs.Job.{frames_by, AreDone, WritesBand};
+ghost use Rattle.lease.specs.Job.{frames_by, HasBandBetween, HasCanvases, WritesBand, WritesStep};
 
 use filters::{Chain, apply_at};
 use frame_view::Frame;
@@ -24,10 +24,7 @@ pub fn input_of_step<'a>(source: &'a Frame, before: &'a [Canvas]) -> &'a Frame
 
 /// Writes a band of the image by an operation that isn't the last.
 fn write_between(chain: &Chain, op: usize, band: usize, source: &Frame, scratch: &mut [Canvas])
-    requires op { op < length scratch.old }
-    requires band { band < slice_index_or (counts_of chain.now) op 0 }
-    requires source { source.now.geometry ≡ chain.now.geometry }
-    requires scratch { IsScratch chain.now scratch.old }
+    requires { HasBandBetween chain.now op band source.now scratch.old }
     ensures scratch { IsScratch chain.now scratch.new }
     ensures written { (last : Canvas) → WritesBand chain.now op band
         (frames_by source.now scratch.old last) (frames_by source.now scratch.new last) }
@@ -44,9 +41,7 @@ fn write_between(chain: &Chain, op: usize, band: usize, source: &Frame, scratch:
 /// Writes a band of the image by the last operation.
 fn write_last(chain: &Chain, band: usize, source: &Frame, scratch: &[Canvas], canvas: &mut Canvas)
     requires band { band < slice_index_or (counts_of chain.now) (length scratch.now) 0 }
-    requires source { source.now.geometry ≡ chain.now.geometry }
-    requires scratch { IsScratch chain.now scratch.now }
-    requires canvas { IsImageCanvas chain.now canvas.old }
+    requires canvases { HasCanvases chain.now source.now scratch.now canvas.old }
     ensures canvas { IsImageCanvas chain.now canvas.new }
     ensures line { line_of (frame_of canvas.new) ≡ line_of (frame_of canvas.old) }
     ensures written { WritesBand chain.now (length scratch.now) band
@@ -61,24 +56,10 @@ fn write_last(chain: &Chain, band: usize, source: &Frame, scratch: &[Canvas], ca
 }
 
 /// Writes the band of step `k`. It takes no memory.
-pub fn write_step(
-    chain: &Chain,
-    k: u32,
-    source: &Frame,
-    scratch: &mut [Canvas],
-    canvas: &mut Canvas,
-)
+pub fn do_step(chain: &Chain, k: u32, source: &Frame, scratch: &mut [Canvas], canvas: &mut Canvas)
     requires step { k < steps_of chain.now }
-    requires source { source.now.geometry ≡ chain.now.geometry }
-    requires scratch { IsScratch chain.now scratch.old }
-    requires canvas { IsImageCanvas chain.now canvas.old }
-    ensures scratch { IsScratch chain.now scratch.new }
-    ensures canvas { IsImageCanvas chain.now canvas.new }
-    ensures line { line_of (frame_of canvas.new) ≡ line_of (frame_of canvas.old) }
-    ensures written { (op band : ℕ) → IsStep (counts_of chain.now) k op band → WritesBand chain.now op band
-        (frames_by source.now scratch.old canvas.old) (frames_by source.now scratch.new canvas.new) }
-    ensures done { AreDone chain.now (frames_by source.now scratch.old canvas.old) k
-        → AreDone chain.now (frames_by source.now scratch.new canvas.new) (k + 1) }
+    requires canvases { HasCanvases chain.now source.now scratch.old canvas.old }
+    ensures { WritesStep chain.now k source.now scratch.old scratch.new canvas.old canvas.new }
 {
     let (op, band) = chain.op_of_step(k);
     if op < scratch.len() {

@@ -17,14 +17,14 @@ started c = c.in-Some.is ∙ ap Some (sym c.scratch.view_is ∙ sym c.deref_mut.
 -- all canvases were lent
 whole : (c : goal.After-self-2-1)
     → take c.scratch.inside.canvases.len
-    (c.write_step.new.scratch ++ drop (length c.write_step.new.scratch) c.scratch.inside.canvases.items)
-    ≡ c.write_step.new.scratch
+    (c.do_step.new.scratch ++ drop (length c.do_step.new.scratch) c.scratch.inside.canvases.items)
+    ≡ c.do_step.new.scratch
 whole c =
-    let len : c.scratch.inside.canvases.len ≡ length c.write_step.new.scratch =
-    omega (arith, c.deref_mut.ensures.len, c.write_step.auto.scratch) in
+    let len : c.scratch.inside.canvases.len ≡ length c.do_step.new.scratch =
+    omega (arith, c.deref_mut.ensures.len, c.do_step.auto.scratch) in
     ap (λ n. take n
-    (c.write_step.new.scratch ++ drop
-    (length c.write_step.new.scratch) c.scratch.inside.canvases.items)) len ∙ take-append_seam _ _
+    (c.do_step.new.scratch ++ drop
+    (length c.do_step.new.scratch) c.scratch.inside.canvases.items)) len ∙ take-append_seam _ _
 
 pub invariant_of-self : goal.invariant_of-self
 invariant_of-self c =
@@ -34,16 +34,16 @@ invariant_of-self c =
     λ source. AreDone (arc_value c.self.inside.spec)
     (frames_by source c.deref_mut.result.now c.self.inside.canvas) c.self.inside.done
     → AreDone (arc_value c.self.inside.spec)
-    (frames_by source c.write_step.new.scratch c.write_step.new.canvas) (c.self.inside.done + 1) in
+    (frames_by source c.do_step.new.scratch c.do_step.new.canvas) (c.self.inside.done + 1) in
     rw (whole c) (stays_job
-    (job_of c.self.inside) _ c.write_step.new.scratch c.write_step.new.canvas c.self.invariant
+    (job_of c.self.inside) _ c.do_step.new.scratch c.do_step.new.canvas c.self.invariant
     (started c) left
-    (rw (chain_is c) at c.write_step.ensures.scratch)
-    (rw (chain_is c) at c.write_step.ensures.canvas) c.write_step.ensures.line
-    (subst Next c.deref-2.ensures (rw (chain_is c) at c.write_step.ensures.done)))
+    (rw (chain_is c) at c.do_step.ensures.scratch)
+    (rw (chain_is c) at c.do_step.ensures.canvas) c.do_step.ensures.line
+    (subst Next c.deref-2.ensures (rw (chain_is c) at c.do_step.ensures.done)))
 
 pub returns-clause-step : goal.returns-clause-step
 returns-clause-step c =
     rw (sym c.self.view_is, whole c)
-    (steps_on (job_of c.self.inside) _ c.write_step.new.scratch c.write_step.new.canvas (started c)
-    (rw (chain_is c, c.deref-2.ensures) at c.write_step.ensures.written))
+    (steps_on (job_of c.self.inside) _ c.do_step.new.scratch c.do_step.new.canvas (started c)
+    (rw (chain_is c, c.deref-2.ensures) at c.do_step.ensures.written))

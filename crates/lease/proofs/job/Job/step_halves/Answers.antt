@@ -39,15 +39,15 @@ invariant_of-self g c =
     rw (whole g c) (stays_job
     (job_of c.self.inside) _ c.halve_step.new.scratch c.halve_step.new.canvas c.self.invariant
     (started g c) left
-    (rw (chain_is g c) at c.halve_step.ensures.scratch)
-    (rw (chain_is g c) at c.halve_step.ensures.canvas) c.halve_step.ensures.line
-    (subst Next c.deref-2.ensures (rw (chain_is g c) at c.halve_step.ensures.done)))
+    (rw (chain_is g c) at c.halve_step.ensures.writes.scratch)
+    (rw (chain_is g c) at c.halve_step.ensures.writes.canvas) c.halve_step.ensures.writes.line
+    (subst Next c.deref-2.ensures (rw (chain_is g c) at c.halve_step.ensures.writes.done)))
 
 pub returns-clause-step : goal.returns-clause-step
 returns-clause-step g c =
     rw (sym c.self.view_is, whole g c)
     (steps_on (job_of c.self.inside) _ c.halve_step.new.scratch c.halve_step.new.canvas (started g c)
-    (rw (chain_is g c, c.deref-2.ensures) at c.halve_step.ensures.written))
+    (rw (chain_is g c, c.deref-2.ensures) at c.halve_step.ensures.writes.written))
 
 pub returns-clause-noted : goal.returns-clause-noted
 returns-clause-noted g c can =

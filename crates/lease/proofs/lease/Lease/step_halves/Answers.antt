@@ -1,4 +1,4 @@
-use Rattle.std.proofs.Common.{◌≡◌, ◌+◌, arith, ap, sym, ◌∙◌}
+use Rattle.std.proofs.Common.{rules, ◌≡◌, ◌+◌, arith, ap, sym, ◌∙◌}
 use Rattle.std.proofs.lemmas.Option.{get_or_from_slice_get, slice_get_within}
 use Rattle.filters.specs.Costs.{step_costs}
 use Rattle.lease.specs.Lease.{spent_of}
@@ -23,8 +23,16 @@ invariant_of-self g c =
       cheap = omega (arith, c.self.invariant.cheap, c.next_cost-cost.ensures.few);
     }
 
-pub returns-clause-spent : goal.returns-clause-spent
-returns-clause-spent g c =
-    rw (sym c.self.view_is)
-    (spent_once (lease_of c.self.inside) c.step_halves.new.self c.self.invariant.lease.own
-    (slice_get_within _ _ _ c.next_cost-cost.ensures.value) c.step_halves.ensures.step)
+pub returns-clause-step : goal.returns-clause-step
+returns-clause-step g c = record {
+  refused = search rules;
+  err = search rules;
+  chain = search rules;
+  source = search rules;
+  done = search rules;
+  step = search rules;
+  used = search rules;
+  spent = rw (sym c.self.view_is)
+      (spent_once (lease_of c.self.inside) c.step_halves.new.self c.self.invariant.lease.own
+      (slice_get_within _ _ _ c.next_cost-cost.ensures.value) c.step_halves.ensures.step);
+}
