@@ -31,6 +31,9 @@ pub record Ends : Type 0 where
   pub before : Option (List ℕ)
   pub after : Option (List ℕ)
 
+abbrev pub ends_of : Option (List ℕ) → Option (List ℕ) → Option (List ℕ) → Option (List ℕ) → Ends
+ends_of input left before after = record { input = input; left = left; before = before; after = after }
+
 -- the operations that are asked for make no chain, for this reason
 pub record LacksChain (ops : List Op) (height : BandHeight) (w h : ℕ) (chroma : Chroma)
     (e : FilterError) : Type 0 where

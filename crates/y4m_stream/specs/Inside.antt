@@ -6,7 +6,10 @@ use Rattle.std.specs.Io.KnownBytes.{Appends, Consumes, IsAtEnd, Keeps, prepend_k
 use Rattle.row_bands.specs.declared.band_height.BandHeight.{BandHeight}
 use Rattle.filters.specs.declared.error.FilterError.TheVariants.{NoMemory as NoFilterMemory}
 use Rattle.filters.specs.declared.op.Op.{Op}
+use Rattle.filters.specs.Canvases.{HasLineOf}
 use Rattle.filters.specs.Chain.{ChainValue}
+use Rattle.frame_view.specs.declared.frame.Frame.{Frame}
+use Rattle.frame_view.specs.Frame.{line_of, samples_of}
 use Rattle.filters.specs.Refusal.{IsChain}
 use Rattle.y4m_header.specs.Header.{HeaderValue}
 use Rattle.y4m_header.specs.FrameLine.{IsFrameLine}
@@ -24,14 +27,14 @@ use Rattle.y4m_stream.specs.declared.fault.FilterFault.{FilterFault}
 use Rattle.y4m_stream.specs.declared.fault.FilterFault.TheVariants.{Read, Ops, Write, TooManyFrames}
 use Rattle.y4m_stream.specs.declared.filter.Filter.{Filter}
 use Rattle.y4m_stream.specs.Failures.{one_more}
-use Rattle.y4m_stream.specs.Front.{IsCutLine, IsLongLine, HasOtherLine, HasGiven}
+use Rattle.y4m_stream.specs.Front.{IsCutLine, IsLongLine, HasOtherLine, HasGiven, IsFrameAhead}
 use Rattle.y4m_stream.specs.Reader.{ReaderState, IsOfHeader, MeetsEnd, TakesFrame, Answers, FailsAtFrame}
 use Rattle.y4m_stream.specs.Reader.{data_len_of}
 use Rattle.y4m_stream.specs.Writer.{WriterState, CutsShort, FailsToPut, IsWriterFor, PutsFrame}
 use Rattle.y4m_stream.specs.Writer.{write_failures_at}
 use Rattle.y4m_header.specs.declared.limits.TheConstants.{MOST_FRAMES}
 use Rattle.y4m_stream.specs.Served.{IsAskedFor, IsHeaderOfImages, IsImageText, AreImages, served_header}
-use Rattle.y4m_stream.specs.Filtered.{Progress, LacksChain, StopsAt, filter_reads_told}
+use Rattle.y4m_stream.specs.Filtered.{Progress, CountsReads, IsLineAhead, LacksChain, StopsAt, filter_reads_told}
 
 -- the bytes that were read from a source and not yet taken, what it has left, and how many of its reads
 -- failed
@@ -49,6 +52,17 @@ pub record BeginsWithLine (bytes : List ℕ) (n : ℕ) : Type 0 where
   pub within : n < length bytes
   pub is_line : IsLine (take n bytes)
   pub feed : bytes ≡ take n bytes ++ 10 ∷ drop (n + 1) bytes
+
+-- the first n bytes are a frame line, and a line feed follows them
+pub record HoldsFrameLine (bytes : List ℕ) (n : ℕ) : Type 0 where
+  pub line : BeginsWithLine bytes n
+  pub is_frame_line : IsFrameLine (take n bytes)
+
+-- a frame keeps all but its samples, and as many of these
+pub record KeepsForm (old new : Frame) : Type 0 where
+  pub geometry : new.geometry ≡ old.geometry
+  pub line : line_of new ≡ line_of old
+  pub len : length (samples_of new) ≡ length (samples_of old)
 
 -- no line stands at the front, for this reason
 abbrev pub LacksLine : ReadFault → Option (List ℕ) → Option (List ℕ) → Type 0
@@ -154,6 +168,27 @@ pub record CanPass (chain : ChainValue) (reader : ReaderState) (writer : WriterS
 pub record CanFilter (filter : Filter) (reader : ReaderState) (writer : WriterState) : Type 0 where
   pub pass : CanPass filter.images.chain reader writer
   pub frame : filter.frame.geometry ≡ filter.images.chain.geometry
+
+-- the same, before the first image went out
+pub record CanBegin (filter : Filter) (reader : ReaderState) (writer : WriterState) : Type 0 where
+  pub ready : CanFilter filter reader writer
+  pub none : writer.frames ≡ 0
+
+-- the image of the filter's frame, whose line was taken, can be made and written
+pub record CanPaint (filter : Filter) (writer : WriterState) : Type 0 where
+  pub geometry : filter.frame.geometry ≡ filter.images.chain.geometry
+  pub line : HasLineOf filter.frame filter.images
+  pub size : IsWriterFor filter.images.chain writer
+  pub few : writer.frames < MOST_FRAMES
+  pub writing : writer.failed ≡ false
+
+-- the same, and beside it a frame can be read into the memory of another one
+pub record CanReadBeside (filter : Filter) (reader : ReaderState) (writer : WriterState)
+    (other : Frame) : Type 0 where
+  pub ready : CanFilter filter reader writer
+  pub few : writer.frames < MOST_FRAMES
+  pub next : other.geometry ≡ filter.images.chain.geometry
+  pub line : HasLineOf filter.frame filter.images
 
 -- the chain stays, and the size of the filter's frame
 pub record KeepsSizes (old new : Filter) : Type 0 where
@@ -276,6 +311,18 @@ pub record HasPassed (Ahead : ℕ → Option (List ℕ) → Option (List ℕ) �
   pub outcome : PassesOrStops Ahead chain reader reader' writer writer' answer
   pub reads : Reads answer reader.failures reader'.failures
   pub writes : writer'.failures ≡ filter_writes_told answer writer.failures
+
+-- the same, where each frame is read once the image before it was written
+abbrev pub HasPassedInTurn : ChainValue → ReaderState → ReaderState → WriterState → WriterState
+    → Result ℕ FilterFault → Type 0
+HasPassedInTurn chain reader reader' writer writer' answer =
+    HasPassed IsLineAhead ReadsTold chain reader reader' writer writer' answer
+
+-- the same, where each frame is read while the image before it is written
+abbrev pub HasPassedAhead : ChainValue → ReaderState → ReaderState → WriterState → WriterState
+    → Result ℕ FilterFault → Type 0
+HasPassedAhead chain reader reader' writer writer' answer =
+    HasPassed IsFrameAhead CountsReads chain reader reader' writer writer' answer
 
 -- a fault stays, and a number of frames stays where the flush succeeds
 abbrev pub Closes : Result ℕ FilterFault → WriterState → Result ℕ FilterFault → Type 0

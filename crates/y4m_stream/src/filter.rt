@@ -2,14 +2,15 @@
 ghost use Rattle.std.specs.Prelude.{◌≡◌, ◌≢◌, ◌⊎◌, ℕ, List, Option, IfOk, IfErr, OnOk, Some, true, false};
 ghost use Rattle.std.specs.Prelude.{unwrap_or};
 ghost use Rattle.std.specs.Io.KnownBytes.{Keeps};
-ghost use Rattle.y4m_stream.specs.Filtered.{CountsWrites, IsFiltered, LacksChain, filter_reads_told};
+ghost use Rattle.y4m_stream.specs.Filtered.{CountsWrites, IsFiltered, LacksChain, ends_of};
+ghost use Rattle.y4m_stream.specs.Filtered.{filter_reads_told};
 ghost use Rattle.y4m_stream.specs.Inside.{Closes, CountsClosing, FailsToBegin, IsFilterFor, filter_writes_at};
 ghost use Rattle.y4m_stream.specs.Reader.{IsOfHeader};
 ghost use Rattle.y4m_stream.specs.Served.{IsHeaderOfImages};
 ghost use Rattle.y4m_stream.specs.Writer.{FlushesOrFails, IsOpenedFor};
 
 use crate::device::{Sink, Source};
-use crate::fault::{FilterFault, ReadFault};
+use crate::fault::{FilterFault, Filtered, ReadFault};
 use crate::passing::pass_frames;
 use crate::reader::StreamReader;
 use crate::writer::StreamWriter;
@@ -18,6 +19,9 @@ use frame_view::{Frame, Geometry};
 use row_bands::BandHeight;
 use std::alloc::Global;
 use y4m_header::Header;
+
+/// What making a part of a filter answers.
+pub type Made<T> = Result<T, FilterError>;
 
 /// What a stream is filtered with: the chain with its canvases, a frame, and the header of the images where
 /// the chain holds a crop.
@@ -30,11 +34,7 @@ pub struct Filter {
 
 /// The header of the images that the chain makes of the header's frames, where it holds a crop: the header
 /// with the size of the images. None where the frames' own header stays.
-pub fn resized_header(
-    alloc: Global,
-    chain: &Chain,
-    header: &Header,
-) -> Result<Option<Header>, FilterError>
+pub fn resized_header(alloc: Global, chain: &Chain, header: &Header) -> Made<Option<Header>>
     requires { IsOfHeader header.now chain.now.geometry }
     ensures shown { IfOk result (λ resized.
         IsHeaderOfImages chain.now header.now (unwrap_or resized header.now)) }
@@ -53,12 +53,7 @@ pub fn resized_header(
 
 impl Filter {
     /// Takes the memory of a frame and of all canvases.
-    fn new(
-        alloc: Global,
-        ops: Vec<Op>,
-        header: &Header,
-        height: BandHeight,
-    ) -> Result<Filter, FilterError>
+    fn new(alloc: Global, ops: Vec<Op>, header: &Header, height: BandHeight) -> Made<Filter>
         ensures ok { IfOk result (IsFilterFor ops.items height header.now) }
         ensures refused { IfErr result
             (LacksChain ops.items height header.now.width header.now.height header.now.chroma) }
@@ -115,10 +110,7 @@ pub fn begin<W: Sink>(
 }
 
 /// Flushes the writer, and answers the first fault, if there is one.
-pub fn close<W: Sink>(
-    writer: StreamWriter<W>,
-    passed: Result<u64, FilterFault>,
-) -> (W, Result<u64, FilterFault>)
+pub fn close<W: Sink>(writer: StreamWriter<W>, passed: Filtered) -> (W, Filtered)
     ensures kept { Keeps writer.contents (W.contents result.0) }
     ensures answer { Closes passed writer result.1 }
     ensures counted { CountsClosing passed writer result.1 (W.failures result.0) }
@@ -146,21 +138,18 @@ pub fn close<W: Sink>(
 /// Want of memory is told as `Read(NoMemory)` where it was for the header or a frame's line, and as
 /// `Ops(NoMemory)` where it was for the chain, its frames and its canvases, the header of the images or an
 /// image's line.
+///
+/// In the first clause `last` is the source as it was given up.
 pub fn filter_stream<R: Source + Drop, W: Sink>(
     alloc: Global,
     input: R,
     output: W,
     ops: Vec<Op>,
     height: BandHeight,
-) -> (W, Result<u64, FilterFault>)
-    // The last is the source as it was given up.
+) -> (W, Filtered)
     ensures answer { (last : R) × (R.failures last ≡ filter_reads_told result.1 (R.failures input))
-        × IsFiltered result.1 ops.items height (record {
-          input = R.remaining input;
-          left = R.remaining last;
-          before = W.contents output;
-          after = W.contents result.0;
-        }) }
+        × IsFiltered result.1 ops.items height
+        (ends_of (R.remaining input) (R.remaining last) (W.contents output) (W.contents result.0)) }
     ensures writes { CountsWrites result.1 (W.failures output) (W.failures result.0) }
     ensures flushed { OnOk result.1 (W.is_flushed result.0 ≡ true) }
     ensures closed { (result.0 ≡ output)
@@ -177,13 +166,9 @@ pub fn filter_between<R: Source + Drop, W: Sink>(
     output: W,
     ops: Vec<Op>,
     height: BandHeight,
-) -> (R, W, Result<u64, FilterFault>)
-    ensures answer { IsFiltered result.2 ops.items height (record {
-      input = R.remaining input;
-      left = R.remaining result.0;
-      before = W.contents output;
-      after = W.contents result.1;
-    }) }
+) -> (R, W, Filtered)
+    ensures answer { IsFiltered result.2 ops.items height
+        (ends_of (R.remaining input) (R.remaining result.0) (W.contents output) (W.contents result.1)) }
     ensures reads { R.failures result.0 ≡ filter_reads_told result.2 (R.failures input) }
     ensures writes { CountsWrites result.2 (W.failures output) (W.failures result.1) }
     ensures flushed { OnOk result.2 (W.is_flushed result.1 ≡ true) }
@@ -210,14 +195,10 @@ pub fn filter_bytes<W: Sink>(
     output: W,
     ops: Vec<Op>,
     height: BandHeight,
-) -> (W, Result<u64, FilterFault>)
+) -> (W, Filtered)
     ensures no_device { IfErr result.1 (λ fault. fault ≢ FilterFault.Read ReadFault.Device) }
-    ensures answer { (left : Option (List ℕ)) × IsFiltered result.1 ops.items height (record {
-      input = Some input.now;
-      left = left;
-      before = W.contents output;
-      after = W.contents result.0;
-    }) }
+    ensures answer { (left : Option (List ℕ)) × IsFiltered result.1 ops.items height
+        (ends_of (Some input.now) left (W.contents output) (W.contents result.0)) }
     ensures writes { CountsWrites result.1 (W.failures output) (W.failures result.0) }
     ensures flushed { OnOk result.1 (W.is_flushed result.0 ≡ true) }
     ensures closed { (result.0 ≡ output)

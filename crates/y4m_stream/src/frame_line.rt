@@ -3,16 +3,15 @@ ghost use Rattle.std.specs.Prelude.{◌≡◌, ◌+◌, ◌<◌, take, length, [
 ghost use Rattle.std.specs.Prelude.{IfErr, IfSome, IfNone, OnOk, ◌≤◌};
 ghost use Rattle.std.specs.Io.KnownBytes.{Consumes, IsAtEnd, Keeps};
 ghost use Rattle.frame_view.specs.Frame.{line_of, samples_of};
-ghost use Rattle.y4m_header.specs.FrameLine.{IsFrameLine};
 ghost use Rattle.y4m_header.specs.declared.limits.TheConstants.{LARGEST_DATA};
 ghost use Rattle.y4m_header.specs.StreamText.{text_of};
 ghost use Rattle.y4m_stream.specs.Front.{HasGiven, IsCutFrame, StandsAtFrame};
-ghost use Rattle.y4m_stream.specs.Inside.{BeginsWithLine, LacksFrameLine, rest_of};
+ghost use Rattle.y4m_stream.specs.Inside.{HoldsFrameLine, KeepsForm, LacksFrameLine, rest_of};
 ghost use Rattle.y4m_stream.specs.Reader.{failures_told, frame_text_of};
 ghost use Rattle.y4m_stream.specs.Wanted.{IsEnough, IsLacking};
 
 use crate::device::Source;
-use crate::fault::ReadFault;
+use crate::fault::{ReadFault, ReadResult};
 use crate::line::find_line;
 use crate::lookahead::{LINE_LIMIT, Lookahead};
 use crate::wanted::{Wanted, is_frame_line};
@@ -23,8 +22,7 @@ use y4m_header::text::place_of;
 /// What is lacking of a frame with so many bytes of data, where these come first: nothing where it is there,
 /// or where a fault is.
 pub fn lacks(held: &[u8], len: usize) -> Option<Wanted>
-    requires held { length held.now ≤ LINE_LIMIT }
-    requires len { len ≤ LARGEST_DATA }
+    requires { (length held.now ≤ LINE_LIMIT) × (len ≤ LARGEST_DATA) }
     ensures enough { IfNone result (IsEnough LINE_LIMIT len held.now) }
     ensures lacking { IfSome result (λ wanted. IsLacking len held.now wanted.line wanted.behind) }
 {
@@ -73,8 +71,7 @@ fn is_at_end<R: Source>(input: &mut Lookahead<R>) -> Result<bool, ReadFault>
 /// or none at the end.
 pub fn find_frame_line<R: Source>(input: &mut Lookahead<R>) -> Result<Option<usize>, ReadFault>
     ensures rest { Keeps (rest_of input.old) (rest_of input.new) }
-    ensures line { IfOk result (λ next. IfSome next (BeginsWithLine input.new.held)) }
-    ensures is_frame_line { IfOk result (λ next. IfSome next (λ n. IsFrameLine (take n input.new.held))) }
+    ensures line { IfOk result (λ next. IfSome next (HoldsFrameLine input.new.held)) }
     ensures end { IfOk result (λ next. IfNone next (IsAtEnd (rest_of input.old) × (input.new.held ≡ []))) }
     ensures fault { IfErr result (λ fault. LacksFrameLine fault (rest_of input.old) input.new.left) }
     ensures few { length input.new.held ≤ LINE_LIMIT }
@@ -90,30 +87,23 @@ pub fn find_frame_line<R: Source>(input: &mut Lookahead<R>) -> Result<Option<usi
     }
 }
 
-/// Takes a line of `end` bytes and its line feed off the front, and then the data of the frame, into it; and
-/// tells the source that the frame ended.
-pub fn take_data<R: Source>(
-    input: &mut Lookahead<R>,
-    end: usize,
-    frame: &mut Frame,
-) -> Result<(), ReadFault>
-    requires line { BeginsWithLine input.old.held end }
-    requires is_frame_line { IsFrameLine (take end input.old.held) }
-    requires of_frame { line_of frame.old ≡ take end input.old.held }
-    ensures geometry { frame.new.geometry ≡ frame.old.geometry }
-    ensures line { line_of frame.new ≡ line_of frame.old }
-    ensures len { length (samples_of frame.new) ≡ length (samples_of frame.old) }
+/// Takes a line of `end` bytes and its line feed off the front, and then the data of the frame, into `out`;
+/// and tells the source that the frame ended.
+pub fn take_data<R: Source>(input: &mut Lookahead<R>, end: usize, out: &mut Frame) -> ReadResult<()>
+    requires held { HoldsFrameLine input.old.held end }
+    requires of_frame { line_of out.old ≡ take end input.old.held }
+    ensures form { KeepsForm out.old out.new }
     ensures ok { OnOk result
-        (Consumes (rest_of input.old) (rest_of input.new) (text_of (frame_text_of frame.new))) }
+        (Consumes (rest_of input.old) (rest_of input.new) (text_of (frame_text_of out.new))) }
     ensures fault { IfErr result (λ fault.
-        StandsAtFrame (length (samples_of frame.old)) fault (rest_of input.old) input.new.left) }
+        StandsAtFrame (length (samples_of out.old)) fault (rest_of input.old) input.new.left) }
     ensures given { IfErr result (λ _. HasGiven (rest_of input.old) input.new.left
-        (IsCutFrame (length (samples_of frame.old)))) }
+        (IsCutFrame (length (samples_of out.old)))) }
     ensures few { length input.new.held ≤ LINE_LIMIT }
     ensures told { input.new.failures ≡ failures_told result input.old.failures }
 {
     input.consume(end + 1);
-    input.take_exactly(frame.data_mut())?;
+    input.take_exactly(out.data_mut())?;
     input.frame_ended();
     Ok(())
 }

@@ -1,15 +1,14 @@
 //! A stream, filtered from end to end, each frame read while the image before it is made and written.
-ghost use Rattle.std.specs.Prelude.{◌≡◌, ◌<◌, ◌⊎◌, IfErr, OnOk, true, false};
-ghost use Rattle.filters.specs.Canvases.{HasLineOf};
-ghost use Rattle.y4m_stream.specs.Filtered.{CountsReads, CountsWrites, IsFilteredAhead};
+ghost use Rattle.std.specs.Prelude.{◌≡◌, ◌⊎◌, IfErr, OnOk, true};
+ghost use Rattle.y4m_stream.specs.Filtered.{CountsReads, CountsWrites, IsFilteredAhead, ends_of};
 ghost use Rattle.y4m_stream.specs.Front.{IsFrameAhead};
-ghost use Rattle.y4m_stream.specs.Inside.{CanFilter, HasImage, HasPassed, KeepsSizes};
+ghost use Rattle.y4m_stream.specs.Inside.{CanBegin, CanPaint, CanReadBeside, HasImage, HasPassedAhead};
+ghost use Rattle.y4m_stream.specs.Inside.{KeepsSizes};
 ghost use Rattle.y4m_stream.specs.Reader.{AnswersOpen, answer_into, data_len_of, frame_text_of};
-ghost use Rattle.y4m_stream.specs.Writer.{FlushesOrFails, IsWriterFor, PutsOpen};
-ghost use Rattle.y4m_header.specs.declared.limits.TheConstants.{MOST_FRAMES};
+ghost use Rattle.y4m_stream.specs.Writer.{FlushesOrFails, PutsOpen};
 
 use crate::device::{Sink, Source};
-use crate::fault::{FilterFault, ReadFault, WriteFault};
+use crate::fault::{FilterFault, Filtered, ReadResult, WriteFault};
 use crate::filter::{Filter, begin, close};
 use crate::passing::pass_frames;
 use crate::reader::StreamReader;
@@ -30,16 +29,11 @@ use y4m_header::MOST_FRAMES;
 /// and from file to file.
 pub const LEAST_OVERLAPPED: usize = 262_144;
 
+type WriteResult = Result<(), WriteFault>;
+
 /// Makes the image of the filter's frame, whose line was taken, and writes it.
-fn paint_and_put<W: Sink>(
-    writer: &mut StreamWriter<W>,
-    filter: &mut Filter,
-) -> Result<(), WriteFault>
-    requires geometry { filter.old.frame.geometry ≡ filter.old.images.chain.geometry }
-    requires line { HasLineOf filter.old.frame filter.old.images }
-    requires size { IsWriterFor filter.old.images.chain writer.old }
-    requires few { writer.old.frames < MOST_FRAMES }
-    requires writing { writer.old.failed ≡ false }
+fn paint_and_put<W: Sink>(writer: &mut StreamWriter<W>, filter: &mut Filter) -> WriteResult
+    requires { CanPaint filter.old writer.old }
     ensures kept { KeepsSizes filter.old filter.new }
     ensures put { HasImage filter.old.images.chain (frame_text_of filter.old.frame)
         (λ image. PutsOpen writer.old writer.new image result) }
@@ -57,11 +51,8 @@ fn read_and_put<T: Threads, R: Source + Drop + Send, W: Sink>(
     writer: &mut StreamWriter<W>,
     next: &mut Frame,
     filter: &mut Filter,
-) -> (Result<bool, ReadFault>, Result<(), WriteFault>)
-    requires ready { CanFilter filter.old reader.old writer.old }
-    requires few { writer.old.frames < MOST_FRAMES }
-    requires next { next.old.geometry ≡ filter.old.images.chain.geometry }
-    requires line { HasLineOf filter.old.frame filter.old.images }
+) -> (ReadResult<bool>, WriteResult)
+    requires ready { CanReadBeside filter.old reader.old writer.old next.old }
     ensures next { next.new.geometry ≡ next.old.geometry }
     ensures header { reader.new.header ≡ reader.old.header }
     ensures kept { KeepsSizes filter.old filter.new }
@@ -91,12 +82,10 @@ fn pass_images<T: Threads, R: Source + Drop + Send, W: Sink>(
     writer: &mut StreamWriter<W>,
     next: &mut Frame,
     filter: &mut Filter,
-) -> Result<u64, FilterFault>
-    requires ready { CanFilter filter.old reader.old writer.old }
-    requires none { writer.old.frames ≡ 0 }
+) -> Filtered
+    requires begin { CanBegin filter.old reader.old writer.old }
     requires next { next.old.geometry ≡ filter.old.images.chain.geometry }
-    ensures { HasPassed IsFrameAhead CountsReads filter.old.images.chain reader.old reader.new
-        writer.old writer.new result }
+    ensures { HasPassedAhead filter.old.images.chain reader.old reader.new writer.old writer.new result }
 {
     let mut more = reader.read_frame(alloc, next)?;
     for count in 0..MOST_FRAMES {
@@ -123,11 +112,9 @@ fn pass_beside<T: Threads, R: Source + Drop + Send, W: Sink>(
     reader: &mut StreamReader<R>,
     writer: &mut StreamWriter<W>,
     filter: &mut Filter,
-) -> Result<u64, FilterFault>
-    requires ready { CanFilter filter.old reader.old writer.old }
-    requires none { writer.old.frames ≡ 0 }
-    ensures { HasPassed IsFrameAhead CountsReads filter.old.images.chain reader.old reader.new
-        writer.old writer.new result }
+) -> Filtered
+    requires ready { CanBegin filter.old reader.old writer.old }
+    ensures { HasPassedAhead filter.old.images.chain reader.old reader.new writer.old writer.new result }
 {
     match Frame::blank(alloc, filter.frame.geometry(), b"FRAME") {
         Ok(mut next) => pass_images(rt, alloc, reader, writer, &mut next, filter),
@@ -142,7 +129,8 @@ fn pass_beside<T: Threads, R: Source + Drop + Send, W: Sink>(
 ///
 /// A fault that is met in reading is answered once the image before it is written. Where a write and the read
 /// beside it both fail, the write's fault is answered. So where it is, one frame more may have been read than
-/// images were begun, or its reading may have failed.
+/// images were begun, or its reading may have failed. In the first clause `last` is the source as it was given
+/// up.
 pub fn filter_overlapped<T: Threads, R: Source + Drop + Send, W: Sink>(
     rt: &T,
     alloc: Global,
@@ -151,14 +139,9 @@ pub fn filter_overlapped<T: Threads, R: Source + Drop + Send, W: Sink>(
     ops: Vec<Op>,
     height: BandHeight,
 ) -> (W, Result<u64, FilterFault>)
-    // The last is the source as it was given up.
     ensures answer { (last : R) × CountsReads result.1 (R.failures input) (R.failures last)
-        × IsFilteredAhead result.1 ops.items height (record {
-          input = R.remaining input;
-          left = R.remaining last;
-          before = W.contents output;
-          after = W.contents result.0;
-        }) }
+        × IsFilteredAhead result.1 ops.items height
+        (ends_of (R.remaining input) (R.remaining last) (W.contents output) (W.contents result.0)) }
     ensures writes { CountsWrites result.1 (W.failures output) (W.failures result.0) }
     ensures flushed { OnOk result.1 (W.is_flushed result.0 ≡ true) }
     ensures closed { (result.0 ≡ output)

@@ -1,7 +1,6 @@
 //! The frames of a stream, each read, filtered and written before the next.
 ghost use Rattle.std.specs.Prelude.{◌≡◌, ◌<◌};
-ghost use Rattle.y4m_stream.specs.Filtered.{IsLineAhead};
-ghost use Rattle.y4m_stream.specs.Inside.{CanFilter, HasPassed, KeepsSizes, PassesNext, ReadsTold};
+ghost use Rattle.y4m_stream.specs.Inside.{CanBegin, CanFilter, HasPassedInTurn, KeepsSizes, PassesNext};
 ghost use Rattle.y4m_header.specs.declared.limits.TheConstants.{MOST_FRAMES};
 
 use crate::device::{Sink, Source};
@@ -41,10 +40,8 @@ pub fn pass_frames<R: Source + Drop, W: Sink>(
     writer: &mut StreamWriter<W>,
     filter: &mut Filter,
 ) -> Result<u64, FilterFault>
-    requires ready { CanFilter filter.old reader.old writer.old }
-    requires none { writer.old.frames ≡ 0 }
-    ensures { HasPassed IsLineAhead ReadsTold filter.old.images.chain reader.old reader.new
-        writer.old writer.new result }
+    requires { CanBegin filter.old reader.old writer.old }
+    ensures { HasPassedInTurn filter.old.images.chain reader.old reader.new writer.old writer.new result }
 {
     for count in 0..MOST_FRAMES {
         if !pass_frame(alloc, reader, writer, filter)? {

@@ -50,8 +50,7 @@ pub fn put_line<W: Sink>(writer: &mut W, line: &[u8]) -> Result<(), usize>
 /// many bytes went out.
 #[tactic(auto, using(crate::proofs::Puts::put_rules))]
 pub fn put_frame<W: Sink>(writer: &mut W, line: &[u8], bytes: &[u8]) -> Result<(), usize>
-    requires line { length line.now < LINE_LIMIT }
-    requires bytes { length bytes.now < 2 ^ 62 }
+    requires frame { (length line.now < LINE_LIMIT) × (length bytes.now < 2 ^ 62) }
     ensures text { PutsText (W.contents writer.old) (W.contents writer.new)
         (line.now ++ 10 ∷ bytes.now) result }
     ensures failures { W.failures writer.new ≡ failures_after result (W.failures writer.old) }
@@ -139,16 +138,14 @@ fn try_on<W: Sink>(writer: &mut W, bytes: &[u8], from: usize, milliseconds: u64)
 /// How writing on went where so many bytes of so many have gone out.
 fn way_at(written: usize, len: usize) -> Way
     requires { written ≤ len }
-    ensures far { IsFar result written len }
-    ensures well { result ≢ Way.Fails }
+    ensures { IsFar result written len × (result ≢ Way.Fails) }
 {
     if written == len { Way::Done } else { Way::More }
 }
 
 /// Writes on with a line and its line feed.
 fn put_line_on<W: Sink>(writer: &mut W, line: &[u8], from: usize, patience: Option<u64>) -> Put
-    requires line { length line.now < LINE_LIMIT }
-    requires from { from ≤ length line.now }
+    requires { (length line.now < LINE_LIMIT) × (from ≤ length line.now) }
     ensures text { PutsOn (W.contents writer.old) (W.contents writer.new) (line.now ++ 10 ∷ []) from result }
     ensures failures { W.failures writer.new ≡ failures_by result.way (W.failures writer.old) }
     ensures decided { IfNone patience (result.way ≢ Way.More) }
@@ -165,8 +162,7 @@ fn put_data_on<W: Sink>(
     from: usize,
     patience: Option<u64>,
 ) -> Put
-    requires line { length line.now < LINE_LIMIT }
-    requires bytes { length bytes.now < 2 ^ 62 }
+    requires frame { (length line.now < LINE_LIMIT) × (length bytes.now < 2 ^ 62) }
     requires from { from ≤ length bytes.now }
     ensures text { PutsOn (W.contents writer.old) (W.contents writer.new) (line.now ++ 10 ∷ bytes.now)
         (length line.now + 1 + from) result }
@@ -197,8 +193,7 @@ pub fn put_frame_on<W: Sink>(
     from: usize,
     patience: Option<u64>,
 ) -> Put
-    requires line { length line.now < LINE_LIMIT }
-    requires bytes { length bytes.now < 2 ^ 62 }
+    requires frame { (length line.now < LINE_LIMIT) × (length bytes.now < 2 ^ 62) }
     requires from { from ≤ length line.now + 1 + length bytes.now }
     ensures text { PutsOn (W.contents writer.old) (W.contents writer.new) (line.now ++ 10 ∷ bytes.now)
         from result }

@@ -9,7 +9,7 @@ ghost use Rattle.y4m_stream.specs.Reader.{Answers, FailsToOpen, IsOfHeader, IsOp
 ghost use Rattle.y4m_stream.specs.Reader.{answer_of, data_len_of, failures_told};
 
 use crate::device::Source;
-use crate::fault::ReadFault;
+use crate::fault::{ReadFault, ReadResult};
 use crate::frame_line::{find_frame_line, lacks, take_data};
 use crate::line::find_line;
 use crate::lookahead::{LINE_LIMIT, Lookahead};
@@ -51,10 +51,7 @@ fn take_header<R: Source>(alloc: Global, input: &mut Lookahead<R>) -> Result<Hea
 
 /// Looks for the next frame, and answers the length of its line, without the line feed, or none at the end.
 /// The reader has then failed, until the frame is taken.
-fn begin_frame<R: Source>(
-    input: &mut Lookahead<R>,
-    phase: &mut Phase,
-) -> Result<Option<usize>, ReadFault>
+fn begin_frame<R: Source>(input: &mut Lookahead<R>, phase: &mut Phase) -> ReadResult<Option<usize>>
     ensures answer { BeginsFrame input.old input.new phase.old phase.new result }
     ensures rest { Keeps (rest_of input.old) (rest_of input.new) }
     ensures few { phase.old ≡ Phase.Open → length input.new.held ≤ LINE_LIMIT }
@@ -95,12 +92,12 @@ impl<R: Source> Model for StreamReader<R> {
 }
 
 impl<R: Source + Drop> StreamReader<R> {
-    /// Reads the header line and its line feed. Where that fails the source is given up.
+    /// Reads the header line and its line feed. Where that fails the source is given up: in the clause `last`
+    /// is the source as it was then.
     ///
     /// An input that ends before its first line feed is `Truncated`, or `LineTooLong` where it has 1,024
     /// bytes or more. `NoMemory` is answered where the header line came whole and could not be kept.
     pub fn open(alloc: Global, source: R) -> Result<StreamReader<R>, ReadFault>
-        // The last is the source as it was given up.
         ensures { (last : R)
             × Opens (R.remaining source) (R.failures source) (R.remaining last) (R.failures last) result }
     {

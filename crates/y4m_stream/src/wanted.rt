@@ -40,8 +40,7 @@ pub struct Wanted {
 impl Wanted {
     /// So many bytes, and no line before them.
     pub fn data(bytes: usize) -> Wanted
-        requires some { 0 < bytes }
-        requires small { bytes ≤ LARGEST_DATA }
+        requires { (0 < bytes) × (bytes ≤ LARGEST_DATA) }
         ensures { (result.line ≡ 0) × (result.behind ≡ bytes) }
     {
         Wanted {
@@ -52,9 +51,7 @@ impl Wanted {
 
     /// The rest of a line, of at most so many bytes with its line feed, and so many behind it.
     pub fn line(most: usize, behind: usize) -> Wanted
-        requires some { 0 < most }
-        requires short { most ≤ LINE_LIMIT }
-        requires small { behind ≤ LARGEST_DATA }
+        requires { (0 < most) × (most ≤ LINE_LIMIT) × (behind ≤ LARGEST_DATA) }
         ensures { (result.line ≡ most) × (result.behind ≡ behind) }
     {
         Wanted { line: most, behind }
@@ -62,8 +59,7 @@ impl Wanted {
 
     /// At most so many bytes are wanted.
     pub fn most(self) -> usize
-        ensures value { result ≡ self.line + self.behind }
-        ensures some { 0 < result }
+        ensures { (result ≡ self.line + self.behind) × (0 < result) }
     {
         self.line + self.behind
     }
@@ -71,8 +67,7 @@ impl Wanted {
     /// How many bytes are wanted at least, where these come first. Who waits for no more reads no byte beyond
     /// the frame.
     pub fn least(self, front: &[u8]) -> usize
-        ensures some { 0 < result }
-        ensures most { result ≤ self.line + self.behind }
+        ensures within { (0 < result) × (result ≤ self.line + self.behind) }
         ensures data { self.line ≡ 0 → result ≡ self.behind }
         ensures line { 0 < self.line → IsLeast self.line self.behind front.now result }
     {
@@ -103,8 +98,7 @@ impl Wanted {
     /// How many bytes are wanted at least, where so many bytes of the line come first, without a line feed.
     fn least_of(self, come: usize) -> usize
         requires { 0 < self.line }
-        ensures some { 0 < result }
-        ensures most { result ≤ self.line + self.behind }
+        ensures within { (0 < result) × (result ≤ self.line + self.behind) }
         ensures long { self.line ≤ come → result ≡ self.line }
         ensures more { come < self.line → come < result }
         ensures least { (n : ℕ) → come < self.line → come + 1 + self.behind ≤ n

@@ -25,13 +25,16 @@ pub returns-in-Err-begin-clause-writes : goal.returns-in-Err-begin-clause-writes
 returns-in-Err-begin-clause-writes g c =
     writes_at_header _ _ _ _ _ _ _ _ c.in-Err-begin.ensures.fault c.in-Err-begin.ensures.writes
 
-pub pass_frames-passed-requires-clause-ready : goal.pass_frames-passed-requires-clause-ready
-pass_frames-passed-requires-clause-ready g c =
+pub pass_frames-passed-requires : goal.pass_frames-passed-requires
+pass_frames-passed-requires g c =
     let filter = rw c.header.ensures at c.in-Ok-begin.ensures.filter in
     let writer = rw c.header.ensures at c.in-Ok-begin.ensures.opened in
     record {
-      pass = CanPass-begun _ _ c.in-Ok.reader _ _ _ _ c.in-Ok.ensures.opened.is_open filter writer;
-      frame = filter.frame;
+      ready = record {
+        pass = CanPass-begun _ _ c.in-Ok.reader _ _ _ _ c.in-Ok.ensures.opened.is_open filter writer;
+        frame = filter.frame;
+      };
+      none = writer.frames;
     }
 
 pub returns-clause-answer : goal.returns-clause-answer

@@ -21,14 +21,14 @@ returns-in_default-clause-lacking c =
 
 pub returns-then-is_frame_line-clause-enough : goal.returns-then-is_frame_line-clause-enough
 returns-then-is_frame_line-clause-enough c =
-    let line = begins_with_line c.args.held.now c.in-Some.end c.requires.held (sym c.place_of.ensures ∙ c.in-Some.is) in
+    let line = begins_with_line c.args.held.now c.in-Some.end c.requires.0 (sym c.place_of.ensures ∙ c.in-Some.is) in
     none_then c.lacks_data.result c.lacks_data.ensures.enough
     (held_line c.args.len c.in-Some.end c.args.held.now line (c.is_frame_line.ensures.yes c.if-is_frame_line.true))
 
 pub returns-then-is_frame_line-clause-lacking : goal.returns-then-is_frame_line-clause-lacking
 returns-then-is_frame_line-clause-lacking c =
     let held = c.args.held.now in
-    let line = begins_with_line held c.in-Some.end c.requires.held (sym c.place_of.ensures ∙ c.in-Some.is) in
+    let line = begins_with_line held c.in-Some.end c.requires.0 (sym c.place_of.ensures ∙ c.in-Some.is) in
     let frame = c.is_frame_line.ensures.yes c.if-is_frame_line.true in
     IfSome_then c.lacks_data.result c.lacks_data.ensures.lacking (λ wanted lacking.
     subst (λ (most : ℕ). IsLacking c.args.len held most wanted.behind) (sym lacking.0)
@@ -36,7 +36,7 @@ returns-then-is_frame_line-clause-lacking c =
 
 pub returns-clause-enough : goal.returns-clause-enough
 returns-clause-enough c =
-    let line = begins_with_line c.args.held.now c.in-Some.end c.requires.held (sym c.place_of.ensures ∙ c.in-Some.is) in
+    let line = begins_with_line c.args.held.now c.in-Some.end c.requires.0 (sym c.place_of.ensures ∙ c.in-Some.is) in
     inr (inr (
       refl,
       record {

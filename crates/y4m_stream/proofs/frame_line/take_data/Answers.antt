@@ -9,11 +9,11 @@ returns-in_err-take_exactly-clause-fault g c =
     let held = c.args.input.now.held in
     let lacks = rw (c.consume.ensures, c.data_mut.ensures.value) at c.in_err-take_exactly.ensures.fault in
     rw (passed.1, passed.2)
-    (StandsAtFrame-behind_line held c.args.end c.requires.line c.requires.is_frame_line _ _ c.args.input.now.left _ lacks)
+    (StandsAtFrame-behind_line held c.args.end c.requires.held.line c.requires.held.is_frame_line _ _ c.args.input.now.left _ lacks)
 
 pub returns-in_err-take_exactly-clause-given : goal.returns-in_err-take_exactly-clause-given
 returns-in_err-take_exactly-clause-given g c =
     let passed = err_from_is_err_and c.from_residual.result c.from_residual.ensures.1 in
     let held = c.args.input.now.held in
     let lacks = rw (c.consume.ensures, c.data_mut.ensures.value) at c.in_err-take_exactly.ensures.given in
-    rw passed.1 (StandsAtFrame-behind_line held c.args.end c.requires.line c.requires.is_frame_line _ Device c.args.input.now.left _ lacks)
+    rw passed.1 (StandsAtFrame-behind_line held c.args.end c.requires.held.line c.requires.held.is_frame_line _ Device c.args.input.now.left _ lacks)

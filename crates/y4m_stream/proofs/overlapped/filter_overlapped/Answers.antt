@@ -30,8 +30,11 @@ pass_beside-passed-requires-clause-ready g c =
     let filter = rw c.header.ensures at c.in-Ok-begin.ensures.filter in
     let writer = rw c.header.ensures at c.in-Ok-begin.ensures.opened in
     λ _ _. record {
-      pass = CanPass-begun _ _ c.in-Ok.reader _ _ _ _ c.in-Ok.ensures.opened.is_open filter writer;
-      frame = filter.frame;
+      ready = record {
+        pass = CanPass-begun _ _ c.in-Ok.reader _ _ _ _ c.in-Ok.ensures.opened.is_open filter writer;
+        frame = filter.frame;
+      };
+      none = writer.frames;
     }
 
 pub returns-clause-answer : goal.returns-clause-answer

@@ -1,4 +1,4 @@
-use Rattle.std.proofs.Common.{◌+◌, ◌∙◌, ap, arith, refl}
+use Rattle.std.proofs.Common.{◌+◌, ◌∙◌, ap, arith, refl, rules}
 use Rattle.std.proofs.lemmas.Result.{err_from_is_err_and}
 use Rattle.y4m_stream.proofs.MoreFrames.{PassesFrames-none, HasPassed-read}
 use Rattle.y4m_stream.proofs.Ahead.{Ahead-all, Ahead-cut, Ahead-limit, Ahead-memory, Ahead-next, Ahead-unread}
@@ -6,11 +6,11 @@ use Rattle.y4m_stream.proofs.Ahead.{HasPassed-ahead, PassesAhead-first, beside_r
 use Rattle.y4m_stream.proofs.overlapped.pass_images.Goals as goal
 
 pub read_frame-requires : goal.read_frame-requires
-read_frame-requires g c = rw c.requires.next c.requires.ready.pass.header
+read_frame-requires g c = rw c.requires.next c.requires.begin.ready.pass.header
 
 pub returns-in_err-more : goal.returns-in_err-more
 returns-in_err-more g c =
-    let ready = c.requires.ready.pass in
+    let ready = c.requires.begin.ready.pass in
     let passed = err_from_is_err_and c.from_residual.result c.from_residual.ensures.1 in
     let none = PassesFrames-none c.args.filter.now.images.chain c.args.reader.now c.args.writer.now ready.writing in
     rw (passed.1, passed.2)
@@ -19,16 +19,16 @@ returns-in_err-more g c =
 
 pub loop-count-init : goal.loop-count-init
 loop-count-init g c =
-    let ready = c.requires.ready.pass in
+    let ready = c.requires.begin.ready.pass in
     let read = c.in_ok-more.ensures in
     let next = c.read_frame.new.frame in
     let answer = read.answer.is_open ready.reading in
     record {
       same = refl;
       next = read.geometry ∙ c.requires.next;
-      frame = c.requires.ready.frame;
+      frame = c.requires.begin.ready.frame;
       ready = first_ready _ _ _ _ next _ read.answer.header answer ready;
-      put = c.requires.none;
+      put = c.requires.begin.none;
       passed = PassesAhead-first _ _ _ _ _ next ready.writing read.answer.header answer;
     }
 
@@ -46,8 +46,13 @@ read_and_put-read-requires-clause-ready g c =
     let so_far = c.loop-count.invariant in
     let chain = c.take_line_of.ensures.chain ∙ so_far.same in
     λ _ _. record {
-      pass = rw chain (so_far.ready c.if-not-more.false);
-      frame = rw chain (ap (λ frame. frame.geometry) c.swap.ensures.x_after ∙ so_far.next);
+      ready = record {
+        pass = rw chain (so_far.ready c.if-not-more.false);
+        frame = rw chain (ap (λ frame. frame.geometry) c.swap.ensures.x_after ∙ so_far.next);
+      };
+      few = omega (arith, so_far.put);
+      next = search rules;
+      line = search rules;
     }
 
 pub returns-in_err-put : goal.returns-in_err-put

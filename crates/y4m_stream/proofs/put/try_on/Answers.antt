@@ -8,6 +8,6 @@ returns-in-Ok-Some-clause-text g c =
     let tried = rw c.in-Ok-Some.field-0-is at c.in-Ok-Some.ensures.bytes in
     record {
       later = omega arith;
-      far = c.way_at.ensures.far;
+      far = c.way_at.ensures.0;
       front = λ before p. more_put before _ _ c.args.bytes.now c.args.from c.in-Ok-Some.n (rw take_rest at tried.1) p;
     }

@@ -18,6 +18,6 @@ returns-clause-answer g c =
     let header = c.self.inside.header in
     let found = rw c.in-Some.is at c.in_ok-end.ensures.answer in
     let is_line = found.is_frame_line in
-    let is_frame : IsFrameOf (data_len_of header) (frame_text_of c.take_data.new.frame) = search rules in
+    let is_frame : IsFrameOf (data_len_of header) (frame_text_of c.take_data.new.out) = search rules in
     let taken = c.in_ok-take_data.ensures in
     rw (← c.self.view_is) (Answers-taken header _ _ _ _ _ c.in-Some.end _ found is_frame taken.ok taken.few taken.told)

@@ -18,9 +18,9 @@ pub returns-clause-answer : goal.returns-clause-answer
 returns-clause-answer g c =
     let header = c.self.inside.header in
     let found = rw c.in-Some.is at c.in_ok-end.ensures.answer in
-    let line : line_of c.take_data.new.frame ≡ take c.in-Some.end c.begin_frame.new.input.held = search rules in
-    let len : length (samples_of c.take_data.new.frame) ≡ data_len_of header = search rules in
-    let is_frame : IsFrameOf (data_len_of header) (frame_text_of c.take_data.new.frame) =
+    let line : line_of c.take_data.new.out ≡ take c.in-Some.end c.begin_frame.new.input.held = search rules in
+    let len : length (samples_of c.take_data.new.out) ≡ data_len_of header = search rules in
+    let is_frame : IsFrameOf (data_len_of header) (frame_text_of c.take_data.new.out) =
     record { is_line = rw line found.is_frame_line; whole = len } in
     let taken = c.in_ok-take_data.ensures in
     rw (← c.self.view_is) (Answers-taken header _ _ _ _ _ c.in-Some.end _ found is_frame taken.ok taken.few taken.told)
