@@ -18,6 +18,10 @@ HasPart gives from to g rows = (p : ℕ) → p < plane_count g.chroma
 abbrev pub part_of : Geometry → List ℕ → ℕ → ℕ → ℕ → List ℕ
 part_of g samples from to p = run_of g samples p (rows_above g p from) (rows_above g p to)
 
+-- the rows of plane p in a band
+abbrev pub rows_of_band : Band → ℕ → List ℕ
+rows_of_band band p = part_of (band_geometry band) (samples_of (band_frame band)) band.from band.to p
+
 -- the rows of the band above a luma row were written by themselves, and so were those from it on
 pub record IsHalved (gives : ℕ → ℕ → ℕ → List ℕ → Type 0) (row : ℕ) (old new : Band) : Type 0 where
   pub top : HasPart gives old.from row (band_geometry old)

@@ -19,15 +19,15 @@ pub struct Band<'a> {
 }
 
 impl Band<'_> {
-    ghost use Rattle.std.specs.Prelude.{◌≡◌, ◌+◌, ◌*◌, ◌-◌, ◌%◌, ◌<◌, ◌≤◌, ◌↔◌, length, IsSome, IfSome};
+    ghost use Rattle.std.specs.Prelude.{◌≡◌, ◌<◌, ◌≤◌, ◌↔◌, length, IsSome, IfSome};
     ghost use Rattle.std.specs.Borrow.{sem};
-    ghost use Rattle.y4m_header.specs.Chroma.{plane_count, vertical_divisor};
-    ghost use Rattle.frame_view.specs.Places.{plane_width, plane_height};
+    ghost use Rattle.y4m_header.specs.Chroma.{plane_count};
+    ghost use Rattle.frame_view.specs.Places.{plane_width};
     ghost use Rattle.frame_view.specs.Rows.{row_of};
     ghost use Rattle.frame_view.specs.Frame.{samples_of};
-    ghost use Rattle.row_bands.specs.Bands.{rows_above, half_row, CanBeHalved};
+    ghost use Rattle.row_bands.specs.Bands.{CanBeHalved, GoWith, Halves, IsInPart, plane_part};
     ghost use Rattle.row_bands.specs.Band.{band_frame, band_geometry};
-    ghost use Rattle.row_bands.specs.Halves.{part_of};
+    ghost use Rattle.row_bands.specs.Halves.{rows_of_band};
     ghost use Rattle.row_bands.specs.Lending.{LendsBandRows, LendsPlane};
 
     /// The geometry of the frame that the band is part of.
@@ -39,10 +39,8 @@ impl Band<'_> {
 
     /// The luma rows of the band, counted in the frame: the first one, and the one that follows the last.
     pub fn luma_rows(&self) -> (usize, usize)
-        ensures from { result.0 ≡ self.now.from }
-        ensures to { result.1 ≡ self.now.to }
-        ensures ordered { result.0 ≤ result.1 }
-        ensures inside { result.1 ≤ (band_geometry self.now).height }
+        ensures rows { result ≡ (self.now.from, self.now.to) }
+        ensures inside { (result.0 ≤ result.1) × (result.1 ≤ (band_geometry self.now).height) }
     {
         (self.from, self.to)
     }
@@ -52,11 +50,7 @@ impl Band<'_> {
     #[tactic(auto, using(crate::proofs::Bands::half_above_middle, crate::proofs::Bands::half_is_whole))]
     pub fn half(&self) -> Option<usize>
         ensures there { IsSome result ↔ CanBeHalved (band_geometry self.now) self.now.from self.now.to }
-        ensures value { IfSome result
-            (λ row. row ≡ half_row (band_geometry self.now) self.now.from self.now.to) }
-        ensures whole { IfSome result (λ row. row % vertical_divisor (band_geometry self.now).chroma ≡ 0) }
-        ensures from { IfSome result (λ row. self.now.from < row) }
-        ensures to { IfSome result (λ row. row < self.now.to) }
+        ensures half { IfSome result (Halves (band_geometry self.now) self.now.from self.now.to) }
     {
         let step = self.geometry().chroma.divisors().vertical as usize;
         let middle = self.from + (self.to - self.from) / 2;
@@ -69,10 +63,7 @@ impl Band<'_> {
     #[tactic(auto, using(crate::proofs::Bands::inside))]
     pub fn rows(&self, p: usize) -> (usize, usize)
         requires { p < plane_count (band_geometry self.now).chroma }
-        ensures from { result.0 ≡ rows_above (band_geometry self.now) p self.now.from }
-        ensures to { result.1 ≡ rows_above (band_geometry self.now) p self.now.to }
-        ensures ordered { result.0 ≤ result.1 }
-        ensures inside { result.1 ≤ plane_height (band_geometry self.now) p }
+        ensures { GoWith (band_geometry self.now) p self.now.from self.now.to result.0 result.1 }
     {
         let geometry = self.geometry();
         (
@@ -86,11 +77,8 @@ impl Band<'_> {
     pub fn rows_mut(&mut self, p: usize) -> &mut [u8]
         requires { p < plane_count (band_geometry self.old).chroma }
         ensures* writes_back { sem 𝓛 (LendsPlane self.entry p result) }
-        ensures value { result.now ≡
-            part_of (band_geometry self.old) (samples_of (band_frame self.old)) self.old.from self.old.to p }
-        ensures len { let g = band_geometry self.old in
-            length result.now
-            ≡ (rows_above g p self.old.to - rows_above g p self.old.from) * plane_width g p }
+        ensures value { result.now ≡ rows_of_band self.old p }
+        ensures len { length result.now ≡ plane_part (band_geometry self.old) p self.old.from self.old.to }
     {
         let (from, to) = self.rows(p);
         self.canvas.rows_mut(p, from, to)
@@ -101,8 +89,7 @@ impl Band<'_> {
     #[tactic(auto, using(crate::proofs::Bands::inside))]
     pub fn row_mut(&mut self, p: usize, y: usize) -> &mut [u8]
         requires plane { p < plane_count (band_geometry self.old).chroma }
-        requires from { rows_above (band_geometry self.old) p self.old.from ≤ y }
-        requires to { y < rows_above (band_geometry self.old) p self.old.to }
+        requires row { IsInPart (band_geometry self.old) self.old.from self.old.to p y }
         ensures* writes_back { sem 𝓛 (LendsBandRows self.entry p y result) }
         ensures value { result.now ≡ row_of (band_geometry self.old) (samples_of (band_frame self.old)) p y }
         ensures len { length result.now ≡ plane_width (band_geometry self.old) p }

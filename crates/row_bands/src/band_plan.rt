@@ -1,8 +1,7 @@
 //! Which rows are in which band.
 ghost use Rattle.std.specs.Prelude.{◌≡◌, ◌<◌, ◌≤◌, ◌+◌, ◌*◌, min};
 ghost use Rattle.y4m_header.specs.Chroma.{plane_count};
-ghost use Rattle.frame_view.specs.Places.{plane_height};
-ghost use Rattle.row_bands.specs.Bands.{band_count, rows_above, luma_from, luma_to, EachRowInOneBand};
+ghost use Rattle.row_bands.specs.Bands.{band_count, rows_above, luma_from, luma_to, EachRowInOneBand, GoWith};
 
 use crate::band_height::BandHeight;
 use crate::limits::MOST_BANDS;
@@ -28,8 +27,7 @@ impl BandPlan {
     /// How many bands there are, at least one.
     pub fn count(self) -> usize
         ensures value { result ≡ band_count self.geometry self.height.rows }
-        ensures some { 1 ≤ result }
-        ensures few { result ≤ MOST_BANDS }
+        ensures within { (1 ≤ result) × (result ≤ MOST_BANDS) }
     {
         (self.geometry.height as usize).div_ceil(self.height.rows())
     }
@@ -41,10 +39,9 @@ impl BandPlan {
     pub fn rows(self, k: usize, p: usize) -> (usize, usize)
         requires band { k < band_count self.geometry self.height.rows }
         requires plane { p < plane_count self.geometry.chroma }
-        ensures from { result.0 ≡ rows_above self.geometry p (luma_from self.height.rows k) }
-        ensures to { result.1 ≡ rows_above self.geometry p (luma_to self.geometry self.height.rows k) }
+        ensures rows { GoWith self.geometry p (luma_from self.height.rows k)
+            (luma_to self.geometry self.height.rows k) result.0 result.1 }
         ensures some { result.0 < result.1 }
-        ensures inside { result.1 ≤ plane_height self.geometry p }
     {
         let from = k * self.height.rows();
         let to = (from + self.height.rows()).min(self.geometry.height as usize);

@@ -22,15 +22,15 @@ impl Model for Canvas {
 }
 
 impl Canvas {
-    ghost use Rattle.std.specs.Prelude.{◌≡◌, ◌*◌, ◌-◌, ◌<◌, ◌≤◌, length, replicate, IsOk, IfOk, OnOk, OnErr};
+    ghost use Rattle.std.specs.Prelude.{◌≡◌, ◌*◌, ◌-◌, ◌<◌, ◌≤◌, length, IsOk, IfOk, OnOk, OnErr};
     ghost use Rattle.std.specs.Borrow.{sem};
     ghost use Rattle.y4m_header.specs.Chroma.{plane_count};
     ghost use Rattle.y4m_header.specs.FrameLine.{IsFrameLine};
     ghost use Rattle.frame_view.specs.Places.{plane_width, plane_height, frame_len};
     ghost use Rattle.frame_view.specs.Rows.{row_of, run_of};
-    ghost use Rattle.frame_view.specs.Frame.{line_of, samples_of, IsFrameWith};
-    ghost use Rattle.row_bands.specs.Bands.{band_count, luma_from, luma_to};
-    ghost use Rattle.row_bands.specs.Canvas.{frame_of, height_of};
+    ghost use Rattle.frame_view.specs.Frame.{line_of, samples_of};
+    ghost use Rattle.row_bands.specs.Bands.{band_count};
+    ghost use Rattle.row_bands.specs.Canvas.{frame_of, height_of, IsBandOf, IsBlankCanvas, KeepsAllButLine};
     ghost use Rattle.row_bands.specs.Lending.{LendsCanvas, LendsCanvasRows};
 
     /// A canvas whose samples are all 0, with its own copy of the line. It takes memory for the line and for
@@ -42,9 +42,7 @@ impl Canvas {
         line: &[u8],
     ) -> Result<Canvas, AllocError>
         requires { IsFrameLine line.now }
-        ensures frame { IfOk result (λ canvas.
-            IsFrameWith geometry line.now (replicate (frame_len geometry) 0) (frame_of canvas)) }
-        ensures height { IfOk result (λ canvas. height_of canvas ≡ height.rows) }
+        ensures { IfOk result (IsBlankCanvas geometry height line.now) }
     {
         Ok(Canvas {
             frame: Frame::blank(alloc, geometry, line)?,
@@ -54,8 +52,7 @@ impl Canvas {
 
     /// A canvas over a frame that is there already; its samples stay until they are written.
     pub fn over(frame: Frame, height: BandHeight) -> Canvas
-        ensures frame { frame_of result ≡ frame }
-        ensures height { height_of result ≡ height.rows }
+        ensures { result ≡ record { frame = frame; height = height } }
     {
         Canvas { frame, height }
     }
@@ -81,9 +78,7 @@ impl Canvas {
     /// line.
     pub fn set_line(&mut self, alloc: Global, line: &[u8]) -> Result<(), AllocError>
         requires { IsFrameLine line.now }
-        ensures geometry { (frame_of self.new).geometry ≡ (frame_of self.old).geometry }
-        ensures height { height_of self.new ≡ height_of self.old }
-        ensures samples { samples_of (frame_of self.new) ≡ samples_of (frame_of self.old) }
+        ensures kept { KeepsAllButLine self.old self.new }
         ensures same { line_of (frame_of self.old) ≡ line.now → IsOk result }
         ensures ok { OnOk result (line_of (frame_of self.new) ≡ line.now) }
         ensures err { OnErr result (line_of (frame_of self.new) ≡ line_of (frame_of self.old)) }
@@ -103,9 +98,7 @@ impl Canvas {
     pub fn band_mut(&mut self, k: usize) -> Band<'_>
         requires { k < band_count (frame_of self.old).geometry (height_of self.old) }
         ensures same_reference { result.canvas.ghost_name ≡ self.entry.ghost_name }
-        ensures value { result.canvas.now ≡ self.old }
-        ensures from { result.from ≡ luma_from (height_of self.old) k }
-        ensures to { result.to ≡ luma_to (frame_of self.old).geometry (height_of self.old) k }
+        ensures band { IsBandOf self.old k result.canvas.now result.from result.to }
     {
         let (from, to) = self.plan().rows(k, 0);
         Band {
@@ -127,8 +120,7 @@ impl Canvas {
     /// The rows of plane `p` from `from` on to `to`, which is left out, lent for writing as one slice.
     pub(crate) fn rows_mut(&mut self, p: usize, from: usize, to: usize) -> &mut [u8]
         requires plane { p < plane_count self.old.frame.geometry.chroma }
-        requires order { from ≤ to }
-        requires rows { to ≤ plane_height self.old.frame.geometry p }
+        requires rows { (from ≤ to) × (to ≤ plane_height self.old.frame.geometry p) }
         ensures* writes_back { sem 𝓛 (LendsCanvasRows self.entry p from result) }
         ensures value { result.now ≡ run_of self.old.frame.geometry (samples_of self.old.frame) p from to }
         ensures len { length result.now ≡ (to - from) * plane_width self.old.frame.geometry p }

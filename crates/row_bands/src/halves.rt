@@ -23,8 +23,7 @@ pub fn paint_halves<R: Threads, P: Painter + Sync, N: Fn(u32) + Sync>(
 )
     requires callable { N.pre note.now 0 × N.pre note.now 1 }
     requires geometry { P.geometry painter.now ≡ band_geometry band.old }
-    requires from { band.old.from ≤ row }
-    requires to { row ≤ band.old.to }
+    requires row { (band.old.from ≤ row) × (row ≤ band.old.to) }
     ensures same_reference { band.new.canvas.ghost_name ≡ band.old.canvas.ghost_name }
     ensures painted { IsPainted (P.picture painter.now) band.old band.new }
     ensures halved { IsHalved (P.paint_gives painter.now) row band.old band.new }
@@ -39,7 +38,6 @@ pub fn paint_halves<R: Threads, P: Painter + Sync, N: Fn(u32) + Sync>(
 /// The parts above luma row `row` and from it on part the rows of the band among them, in every plane.
 #[tactic(auto, using(crate::proofs::Bands::halves_part))]
 pub fn halves_part_the_band(band: &Band<'_>, row: usize)
-    requires from { band.now.from ≤ row }
-    requires to { row ≤ band.now.to }
+    requires { (band.now.from ≤ row) × (row ≤ band.now.to) }
     ensures { HalvesPartTheBand (band_geometry band.now) band.now.from row band.now.to }
 {}

@@ -3,10 +3,8 @@ ghost use Rattle.std.specs.Prelude.{◌≡◌, ℕ, ◌<◌, ◌≤◌, ◌-◌,
 ghost use Rattle.y4m_header.specs.Chroma.{plane_count};
 ghost use Rattle.frame_view.specs.declared.geometry.Geometry.{Geometry};
 ghost use Rattle.frame_view.specs.Places.{plane_width, plane_height};
-ghost use Rattle.frame_view.specs.Written.{IsRows, HasRows};
-ghost use Rattle.row_bands.specs.Bands.{rows_above};
-ghost use Rattle.row_bands.specs.Canvas.{height_of};
-ghost use Rattle.row_bands.specs.Band.{band_frame, band_geometry};
+ghost use Rattle.frame_view.specs.Written.{IsRows};
+ghost use Rattle.row_bands.specs.Band.{band_geometry};
 ghost use Rattle.row_bands.specs.Written.{IsPainted};
 
 use crate::band::Band;
@@ -39,21 +37,7 @@ pub fn paint_band<P: Painter>(painter: &P, band: &mut Band<'_>)
     ensures painted { IsPainted (P.picture painter.now) band.old band.new }
 {
     for p in 0..band.geometry().planes() {
-        paint_plane(painter, band, p);
+        let (from, to) = band.rows(p);
+        painter.paint(p, from, to, band.rows_mut(p));
     }
-}
-
-fn paint_plane<P: Painter>(painter: &P, band: &mut Band<'_>, p: usize)
-    requires same { P.geometry painter.now ≡ band_geometry band.old }
-    requires plane { p < plane_count (band_geometry band.old).chroma }
-    ensures same_reference { band.new.canvas.ghost_name ≡ band.old.canvas.ghost_name }
-    ensures from { band.new.from ≡ band.old.from }
-    ensures to { band.new.to ≡ band.old.to }
-    ensures height { height_of band.new.canvas.now ≡ height_of band.old.canvas.now }
-    ensures rows { let g = band_geometry band.old in
-        HasRows (P.picture painter.now) p (rows_above g p band.old.from) (rows_above g p band.old.to)
-        (band_frame band.old) (band_frame band.new) }
-{
-    let (from, to) = band.rows(p);
-    painter.paint(p, from, to, band.rows_mut(p));
 }

@@ -1,9 +1,7 @@
 //! The rows that go with some luma rows, written plane by plane.
-ghost use Rattle.std.specs.Prelude.{◌≡◌, ◌≤◌, ◌-◌, length, take, drop};
-ghost use Rattle.frame_view.specs.LentTogether.{of_plane};
+ghost use Rattle.std.specs.Prelude.{◌≡◌, ◌≤◌, length};
 ghost use Rattle.frame_view.specs.Places.{frame_len};
-ghost use Rattle.row_bands.specs.Halves.{HasPart};
-ghost use Rattle.row_bands.specs.HalvesInside.{HasParts, GivesRows, part_len};
+ghost use Rattle.row_bands.specs.HalvesInside.{HasParts, GivesRows, HaveLensOfPart, HaveParts};
 
 use crate::band_plan::rows_above;
 use crate::painter::Painter;
@@ -23,12 +21,12 @@ pub(crate) struct Part {
 }
 
 impl Part {
-    ghost use Rattle.std.specs.Prelude.{◌≡◌, ◌<◌, ◌≤◌, ◌+◌, ◌-◌, ◌*◌, length};
+    ghost use Rattle.std.specs.Prelude.{◌≡◌, ◌<◌, length};
     ghost use Rattle.y4m_header.specs.Chroma.{plane_count};
-    ghost use Rattle.frame_view.specs.LentTogether.{lent_columns, lent_len};
     ghost use Rattle.frame_view.specs.Lent.{IsLent};
     ghost use Rattle.row_bands.specs.Bands.{rows_above};
     ghost use Rattle.row_bands.specs.HalvesInside.{HasPlanesOfPart, GivesRows, part_len};
+    ghost use Rattle.row_bands.specs.HalvesInside.{AreSamplesOfPart, HaveLensOfPart};
 
     /// Calls `note`, and writes the part's rows of each plane; a plane that the frame hasn't has no samples.
     fn paint<P: Painter, N: Fn(u32)>(
@@ -43,10 +41,7 @@ impl Part {
     )
         requires callable { N.pre note.now number }
         requires geometry { P.geometry painter.now ≡ self.geometry }
-        requires luma { length luma.old ≡ part_len self.geometry 0 self.from self.to }
-        requires cb { length cb.old ≡ part_len self.geometry 1 self.from self.to }
-        requires cr { length cr.old ≡ part_len self.geometry 2 self.from self.to }
-        requires alpha { length alpha.old ≡ part_len self.geometry 3 self.from self.to }
+        requires lens { HaveLensOfPart self.geometry self.from self.to luma.old cb.old cr.old alpha.old }
         ensures noted { N.post note.now number tt }
         ensures rows { HasPlanesOfPart
             (GivesRows (P.picture painter.now) (P.paint_gives painter.now) self.geometry)
@@ -87,11 +82,7 @@ impl Part {
     /// The places of the part's samples in plane `p`.
     fn samples(self, p: usize, plane: LentPlane) -> Range<usize>
         requires { IsLent self.geometry p plane }
-        ensures start { result.start ≡ rows_above self.geometry p self.from * lent_columns self.geometry p }
-        ensures end { result.end ≡ rows_above self.geometry p self.to * lent_columns self.geometry p }
-        ensures ordered { result.start ≤ result.end }
-        ensures len { result.end - result.start ≡ part_len self.geometry p self.from self.to }
-        ensures inside { result.end ≤ lent_len self.geometry p }
+        ensures { AreSamplesOfPart self.geometry p self.from self.to result.start result.end }
     {
         let from = rows_above(self.geometry, p, self.from);
         let to = rows_above(self.geometry, p, self.to);
@@ -111,8 +102,7 @@ pub(crate) fn paint_parts<R: Threads, P: Painter + Sync, N: Fn(u32) + Sync>(
 )
     requires callable { N.pre note.now 0 × N.pre note.now 1 }
     requires geometry { P.geometry painter.now ≡ part.geometry }
-    requires from { part.from ≤ row }
-    requires to { row ≤ part.to }
+    requires row { (part.from ≤ row) × (row ≤ part.to) }
     requires len { length samples.old ≡ frame_len part.geometry }
     ensures noted { N.post note.now 0 tt × N.post note.now 1 tt }
     ensures parts { HasParts (GivesRows (P.picture painter.now) (P.paint_gives painter.now) part.geometry)
@@ -154,19 +144,11 @@ fn paint_runs<R: Threads, P: Painter + Sync, N: Fn(u32) + Sync>(
 )
     requires callable { N.pre note.now 0 × N.pre note.now 1 }
     requires geometry { P.geometry painter.now ≡ part.geometry }
-    requires from { part.from ≤ row }
-    requires to { row ≤ part.to }
-    requires luma { length luma.old ≡ part_len part.geometry 0 part.from part.to }
-    requires cb { length cb.old ≡ part_len part.geometry 1 part.from part.to }
-    requires cr { length cr.old ≡ part_len part.geometry 2 part.from part.to }
-    requires alpha { length alpha.old ≡ part_len part.geometry 3 part.from part.to }
+    requires row { (part.from ≤ row) × (row ≤ part.to) }
+    requires lens { HaveLensOfPart part.geometry part.from part.to luma.old cb.old cr.old alpha.old }
     ensures noted { N.post note.now 0 tt × N.post note.now 1 tt }
-    ensures top { HasPart (GivesRows (P.picture painter.now) (P.paint_gives painter.now) part.geometry)
-        part.from row part.geometry
-        (λ p. take (part_len part.geometry p part.from row) (of_plane p luma.new cb.new cr.new alpha.new)) }
-    ensures bottom { HasPart (GivesRows (P.picture painter.now) (P.paint_gives painter.now) part.geometry)
-        row part.to part.geometry
-        (λ p. drop (part_len part.geometry p part.from row) (of_plane p luma.new cb.new cr.new alpha.new)) }
+    ensures parts { HaveParts (GivesRows (P.picture painter.now) (P.paint_gives painter.now) part.geometry)
+        part.from row part.to part.geometry luma.new cb.new cr.new alpha.new }
 {
     let geometry = part.geometry;
     let lent = geometry.lent();
@@ -203,8 +185,5 @@ fn paint_runs<R: Threads, P: Painter + Sync, N: Fn(u32) + Sync>(
 
 /// Does nothing: a use of references after what borrowed them.
 fn use_again(luma: &mut [u8], cb: &mut [u8], cr: &mut [u8], alpha: &mut [u8])
-    ensures luma { luma.new ≡ luma.old }
-    ensures cb { cb.new ≡ cb.old }
-    ensures cr { cr.new ≡ cr.old }
-    ensures alpha { alpha.new ≡ alpha.old }
+    ensures { (luma.new ≡ luma.old) × (cb.new ≡ cb.old) × (cr.new ≡ cr.old) × (alpha.new ≡ alpha.old) }
 {}

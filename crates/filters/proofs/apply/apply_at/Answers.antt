@@ -9,7 +9,7 @@ use Rattle.filters.proofs.apply.apply_at.Goals as goal
 
 pub returns-clause-rows : goal.returns-clause-rows
 returns-clause-rows c =
-    let lent = c.band_mut-band.ensures in
+    let lent = c.band_mut-band.ensures.band in
     let old = c.args.canvas.now in
     let written : HasBand (image_pixel c.args.op c.args.source.now.geometry (samples_of c.args.source.now))
     (luma_from (height_of old) c.args.k) (luma_to (frame_of old).geometry (height_of old) c.args.k)

@@ -12,5 +12,5 @@ returns-clause-painted g c =
       height = refl;
       band = both_parts (g.P.Painter.picture c.args.painter.now) (g.P.Painter.paint_gives c.args.painter.now) band.from
           c.args.row band.to (band_frame band)
-          c.paint_parts.new.samples c.requires.from c.requires.to band.inside (search rules) (search rules);
+          c.paint_parts.new.samples c.requires.row.0 c.requires.row.1 band.inside (search rules) (search rules);
     }

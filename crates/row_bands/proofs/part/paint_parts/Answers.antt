@@ -10,5 +10,5 @@ returns-clause-parts g c =
     part.geometry) part.from c.args.row part.to part.geometry c.args.samples.now _
     c.split_at_mut-luma.result.0.now c.split_at_mut-cb.result.0.now c.split_at_mut-cr.result.0.now c.split_at_mut-cr.result.1.now
     c.paint_runs.new.luma c.paint_runs.new.cb c.paint_runs.new.cr c.paint_runs.new.alpha
-    c.requires.from c.requires.to part.inside (search rules) (search rules) (search rules) (search rules) (search rules)
-    (search rules) (search rules) (search rules) (search rules) (search rules) c.paint_runs.ensures.top c.paint_runs.ensures.bottom
+    c.requires.row.0 c.requires.row.1 part.inside (search rules) (search rules) (search rules) (search rules) (search rules)
+    (search rules) (search rules) (search rules) (search rules) (search rules) c.paint_runs.ensures.parts.top c.paint_runs.ensures.parts.bottom

@@ -3,29 +3,28 @@ use Rattle.row_bands.specs.HalvesInside.{GivesRows, part_len}
 use Rattle.row_bands.proofs.PartRows.{parts_meet, upper_parts, lower_parts}
 use Rattle.row_bands.proofs.part.paint_runs.Goals as goal
 
-pub returns-clause-top : goal.returns-clause-top
-returns-clause-top g c =
-    upper_parts (GivesRows (g.P.Painter.picture c.args.painter.now) (g.P.Painter.paint_gives c.args.painter.now)
-    c.args.part.geometry) c.args.part.from c.args.row c.args.part.geometry
-    c.use_again.new.luma c.use_again-2.new.luma c.use_again.new.cb c.use_again-2.new.cb c.use_again.new.cr
-    c.use_again-2.new.cr c.use_again.new.alpha c.use_again-2.new.alpha
-    (search rules) (search rules) (search rules) (search rules) (search rules)
-
-pub returns-clause-bottom : goal.returns-clause-bottom
-returns-clause-bottom g c =
-    lower_parts (GivesRows (g.P.Painter.picture c.args.painter.now) (g.P.Painter.paint_gives c.args.painter.now)
-    c.args.part.geometry) c.args.part.from c.args.row c.args.part.to c.args.part.geometry
-    c.use_again.new.luma c.use_again-2.new.luma c.use_again.new.cb c.use_again-2.new.cb c.use_again.new.cr
-    c.use_again-2.new.cr c.use_again.new.alpha c.use_again-2.new.alpha
-    (search rules) (search rules) (search rules) (search rules) (search rules)
+pub returns-clause-parts : goal.returns-clause-parts
+returns-clause-parts g c =
+    let gives =
+    GivesRows (g.P.Painter.picture c.args.painter.now) (g.P.Painter.paint_gives c.args.painter.now) c.args.part.geometry in
+    record {
+      top = upper_parts gives c.args.part.from c.args.row c.args.part.geometry
+          c.use_again.new.luma c.use_again-2.new.luma c.use_again.new.cb c.use_again-2.new.cb c.use_again.new.cr
+          c.use_again-2.new.cr c.use_again.new.alpha c.use_again-2.new.alpha
+          (search rules) (search rules) (search rules) (search rules) (search rules);
+      bottom = lower_parts gives c.args.part.from c.args.row c.args.part.to c.args.part.geometry
+          c.use_again.new.luma c.use_again-2.new.luma c.use_again.new.cb c.use_again-2.new.cb c.use_again.new.cr
+          c.use_again-2.new.cr c.use_again.new.alpha c.use_again-2.new.alpha
+          (search rules) (search rules) (search rules) (search rules) (search rules);
+    }
 
 pub split_at_mut-cb_top-requires : goal.split_at_mut-cb_top-requires
 split_at_mut-cb_top-requires g c =
     omega (
       arith,
       c.len-2.ensures,
-      c.requires.cb,
-      parts_meet c.args.part.geometry 1 c.args.part.from c.args.row c.args.part.to c.requires.from c.requires.to,
+      c.requires.lens.cb,
+      parts_meet c.args.part.geometry 1 c.args.part.from c.args.row c.args.part.to c.requires.row.0 c.requires.row.1,
     )
 
 pub split_at_mut-cr_top-requires : goal.split_at_mut-cr_top-requires
@@ -33,21 +32,21 @@ split_at_mut-cr_top-requires g c =
     omega (
       arith,
       c.len-3.ensures,
-      c.requires.cr,
-      parts_meet c.args.part.geometry 2 c.args.part.from c.args.row c.args.part.to c.requires.from c.requires.to,
+      c.requires.lens.cr,
+      parts_meet c.args.part.geometry 2 c.args.part.from c.args.row c.args.part.to c.requires.row.0 c.requires.row.1,
     )
 
 pub join_mut-requires-after_bounds : goal.join_mut-requires-after_bounds
 join_mut-requires-after_bounds g c κs within =
     let part = c.args.part in
     let at = part.geometry in
-    let meet = λ (p : ℕ). parts_meet at p part.from c.args.row part.to c.requires.from c.requires.to in
+    let meet = λ (p : ℕ). parts_meet at p part.from c.args.row part.to c.requires.row.0 c.requires.row.1 in
     let luma : length c.split_at_mut-luma_top.result.1.now ≡ part_len at 0 c.args.row part.to =
-    omega (arith, c.split_at_mut-luma_top.ensures.back_len, c.len.ensures, c.requires.luma, meet 0) in
+    omega (arith, c.split_at_mut-luma_top.ensures.back_len, c.len.ensures, c.requires.lens.luma, meet 0) in
     let cb : length c.split_at_mut-cb_top.result.1.now ≡ part_len at 1 c.args.row part.to =
-    omega (arith, c.split_at_mut-cb_top.ensures.back_len, c.len-2.ensures, c.requires.cb, meet 1) in
+    omega (arith, c.split_at_mut-cb_top.ensures.back_len, c.len-2.ensures, c.requires.lens.cb, meet 1) in
     let cr : length c.split_at_mut-cr_top.result.1.now ≡ part_len at 2 c.args.row part.to =
-    omega (arith, c.split_at_mut-cr_top.ensures.back_len, c.len-3.ensures, c.requires.cr, meet 2) in
+    omega (arith, c.split_at_mut-cr_top.ensures.back_len, c.len-3.ensures, c.requires.lens.cr, meet 2) in
     let alpha : length c.split_at_mut-alpha_top.result.1.now ≡ part_len at 3 c.args.row part.to =
-    omega (arith, c.split_at_mut-alpha_top.ensures.back_len, c.len-4.ensures, c.requires.alpha, meet 3) in
+    omega (arith, c.split_at_mut-alpha_top.ensures.back_len, c.len-4.ensures, c.requires.lens.alpha, meet 3) in
     search rules

@@ -1,4 +1,4 @@
-use Rattle.std.proofs.Common.{arith}
+use Rattle.std.proofs.Common.{arith, refl}
 use Rattle.row_bands.proofs.PartRows.{part_end, part_inside, small_plane}
 use Rattle.row_bands.proofs.part.Part.samples.Goals as goal
 
@@ -17,19 +17,16 @@ overflow_mul-result-2 c =
     let p = c.args.p in
     rw (c.rows_above-to.ensures, c.requires.columns) (omega (arith, part_inside g p part.to part.inside, small_plane g p))
 
-pub returns-clause-ordered : goal.returns-clause-ordered
-returns-clause-ordered c =
+pub returns : goal.returns
+returns c =
     let part = c.args.self in
+    let at = part.geometry in
+    let p = c.args.p in
     rw (c.rows_above-from.ensures, c.rows_above-to.ensures, c.requires.columns)
-    (omega (arith, part_end part.geometry c.args.p part.from part.to part.ordered))
-
-pub returns-clause-len : goal.returns-clause-len
-returns-clause-len c =
-    let part = c.args.self in
-    rw (c.rows_above-from.ensures, c.rows_above-to.ensures, c.requires.columns)
-    (omega (arith, part_end part.geometry c.args.p part.from part.to part.ordered))
-
-pub returns-clause-inside : goal.returns-clause-inside
-returns-clause-inside c =
-    let part = c.args.self in
-    rw (c.rows_above-to.ensures, c.requires.columns) (part_inside part.geometry c.args.p part.to part.inside)
+    (record {
+      start = refl;
+      end = refl;
+      ordered = omega (arith, part_end at p part.from part.to part.ordered);
+      len = omega (arith, part_end at p part.from part.to part.ordered);
+      inside = part_inside at p part.to part.inside;
+    })
