@@ -1,5 +1,5 @@
 -- How a session comes from one epoch to the next.
-use Rattle.std.specs.Prelude.{All, Bool}
+use Rattle.std.specs.Prelude.{All}
 use Rattle.std.specs.List.{AllByRecursion}
 use Rattle.std.proofs.Common.{append-nil, append_assoc, inl, ◌≡◌, ◌≢◌, ℕ, zero, suc, ◌≤◌, List, [], ◌∷◌, ◌++◌}
 use Rattle.std.proofs.Common.{Option, Result, Ok, Err, OnOk, length, map, refl, sym, ap, ◌∙◌, subst}

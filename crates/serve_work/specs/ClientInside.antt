@@ -14,7 +14,8 @@ use Rattle.filters.specs.ChainImage.{FrameValue, value_of}
 use Rattle.y4m_stream.specs.declared.fault.WriteFault.{WriteFault}
 use Rattle.y4m_header.specs.declared.limits.TheConstants.{MOST_FRAMES}
 use Rattle.y4m_stream.specs.declared.reader.Phase.TheVariants.{Open}
-use Rattle.y4m_stream.specs.Reader.{FailsAtFrame, ReaderState, TakesFrame, data_len_of, frame_text_of}
+use Rattle.y4m_stream.specs.Reader.{FailsAtFrame, IsOfHeader, ReaderState, TakesFrame, data_len_of}
+use Rattle.y4m_stream.specs.Reader.{frame_text_of}
 use Rattle.y4m_stream.specs.Served.{AreImages, IsImageText}
 use Rattle.y4m_stream.specs.Writer.{FailsToPut, IsWriterFor, WriterState}
 use Rattle.serve_core.specs.declared.refusal.Refusal.TheVariants as cores
@@ -37,7 +38,7 @@ use Rattle.serve_work.specs.declared.stop.Stop.{Stop}
 use Rattle.serve_work.specs.declared.stop.Stop.TheVariants.{Whole, Read, Write, Refused, Torn}
 use Rattle.serve_work.specs.Clients.{AllowsStop, AreAtMoments, ClientProgress, ClientStopsAt, HasOtherNumber}
 use Rattle.serve_work.specs.Clients.{collections_in, offers_in, reads_at}
-use Rattle.serve_work.specs.Hands.{Behind, CanPutOn, IsPairOf}
+use Rattle.serve_work.specs.Hands.{Behind, CanPutOn, IsPairOf, counted_with}
 
 -- a refusal that isn't that of a full journal
 abbrev pub stop_of : Refusal → Stop
@@ -164,9 +165,9 @@ pub record Accounted (seat : StreamSeatValue) (writer : WriterState) : Type 0 wh
   pub writing : writer.failed ≡ false
   pub none : writer.part ≡ 0
 
--- calls were added to the seat's, among them each offer and each collection that was accepted; where no offer
--- was, the moments of the first and the latest stay. What it noted of a Torn stays; where it is told so first, no
--- fewer images were collected than before
+-- calls were added to the seat's, among them each offer and each collection that was accepted; where no
+-- offer was, the moments of the first and the latest stay. What it noted of a Torn stays; where it is told so
+-- first, no fewer images were collected than before
 pub record TalliesSeat (old new : StreamSeatValue) : Type 0 where
   pub number : new.number ≡ old.number
   pub chain : new.chain ≡ old.chain
@@ -280,8 +281,8 @@ ComesBack back image frame old new =
 abbrev pub as_torn : StreamSeatValue → StreamSeatValue
 as_torn seat = torn_at (collected_by seat) seat
 
--- one offer of a frame at a moment: it was accepted; or it comes back, the queue or the journal being full; or
--- the client stops
+-- one offer of a frame at a moment: it was accepted; or it comes back, the queue or the journal being full;
+-- or the client stops
 abbrev pub IsOffered : Offered → (at : ℕ) → Frame → StreamSeatValue → StreamSeatValue → Type 0
 IsOffered offered.Accepted at frame old new = (n : ℕ) × Accepts (value_of frame) n old new
 IsOffered (offered.QueueFull back image) at frame old new = ComesBack back image frame old new
@@ -390,6 +391,15 @@ pub record HasPassed (reader reader' : ReaderState) (seat seat' : StreamSeatValu
   pub passed : Passes reader reader' seat seat' writer writer' frames
   pub is_open : reader'.phase ≡ Open
 
+-- what a client needs that reads on
+pub record CanReadOn (reader : ReaderState) (seat : StreamSeatValue) (writer : WriterState)
+    (buffers : Buffers) : Type 0 where
+  pub header : IsOfHeader reader.header seat.chain.geometry
+  pub is_open : reader.phase ≡ Open
+  pub size : IsWriterFor seat.chain writer
+  pub accounted : Accounted seat writer
+  pub memory : AreBuffersFor seat.chain buffers
+
 -- some frames passed, and the one behind them is in hand, if there is one
 pub record HasInHand (reader reader' : ReaderState) (seat seat' : StreamSeatValue)
     (writer writer' : WriterState) (in_hand : Option FrameText) : Type 0 where
@@ -468,3 +478,13 @@ IsSizedFed chain writer (feds.Paused in_hand image) =
     IsSized chain in_hand × IsWriterFor chain writer × IsLeft chain writer (Full image)
 IsSizedFed chain writer (feds.Held stop) = ⊤
 IsSizedFed chain writer (feds.Stopped stop) = ⊤
+
+-- what is known of a client that stopped reading so, or was paused by a full journal
+pub record HasFed (Gives : ℕ → Type 0) (fed : Fed) (reader reader' : ReaderState) (old new : StreamSeatValue)
+    (writer writer' : WriterState) (buffers : Buffers) : Type 0 where
+  pub tally : Tallies old new writer (counted_with (fed_image fed) writer')
+  pub moments : KeepsMoments Gives old new
+  pub stop : AllowsFed Gives fed
+  pub memory : AreBuffersFor old.chain buffers
+  pub frame : IsSizedFed old.chain writer' fed
+  pub header : reader'.header ≡ reader.header

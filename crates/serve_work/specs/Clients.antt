@@ -231,8 +231,8 @@ pub record Ends (StopsAt : Stop → ClientProgress → Type 0) (start : ClientSt
   pub offers : offers_in (past ++ seat.calls.list) ≡ end.accepted
   pub collections : end.delivered ≤ collections_in (past ++ seat.calls.list)
   pub before : seat.before ≡ start.seat.before + collections_in past
-  -- the images that were delivered had been collected before an answer was first told Torn, if one was since the
-  -- beginning; and one was, where that is the stop
+  -- the images that were delivered had been collected before an answer was first told Torn, if one was since
+  -- the beginning; and one was, where that is the stop
   pub torn : start.seat.torn ≡ None → IfSome seat.torn (λ n. start.seat.before + end.delivered ≤ n)
   pub told : end.stop ≡ Torn → IsSome seat.torn
 

@@ -63,7 +63,8 @@ IsOfEnding Torn = ⊥
 abbrev pub EndsPair : Collected → Stop → WriterState → WriterState → Type 0
 EndsPair pair ended before writer =
     (ended ≡ Whole) × PutsFrame before writer (frame_text_of pair.image)
-    ⊎ ((fault : WriteFault) × (ended ≡ Write fault) × FailsToPut before writer (frame_text_of pair.image) fault)
+    ⊎ ((fault : WriteFault) × (ended ≡ Write fault)
+    × FailsToPut before writer (frame_text_of pair.image) fault)
 
 -- the same of an image in hand, if there is one
 abbrev pub EndsImage : Option Collected → ChainValue → Stop → WriterState → WriterState → Type 0

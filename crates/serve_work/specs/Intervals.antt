@@ -8,12 +8,14 @@ use Rattle.serve_core.specs.Desk.{desk_state}
 use Rattle.serve_core.specs.Schedule.{ScheduleValue, opened_schedule}
 use Rattle.serve_core.specs.Setup.{Setup}
 use Rattle.serve_hub.specs.declared.entry.Entry.{Entry}
+use Rattle.serve_hub.specs.declared.limits.TheConstants.{MOST_SEATS}
 use Rattle.serve_hub.specs.Books.{specs_of}
 use Rattle.serve_hub.specs.Ends.{AreStreamsOf, IsCharged}
 use Rattle.serve_hub.specs.Journal.{IsJournal}
 use Rattle.serve_hub.specs.Seats.{StreamSeatValue, left_by, opened_streams}
 use Rattle.serve_work.specs.declared.session.interval.Interval.{Interval}
 use Rattle.serve_work.specs.declared.session.opening.Opening.{Opening}
+use Rattle.serve_work.specs.declared.session.places.Places.{Places}
 use Rattle.serve_work.specs.declared.session.room.Room.{Room}
 use Rattle.serve_work.specs.Clients.{ClientStart}
 use Rattle.serve_work.specs.Sessions.{AllTimed, IsOfEpochs, starts_of}
@@ -92,23 +94,37 @@ abbrev pub IsBetweenEpochs : {R W : Type 0} → Interval R W → Type 0
 IsBetweenEpochs now = (b : Beginning) × (journal : List Entry) × IsBetween b journal now
 
 -- and later so, behind epochs after which a stream waited or not, with no other stops than the clock allows
-pub record GoesLater {R W : Type 0} (Gives : ℕ → Type 0) (waited : Bool) (old now : Interval R W) : Type 0 where
+pub record GoesLater {R W : Type 0} (Gives : ℕ → Type 0) (waited : Bool) (old now : Interval R W)
+    : Type 0 where
   pub between : (b : Beginning) (journal : List Entry) → IsBetween b journal old
       → IsLater Gives b (IsOfEpochs b.limit b.schedule waited) journal now
   pub stops : AreAllowed Gives old.streams.items → AreAllowed Gives now.streams.items
+
+-- an empty ledger of this name, with a part for each seat that there can be, can name an epoch that opens
+-- from this schedule
+pub record CanName (blank_name blank_parts : ℕ) (from : ScheduleValue) (name parts : ℕ)
+    (opening : ScheduleValue) : Type 0 where
+  pub name_is : blank_name ≡ name
+  pub parts_are : blank_parts ≡ parts
+  pub enough : blank_parts ≡ MOST_SEATS
+  pub opens : from ≡ opening
 
 -- the seat has made no call
 abbrev pub HasNoCalls : StreamSeatValue → Type 0
 HasNoCalls seat = (seat.calls.list ≡ []) × (seat.moments ≡ None)
 
+-- empty lists, with a place for the seat and for what is left of each of so many streams
+pub record ArePlacesFor {L R W : Type 0} (count : ℕ) (places : Places L R W) : Type 0 where
+  pub no_seats : places.seats.items ≡ []
+  pub seats : count ≤ vec_capacity places.seats
+  pub no_streams : places.streams.items ≡ []
+  pub streams : count ≤ vec_capacity places.streams
+
 -- empty lists, with a place for each of so many streams
 pub record IsRoomFor {L R W : Type 0} (count : ℕ) (room : Room L R W) : Type 0 where
   pub no_turns : room.turns.items ≡ []
   pub turns : count ≤ vec_capacity room.turns
-  pub no_seats : room.places.seats.items ≡ []
-  pub seats : count ≤ vec_capacity room.places.seats
-  pub no_streams : room.places.streams.items ≡ []
-  pub streams : count ≤ vec_capacity room.places.streams
+  pub places : ArePlacesFor count room.places
 
 -- an epoch of a session that began so can begin from this schedule, behind this journal, by a hub of the
 -- session's limit: each stream stands with its seat, and there is room for what comes of all

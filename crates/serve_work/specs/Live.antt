@@ -1,5 +1,6 @@
 -- What is told of the streams of a session that come and go.
-use Rattle.std.specs.Prelude.{ℕ, zero, suc, IsTrue, ◌+◌, ◌≡◌, ◌≤◌, ◌⊎◌, ◌++◌, ⊤, false, List, [], ◌∷◌, Option, None, length, reverse}
+use Rattle.std.specs.Prelude.{ℕ, zero, suc, IsTrue, ◌+◌, ◌≡◌, ◌≤◌, ◌⊎◌, ◌++◌, ⊤, false, List, [], ◌∷◌, Option}
+use Rattle.std.specs.Prelude.{None, length, reverse}
 use Rattle.cbs_account.specs.declared.limits.TheConstants.{MOST_WORKERS}
 use Rattle.y4m_stream.specs.declared.reader.Phase.TheVariants.{Open}
 use Rattle.y4m_stream.specs.Reader.{IsOfHeader, ReaderState}
@@ -112,7 +113,8 @@ pub record IsPart (limit : ℕ) (times : ℕ → Type 0) (part : PartValue) : Ty
 
 -- the released streams were taken out of a schedule so many times, and the stream of this number, which was
 -- never one of them, has this number then
-abbrev pub IsKeptOver : (times : ℕ) (last : ScheduleValue) (old : ℕ) (opening : ScheduleValue) (number : ℕ) → Type 0
+abbrev pub IsKeptOver : (times : ℕ) (last : ScheduleValue) (old : ℕ) (opening : ScheduleValue) (number : ℕ)
+    → Type 0
 IsKeptOver zero last old opening number = (opening ≡ last) × (number ≡ old)
 IsKeptOver (suc times) last old opening number =
     IsTrue (stays last old) × IsKeptOver times (retired_schedule last) (new_number last old) opening number
@@ -146,9 +148,9 @@ AreParts spec limit times (part ∷ before) =
 abbrev pub IsOfSpec : StreamSpec → KeptStream → Type 0
 IsOfSpec spec stream = stream.state.spec ≡ spec
 
--- the stream of this request was served with what it asked for, in epochs from its admission on, by its calls
--- in their journals, and is told as it stood at the end of the last. A clock that gives these times allows its
--- stop
+-- the stream of this request was served with what it asked for, in epochs from its admission on, by its
+-- calls in their journals, and is told as it stood at the end of the last. A clock that gives these times
+-- allows its stop
 pub record IsServedSince (limit : ℕ) (times : ℕ → Type 0) (request : RequestValue) (served : ServedValue)
     : Type 0 where
   pub seat : StreamSeatValue
@@ -191,8 +193,8 @@ pub record IsStanding (limit : ℕ) (times : ℕ → Type 0) (request : RequestV
   pub stream : HasStream part.last part.number (IsStandingOf standing)
   pub spec : HasStream part.last part.number (IsOfSpec request.spec)
 
--- how many entries an epoch's journal may have: a close of each of 64 streams, an admission of each, and a lease
--- with its settlement
+-- how many entries an epoch's journal may have: a close of each of 64 streams, an admission of each, and a
+-- lease with its settlement
 pub record IsLiveLimit (limit : ℕ) : Type 0 where
   pub least : 130 ≤ limit
   pub most : limit ≤ MOST_ENTRIES
@@ -215,4 +217,5 @@ abbrev pub IsAnswer : {R W : Type 0} (contents : W → Option (List ℕ)) (failu
 IsAnswer contents failures limit times request (answers.Refused e reader writer) =
     AllowsRefusal request.spec e × (reader ≡ request.reader) × (contents writer ≡ request.before)
     × (failures writer ≡ request.failures)
-IsAnswer contents failures limit times request (answers.Ended served) = IsServedSince limit times request served
+IsAnswer contents failures limit times request (answers.Ended served) =
+    IsServedSince limit times request served

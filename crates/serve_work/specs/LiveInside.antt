@@ -1,6 +1,6 @@
 -- What contracts inside the crate say of the streams of a session that come and go.
-use Rattle.std.specs.Prelude.{ℕ, ◌+◌, ◌≡◌, ◌≤◌, ◌<◌, ◌++◌, ⊤, All, Bool, false, List, [], ◌∷◌, Option, Some, None}
-use Rattle.std.specs.Prelude.{IfSome, IsSomeAnd, if◌then◌else◌, length, map, slice_get}
+use Rattle.std.specs.Prelude.{ℕ, ◌+◌, ◌≡◌, ◌≤◌, ◌<◌, ◌++◌, ⊤, All, Bool, false, List, [], ◌∷◌, Option, Some}
+use Rattle.std.specs.Prelude.{None, IfSome, IsSomeAnd, if◌then◌else◌, length, map, slice_get}
 use Rattle.std.specs.List.{AllZip}
 use Rattle.std.specs.Vec.{vec_capacity, vec_len}
 use Rattle.edf_pool.specs.declared.limits.TheConstants.{MOST_STREAMS}
@@ -19,14 +19,15 @@ use Rattle.serve_work.specs.declared.live.guests.Ticket.{Ticket}
 use Rattle.serve_work.specs.declared.live.opening.FirstStream.{FirstStream}
 use Rattle.serve_work.specs.declared.live.opening.Hall.{Hall}
 use Rattle.serve_work.specs.Clients.{AllowsStop, offers_in}
+use Rattle.serve_work.specs.Intervals.{ArePlacesFor}
 use Rattle.serve_work.specs.Live.{AreParts, IsBehind, IsOfSpec, IsRequest, IsSeatFor, PartValue, RequestValue}
 use Rattle.serve_work.specs.Live.{Waiting, acts_in_parts, start_with}
 use Rattle.serve_work.specs.SessionInside.{HeldValue, StandsAt, held_at}
 use Rattle.serve_work.specs.StreamInside.{StreamValue, stream_stop}
 
 -- where the stream of this request stands with its seat where an epoch opens: the seat has offered no frame
-pub record Begins (limit : ℕ) (times : ℕ → Type 0) (opening : ScheduleValue) (request : RequestValue) (stream : StreamValue)
-    (seat : StreamSeatValue) : Type 0 where
+pub record Begins (limit : ℕ) (times : ℕ → Type 0) (opening : ScheduleValue) (request : RequestValue)
+    (stream : StreamValue) (seat : StreamSeatValue) : Type 0 where
   pub is_request : IsRequest request
   pub first : StreamSeatValue
   pub is_new : IsSeatFor request.spec first
@@ -39,8 +40,8 @@ pub record Begins (limit : ℕ) (times : ℕ → Type 0) (opening : ScheduleValu
   pub stop : IfSome (stream_stop stream) (AllowsStop times)
 
 -- and where it came to an end here, perhaps before the released streams were taken out
-pub record Stood (limit : ℕ) (times : ℕ → Type 0) (last : ScheduleValue) (request : RequestValue) (stream : StreamValue)
-    (seat : StreamSeatValue) : Type 0 where
+pub record Stood (limit : ℕ) (times : ℕ → Type 0) (last : ScheduleValue) (request : RequestValue)
+    (stream : StreamValue) (seat : StreamSeatValue) : Type 0 where
   pub is_request : IsRequest request
   pub first : StreamSeatValue
   pub is_new : IsSeatFor request.spec first
@@ -64,8 +65,8 @@ HadTurn limit times last w held = Stood limit times last w.request held.stream h
 abbrev pub ticket_of : Waiting → Ticket
 ticket_of w = record { number = w.ticket; spec = w.request.spec }
 
--- the stream of a request that waits, with its seat of the epoch that ended, and of the next one. It is served
--- with what the request asked for
+-- the stream of a request that waits, with its seat of the epoch that ended, and of the next one. It is
+-- served with what the request asked for
 abbrev pub IsGuestAt : {R W : Type 0} (limit : ℕ) (times : ℕ → Type 0) (last : ScheduleValue) → Guest R W
     → StreamSeatValue → Waiting → Type 0
 IsGuestAt limit times last guest seat w =
@@ -92,8 +93,8 @@ AreAllTold guests = All (λ guest. guest ≡ None) guests
 
 -- no item is left at a place that isn't marked
 abbrev pub AreToldBut : {A : Type 0} → List Bool → List (Option A) → Type 0
-AreToldBut {A} marks items = (k : ℕ) (item : Option A) → slice_get marks k ≡ Some false → slice_get items k ≡ Some item
-    → item ≡ None
+AreToldBut {A} marks items = (k : ℕ) (item : Option A) → slice_get marks k ≡ Some false
+    → slice_get items k ≡ Some item → item ≡ None
 
 -- the items that are marked, by their places
 abbrev pub at_marks : {A : Type 0} → List Bool → List A → List A
@@ -140,7 +141,8 @@ pub record AreGuests {R W : Type 0} (limit : ℕ) (times : ℕ → Type 0) (ende
 -- the same, whatever requests these are that wait
 abbrev pub HaveWaited : {R W : Type 0} (waits : List Waiting → Type 0) (limit : ℕ) (times : ℕ → Type 0)
     → EndedValue → List (Option (Guest R W)) → Type 0
-HaveWaited waits limit times ended guests = (ws : List Waiting) × waits ws × AreGuests limit times ended ws guests
+HaveWaited waits limit times ended guests =
+    (ws : List Waiting) × waits ws × AreGuests limit times ended ws guests
 
 abbrev pub IsLiveInterval : {R W : Type 0} (waits : List Waiting → Type 0) (limit : ℕ) (times : ℕ → Type 0)
     → Interval R W → Type 0
@@ -162,15 +164,13 @@ pub record HasPlaces {L R W : Type 0} (hall : Hall L R W) : Type 0 where
   pub turns : MOST_STREAMS ≤ vec_capacity hall.room.turns
   pub tickets : MOST_STREAMS ≤ vec_capacity hall.tickets
   pub idle : MOST_STREAMS ≤ vec_capacity hall.idle
-  pub no_seats : hall.room.places.seats.items ≡ []
-  pub seats : MOST_STREAMS ≤ vec_capacity hall.room.places.seats
-  pub no_streams : hall.room.places.streams.items ≡ []
-  pub streams : MOST_STREAMS ≤ vec_capacity hall.room.places.streams
+  pub places : ArePlacesFor MOST_STREAMS hall.room.places
   pub no_guests : hall.guests.items ≡ []
   pub guests : MOST_STREAMS ≤ vec_capacity hall.guests
 
 -- one stream more has its turn
-pub record TakesSeat {L R W : Type 0} (ticket : Ticket) (held : HeldValue) (old new : Hall L R W) : Type 0 where
+pub record TakesSeat {L R W : Type 0} (ticket : Ticket) (held : HeldValue) (old new : Hall L R W)
+    : Type 0 where
   pub places : HasPlaces new
   pub turns : new.room.turns.items ≡ old.room.turns.items ++ Some held ∷ []
   pub len : vec_len new.room.turns ≡ vec_len old.room.turns + 1

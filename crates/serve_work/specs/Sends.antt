@@ -72,8 +72,8 @@ abbrev pub Serves : List Act → Stop → ReaderState → ReaderState → Stream
     → WriterState → WriterState → Type 0
 Serves = ServesTo ClientStopsAt
 
--- a stop that was kept is told, if it is a fault; where none was kept, want of memory, or a fault of the image
--- in hand
+-- a stop that was kept is told, if it is a fault; where none was kept, want of memory, or a fault of the
+-- image in hand
 abbrev pub TellsKept : Option Stop → Option Collected → Stop → Type 0
 TellsKept None None told = told ≡ Refused causes.NoMemory
 TellsKept None (Some pair) told =

@@ -12,7 +12,8 @@ use Rattle.serve_work.specs.declared.session.SessionFault.{SessionFault}
 use Rattle.serve_work.specs.declared.session.SessionFault.TheVariants as faults
 use Rattle.serve_work.specs.declared.session.unended.Unended.{Unended}
 use Rattle.serve_work.specs.declared.session.unended.Unended.TheVariants as unended
-use Rattle.serve_work.specs.Clients.{AllowsStop, ClientEnds, ClientLeft, ClientOutcome, ClientStart, StreamEnds}
+use Rattle.serve_work.specs.Clients.{AllowsStop, ClientEnds, ClientLeft, ClientOutcome, ClientStart}
+use Rattle.serve_work.specs.Clients.{StreamEnds}
 use Rattle.serve_work.specs.ClientInside.{IsNoNewEnd, KeepsAllowed, KeepsMoments}
 use Rattle.serve_work.specs.Rests.{IsRest, IsRestOf, Unbegun, reader_in}
 use Rattle.serve_work.specs.Sessions.{ServedValue, acts_in}
@@ -135,8 +136,8 @@ AllRun Gives old new = (helds : List HeldValue) → old ≡ map Some helds
 -- what is told of a stream is its end, from whatever it began with; the clock's end only where it was kept,
 -- and a fault that was kept. Where nothing is left to do of it, it is its client's end
 pub record IsOver (stream : StreamValue) (served : ServedValue) : Type 0 where
-  pub ends : (start : ClientStart) (past : List Act) (seat : StreamSeatValue) → StandsAt stream start past seat
-      → StreamEnds start past seat served.outcome
+  pub ends : (start : ClientStart) (past : List Act) (seat : StreamSeatValue)
+      → StandsAt stream start past seat → StreamEnds start past seat served.outcome
   pub stop : IsNoNewEnd (stream_stop stream) (Some served.outcome.stop)
   pub kept : TellsKept (stream_stop stream) (stream_image stream) served.outcome.stop
   pub own : IsFalse (is_waiting stream) → (start : ClientStart) (past : List Act) (seat : StreamSeatValue)

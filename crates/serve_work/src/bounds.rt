@@ -1,4 +1,4 @@
-//! What a session asks of the types that its threads share, or send to one another.
+//! What a session asks of the types whose values it lends or hands to its threads.
 
 use crate::door::Door;
 use crate::gate::{Clock, Gate};
@@ -6,32 +6,32 @@ use std::sync::Wait;
 use std::thread::Threads;
 use y4m_stream::{Sink, Source};
 
-/// A source that one thread may hand to another.
+/// A source that goes to another thread.
 pub(crate) trait SentSource: Source + Drop + Send {}
 
 impl<R: Source + Drop + Send> SentSource for R {}
 
-/// A sink that one thread may hand to another.
+/// A sink that goes to another thread.
 pub(crate) trait SentSink: Sink + Drop + Send {}
 
 impl<W: Sink + Drop + Send> SentSink for W {}
 
-/// A gate that workers share.
-pub(crate) trait SharedGate: Gate + Sync {}
+/// A gate that is lent to workers.
+pub(crate) trait LentGate: Gate + Sync {}
 
-impl<G: Gate + Sync> SharedGate for G {}
+impl<G: Gate + Sync> LentGate for G {}
 
-/// A clock that clients share.
-pub(crate) trait SharedClock: Clock + Sync {}
+/// A clock that is lent to clients.
+pub(crate) trait LentClock: Clock + Sync {}
 
-impl<K: Clock + Sync> SharedClock for K {}
+impl<K: Clock + Sync> LentClock for K {}
 
-/// A door that is watched beside the clients.
-pub(crate) trait SharedDoor<R: Source, W: Sink>: Door<R, W> + Sync {}
+/// A door that is lent to a thread that watches it.
+pub(crate) trait LentDoor<R: Source, W: Sink>: Door<R, W> + Sync {}
 
-impl<R: Source, W: Sink, D: Door<R, W> + Sync> SharedDoor<R, W> for D {}
+impl<R: Source, W: Sink, D: Door<R, W> + Sync> LentDoor<R, W> for D {}
 
-/// What starts threads and waits, from any of them.
-pub(crate) trait Runtime: Threads + Wait + Sync {}
+/// What starts threads and waits, and is lent to them.
+pub(crate) trait Host: Threads + Wait + Sync {}
 
-impl<T: Threads + Wait + Sync> Runtime for T {}
+impl<T: Threads + Wait + Sync> Host for T {}

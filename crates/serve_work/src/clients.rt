@@ -18,6 +18,7 @@ use crate::begun::{Begun, State};
 use crate::buffers::Buffers;
 use crate::course::Course;
 use crate::gate::Clock;
+use crate::post::Post;
 use crate::rest::ClientRest;
 use crate::serving::{Step, serve};
 use crate::stop::{Cause, Stop};
@@ -161,32 +162,27 @@ fn end<L: Epoch, R: Source + Drop, W: Sink>(
 
 /// Goes on with a stream whose header line was written.
 fn run<L: Epoch, R: Source + Drop, W: Sink, K: Clock, T: Wait>(
-    rt: &T,
-    alloc: Global,
-    hub: &Hub<L>,
+    post: Post<'_, L, K, T>,
     mut seat: StreamSeat<L>,
     mut reader: StreamReader<R>,
     mut writer: StreamWriter<W>,
     mut buffers: Buffers,
-    clock: &K,
     course: Option<Course>,
 ) -> ClientTurn<L, R, W>
     requires header { IsOfHeader reader.header seat.chain.geometry }
     requires can { CanGoOn course reader seat writer buffers }
     ensures turn { (start : ClientStart) (past : List Act) → IsRunning course start past reader seat writer
         → Turns start past result }
-    ensures moments { KeepsMoments (K.gives clock.now) seat (seat_in result) }
-    ensures stop { KeepsAllowed (K.gives clock.now) (course_stop_before course) (turn_stop result) }
+    ensures moments { KeepsMoments (K.gives post.entry.clock.now) seat (seat_in result) }
+    ensures stop { KeepsAllowed (K.gives post.entry.clock.now) (course_stop_before course)
+        (turn_stop result) }
 {
     match serve(
-        rt,
-        alloc,
-        hub,
+        post,
         &mut seat,
         &mut reader,
         &mut writer,
         &mut buffers,
-        clock,
         course,
     ) {
         Step::Done(stop) => ClientTurn::Ended(end(seat, reader, writer, stop)),
@@ -203,20 +199,17 @@ fn run<L: Epoch, R: Source + Drop, W: Sink, K: Clock, T: Wait>(
             let rest = ClientRest {
                 state: State::Begun(begun),
             };
-            ClientTurn::Paused(seat, rest, hub.room_left(rt))
+            ClientTurn::Paused(seat, rest, post.hub.room_left(post.rt))
         }
     }
 }
 
 /// Writes the header line, and then serves the stream.
 fn begin<L: Epoch, R: Source + Drop, W: Sink, K: Clock, T: Wait>(
-    rt: &T,
-    alloc: Global,
-    hub: &Hub<L>,
+    post: Post<'_, L, K, T>,
     seat: StreamSeat<L>,
     reader: StreamReader<R>,
     writer: W,
-    clock: &K,
 ) -> ClientTurn<L, R, W>
     requires header { IsOfHeader reader.header seat.chain.geometry }
     requires fresh { IsFresh seat }
@@ -226,40 +219,44 @@ fn begin<L: Epoch, R: Source + Drop, W: Sink, K: Clock, T: Wait>(
     ensures turn { (start : ClientStart) (past : List Act)
         → IsUnbegun start past seat reader (W.contents writer) (W.failures writer)
         → Turns start past result }
-    ensures moments { KeepsMoments (K.gives clock.now) seat (seat_in result) }
-    ensures stop { IfSome (turn_stop result) (AllowsStop (K.gives clock.now)) }
+    ensures moments { KeepsMoments (K.gives post.entry.clock.now) seat (seat_in result) }
+    ensures stop { IfSome (turn_stop result) (AllowsStop (K.gives post.entry.clock.now)) }
 {
-    let Ok((resized, buffers)) = prepare(alloc, &seat, reader.header()) else {
+    let Ok((resized, buffers)) = prepare(post.alloc, &seat, reader.header()) else {
         let stop = Stop::Refused(Cause::NoMemory);
-        return ClientTurn::Ended(end_unopened(rt, hub, seat, reader, writer, stop));
+        return ClientTurn::Ended(end_unopened(post.rt, post.hub, seat, reader, writer, stop));
     };
     match StreamWriter::open(writer, shown_header(&resized, reader.header())) {
         Err((writer, fault)) => {
-            ClientTurn::Ended(end_unopened(rt, hub, seat, reader, writer, Stop::Write(fault)))
+            ClientTurn::Ended(end_unopened(
+                post.rt,
+                post.hub,
+                seat,
+                reader,
+                writer,
+                Stop::Write(fault),
+            ))
         }
-        Ok(output) => run(rt, alloc, hub, seat, reader, output, buffers, clock, None),
+        Ok(output) => run(post, seat, reader, output, buffers, None),
     }
 }
 
 /// Goes on with a stream until a call finds the journal full, or all is done.
 fn go_on<L: Epoch, R: Source + Drop, W: Sink, K: Clock, T: Wait>(
-    rt: &T,
-    alloc: Global,
-    hub: &Hub<L>,
+    post: Post<'_, L, K, T>,
     seat: StreamSeat<L>,
     rest: ClientRest<R, W>,
-    clock: &K,
 ) -> ClientTurn<L, R, W>
     requires header { IsOfHeader (reader_in rest).header seat.chain.geometry }
     requires rest { IsRest seat rest }
     ensures turn { (start : ClientStart) (past : List Act) → IsRestOf start past seat rest
         → Turns start past result }
-    ensures moments { KeepsMoments (K.gives clock.now) seat (seat_in result) }
-    ensures stop { KeepsAllowed (K.gives clock.now) (rest_stop rest) (turn_stop result) }
+    ensures moments { KeepsMoments (K.gives post.entry.clock.now) seat (seat_in result) }
+    ensures stop { KeepsAllowed (K.gives post.entry.clock.now) (rest_stop rest) (turn_stop result) }
 {
     let _recalled = seat.frames();
     match rest.state {
-        State::Unbegun(reader, writer) => begin(rt, alloc, hub, seat, reader, writer, clock),
+        State::Unbegun(reader, writer) => begin(post, seat, reader, writer),
         State::Begun(begun) => {
             let Begun {
                 reader,
@@ -268,17 +265,7 @@ fn go_on<L: Epoch, R: Source + Drop, W: Sink, K: Clock, T: Wait>(
                 course,
                 ..
             } = begun;
-            run(
-                rt,
-                alloc,
-                hub,
-                seat,
-                reader,
-                writer,
-                buffers,
-                clock,
-                Some(course),
-            )
+            run(post, seat, reader, writer, buffers, Some(course))
         }
     }
 }
@@ -312,10 +299,16 @@ pub fn client<L: Epoch, R: Source + Drop, W: Sink, K: Clock, T: Wait>(
     ensures stop { KeepsAllowed (K.gives clock.now) (rest_stop rest) (turn_stop result) }
     ensures full { PausesAtFull result }
 {
+    let post = Post {
+        rt,
+        alloc,
+        hub,
+        clock,
+    };
     let mut seat = seat;
     let mut rest = rest;
     for _ in rt.forever() {
-        match go_on(rt, alloc, hub, seat, rest, clock) {
+        match go_on(post, seat, rest) {
             ClientTurn::Ended(end) => return ClientTurn::Ended(end),
             ClientTurn::Paused(same, later, left) => {
                 if left.is_full() {

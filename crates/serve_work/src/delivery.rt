@@ -1,15 +1,13 @@
 //! Images on their way from a seat to a writer.
-ghost use Rattle.std.specs.Prelude.{◌≡◌, ◌+◌, ◌≤◌, [], IfErr, IfOk, IfSome, IsFalse, length, false};
-ghost use Rattle.serve_core.specs.Streams.{IsImageOf, source_in};
-ghost use Rattle.y4m_stream.specs.Writer.{IsWriterFor};
-ghost use Rattle.y4m_header.specs.declared.limits.TheConstants.{MOST_FRAMES};
+ghost use Rattle.std.specs.Prelude.{◌≡◌, [], IfErr, IfOk, IfSome, IsFalse, false};
 ghost use Rattle.serve_work.specs.declared.stop.Halt.TheVariants as halts;
 ghost use Rattle.serve_work.specs.declared.stop.Stop.TheVariants as stops;
 ghost use Rattle.serve_work.specs.Clients.{IsDrained};
 ghost use Rattle.serve_hub.specs.Calls.{Gives, IsCollectRefused};
 ghost use Rattle.serve_work.specs.ClientInside.{AreBuffersFor, GivesUp, HaltsWith, IsLeft, IsOfCollection};
 ghost use Rattle.serve_work.specs.ClientInside.{IsOfDelivery, MovesOrHalts, Tallies, TalliesSeat, image_in};
-ghost use Rattle.serve_work.specs.Hands.{counted_with, image_at};
+ghost use Rattle.serve_work.specs.Hands.{IsPairOf, counted_with, image_at};
+ghost use Rattle.serve_work.specs.Rests.{CanDrain};
 
 use crate::buffers::Buffers;
 use crate::hand::finish;
@@ -28,13 +26,9 @@ pub(crate) fn deliver<L: Epoch, W: Sink, T: Wait>(
     seat: &mut StreamSeat<L>,
     writer: &mut StreamWriter<W>,
 ) -> Result<Collected, Halt>
-    requires size { IsWriterFor seat.old.chain writer.old }
-    requires few { writer.old.frames + length seat.old.kept ≤ MOST_FRAMES }
-    requires writing { writer.old.failed ≡ false }
-    requires none { writer.old.part ≡ 0 }
+    requires can { CanDrain seat.old writer.old }
     ensures answer { MovesOrHalts result seat.old seat.new writer.old writer.new [] }
-    ensures source { IfOk result (λ pair. (source_in pair).geometry ≡ seat.old.chain.geometry) }
-    ensures image { IfOk result (λ pair. IsImageOf seat.old.chain pair.image) }
+    ensures pair { IfOk result (IsPairOf seat.old.chain) }
     ensures drained { IfErr result (λ halt. halt ≡ halts.Stopped stops.Whole
         → IsDrained seat.old × (seat.new ≡ seat.old)) }
     ensures own { IfErr result IsOfCollection }
@@ -75,15 +69,10 @@ fn deliver_early<L: Epoch, W: Sink, T: Wait>(
     writer: &mut StreamWriter<W>,
     ahead: bool,
 ) -> Result<Option<Collected>, Halt>
-    requires size { IsWriterFor seat.old.chain writer.old }
-    requires few { writer.old.frames + length seat.old.kept ≤ MOST_FRAMES }
-    requires writing { writer.old.failed ≡ false }
-    requires none { writer.old.part ≡ 0 }
+    requires can { CanDrain seat.old writer.old }
     requires open { seat.old.is_closed ≡ false }
     ensures answer { MovesOrHalts result seat.old seat.new writer.old writer.new [] }
-    ensures source { IfOk result (λ next. IfSome next (λ pair.
-        (source_in pair).geometry ≡ seat.old.chain.geometry)) }
-    ensures image { IfOk result (λ next. IfSome next (λ pair. IsImageOf seat.old.chain pair.image)) }
+    ensures pair { IfOk result (λ next. IfSome next (IsPairOf seat.old.chain)) }
     ensures own { IfErr result IsOfDelivery }
     ensures left { IfErr result (IsLeft seat.old.chain writer.new) }
     ensures tally { Tallies seat.old seat.new writer.old
@@ -111,10 +100,7 @@ pub(crate) fn deliver_ready<L: Epoch, W: Sink, T: Wait>(
     buffers: &mut Buffers,
     ahead: bool,
 ) -> Result<(), Halt>
-    requires size { IsWriterFor seat.old.chain writer.old }
-    requires few { writer.old.frames + length seat.old.kept ≤ MOST_FRAMES }
-    requires writing { writer.old.failed ≡ false }
-    requires none { writer.old.part ≡ 0 }
+    requires can { CanDrain seat.old writer.old }
     requires open { seat.old.is_closed ≡ false }
     requires buffers { AreBuffersFor seat.old.chain buffers.old }
     ensures answer { MovesOrHalts result seat.old seat.new writer.old writer.new [] }
@@ -142,10 +128,7 @@ pub(crate) fn drain<L: Epoch, W: Sink, T: Wait>(
     seat: &mut StreamSeat<L>,
     writer: &mut StreamWriter<W>,
 ) -> Halt
-    requires size { IsWriterFor seat.old.chain writer.old }
-    requires few { writer.old.frames + length seat.old.kept ≤ MOST_FRAMES }
-    requires writing { writer.old.failed ≡ false }
-    requires none { writer.old.part ≡ 0 }
+    requires can { CanDrain seat.old writer.old }
     ensures answer { HaltsWith result seat.old seat.new writer.old writer.new [] }
     ensures drained { result ≡ halts.Stopped stops.Whole → IsDrained seat.new }
     ensures own { IsOfCollection result }

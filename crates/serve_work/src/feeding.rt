@@ -7,20 +7,21 @@ ghost use Rattle.serve_hub.specs.Calls.{IsOfferTold, noted};
 ghost use Rattle.serve_hub.specs.Seats.{StreamSeatValue};
 ghost use Rattle.y4m_stream.specs.Reader.{IsOfHeader, MeetsEnd, ReaderState, TakesFrame, frame_text_of};
 ghost use Rattle.y4m_stream.specs.Writer.{IsWriterFor};
-ghost use Rattle.serve_work.specs.ClientInside.{AllowsFed, AreBuffersFor, Accounted, FeedsOn, HasPassed};
-ghost use Rattle.serve_work.specs.ClientInside.{Holds, IsCounted, IsOffered, IsSized, IsSizedFed, IsUnread};
-ghost use Rattle.serve_work.specs.ClientInside.{KeepsMoments, Offers, OffersAt, Tallies, fed_before};
-ghost use Rattle.serve_work.specs.ClientInside.{fed_image, fed_of, text_in};
+ghost use Rattle.serve_work.specs.ClientInside.{AllowsFed, AreBuffersFor, Accounted, CanReadOn, FeedsOn};
+ghost use Rattle.serve_work.specs.ClientInside.{HasFed, HasPassed, Holds, IsCounted, IsOffered, IsSized};
+ghost use Rattle.serve_work.specs.ClientInside.{IsSizedFed, IsUnread, KeepsMoments, Offers, OffersAt};
+ghost use Rattle.serve_work.specs.ClientInside.{Tallies, fed_before, fed_image, fed_of, text_in};
 ghost use Rattle.serve_work.specs.Hands.{counted_with, image_at};
 
 use crate::buffers::Buffers;
 use crate::delivery::{deliver, deliver_ready};
 use crate::gate::Clock;
 use crate::input::{Input, await_input, reads_ahead};
+use crate::post::Post;
 use crate::stop::{Cause, Halt, Stop};
 use frame_view::Frame;
 use serve_core::{Collected, Refusal as Core};
-use serve_hub::{Epoch, Hub, OfferRefused, OverRefused, Refusal, StreamSeat};
+use serve_hub::{Epoch, OfferRefused, OverRefused, Refusal, StreamSeat};
 use std::alloc::Global;
 use std::sync::{Arc, Wait};
 use y4m_stream::reader::Phase;
@@ -134,10 +135,8 @@ fn new_image<L: Epoch>(alloc: Global, seat: &StreamSeat<L>, frame: &Frame) -> Op
 
 /// Offers a frame once, over the memory of an image if one is at hand, else over new memory, so that none is
 /// lost where the queue is full.
-pub(crate) fn offer_once<L: Epoch, T: Wait>(
-    rt: &T,
-    alloc: Global,
-    hub: &Hub<L>,
+pub(crate) fn offer_once<L: Epoch, K, T: Wait>(
+    post: Post<'_, L, K, T>,
     seat: &mut StreamSeat<L>,
     at: u64,
     frame: Arc<Frame>,
@@ -149,6 +148,7 @@ pub(crate) fn offer_once<L: Epoch, T: Wait>(
     ensures answer { IsOffered result at (arc_value frame) seat.old seat.new }
     ensures moment { OffersAt at seat.old seat.new }
 {
+    let Post { rt, alloc, hub, .. } = post;
     match image.or_else(|| new_image(alloc, seat, &frame)) {
         None => match hub.offer(rt, alloc, seat, at, frame) {
             Ok(_) => Offered::Accepted,
@@ -190,13 +190,10 @@ fn offered_of(refusal: Refusal, frame: Arc<Frame>, image: Option<Frame>) -> Offe
 
 /// Offers a frame until it is accepted; while the queue is full it collects and writes.
 fn accept<L: Epoch, W: Sink, K: Clock, T: Wait>(
-    rt: &T,
-    alloc: Global,
-    hub: &Hub<L>,
+    post: Post<'_, L, K, T>,
     seat: &mut StreamSeat<L>,
     writer: &mut StreamWriter<W>,
     buffers: &mut Buffers,
-    clock: &K,
     frame: Arc<Frame>,
 ) -> Result<(), Fed>
     requires size { IsWriterFor seat.old.chain writer.old }
@@ -208,13 +205,13 @@ fn accept<L: Epoch, W: Sink, K: Clock, T: Wait>(
     ensures buffers { AreBuffersFor seat.old.chain buffers.new }
     ensures tally { Tallies seat.old seat.new writer.old
         (counted_with (image_at fed_image result) writer.new) }
-    ensures moments { KeepsMoments (K.gives clock.now) seat.old seat.new }
-    ensures stop { IfErr result (AllowsFed (K.gives clock.now)) }
+    ensures moments { KeepsMoments (K.gives post.entry.clock.now) seat.old seat.new }
+    ensures stop { IfErr result (AllowsFed (K.gives post.entry.clock.now)) }
 {
     let mut frame = frame;
-    for _ in rt.forever() {
+    for _ in post.rt.forever() {
         let image = buffers.take_image();
-        match offer_once(rt, alloc, hub, seat, clock.moment(), frame, image) {
+        match offer_once(post, seat, post.clock.moment(), frame, image) {
             Offered::Accepted => return Ok(()),
             Offered::Stopped(stop) => return Err(Fed::Stopped(stop)),
             Offered::JournalFull(back, image) => {
@@ -226,7 +223,7 @@ fn accept<L: Epoch, W: Sink, K: Clock, T: Wait>(
                 buffers.keep_image(image);
             }
         }
-        match deliver(rt, hub, seat, writer) {
+        match deliver(post.rt, post.hub, seat, writer) {
             Ok(pair) => buffers.keep(pair),
             Err(halt) => return Err(Fed::of(halt, frame)),
         }
@@ -236,44 +233,37 @@ fn accept<L: Epoch, W: Sink, K: Clock, T: Wait>(
 
 /// Delivers the images that are there or come soon, and reads and offers a frame where one is there.
 fn feed_once<L: Epoch, R: Source + Drop, W: Sink, K: Clock, T: Wait>(
-    rt: &T,
-    alloc: Global,
-    hub: &Hub<L>,
+    post: Post<'_, L, K, T>,
     seat: &mut StreamSeat<L>,
     reader: &mut StreamReader<R>,
     writer: &mut StreamWriter<W>,
     buffers: &mut Buffers,
-    clock: &K,
 ) -> Result<(), Fed>
-    requires header { IsOfHeader reader.old.header seat.old.chain.geometry }
-    requires size { IsWriterFor seat.old.chain writer.old }
-    requires accounted { Accounted seat.old writer.old }
-    requires open { reader.old.phase ≡ Phase.Open }
-    requires buffers { AreBuffersFor seat.old.chain buffers.old }
+    requires can { CanReadOn reader.old seat.old writer.old buffers.old }
     ensures passed { OnOk result (HasPassed reader.old reader.new seat.old seat.new writer.old writer.new) }
     ensures answer { IfErr result (λ fed. (past : List Act) → IsCounted past seat.old
         → FeedsOn fed past reader.old reader.new seat.old seat.new writer.old writer.new) }
     ensures tally { Tallies seat.old seat.new writer.old
         (counted_with (image_at fed_image result) writer.new) }
-    ensures moments { KeepsMoments (K.gives clock.now) seat.old seat.new }
-    ensures stop { IfErr result (AllowsFed (K.gives clock.now)) }
+    ensures moments { KeepsMoments (K.gives post.entry.clock.now) seat.old seat.new }
+    ensures stop { IfErr result (AllowsFed (K.gives post.entry.clock.now)) }
     ensures buffers { AreBuffersFor seat.old.chain buffers.new }
     ensures frame { IfErr result (IsSizedFed seat.old.chain writer.new) }
     ensures header { reader.new.header ≡ reader.old.header }
 {
     let ahead = reads_ahead(seat, reader);
-    match deliver_ready(rt, hub, seat, writer, buffers, ahead) {
+    match deliver_ready(post.rt, post.hub, seat, writer, buffers, ahead) {
         Ok(()) => {}
         Err(halt) => return Err(Fed::without_frame(halt)),
     }
-    match await_input(rt, hub, reader) {
+    match await_input(post.rt, post.hub, reader) {
         Input::Ready => {}
         Input::Silent => return Ok(()),
         Input::JournalFull => return Err(Fed::Paused(None, None)),
     }
     let memory = buffers.take_source();
-    match read_into(alloc, reader, memory) {
-        Ok(Some(frame)) => accept(rt, alloc, hub, seat, writer, buffers, clock, frame),
+    match read_into(post.alloc, reader, memory) {
+        Ok(Some(frame)) => accept(post, seat, writer, buffers, frame),
         Ok(None) => Err(Fed::Stopped(Stop::Whole)),
         Err(stop) => Err(Fed::Stopped(stop)),
     }
@@ -282,31 +272,20 @@ fn feed_once<L: Epoch, R: Source + Drop, W: Sink, K: Clock, T: Wait>(
 /// Reads and offers frames until that fails, the input ends, the journal is full, or an image can't be
 /// delivered.
 fn feed_on<L: Epoch, R: Source + Drop, W: Sink, K: Clock, T: Wait>(
-    rt: &T,
-    alloc: Global,
-    hub: &Hub<L>,
+    post: Post<'_, L, K, T>,
     seat: &mut StreamSeat<L>,
     reader: &mut StreamReader<R>,
     writer: &mut StreamWriter<W>,
     buffers: &mut Buffers,
-    clock: &K,
 ) -> Fed
-    requires header { IsOfHeader reader.old.header seat.old.chain.geometry }
-    requires size { IsWriterFor seat.old.chain writer.old }
-    requires accounted { Accounted seat.old writer.old }
-    requires open { reader.old.phase ≡ Phase.Open }
-    requires buffers { AreBuffersFor seat.old.chain buffers.old }
+    requires can { CanReadOn reader.old seat.old writer.old buffers.old }
     ensures answer { (past : List Act) → IsCounted past seat.old
         → FeedsOn result past reader.old reader.new seat.old seat.new writer.old writer.new }
-    ensures tally { Tallies seat.old seat.new writer.old (counted_with (fed_image result) writer.new) }
-    ensures moments { KeepsMoments (K.gives clock.now) seat.old seat.new }
-    ensures stop { AllowsFed (K.gives clock.now) result }
-    ensures buffers { AreBuffersFor seat.old.chain buffers.new }
-    ensures frame { IsSizedFed seat.old.chain writer.new result }
-    ensures header { reader.new.header ≡ reader.old.header }
+    ensures kept { HasFed (K.gives post.entry.clock.now) result reader.old reader.new seat.old seat.new
+        writer.old writer.new buffers.new }
 {
-    for _ in rt.forever() {
-        match feed_once(rt, alloc, hub, seat, reader, writer, buffers, clock) {
+    for _ in post.rt.forever() {
+        match feed_once(post, seat, reader, writer, buffers) {
             Ok(()) => {}
             Err(fed) => return fed,
         }
@@ -316,36 +295,25 @@ fn feed_on<L: Epoch, R: Source + Drop, W: Sink, K: Clock, T: Wait>(
 
 /// The same. The frame in hand, if there is one, is offered first.
 pub(crate) fn feed<L: Epoch, R: Source + Drop, W: Sink, K: Clock, T: Wait>(
-    rt: &T,
-    alloc: Global,
-    hub: &Hub<L>,
+    post: Post<'_, L, K, T>,
     seat: &mut StreamSeat<L>,
     reader: &mut StreamReader<R>,
     writer: &mut StreamWriter<W>,
     buffers: &mut Buffers,
-    clock: &K,
     in_hand: Option<Arc<Frame>>,
 ) -> Fed
-    requires header { IsOfHeader reader.old.header seat.old.chain.geometry }
-    requires size { IsWriterFor seat.old.chain writer.old }
-    requires accounted { Accounted seat.old writer.old }
-    requires open { reader.old.phase ≡ Phase.Open }
+    requires can { CanReadOn reader.old seat.old writer.old buffers.old }
     requires frame { IsSized seat.old.chain in_hand }
-    requires buffers { AreBuffersFor seat.old.chain buffers.old }
     ensures answer { (past : List Act) (before : ReaderState) → IsCounted past seat.old
         → Holds before reader.old (text_in in_hand)
         → FeedsOn result past before reader.new seat.old seat.new writer.old writer.new }
-    ensures tally { Tallies seat.old seat.new writer.old (counted_with (fed_image result) writer.new) }
-    ensures moments { KeepsMoments (K.gives clock.now) seat.old seat.new }
-    ensures stop { AllowsFed (K.gives clock.now) result }
-    ensures buffers { AreBuffersFor seat.old.chain buffers.new }
-    ensures frame { IsSizedFed seat.old.chain writer.new result }
-    ensures header { reader.new.header ≡ reader.old.header }
+    ensures kept { HasFed (K.gives post.entry.clock.now) result reader.old reader.new seat.old seat.new
+        writer.old writer.new buffers.new }
 {
     match in_hand {
-        None => feed_on(rt, alloc, hub, seat, reader, writer, buffers, clock),
-        Some(frame) => match accept(rt, alloc, hub, seat, writer, buffers, clock, frame) {
-            Ok(()) => feed_on(rt, alloc, hub, seat, reader, writer, buffers, clock),
+        None => feed_on(post, seat, reader, writer, buffers),
+        Some(frame) => match accept(post, seat, writer, buffers, frame) {
+            Ok(()) => feed_on(post, seat, reader, writer, buffers),
             Err(fed) => fed,
         },
     }

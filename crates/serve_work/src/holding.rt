@@ -2,19 +2,20 @@
 ghost use Rattle.std.specs.Prelude.{◌≡◌, List, Some, IfErr, OnOk, false};
 ghost use Rattle.std.specs.Arc.{arc_value};
 ghost use Rattle.serve_hub.specs.declared.entry.Act.{Act};
-ghost use Rattle.y4m_stream.specs.Reader.{IsOfHeader, ReaderState, frame_text_of};
+ghost use Rattle.y4m_stream.specs.Reader.{ReaderState, frame_text_of};
 ghost use Rattle.y4m_stream.specs.Writer.{WriterState};
 ghost use Rattle.serve_work.specs.ClientInside.{Holds, IsCounted, IsSized, KeepsMoments, TalliesSeat};
 ghost use Rattle.serve_work.specs.ClientInside.{text_in};
-ghost use Rattle.serve_work.specs.Holding.{AllowsOnward, IsSizedOnward, OffersOn, OffersOnce};
+ghost use Rattle.serve_work.specs.Holding.{AllowsOnward, CanHoldOn, HasHeld, IsSizedOnward, OffersOn};
+ghost use Rattle.serve_work.specs.Holding.{OffersOnce};
 
 use crate::feeding::{Offered, offer_once, read_new};
 use crate::gate::Clock;
 use crate::input::{Input, await_input};
+use crate::post::Post;
 use crate::stop::Stop;
 use frame_view::Frame;
-use serve_hub::{Epoch, Hub, StreamSeat};
-use std::alloc::Global;
+use serve_hub::{Epoch, StreamSeat};
 use std::sync::{Arc, Wait};
 use y4m_stream::reader::Phase;
 use y4m_stream::{Source, StreamReader};
@@ -31,11 +32,8 @@ pub(crate) enum Onward {
 
 /// Offers a frame that was read.
 fn offer_on<L: Epoch, K: Clock, T: Wait>(
-    rt: &T,
-    alloc: Global,
-    hub: &Hub<L>,
+    post: Post<'_, L, K, T>,
     seat: &mut StreamSeat<L>,
-    clock: &K,
     frame: Arc<Frame>,
 ) -> Result<(), Onward>
     requires size { (arc_value frame).geometry ≡ seat.old.chain.geometry }
@@ -45,11 +43,11 @@ fn offer_on<L: Epoch, K: Clock, T: Wait>(
         → OffersOnce result past before reader seat.old seat.new writer }
     ensures unclosed { OnOk result (seat.new.is_closed ≡ false) }
     ensures tally { TalliesSeat seat.old seat.new }
-    ensures moments { KeepsMoments (K.gives clock.now) seat.old seat.new }
-    ensures stop { IfErr result (AllowsOnward (K.gives clock.now)) }
+    ensures moments { KeepsMoments (K.gives post.entry.clock.now) seat.old seat.new }
+    ensures stop { IfErr result (AllowsOnward (K.gives post.entry.clock.now)) }
     ensures frame { IfErr result (IsSizedOnward seat.old.chain) }
 {
-    match offer_once(rt, alloc, hub, seat, clock.moment(), frame, None) {
+    match offer_once(post, seat, post.clock.moment(), frame, None) {
         Offered::Accepted => Ok(()),
         Offered::QueueFull(_, _) => Err(Onward::QueueFull),
         Offered::JournalFull(back, _) => Err(Onward::Paused(Some(back))),
@@ -59,33 +57,28 @@ fn offer_on<L: Epoch, K: Clock, T: Wait>(
 
 /// Reads and offers a frame, where one is there.
 fn hold_once<L: Epoch, R: Source + Drop, K: Clock, T: Wait>(
-    rt: &T,
-    alloc: Global,
-    hub: &Hub<L>,
+    post: Post<'_, L, K, T>,
     seat: &mut StreamSeat<L>,
     reader: &mut StreamReader<R>,
-    clock: &K,
 ) -> Result<(), Onward>
-    requires header { IsOfHeader reader.old.header seat.old.chain.geometry }
-    requires open { reader.old.phase ≡ Phase.Open }
-    requires unclosed { seat.old.is_closed ≡ false }
+    requires can { CanHoldOn reader.old seat.old }
     ensures answer { (past : List Act) (writer : WriterState) → IsCounted past seat.old
         → OffersOnce result past reader.old reader.new seat.old seat.new writer }
     ensures open { OnOk result (reader.new.phase ≡ Phase.Open) }
     ensures unclosed { OnOk result (seat.new.is_closed ≡ false) }
     ensures tally { TalliesSeat seat.old seat.new }
-    ensures moments { KeepsMoments (K.gives clock.now) seat.old seat.new }
-    ensures stop { IfErr result (AllowsOnward (K.gives clock.now)) }
+    ensures moments { KeepsMoments (K.gives post.entry.clock.now) seat.old seat.new }
+    ensures stop { IfErr result (AllowsOnward (K.gives post.entry.clock.now)) }
     ensures frame { IfErr result (IsSizedOnward seat.old.chain) }
     ensures header { reader.new.header ≡ reader.old.header }
 {
-    match await_input(rt, hub, reader) {
+    match await_input(post.rt, post.hub, reader) {
         Input::Ready => {}
         Input::Silent => return Ok(()),
         Input::JournalFull => return Err(Onward::Paused(None)),
     }
-    match read_new(alloc, reader) {
-        Ok(Some(frame)) => offer_on(rt, alloc, hub, seat, clock, frame),
+    match read_new(post.alloc, reader) {
+        Ok(Some(frame)) => offer_on(post, seat, frame),
         Ok(None) => Err(Onward::Stopped(Stop::Whole)),
         Err(stop) => Err(Onward::Stopped(stop)),
     }
@@ -93,26 +86,17 @@ fn hold_once<L: Epoch, R: Source + Drop, K: Clock, T: Wait>(
 
 /// Reads and offers frames until the queue or the journal is full, that fails, or the input ends.
 fn hold_on<L: Epoch, R: Source + Drop, K: Clock, T: Wait>(
-    rt: &T,
-    alloc: Global,
-    hub: &Hub<L>,
+    post: Post<'_, L, K, T>,
     seat: &mut StreamSeat<L>,
     reader: &mut StreamReader<R>,
-    clock: &K,
 ) -> Onward
-    requires header { IsOfHeader reader.old.header seat.old.chain.geometry }
-    requires open { reader.old.phase ≡ Phase.Open }
-    requires unclosed { seat.old.is_closed ≡ false }
+    requires can { CanHoldOn reader.old seat.old }
     ensures answer { (past : List Act) (writer : WriterState) → IsCounted past seat.old
         → OffersOn result past reader.old reader.new seat.old seat.new writer }
-    ensures tally { TalliesSeat seat.old seat.new }
-    ensures moments { KeepsMoments (K.gives clock.now) seat.old seat.new }
-    ensures stop { AllowsOnward (K.gives clock.now) result }
-    ensures frame { IsSizedOnward seat.old.chain result }
-    ensures header { reader.new.header ≡ reader.old.header }
+    ensures kept { HasHeld (K.gives post.entry.clock.now) result reader.old reader.new seat.old seat.new }
 {
-    for _ in rt.forever() {
-        match hold_once(rt, alloc, hub, seat, reader, clock) {
+    for _ in post.rt.forever() {
+        match hold_once(post, seat, reader) {
             Ok(()) => {}
             Err(onward) => return onward,
         }
@@ -122,31 +106,22 @@ fn hold_on<L: Epoch, R: Source + Drop, K: Clock, T: Wait>(
 
 /// The same. The frame in hand, if there is one, is offered first.
 pub(crate) fn hold<L: Epoch, R: Source + Drop, K: Clock, T: Wait>(
-    rt: &T,
-    alloc: Global,
-    hub: &Hub<L>,
+    post: Post<'_, L, K, T>,
     seat: &mut StreamSeat<L>,
     reader: &mut StreamReader<R>,
-    clock: &K,
     in_hand: Option<Arc<Frame>>,
 ) -> Onward
-    requires header { IsOfHeader reader.old.header seat.old.chain.geometry }
-    requires open { reader.old.phase ≡ Phase.Open }
-    requires unclosed { seat.old.is_closed ≡ false }
+    requires can { CanHoldOn reader.old seat.old }
     requires frame { IsSized seat.old.chain in_hand }
     ensures answer { (past : List Act) (before : ReaderState) (writer : WriterState) → IsCounted past seat.old
         → Holds before reader.old (text_in in_hand)
         → OffersOn result past before reader.new seat.old seat.new writer }
-    ensures tally { TalliesSeat seat.old seat.new }
-    ensures moments { KeepsMoments (K.gives clock.now) seat.old seat.new }
-    ensures stop { AllowsOnward (K.gives clock.now) result }
-    ensures frame { IsSizedOnward seat.old.chain result }
-    ensures header { reader.new.header ≡ reader.old.header }
+    ensures kept { HasHeld (K.gives post.entry.clock.now) result reader.old reader.new seat.old seat.new }
 {
     match in_hand {
-        None => hold_on(rt, alloc, hub, seat, reader, clock),
-        Some(frame) => match offer_on(rt, alloc, hub, seat, clock, frame) {
-            Ok(()) => hold_on(rt, alloc, hub, seat, reader, clock),
+        None => hold_on(post, seat, reader),
+        Some(frame) => match offer_on(post, seat, frame) {
+            Ok(()) => hold_on(post, seat, reader),
             Err(onward) => onward,
         },
     }

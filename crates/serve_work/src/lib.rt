@@ -19,10 +19,12 @@ mod holding;
 mod input;
 pub mod laws;
 pub mod live;
+mod post;
 pub mod request;
 pub mod rest;
 mod serving;
 pub mod session;
+mod setting;
 pub mod stop;
 pub mod workers;
 

@@ -14,11 +14,12 @@ mod opening;
 mod retirement;
 mod threads;
 
-use crate::bounds::{Runtime, SentSink, SentSource, SharedClock, SharedDoor, SharedGate};
+use crate::bounds::{Host, LentClock, LentDoor, LentGate, SentSink, SentSource};
 use crate::door::Door;
 use crate::gate::{Clock, Gate};
 use crate::request::Request;
 use crate::session::SessionFault;
+use crate::setting::Setting;
 use epochs::{first_epoch, next_epoch};
 use guests::{Interval, show_guests, show_none, tell_guests};
 use opening::Form;
@@ -36,83 +37,59 @@ use y4m_stream::{Sink, Source};
 const LEAST_LIMIT: usize = 130;
 
 /// Serves the stream of a request, and those that come while any is served.
-fn serve_from<
-    R: SentSource,
-    W: SentSink,
-    D: SharedDoor<R, W>,
-    G: SharedGate,
-    K: SharedClock,
-    T: Runtime,
->(
-    rt: &T,
-    alloc: Global,
+fn serve_from<R: SentSource, W: SentSink, D: LentDoor<R, W>, G: LentGate, K: LentClock, T: Host>(
+    setting: Setting<'_, G, K, T>,
     form: Form,
     request: Request<R, W>,
     door: &mut D,
-    gate: &G,
-    clock: &K,
 ) -> Result<(), SessionFault>
     requires form { IsForm form.workers form.quantum }
     requires limit { form.limit ≡ D.limit }
-    requires times { (at : ℕ) → K.gives clock.now at → D.times at }
+    requires times { (at : ℕ) → K.gives setting.clock.now at → D.times at }
     requires waits { D.waits door.old (waiting_of W.contents W.failures request ∷ []) }
     requires input { IsInput request.spec (request.reader, request.writer) }
     ensures fault { IfErr result (λ e. e ≡ SessionFault.Mismatch) }
     ensures answered { IfOk result (λ _. D.waits door.new []) }
 {
-    let Some(stream) = opening::set_up(alloc, form, request, door) else {
+    let Some(stream) = opening::set_up(setting.alloc, form, request, door) else {
         return Ok(());
     };
     let blank = Blank::new(MOST_SEATS);
-    match first_epoch::<Brand, R, W, D, G, K, T>(
-        rt, alloc, blank, stream, form.limit, door, gate, clock,
-    )? {
+    match first_epoch::<Brand, R, W, D, G, K, T>(setting, blank, stream, form.limit, door)? {
         None => Ok(()),
-        Some(interval) => go_on(rt, alloc, interval, door, gate, clock),
+        Some(interval) => go_on(setting, interval, door),
     }
 }
 
 /// Goes on from epoch to epoch, until no stream is left.
-fn go_on<
-    R: SentSource,
-    W: SentSink,
-    D: SharedDoor<R, W>,
-    G: SharedGate,
-    K: SharedClock,
-    T: Runtime,
->(
-    rt: &T,
-    alloc: Global,
+fn go_on<R: SentSource, W: SentSink, D: LentDoor<R, W>, G: LentGate, K: LentClock, T: Host>(
+    setting: Setting<'_, G, K, T>,
     interval: Interval<R, W>,
     door: &mut D,
-    gate: &G,
-    clock: &K,
 ) -> Result<(), SessionFault>
-    requires times { (at : ℕ) → K.gives clock.now at → D.times at }
+    requires times { (at : ℕ) → K.gives setting.clock.now at → D.times at }
     requires guests { IsLiveInterval (D.waits door.old) D.limit D.times interval }
     ensures fault { IfErr result (λ e. e ≡ SessionFault.Mismatch) }
     ensures answered { IfOk result (λ _. D.waits door.new []) }
 {
     let mut interval = interval;
-    for _ in rt.forever() {
+    for _ in setting.rt.forever() {
         let gives_up = !interval.goes_on;
         if !tell_guests(door, &interval.ended, &mut interval.guests, gives_up) {
             return Ok(());
         }
         show_guests(door, &interval.ended, &interval.guests);
-        let left = without_released::<R, W, D>(alloc, interval);
+        let left = without_released::<R, W, D>(setting.alloc, interval);
         let blank = Blank::new(MOST_SEATS);
-        interval = next_epoch::<Brand, R, W, D, G, K, T>(
-            rt, alloc, blank, left, door, gate, clock,
-        )?;
+        interval = next_epoch::<Brand, R, W, D, G, K, T>(setting, blank, left, door)?;
     }
     unreachable!()
 }
 
 /// Serves streams that come and go, until none is left and no more requests come.
 ///
-/// Each request is told its answer at the door: where it isn't admitted, or when its stream is over. A session
-/// that fails lets go of those that wait.
+/// Each request is told its answer at the door: where it isn't admitted, or when its stream is over. A
+/// session that fails lets go of those that wait.
 pub fn serve_live<
     R: Source + Drop + Send,
     W: Sink + Drop + Send,
@@ -146,13 +123,19 @@ pub fn serve_live<
         quantum,
         limit,
     };
+    let setting = Setting {
+        rt,
+        alloc,
+        gate,
+        clock,
+    };
     for _ in rt.forever() {
         if !door.wait() {
             return Ok(());
         }
         show_none::<R, W, D>(door);
         if let Some(request) = door.next() {
-            serve_from(rt, alloc, form, request, door, gate, clock)?;
+            serve_from(setting, form, request, door)?;
         }
     }
     unreachable!()

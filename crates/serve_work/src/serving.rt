@@ -1,19 +1,18 @@
 //! A client's way from its reader to its writer: it feeds its seat, and then drains it.
 ghost use Rattle.std.specs.Prelude.{◌≡◌, ◌≢◌, List, None, Some, IfSome, IsFalse, IsSome, IsTrue};
 ghost use Rattle.serve_hub.specs.declared.entry.Act.{Act};
-ghost use Rattle.y4m_stream.specs.Reader.{IsOfHeader, ReaderState};
+ghost use Rattle.y4m_stream.specs.Reader.{IsOfHeader};
 ghost use Rattle.y4m_stream.specs.Writer.{WriterState};
 ghost use Rattle.serve_work.specs.declared.stop.Stop.TheVariants as stops;
 ghost use Rattle.serve_work.specs.declared.buffers.Buffers.{Buffers};
 ghost use Rattle.serve_work.specs.Clients.{AllowsStop};
-ghost use Rattle.serve_work.specs.ClientInside.{HasInHand, IsCounted, IsNoNewEnd, KeepsAllowed, KeepsMoments};
+ghost use Rattle.serve_work.specs.ClientInside.{HasInHand, IsCounted, KeepsAllowed, KeepsMoments};
 ghost use Rattle.serve_work.specs.ClientInside.{MayClose, Tallies, TalliesSeat, text_in};
-ghost use Rattle.serve_work.specs.Sends.{Serves};
 ghost use Rattle.serve_work.specs.Hands.{counted_with};
 ghost use Rattle.serve_work.specs.Rests.{CanDrain, CanDrainBehind, CanFeed, CanFeedBehind, CanGoOn, CanHold};
-ghost use Rattle.serve_work.specs.Rests.{Comes, Draining, Feeding, HasMemoryAt, IsAt, IsBefore, IsOutset};
-ghost use Rattle.serve_work.specs.Rests.{IsSilent, Outset, Spoils, course_stop_before, image_before};
-ghost use Rattle.serve_work.specs.Rests.{step_image, step_stop};
+ghost use Rattle.serve_work.specs.Rests.{Comes, Discards, Drains, Feeding, HasMemoryAt, IsAt, IsBefore};
+ghost use Rattle.serve_work.specs.Rests.{IsOutset, IsSilent, Outset, Spoils, course_stop_before};
+ghost use Rattle.serve_work.specs.Rests.{image_before, step_image, step_stop};
 
 use crate::buffers::Buffers;
 use crate::course::Course;
@@ -22,13 +21,12 @@ use crate::feeding::{Fed, feed};
 use crate::gate::Clock;
 use crate::hand::finish;
 use crate::holding::{Onward, hold};
+use crate::post::Post;
 use crate::stop::{Halt, Stop};
 use frame_view::Frame;
 use serve_core::Collected;
 use serve_hub::{Epoch, Hub, Refusal, StreamSeat};
-use std::alloc::Global;
 use std::sync::{Arc, Wait};
-use y4m_stream::reader::Phase;
 use y4m_stream::{Sink, Source, StreamReader, StreamWriter};
 
 /// How far a client came in an epoch.
@@ -58,15 +56,7 @@ fn discard_left<L: Epoch, T: Wait>(
     stop: Stop,
 ) -> Step
     requires fault { stop ≢ stops.Whole }
-    ensures answer { (past : List Act) (o : Outset) (reader : ReaderState) (writer : WriterState)
-        → Serves past stop o.reader reader o.seat seat.old o.writer writer
-        → Comes result past o reader seat.new writer }
-    ensures tally { TalliesSeat seat.old seat.new }
-    ensures accepted { seat.new.accepted ≡ seat.old.accepted }
-    ensures stop { step_stop result ≡ Some stop }
-    ensures memory { (reader : ReaderState) (writer : WriterState) (buffers : Buffers)
-        → HasMemoryAt reader writer buffers result }
-    ensures none { step_image result ≡ None }
+    ensures { Discards stop seat.old seat.new result }
 {
     if discard(rt, hub, seat) {
         Step::Paused(Course::Discarding(stop))
@@ -78,15 +68,7 @@ fn discard_left<L: Epoch, T: Wait>(
 /// Closes the stream, and throws away what is left.
 fn spoil_left<L: Epoch, T: Wait>(rt: &T, hub: &Hub<L>, seat: &mut StreamSeat<L>, stop: Stop) -> Step
     requires fault { stop ≢ stops.Whole }
-    ensures answer { (past : List Act) (o : Outset) (reader : ReaderState) (writer : WriterState)
-        → Serves past stop o.reader reader o.seat seat.old o.writer writer
-        → Comes result past o reader seat.new writer }
-    ensures tally { TalliesSeat seat.old seat.new }
-    ensures accepted { seat.new.accepted ≡ seat.old.accepted }
-    ensures stop { step_stop result ≡ Some stop }
-    ensures memory { (reader : ReaderState) (writer : WriterState) (buffers : Buffers)
-        → HasMemoryAt reader writer buffers result }
-    ensures none { step_image result ≡ None }
+    ensures { Discards stop seat.old seat.new result }
 {
     let _ = close_torn(rt, hub, seat);
     discard_left(rt, hub, seat, stop)
@@ -95,12 +77,9 @@ fn spoil_left<L: Epoch, T: Wait>(rt: &T, hub: &Hub<L>, seat: &mut StreamSeat<L>,
 /// Reads and offers on, where an image couldn't be delivered for the reason that is held, and throws away
 /// what is left. It stops for that reason, unless another comes before the queue is full or the input ends.
 fn hold_left<L: Epoch, R: Source + Drop, K: Clock, T: Wait>(
-    rt: &T,
-    alloc: Global,
-    hub: &Hub<L>,
+    post: Post<'_, L, K, T>,
     seat: &mut StreamSeat<L>,
     reader: &mut StreamReader<R>,
-    clock: &K,
     in_hand: Option<Arc<Frame>>,
     held: Stop,
 ) -> Step
@@ -110,17 +89,17 @@ fn hold_left<L: Epoch, R: Source + Drop, K: Clock, T: Wait>(
         → IsCounted past seat.old → Spoils held o reader.old seat.old writer (text_in in_hand)
         → Comes result past o reader.new seat.new writer }
     ensures tally { TalliesSeat seat.old seat.new }
-    ensures moments { KeepsMoments (K.gives clock.now) seat.old seat.new }
-    ensures stop { KeepsAllowed (K.gives clock.now) (Some held) (step_stop result) }
+    ensures moments { KeepsMoments (K.gives post.entry.clock.now) seat.old seat.new }
+    ensures stop { KeepsAllowed (K.gives post.entry.clock.now) (Some held) (step_stop result) }
     ensures memory { (writer : WriterState) (buffers : Buffers)
         → HasMemoryAt reader.new writer buffers result }
     ensures none { step_image result ≡ None }
     ensures header { reader.new.header ≡ reader.old.header }
 {
-    match hold(rt, alloc, hub, seat, reader, clock, in_hand) {
+    match hold(post, seat, reader, in_hand) {
         Onward::Paused(in_hand) => Step::Paused(Course::Holding(in_hand, held)),
-        Onward::QueueFull => spoil_left(rt, hub, seat, held),
-        Onward::Stopped(stop) => spoil_left(rt, hub, seat, stop.or(held)),
+        Onward::QueueFull => spoil_left(post.rt, post.hub, seat, held),
+        Onward::Stopped(stop) => spoil_left(post.rt, post.hub, seat, stop.or(held)),
     }
 }
 
@@ -133,14 +112,7 @@ fn drain_left<L: Epoch, W: Sink, T: Wait>(
     stop: Stop,
 ) -> Step
     requires can { CanDrain seat.old writer.old }
-    ensures answer { (past : List Act) (o : Outset) (reader : ReaderState) → IsOutset o
-        → IsAt (Draining stop None) past o reader seat.old writer.old
-        → Comes result past o reader seat.new writer.new }
-    ensures tally { Tallies seat.old seat.new writer.old (counted_with (step_image result) writer.new) }
-    ensures accepted { seat.new.accepted ≡ seat.old.accepted }
-    ensures stop { IsNoNewEnd (Some stop) (step_stop result) }
-    ensures memory { (reader : ReaderState) (buffers : Buffers)
-        → HasMemoryAt reader writer.new buffers result }
+    ensures { Drains stop None seat.old seat.new writer.old writer.new result }
 {
     match drain(rt, hub, seat, writer) {
         Halt::Full(image) => Step::Paused(Course::Draining(stop, image)),
@@ -165,15 +137,7 @@ fn drain_behind<L: Epoch, W: Sink, T: Wait>(
     pair: Collected,
 ) -> Step
     requires can { CanDrainBehind pair seat.old writer.old }
-    ensures answer { (past : List Act) (o : Outset) (reader : ReaderState) → IsOutset o
-        → IsAt (Draining stop (Some pair)) past o reader seat.old writer.old
-        → Comes result past o reader seat.new writer.new }
-    ensures tally { Tallies seat.old seat.new (counted_with (Some pair) writer.old)
-        (counted_with (step_image result) writer.new) }
-    ensures accepted { seat.new.accepted ≡ seat.old.accepted }
-    ensures stop { IsNoNewEnd (Some stop) (step_stop result) }
-    ensures memory { (reader : ReaderState) (buffers : Buffers)
-        → HasMemoryAt reader writer.new buffers result }
+    ensures { Drains stop (Some pair) seat.old seat.new writer.old writer.new result }
 {
     match finish(rt, hub, writer, pair) {
         Ok(_) => drain_left(rt, hub, seat, writer, stop),
@@ -184,14 +148,11 @@ fn drain_behind<L: Epoch, W: Sink, T: Wait>(
 
 /// Reads and offers what is left, with the frame in hand first if there is one, and then drains.
 fn feed_left<L: Epoch, R: Source + Drop, W: Sink, K: Clock, T: Wait>(
-    rt: &T,
-    alloc: Global,
-    hub: &Hub<L>,
+    post: Post<'_, L, K, T>,
     seat: &mut StreamSeat<L>,
     reader: &mut StreamReader<R>,
     writer: &mut StreamWriter<W>,
     buffers: &mut Buffers,
-    clock: &K,
     in_hand: Option<Arc<Frame>>,
 ) -> Step
     requires header { IsOfHeader reader.old.header seat.old.chain.geometry }
@@ -200,24 +161,22 @@ fn feed_left<L: Epoch, R: Source + Drop, W: Sink, K: Clock, T: Wait>(
         → HasInHand o.reader reader.old o.seat seat.old o.writer writer.old (text_in in_hand)
         → Comes result past o reader.new seat.new writer.new }
     ensures tally { Tallies seat.old seat.new writer.old (counted_with (step_image result) writer.new) }
-    ensures moments { KeepsMoments (K.gives clock.now) seat.old seat.new }
-    ensures stop { IfSome (step_stop result) (AllowsStop (K.gives clock.now)) }
+    ensures moments { KeepsMoments (K.gives post.entry.clock.now) seat.old seat.new }
+    ensures stop { IfSome (step_stop result) (AllowsStop (K.gives post.entry.clock.now)) }
     ensures memory { HasMemoryAt reader.new writer.new buffers.new result }
     ensures header { reader.new.header ≡ reader.old.header }
 {
-    match feed(
-        rt, alloc, hub, seat, reader, writer, buffers, clock, in_hand,
-    ) {
+    match feed(post, seat, reader, writer, buffers, in_hand) {
         Fed::Paused(in_hand, image) => Step::Paused(Course::Feeding(in_hand, image)),
-        Fed::Held(stop) => hold_left(rt, alloc, hub, seat, reader, clock, None, stop),
+        Fed::Held(stop) => hold_left(post, seat, reader, None, stop),
         Fed::Stopped(stop) => {
-            let is_torn = close_torn(rt, hub, seat);
+            let is_torn = close_torn(post.rt, post.hub, seat);
             if stop.is_spoilt() {
-                discard_left(rt, hub, seat, stop)
+                discard_left(post.rt, post.hub, seat, stop)
             } else if is_torn {
-                discard_left(rt, hub, seat, stop.or(Stop::Torn))
+                discard_left(post.rt, post.hub, seat, stop.or(Stop::Torn))
             } else {
-                drain_left(rt, hub, seat, writer, stop)
+                drain_left(post.rt, post.hub, seat, writer, stop)
             }
         }
     }
@@ -226,14 +185,11 @@ fn feed_left<L: Epoch, R: Source + Drop, W: Sink, K: Clock, T: Wait>(
 /// Writes on with an image in hand, and then goes on as `feed_left` does. Where that fails, the fault is
 /// held.
 fn feed_behind<L: Epoch, R: Source + Drop, W: Sink, K: Clock, T: Wait>(
-    rt: &T,
-    alloc: Global,
-    hub: &Hub<L>,
+    post: Post<'_, L, K, T>,
     seat: &mut StreamSeat<L>,
     reader: &mut StreamReader<R>,
     writer: &mut StreamWriter<W>,
     buffers: &mut Buffers,
-    clock: &K,
     in_hand: Option<Arc<Frame>>,
     pair: Collected,
 ) -> Step
@@ -244,34 +200,29 @@ fn feed_behind<L: Epoch, R: Source + Drop, W: Sink, K: Clock, T: Wait>(
         → Comes result past o reader.new seat.new writer.new }
     ensures tally { Tallies seat.old seat.new (counted_with (Some pair) writer.old)
         (counted_with (step_image result) writer.new) }
-    ensures moments { KeepsMoments (K.gives clock.now) seat.old seat.new }
-    ensures stop { IfSome (step_stop result) (AllowsStop (K.gives clock.now)) }
+    ensures moments { KeepsMoments (K.gives post.entry.clock.now) seat.old seat.new }
+    ensures stop { IfSome (step_stop result) (AllowsStop (K.gives post.entry.clock.now)) }
     ensures memory { HasMemoryAt reader.new writer.new buffers.new result }
     ensures header { reader.new.header ≡ reader.old.header }
 {
-    match finish(rt, hub, writer, pair) {
+    match finish(post.rt, post.hub, writer, pair) {
         Ok(pair) => {
             buffers.keep(pair);
-            feed_left(
-                rt, alloc, hub, seat, reader, writer, buffers, clock, in_hand,
-            )
+            feed_left(post, seat, reader, writer, buffers, in_hand)
         }
         Err(Halt::Full(image)) => Step::Paused(Course::Feeding(in_hand, image)),
-        Err(Halt::Stopped(stop)) => hold_left(rt, alloc, hub, seat, reader, clock, in_hand, stop),
+        Err(Halt::Stopped(stop)) => hold_left(post, seat, reader, in_hand, stop),
     }
 }
 
 /// Goes on with a stream whose header line was written: from its first frame, or from where the client
 /// paused.
 pub(crate) fn serve<L: Epoch, R: Source + Drop, W: Sink, K: Clock, T: Wait>(
-    rt: &T,
-    alloc: Global,
-    hub: &Hub<L>,
+    post: Post<'_, L, K, T>,
     seat: &mut StreamSeat<L>,
     reader: &mut StreamReader<R>,
     writer: &mut StreamWriter<W>,
     buffers: &mut Buffers,
-    clock: &K,
     course: Option<Course>,
 ) -> Step
     requires header { IsOfHeader reader.old.header seat.old.chain.geometry }
@@ -282,28 +233,23 @@ pub(crate) fn serve<L: Epoch, R: Source + Drop, W: Sink, K: Clock, T: Wait>(
     ensures tally { Tallies seat.old seat.new (counted_with (image_before course) writer.old)
         (counted_with (step_image result) writer.new) }
     ensures silent { IsSilent course → (step_image result ≡ None) × (writer.new ≡ writer.old) }
-    ensures moments { KeepsMoments (K.gives clock.now) seat.old seat.new }
-    ensures stop { KeepsAllowed (K.gives clock.now) (course_stop_before course) (step_stop result) }
+    ensures moments { KeepsMoments (K.gives post.entry.clock.now) seat.old seat.new }
+    ensures stop { KeepsAllowed (K.gives post.entry.clock.now) (course_stop_before course)
+        (step_stop result) }
     ensures memory { HasMemoryAt reader.new writer.new buffers.new result }
     ensures header { reader.new.header ≡ reader.old.header }
 {
     match course {
-        None => feed_left(rt, alloc, hub, seat, reader, writer, buffers, clock, None),
+        None => feed_left(post, seat, reader, writer, buffers, None),
         Some(Course::Feeding(in_hand, image)) => match image {
-            None => feed_left(
-                rt, alloc, hub, seat, reader, writer, buffers, clock, in_hand,
-            ),
-            Some(pair) => feed_behind(
-                rt, alloc, hub, seat, reader, writer, buffers, clock, in_hand, pair,
-            ),
+            None => feed_left(post, seat, reader, writer, buffers, in_hand),
+            Some(pair) => feed_behind(post, seat, reader, writer, buffers, in_hand, pair),
         },
-        Some(Course::Holding(in_hand, held)) => {
-            hold_left(rt, alloc, hub, seat, reader, clock, in_hand, held)
-        }
+        Some(Course::Holding(in_hand, held)) => { hold_left(post, seat, reader, in_hand, held) }
         Some(Course::Draining(stop, image)) => match image {
-            None => drain_left(rt, hub, seat, writer, stop),
-            Some(pair) => drain_behind(rt, hub, seat, writer, stop, pair),
+            None => drain_left(post.rt, post.hub, seat, writer, stop),
+            Some(pair) => drain_behind(post.rt, post.hub, seat, writer, stop, pair),
         },
-        Some(Course::Discarding(stop)) => discard_left(rt, hub, seat, stop),
+        Some(Course::Discarding(stop)) => discard_left(post.rt, post.hub, seat, stop),
     }
 }

@@ -14,8 +14,9 @@ pub(crate) mod turn;
 mod unended;
 
 use crate::gate::{Clock, Gate};
+use crate::setting::Setting;
 use crate::stop::Stop;
-use epochs::{first_epoch, go_on};
+use epochs::{begin, go_on};
 use interval::report;
 use serve_core::Setup;
 use serve_hub::HubError;
@@ -139,12 +140,16 @@ pub fn serve_session<
     ensures bad_limit { IsErrOf result SessionFault.BadLimit ↔ ¬ IsLimit (length setup.streams) limit }
 {
     let blank = Blank::new(MOST_SEATS);
-    let opened = match first_epoch::<Brand, R, W, G, K, T>(
-        rt, alloc, blank, setup, inputs, limit, gate, clock,
-    ) {
+    let setting = Setting {
+        rt,
+        alloc,
+        gate,
+        clock,
+    };
+    let opened = match begin::<Brand, R, W, G, K, T>(setting, blank, setup, inputs, limit) {
         Ok(opened) => opened,
         Err(unended) => return Err(unended.fault()),
     };
-    let ended = go_on(rt, alloc, opened, gate, clock)?;
+    let ended = go_on(setting, opened)?;
     Ok(report(ended))
 }

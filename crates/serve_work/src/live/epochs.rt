@@ -3,12 +3,12 @@ ghost use Rattle.std.specs.Prelude.{ℕ, ◌≡◌, ◌+◌, ◌≤◌, ◌++◌
 ghost use Rattle.std.specs.Prelude.{IfSome, vec_capacity, vec_len};
 ghost use Rattle.serve_core.specs.Schedule.{opened_schedule};
 ghost use Rattle.serve_core.specs.Setup.{StreamSpec};
-ghost use Rattle.serve_work.specs.Intervals.{HasNoCalls};
+ghost use Rattle.serve_work.specs.Intervals.{CanName, HasNoCalls};
 ghost use Rattle.serve_work.specs.Live.{IsSeatFor, Waiting};
 ghost use Rattle.serve_work.specs.LiveInside.{AreGuests, AreSeated, HasPlaces, IsFirst, guests_of};
 ghost use Rattle.serve_work.specs.LiveInside.{IsLiveInterval, nobody};
 
-use crate::bounds::{Runtime, SentSink, SentSource, SharedClock, SharedDoor, SharedGate};
+use crate::bounds::{Host, LentClock, LentDoor, LentGate, SentSink, SentSource};
 use crate::door::Door;
 use crate::live::admission::admit_all;
 use crate::live::guests::{Guest, Interval, Ticket, are_as_asked};
@@ -19,8 +19,8 @@ use crate::session::SessionFault;
 use crate::session::places::Places;
 use crate::session::room::{Room, empty_slots, fill_slots};
 use crate::session::turn::Stream;
+use crate::setting::Setting;
 use serve_core::{Refusal as Core, Setup};
-use serve_hub::limits::MOST_SEATS;
 use serve_hub::{Epoch, Hub, Refusal, StreamSeat};
 use std::alloc::Global;
 use std::sync::ledger::Blank;
@@ -66,22 +66,19 @@ fn epoch<
     L: Epoch + Send + Sync,
     R: SentSource,
     W: SentSink,
-    D: SharedDoor<R, W>,
-    G: SharedGate,
-    K: SharedClock,
-    T: Runtime,
+    D: LentDoor<R, W>,
+    G: LentGate,
+    K: LentClock,
+    T: Host,
 >(
-    rt: &T,
-    alloc: Global,
+    setting: Setting<'_, G, K, T>,
     opening: Opening<L, R, W>,
     door: &mut D,
-    gate: &G,
-    clock: &K,
 ) -> Result<Interval<R, W>, SessionFault>
     requires seated { (ws : List Waiting) × D.waits door.old ws
         × AreSeated D.limit D.times L.opening ws opening.hall }
     requires limit { opening.hub.limit ≡ D.limit }
-    requires times { (at : ℕ) → K.gives clock.now at → D.times at }
+    requires times { (at : ℕ) → K.gives setting.clock.now at → D.times at }
     ensures fault { IfErr result (λ e. e ≡ SessionFault.Mismatch) }
     ensures guests { IfOk result (IsLiveInterval (D.waits door.new) D.limit D.times) }
 {
@@ -90,7 +87,7 @@ fn epoch<
         work_seats,
         mut hall,
     } = opening;
-    admit_all(rt, alloc, &hub, &mut hall, door);
+    admit_all(setting.rt, setting.alloc, &hub, &mut hall, door);
     let Hall {
         room,
         tickets,
@@ -103,12 +100,10 @@ fn epoch<
         mut slots,
         mut back,
     } = room;
-    gate.epoch_begins();
+    setting.gate.epoch_begins();
     let workers = work_seats.len();
     fill_slots(&mut slots, work_seats);
-    let (turns, goes_on) = run_threads::<L, R, W, D, G, K, T>(
-        rt, alloc, &hub, &slots, turns, &*door, gate, clock,
-    );
+    let (turns, goes_on) = run_threads::<L, R, W, D, G, K, T>(setting, &hub, &slots, turns, &*door);
     empty_slots(slots, &mut back);
     places.fill(turns);
     let Places { mut seats, streams } = places;
@@ -135,10 +130,7 @@ fn first_seat<L: Epoch, R: Source + Drop, W: Sink + Drop>(
     setup: Setup,
     limit: usize,
 ) -> Option<(Opening<L, R, W>, StreamSeat<L>)>
-    requires name { blank.name ≡ L.name }
-    requires parts { blank.parts ≡ L.parts }
-    requires enough { blank.parts ≡ MOST_SEATS }
-    requires opening { opened_schedule setup ≡ L.opening }
+    requires blank { CanName blank.name blank.parts (opened_schedule setup) L.name L.parts L.opening }
     ensures places { IfSome result (λ made. HasPlaces made.0.hall) }
     ensures empty { IfSome result (λ made. (made.0.hall.room.turns.items ≡ [])
         × (made.0.hall.tickets.items ≡ []) × (made.0.hall.idle.items ≡ [])) }
@@ -172,26 +164,20 @@ pub(super) fn first_epoch<
     L: Epoch + Send + Sync,
     R: SentSource,
     W: SentSink,
-    D: SharedDoor<R, W>,
-    G: SharedGate,
-    K: SharedClock,
-    T: Runtime,
+    D: LentDoor<R, W>,
+    G: LentGate,
+    K: LentClock,
+    T: Host,
 >(
-    rt: &T,
-    alloc: Global,
+    setting: Setting<'_, G, K, T>,
     blank: Blank,
     stream: FirstStream<R, W>,
     limit: usize,
     door: &mut D,
-    gate: &G,
-    clock: &K,
 ) -> Result<Option<Interval<R, W>>, SessionFault>
-    requires name { blank.name ≡ L.name }
-    requires parts { blank.parts ≡ L.parts }
-    requires enough { blank.parts ≡ MOST_SEATS }
-    requires opening { opened_schedule stream.setup ≡ L.opening }
+    requires blank { CanName blank.name blank.parts (opened_schedule stream.setup) L.name L.parts L.opening }
     requires limit { limit ≡ D.limit }
-    requires times { (at : ℕ) → K.gives clock.now at → D.times at }
+    requires times { (at : ℕ) → K.gives setting.clock.now at → D.times at }
     requires first { (w : Waiting) × D.waits door.old (w ∷ []) × IsFirst W.contents W.failures w stream }
     ensures fault { IfErr result (λ e. e ≡ SessionFault.Mismatch) }
     ensures answered { IfOk result (λ o. IfNone o (D.waits door.new [])) }
@@ -203,7 +189,7 @@ pub(super) fn first_epoch<
         reader,
         writer,
     } = stream;
-    match first_seat::<L, R, W>(alloc, blank, setup, limit) {
+    match first_seat::<L, R, W>(setting.alloc, blank, setup, limit) {
         None => {
             let refusal = Refusal::Core(Core::NoMemory);
             door.tell(
@@ -215,7 +201,7 @@ pub(super) fn first_epoch<
         Some(made) => {
             let (mut opening, seat) = made;
             opening.hall.seat(seat, ticket, Stream::new(reader, writer));
-            match epoch(rt, alloc, opening, door, gate, clock) {
+            match epoch(setting, opening, door) {
                 Ok(now) => Ok(Some(now)),
                 Err(fault) => Err(fault),
             }
@@ -228,31 +214,25 @@ pub(super) fn next_epoch<
     L: Epoch + Send + Sync,
     R: SentSource,
     W: SentSink,
-    D: SharedDoor<R, W>,
-    G: SharedGate,
-    K: SharedClock,
-    T: Runtime,
+    D: LentDoor<R, W>,
+    G: LentGate,
+    K: LentClock,
+    T: Host,
 >(
-    rt: &T,
-    alloc: Global,
+    setting: Setting<'_, G, K, T>,
     blank: Blank,
     interval: Interval<R, W>,
     door: &mut D,
-    gate: &G,
-    clock: &K,
 ) -> Result<Interval<R, W>, SessionFault>
-    requires name { blank.name ≡ L.name }
-    requires parts { blank.parts ≡ L.parts }
-    requires enough { blank.parts ≡ MOST_SEATS }
-    requires opening { interval.ended.book.desk ≡ L.opening }
-    requires times { (at : ℕ) → K.gives clock.now at → D.times at }
+    requires blank { CanName blank.name blank.parts interval.ended.book.desk L.name L.parts L.opening }
+    requires times { (at : ℕ) → K.gives setting.clock.now at → D.times at }
     requires guests { IsLiveInterval (D.waits door.old) D.limit D.times interval }
     ensures fault { IfErr result (λ e. e ≡ SessionFault.Mismatch) }
     ensures guests { IfOk result (IsLiveInterval (D.waits door.new) D.limit D.times) }
 {
-    match open_next::<L, R, W, D>(alloc, blank, interval) {
+    match open_next::<L, R, W, D>(setting.alloc, blank, interval) {
         Err(interval) => Ok(interval),
-        Ok(opening) => epoch(rt, alloc, opening, door, gate, clock),
+        Ok(opening) => epoch(setting, opening, door),
     }
 }
 
@@ -262,10 +242,7 @@ fn open_next<L: Epoch, R: Source + Drop, W: Sink + Drop, D: Door<R, W>>(
     blank: Blank,
     interval: Interval<R, W>,
 ) -> Result<Opening<L, R, W>, Interval<R, W>>
-    requires name { blank.name ≡ L.name }
-    requires parts { blank.parts ≡ L.parts }
-    requires enough { blank.parts ≡ MOST_SEATS }
-    requires opening { interval.ended.book.desk ≡ L.opening }
+    requires blank { CanName blank.name blank.parts interval.ended.book.desk L.name L.parts L.opening }
     requires guests { (ws : List Waiting)
         × AreGuests D.limit D.times interval.ended ws interval.guests.items }
     ensures seated { (ws : List Waiting)

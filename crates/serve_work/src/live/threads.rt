@@ -3,11 +3,12 @@ ghost use Rattle.std.specs.Prelude.{◌≡◌, vec_len};
 ghost use Rattle.std.specs.Thread.{IsSend, IsSync};
 ghost use Rattle.serve_work.specs.SessionInside.{AllRun, Runs};
 
-use crate::bounds::{Runtime, SentSink, SentSource, SharedClock, SharedDoor, SharedGate};
+use crate::bounds::{Host, LentClock, LentDoor, LentGate, SentSink, SentSource};
 use crate::door::Bell;
 use crate::session::room::Slot;
 use crate::session::threads::work_in;
 use crate::session::turn::Turn;
+use crate::setting::Setting;
 use edf_pool::limits::MOST_STREAMS;
 use serve_hub::{Epoch, Hub};
 use std::alloc::Global;
@@ -32,7 +33,7 @@ fn watch<L: Epoch, B: Bell, T: Wait>(rt: &T, hub: &Hub<L>, door: &B) {
 
 /// Runs each client that waits, in a thread of its own, or on the one that asked for it where it is refused.
 /// Where one is done it ends the epoch.
-fn run_guests<L: Epoch + Send + Sync, R: SentSource, W: SentSink, K: SharedClock, T: Runtime>(
+fn run_guests<L: Epoch + Send + Sync, R: SentSource, W: SentSink, K: LentClock, T: Host>(
     rt: &T,
     alloc: Global,
     hub: &Hub<L>,
@@ -54,7 +55,7 @@ fn run_guests<L: Epoch + Send + Sync, R: SentSource, W: SentSink, K: SharedClock
 }
 
 /// Runs the clients where a worker runs beside them, and ends the epoch when all are done or paused.
-fn run_beside<L: Epoch + Send + Sync, R: SentSource, W: SentSink, K: SharedClock, T: Runtime>(
+fn run_beside<L: Epoch + Send + Sync, R: SentSource, W: SentSink, K: LentClock, T: Host>(
     rt: &T,
     alloc: Global,
     hub: &Hub<L>,
@@ -82,23 +83,26 @@ pub(super) fn run_threads<
     L: Epoch + Send + Sync,
     R: SentSource,
     W: SentSink,
-    D: SharedDoor<R, W>,
-    G: SharedGate,
-    K: SharedClock,
-    T: Runtime,
+    D: LentDoor<R, W>,
+    G: LentGate,
+    K: LentClock,
+    T: Host,
 >(
-    rt: &T,
-    alloc: Global,
+    setting: Setting<'_, G, K, T>,
     hub: &Hub<L>,
     slots: &[Slot<L>],
     turns: Vec<Turn<L, R, W>>,
     door: &D,
-    gate: &G,
-    clock: &K,
 ) -> (Vec<Turn<L, R, W>>, bool)
     ensures count { vec_len result.0 ≡ vec_len turns }
-    ensures run { AllRun (K.gives clock.now) turns.items result.0.items }
+    ensures run { AllRun (K.gives setting.entry.clock.now) turns.items result.0.items }
 {
+    let Setting {
+        rt,
+        alloc,
+        gate,
+        clock,
+    } = setting;
     thread::scope(
         thread::scope_env(),
         rt,

@@ -1,10 +1,10 @@
 //! The epochs of a session, each with a journal of its own.
-ghost use Rattle.std.specs.Prelude.{◌≡◌, ◌<◌, ◌≤◌, ◌↔◌, true, [], IfErr, IfNone, IfOk, IfSome, IsFalse, IsTrue};
-ghost use Rattle.std.specs.Prelude.{OnOk, length};
+ghost use Rattle.std.specs.Prelude.{◌≡◌, ◌<◌, ◌≤◌, ◌↔◌, true, [], IfErr, IfNone, IfOk, IfSome, IsFalse};
+ghost use Rattle.std.specs.Prelude.{IsTrue, OnOk, length};
 ghost use Rattle.serve_core.specs.Schedule.{opened_schedule};
 ghost use Rattle.serve_hub.specs.Books.{IsLimit, entries_left};
-ghost use Rattle.serve_work.specs.Intervals.{Continues, GoesLater, IsBetweenEpochs, IsLater, MayBegin};
-ghost use Rattle.serve_work.specs.Intervals.{beginning_of};
+ghost use Rattle.serve_work.specs.Intervals.{CanName, Continues, GoesLater, IsBetweenEpochs, IsLater};
+ghost use Rattle.serve_work.specs.Intervals.{MayBegin, beginning_of};
 ghost use Rattle.serve_work.specs.Sessions.{AreInputs};
 ghost use Rattle.serve_work.specs.SessionInside.{AreAllOver, AreAllowed, GivesBack, IsUnended, fault_of};
 ghost use Rattle.serve_work.specs.SessionInside.{held_with};
@@ -17,11 +17,11 @@ use super::room::{Room, empty_slots, fill_slots};
 use super::threads::run_threads;
 use super::turn::{Stream, pair_with_seats};
 use super::unended::Unended;
-use crate::bounds::{Runtime, SentSink, SentSource, SharedClock, SharedGate};
+use crate::bounds::{Host, LentClock, LentGate, SentSink, SentSource};
+use crate::setting::Setting;
 use serve_core::Setup;
 use serve_hub::limits::MOST_SEATS;
 use serve_hub::{Ended, Epoch};
-use std::alloc::Global;
 use std::marker::Brand;
 use std::sync::Mutex;
 use std::sync::ledger::Blank;
@@ -60,23 +60,13 @@ fn is_cut(ended: &Ended, waits: bool, is_first: bool) -> Option<bool>
 
 /// The streams go on with their seats of this epoch, until all are over or the journal is full. In the first
 /// epoch all workers have to start; in a later one it goes on with those that do.
-fn epoch<
-    L: Epoch + Send + Sync,
-    R: SentSource,
-    W: SentSink,
-    G: SharedGate,
-    K: SharedClock,
-    T: Runtime,
->(
-    rt: &T,
-    alloc: Global,
+fn epoch<L: Epoch + Send + Sync, R: SentSource, W: SentSink, G: LentGate, K: LentClock, T: Host>(
+    setting: Setting<'_, G, K, T>,
     opening: Opening<L, R, W>,
     is_first: bool,
-    gate: &G,
-    clock: &K,
 ) -> Result<Interval<R, W>, Unended<R, W>>
     requires at { MayBegin L.opening opening }
-    ensures later { IfOk result (Continues (K.gives clock.now) is_first L.opening opening) }
+    ensures later { IfOk result (Continues (K.gives setting.entry.clock.now) is_first L.opening opening) }
     ensures unended { IfErr result (IsUnended is_first
         (held_with opening.opened.1.items opening.streams.items)) }
 {
@@ -87,14 +77,12 @@ fn epoch<
         mut slots,
         mut back,
     } = opening.room;
-    gate.epoch_begins();
+    setting.gate.epoch_begins();
     let workers = work_seats.len();
     let turns = pair_with_seats(turns, seats, opening.streams);
     fill_slots(&mut slots, work_seats);
     let start = Mutex::new(false);
-    let turns = match run_threads(
-        rt, alloc, &hub, &slots, &start, turns, is_first, gate, clock,
-    ) {
+    let turns = match run_threads(setting, &hub, &slots, &start, turns, is_first) {
         Ok(turns) => turns,
         Err(turns) => {
             places.fill(turns);
@@ -123,67 +111,48 @@ fn epoch<
 
 /// The first epoch of a session. All that it needs is taken before a frame is read. Where some of it is
 /// refused, the inputs come back as they were, or the streams with nothing done of them.
-pub(super) fn first_epoch<
+pub(super) fn begin<
     L: Epoch + Send + Sync,
     R: SentSource,
     W: SentSink,
-    G: SharedGate,
-    K: SharedClock,
-    T: Runtime,
+    G: LentGate,
+    K: LentClock,
+    T: Host,
 >(
-    rt: &T,
-    alloc: Global,
+    setting: Setting<'_, G, K, T>,
     blank: Blank,
     setup: Setup,
     inputs: Vec<(StreamReader<R>, W)>,
     limit: usize,
-    gate: &G,
-    clock: &K,
 ) -> Result<Interval<R, W>, Unended<R, W>>
-    requires name { blank.name ≡ L.name }
-    requires parts { blank.parts ≡ L.parts }
-    requires enough { blank.parts ≡ MOST_SEATS }
-    requires opening { opened_schedule setup ≡ L.opening }
+    requires blank { CanName blank.name blank.parts (opened_schedule setup) L.name L.parts L.opening }
     requires inputs { AreInputs setup.streams inputs.items }
-    ensures between { IfOk result (IsLater (K.gives clock.now)
+    ensures between { IfOk result (IsLater (K.gives setting.entry.clock.now)
         (beginning_of W.contents W.failures setup limit inputs.items) (λ journal. journal ≡ []) []) }
-    ensures stops { IfOk result (λ now. AreAllowed (K.gives clock.now) now.streams.items) }
+    ensures stops { IfOk result (λ now. AreAllowed (K.gives setting.entry.clock.now) now.streams.items) }
     ensures limit { OnOk result (IsLimit (length setup.streams) limit) }
     ensures bad_limit { IfErr result (λ e.
         (fault_of e ≡ SessionFault.BadLimit) ↔ ¬ IsLimit (length setup.streams) limit) }
     ensures unread { IfErr result (GivesBack W.contents W.failures inputs.items) }
 {
-    let opening = open_first::<L, R, W>(alloc, blank, setup, inputs, limit)?;
-    epoch(rt, alloc, opening, true, gate, clock)
+    let opening = open_first::<L, R, W>(setting.alloc, blank, setup, inputs, limit)?;
+    epoch(setting, opening, true)
 }
 
 /// The next epoch of a session. Where none can be opened, the session is cut.
-fn next_epoch<
-    L: Epoch + Send + Sync,
-    R: SentSource,
-    W: SentSink,
-    G: SharedGate,
-    K: SharedClock,
-    T: Runtime,
->(
-    rt: &T,
-    alloc: Global,
+fn run_next<L: Epoch + Send + Sync, R: SentSource, W: SentSink, G: LentGate, K: LentClock, T: Host>(
+    setting: Setting<'_, G, K, T>,
     blank: Blank,
     interval: Interval<R, W>,
-    gate: &G,
-    clock: &K,
 ) -> Result<Interval<R, W>, SessionFault>
-    requires name { blank.name ≡ L.name }
-    requires parts { blank.parts ≡ L.parts }
-    requires enough { blank.parts ≡ MOST_SEATS }
-    requires opening { interval.ended.book.desk ≡ L.opening }
+    requires blank { CanName blank.name blank.parts interval.ended.book.desk L.name L.parts L.opening }
     requires at { IsBetweenEpochs interval }
-    ensures later { IfOk result (GoesLater (K.gives clock.now) true interval) }
+    ensures later { IfOk result (GoesLater (K.gives setting.entry.clock.now) true interval) }
     ensures fault { IfErr result (λ e. e ≡ SessionFault.Mismatch) }
 {
-    match open_next::<L, R, W>(alloc, blank, interval) {
+    match open_next::<L, R, W>(setting.alloc, blank, interval) {
         Err(interval) => Ok(interval),
-        Ok(opening) => match epoch(rt, alloc, opening, false, gate, clock) {
+        Ok(opening) => match epoch(setting, opening, false) {
             Ok(interval) => Ok(interval),
             Err(unended) => Err(unended.fault()),
         },
@@ -191,25 +160,22 @@ fn next_epoch<
 }
 
 /// Goes on with a session from epoch to epoch, until all its streams are over or it is cut.
-pub(super) fn go_on<R: SentSource, W: SentSink, G: SharedGate, K: SharedClock, T: Runtime>(
-    rt: &T,
-    alloc: Global,
+pub(super) fn go_on<R: SentSource, W: SentSink, G: LentGate, K: LentClock, T: Host>(
+    setting: Setting<'_, G, K, T>,
     interval: Interval<R, W>,
-    gate: &G,
-    clock: &K,
 ) -> Result<Interval<R, W>, SessionFault>
     requires at { IsBetweenEpochs interval }
-    ensures later { IfOk result (GoesLater (K.gives clock.now) interval.waits interval) }
+    ensures later { IfOk result (GoesLater (K.gives setting.entry.clock.now) interval.waits interval) }
     ensures fault { IfErr result (λ e. e ≡ SessionFault.Mismatch) }
 {
     let mut interval = interval;
-    for _ in rt.forever() {
+    for _ in setting.rt.forever() {
         let waits = interval.waits;
         if !waits || interval.is_cut {
             return Ok(interval);
         }
         let blank = Blank::new(MOST_SEATS);
-        interval = next_epoch::<Brand, R, W, G, K, T>(rt, alloc, blank, interval, gate, clock)?;
+        interval = run_next::<Brand, R, W, G, K, T>(setting, blank, interval)?;
     }
     unreachable!()
 }

@@ -5,7 +5,8 @@ ghost use Rattle.serve_core.specs.Schedule.{opened_schedule};
 ghost use Rattle.serve_hub.specs.Books.{IsLimit};
 ghost use Rattle.serve_hub.specs.declared.entry.Entry.{Entry};
 ghost use Rattle.serve_hub.specs.Seats.{hub_of, opened_streams};
-ghost use Rattle.serve_work.specs.Intervals.{Beginning, CanBegin, IsBetween, IsRoomFor, beginning_of};
+ghost use Rattle.serve_work.specs.Intervals.{Beginning, CanBegin, CanName, IsBetween, IsRoomFor};
+ghost use Rattle.serve_work.specs.Intervals.{beginning_of};
 ghost use Rattle.serve_work.specs.Sessions.{AreInputs};
 ghost use Rattle.serve_work.specs.SessionInside.{GivesBack, fault_of, unread};
 
@@ -15,7 +16,6 @@ use super::turn::{Stream, streams_of};
 use super::unended::Unended;
 use super::{Served, SessionFault};
 use serve_core::Setup;
-use serve_hub::limits::MOST_SEATS;
 use serve_hub::{Epoch, Hub, Opened};
 use std::alloc::Global;
 use std::sync::ledger::Blank;
@@ -41,10 +41,7 @@ fn lists<L: Epoch, R: Source + Drop, W: Sink + Drop>(
     streams: usize,
     limit: usize,
 ) -> Result<Lists<L, R, W>, SessionFault>
-    requires name { blank.name ≡ L.name }
-    requires parts { blank.parts ≡ L.parts }
-    requires enough { blank.parts ≡ MOST_SEATS }
-    requires opening { opened_schedule setup ≡ L.opening }
+    requires blank { CanName blank.name blank.parts (opened_schedule setup) L.name L.parts L.opening }
     ensures hub { IfOk result (λ made.
         made.0.0 ≡ hub_of (length setup.streams) setup.workers limit) }
     ensures seats { IfOk result (λ made. made.0.1.items ≡ opened_streams limit 0 setup.streams) }
@@ -68,10 +65,7 @@ pub(super) fn open_first<L: Epoch, R: Source + Drop, W: Sink + Drop>(
     inputs: Vec<(StreamReader<R>, W)>,
     limit: usize,
 ) -> Result<Opening<L, R, W>, Unended<R, W>>
-    requires name { blank.name ≡ L.name }
-    requires parts { blank.parts ≡ L.parts }
-    requires enough { blank.parts ≡ MOST_SEATS }
-    requires opening { opened_schedule setup ≡ L.opening }
+    requires blank { CanName blank.name blank.parts (opened_schedule setup) L.name L.parts L.opening }
     requires inputs { AreInputs setup.streams inputs.items }
     ensures at { IfOk result (CanBegin
         (beginning_of W.contents W.failures setup limit inputs.items) [] L.opening) }
@@ -104,10 +98,7 @@ pub(super) fn open_next<L: Epoch, R: Source + Drop, W: Sink + Drop>(
     blank: Blank,
     interval: Interval<R, W>,
 ) -> Result<Opening<L, R, W>, Interval<R, W>>
-    requires name { blank.name ≡ L.name }
-    requires parts { blank.parts ≡ L.parts }
-    requires enough { blank.parts ≡ MOST_SEATS }
-    requires opening { interval.ended.book.desk ≡ L.opening }
+    requires blank { CanName blank.name blank.parts interval.ended.book.desk L.name L.parts L.opening }
     ensures at { (b : Beginning) (journal : List Entry) → IsBetween b journal interval
         → IfOk result (CanBegin b journal L.opening) }
     ensures back { (b : Beginning) (journal : List Entry) → IsBetween b journal interval

@@ -1,5 +1,6 @@
 //! What is left of an epoch: the seats, and the streams.
-ghost use Rattle.std.specs.Prelude.{◌≡◌, ◌≤◌, List, [], IfOk, Some, map, vec_capacity, vec_len};
+ghost use Rattle.std.specs.Prelude.{◌≡◌, List, IfOk, Some, map, vec_capacity, vec_len};
+ghost use Rattle.serve_work.specs.Intervals.{ArePlacesFor};
 ghost use Rattle.serve_work.specs.SessionInside.{HeldValue};
 
 use super::turn::{Stream, Turn};
@@ -16,9 +17,7 @@ pub(crate) struct Places<L: Epoch, R: Source, W: Sink> {
 
 impl<L: Epoch, R: Source + Drop, W: Sink + Drop> Places<L, R, W> {
     pub(crate) fn new(alloc: Global, streams: usize) -> Result<Places<L, R, W>, AllocError>
-        ensures none { IfOk result (λ places. (places.seats.items ≡ []) × (places.streams.items ≡ [])) }
-        ensures room { IfOk result (λ places. (streams ≤ vec_capacity places.seats)
-            × (streams ≤ vec_capacity places.streams)) }
+        ensures { IfOk result (ArePlacesFor streams) }
     {
         Ok(Places {
             seats: Vec::with_capacity(alloc, streams)?,
@@ -28,10 +27,7 @@ impl<L: Epoch, R: Source + Drop, W: Sink + Drop> Places<L, R, W> {
 
     /// Takes the turns apart, in order.
     pub(crate) fn fill(&mut self, turns: Vec<Turn<L, R, W>>)
-        requires seats { self.old.seats.items ≡ [] }
-        requires streams { self.old.streams.items ≡ [] }
-        requires seats_room { vec_len turns ≤ vec_capacity self.old.seats }
-        requires streams_room { vec_len turns ≤ vec_capacity self.old.streams }
+        requires places { ArePlacesFor (vec_len turns) self.old }
         requires held { (helds : List HeldValue) × (turns.items ≡ map Some helds) }
         ensures seats { (helds : List HeldValue) → turns.items ≡ map Some helds
             → self.new.seats.items ≡ map (λ held. held.seat) helds }

@@ -5,7 +5,8 @@ ghost use Rattle.serve_work.specs.SessionInside.{AllRun, Runs};
 
 use super::room::Slot;
 use super::turn::Turn;
-use crate::bounds::{Runtime, SentSink, SentSource, SharedClock, SharedGate};
+use crate::bounds::{Host, LentClock, LentGate, SentSink, SentSource};
+use crate::setting::Setting;
 use crate::workers::work;
 use edf_pool::limits::MOST_STREAMS;
 use serve_hub::{Epoch, Hub};
@@ -15,13 +16,13 @@ use std::thread;
 use std::thread::Threads;
 
 /// Runs each client that waits, in a thread of its own, or on the one that asked for it where it is refused.
-pub(crate) fn run_clients<
-    L: Epoch + Send + Sync,
-    R: SentSource,
-    W: SentSink,
-    K: SharedClock,
-    T: Runtime,
->(rt: &T, alloc: Global, hub: &Hub<L>, turns: &mut [Turn<L, R, W>], clock: &K)
+fn run_clients<L: Epoch + Send + Sync, R: SentSource, W: SentSink, K: LentClock, T: Host>(
+    rt: &T,
+    alloc: Global,
+    hub: &Hub<L>,
+    turns: &mut [Turn<L, R, W>],
+    clock: &K,
+)
     requires sharing { IsSync T.row × IsSync K.row × IsSync L.row × IsSend L.row }
     ensures { AllRun (K.gives clock.now) turns.old turns.new }
 {
@@ -32,7 +33,7 @@ pub(crate) fn run_clients<
 }
 
 /// Runs the clients, where a worker runs beside them.
-fn run_beside<L: Epoch + Send + Sync, R: SentSource, W: SentSink, K: SharedClock, T: Runtime>(
+fn run_beside<L: Epoch + Send + Sync, R: SentSource, W: SentSink, K: LentClock, T: Host>(
     rt: &T,
     alloc: Global,
     hub: &Hub<L>,
@@ -56,7 +57,7 @@ fn run_beside<L: Epoch + Send + Sync, R: SentSource, W: SentSink, K: SharedClock
 pub(super) type Start = Mutex<bool>;
 
 /// A worker takes its seat from its slot, and leaves it there at its end.
-pub(crate) fn work_in<L: Epoch, G: SharedGate, T: Threads + Wait>(
+pub(crate) fn work_in<L: Epoch, G: LentGate, T: Threads + Wait>(
     rt: &T,
     hub: &Hub<L>,
     slot: &Slot<L>,
@@ -70,7 +71,7 @@ pub(crate) fn work_in<L: Epoch, G: SharedGate, T: Threads + Wait>(
 }
 
 /// The same, where the workers begin.
-fn begin_in<L: Epoch, G: SharedGate, T: Threads + Wait>(
+fn begin_in<L: Epoch, G: LentGate, T: Threads + Wait>(
     rt: &T,
     hub: &Hub<L>,
     slot: &Slot<L>,
@@ -92,26 +93,29 @@ pub(crate) fn run_threads<
     L: Epoch + Send + Sync,
     R: SentSource,
     W: SentSink,
-    G: SharedGate,
-    K: SharedClock,
-    T: Runtime,
+    G: LentGate,
+    K: LentClock,
+    T: Host,
 >(
-    rt: &T,
-    alloc: Global,
+    setting: Setting<'_, G, K, T>,
     hub: &Hub<L>,
     slots: &[Slot<L>],
     start: &Start,
     turns: Vec<Turn<L, R, W>>,
     needs_all: bool,
-    gate: &G,
-    clock: &K,
 ) -> Result<Vec<Turn<L, R, W>>, Vec<Turn<L, R, W>>>
     ensures count { IfOk result (λ after. vec_len after ≡ vec_len turns) }
-    ensures run { IfOk result (λ after. AllRun (K.gives clock.now) turns.items after.items) }
+    ensures run { IfOk result (λ after. AllRun (K.gives setting.entry.clock.now) turns.items after.items) }
     ensures needed { IsErr result → IsTrue needs_all }
     ensures back { IfErr result (λ back. back.items ≡ turns.items) }
     ensures all_back { IfErr result (λ back. vec_len back ≡ vec_len turns) }
 {
+    let Setting {
+        rt,
+        alloc,
+        gate,
+        clock,
+    } = setting;
     thread::scope(
         thread::scope_env(),
         rt,

@@ -2,8 +2,8 @@
 //! over.
 ghost use Rattle.std.specs.Prelude.{◌≡◌, ◌≤◌, [], IfErr, IfOk, Some, map, vec_capacity, vec_len};
 ghost use Rattle.std.specs.List.{AllByRecursion};
-ghost use Rattle.serve_work.specs.SessionInside.{AreUnread, GoesOn, IsOver, IsReady, Runs, held_at, held_with};
-ghost use Rattle.serve_work.specs.SessionInside.{unread};
+ghost use Rattle.serve_work.specs.SessionInside.{AreUnread, GoesOn, IsOver, IsReady, Runs, held_at};
+ghost use Rattle.serve_work.specs.SessionInside.{held_with, unread};
 ghost use Rattle.serve_work.specs.StreamInside as rules;
 
 use super::Served;
@@ -226,7 +226,8 @@ pub(crate) fn streams_of<R: Source + Drop, W: Sink + Drop>(
     inputs: Vec<(StreamReader<R>, W)>,
 ) -> Result<Vec<Stream<R, W>>, Vec<(StreamReader<R>, W)>>
     requires unread { AreUnread inputs.items }
-    ensures streams { IfOk result (λ streams. streams.items ≡ map (unread W.contents W.failures) inputs.items) }
+    ensures streams { IfOk result (λ streams.
+        streams.items ≡ map (unread W.contents W.failures) inputs.items) }
     ensures back { IfErr result (λ back. back ≡ inputs) }
 {
     let Ok(mut streams) = Vec::with_capacity(alloc, inputs.len()) else {

@@ -93,22 +93,22 @@ returns-clause-turn g c = λ start past is.
 
 pub returns-in_default-clause-moments : goal.returns-in_default-clause-moments
 returns-in_default-clause-moments g c =
-    let gives = g.K.Clock.gives c.args.clock.now in
+    let gives = g.K.Clock.gives c.args.post.clock.now in
     none_accepted gives _ _ c.end_unopened.ensures.tally c.end_unopened.ensures.accepted
 
 pub returns-in-Err-clause-moments : goal.returns-in-Err-clause-moments
 returns-in-Err-clause-moments g c =
-    let gives = g.K.Clock.gives c.args.clock.now in
+    let gives = g.K.Clock.gives c.args.post.clock.now in
     none_accepted gives _ _ c.end_unopened-in-Err.ensures.tally c.end_unopened-in-Err.ensures.accepted
 
 pub returns-in_default-clause-stop : goal.returns-in_default-clause-stop
 returns-in_default-clause-stop g c =
-    subst (AllowsStop (g.K.Clock.gives c.args.clock.now)) (sym (ap (λ (o : ClientOutcome). o.stop) c.end_unopened.ensures.outcome))
+    subst (AllowsStop (g.K.Clock.gives c.args.post.clock.now)) (sym (ap (λ (o : ClientOutcome). o.stop) c.end_unopened.ensures.outcome))
     tt
 
 pub returns-in-Err-clause-stop : goal.returns-in-Err-clause-stop
 returns-in-Err-clause-stop g c =
-    subst (AllowsStop (g.K.Clock.gives c.args.clock.now)) (sym (ap (λ (o : ClientOutcome). o.stop) c.end_unopened-in-Err.ensures.outcome))
+    subst (AllowsStop (g.K.Clock.gives c.args.post.clock.now)) (sym (ap (λ (o : ClientOutcome). o.stop) c.end_unopened-in-Err.ensures.outcome))
     tt
 
 pub returns-clause-stop : goal.returns-clause-stop

@@ -44,4 +44,4 @@ returns-in-Begun-clause-stop g c = λ was.
     let same : c.args.rest ≡ Begun (begun_with inside.course inside.reader inside.writer inside.accepted inside.collected) =
     sym c.rest.view_is ∙ ap (rest_of g.W.Sink.contents g.W.Sink.failures) c.in-Begun.is ∙ ap Begun
     (sym c.in-Begun.begun-is ∙ sym c.begun.view_is) in
-    c.run.ensures.stop (subst (λ (r : RestValue). IfSome (rest_stop r) (AllowsStop (g.K.Clock.gives c.args.clock.now))) same was)
+    c.run.ensures.stop (subst (λ (r : RestValue). IfSome (rest_stop r) (AllowsStop (g.K.Clock.gives c.args.post.clock.now))) same was)

@@ -37,10 +37,10 @@ returns-in-Paused-clause-turn g c = λ start past running.
 
 pub returns-in-Done-clause-moments : goal.returns-in-Done-clause-moments
 returns-in-Done-clause-moments g c =
-    subst (λ (seat : StreamSeatValue). KeepsMoments (g.K.Clock.gives c.args.clock.now) c.args.seat seat) (sym c.end.ensures.seat)
+    subst (λ (seat : StreamSeatValue). KeepsMoments (g.K.Clock.gives c.args.post.clock.now) c.args.seat seat) (sym c.end.ensures.seat)
     c.serve.ensures.moments
 
 pub returns-in-Done-clause-stop : goal.returns-in-Done-clause-stop
 returns-in-Done-clause-stop g c = λ was.
-    kept_allowed (g.K.Clock.gives c.args.clock.now) (Some c.in-Done.stop) (Some c.end.result.outcome.stop) c.end.ensures.stop
+    kept_allowed (g.K.Clock.gives c.args.post.clock.now) (Some c.in-Done.stop) (Some c.end.result.outcome.stop) c.end.ensures.stop
     (c.in-Done.ensures.stop was)

@@ -1,6 +1,5 @@
-use Rattle.std.proofs.Common.{◌≡◌}
-use Rattle.serve_core.specs.Streams.{IsImageOf, source_in}
 use Rattle.serve_work.specs.ClientInside.{IsOfCollection, IsOfWriting}
+use Rattle.serve_work.specs.Hands.{IsPairOf}
 use Rattle.serve_work.proofs.Finishing.{back_is, begun_now, can_put_on, err_map, left_of, tally_finish, writing_collects}
 use Rattle.serve_work.proofs.Finishing.{writing_unfinished}
 use Rattle.serve_work.proofs.Moving.{Moves-kept, MovesOrHalts-later}
@@ -9,25 +8,20 @@ use Rattle.serve_work.proofs.delivery.deliver.Goals as goal
 
 pub finish-requires : goal.finish-requires
 finish-requires g c =
-    can_put_on c.in-Ok.pair c.args.seat.now c.collect.new.seat c.args.writer.now c.in-Ok.ensures.given c.requires.size c.requires.few
-    c.requires.none
+    let can = c.requires.can in
+    can_put_on c.in-Ok.pair c.args.seat.now c.collect.new.seat c.args.writer.now c.in-Ok.ensures.given can.size can.few can.none
 
 pub returns-in-Ok-clause-answer : goal.returns-in-Ok-clause-answer
 returns-in-Ok-clause-answer g c =
     let given = c.in-Ok.ensures.given in
     MovesOrHalts-later c.finish.result _ _ _ _ _ _ (Moves-kept _ _ c.args.writer.now c.in-Ok.pair given)
     (c.finish.ensures.answer c.collect.new.seat c.args.writer.now
-    (begun_now c.in-Ok.pair c.args.seat.now c.collect.new.seat c.args.writer.now given c.requires.writing c.requires.none))
+    (begun_now c.in-Ok.pair c.args.seat.now c.collect.new.seat c.args.writer.now given c.requires.can.writing c.requires.can.none))
 
-pub returns-in-Ok-clause-source : goal.returns-in-Ok-clause-source
-returns-in-Ok-clause-source g c =
-    back_is (λ pair. (source_in pair).geometry ≡ c.args.seat.now.chain.geometry) c.finish.result c.in-Ok.pair c.finish.ensures.back
-    c.in-Ok.ensures.given.source
-
-pub returns-in-Ok-clause-image : goal.returns-in-Ok-clause-image
-returns-in-Ok-clause-image g c =
-    back_is (λ pair. IsImageOf c.args.seat.now.chain pair.image) c.finish.result c.in-Ok.pair c.finish.ensures.back
-    c.in-Ok.ensures.given.size
+pub returns-in-Ok-clause-pair : goal.returns-in-Ok-clause-pair
+returns-in-Ok-clause-pair g c =
+    back_is (IsPairOf c.args.seat.now.chain) c.finish.result c.in-Ok.pair c.finish.ensures.back
+    (record { source = c.in-Ok.ensures.given.source; image = c.in-Ok.ensures.given.size })
 
 pub returns-in-Ok-clause-drained : goal.returns-in-Ok-clause-drained
 returns-in-Ok-clause-drained g c =

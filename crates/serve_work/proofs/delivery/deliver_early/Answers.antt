@@ -10,21 +10,19 @@ use Rattle.serve_work.proofs.delivery.deliver_early.Goals as goal
 
 pub finish-requires : goal.finish-requires
 finish-requires g c =
-    can_put_on c.in-Ok.pair c.args.seat.now c.collect_early.new.seat c.args.writer.now c.in-Ok.ensures.given c.requires.size c.requires.few
-    c.requires.none
+    let can = c.requires.can in
+    can_put_on c.in-Ok.pair c.args.seat.now c.collect_early.new.seat c.args.writer.now c.in-Ok.ensures.given can.size can.few can.none
 
 pub returns-in-Ok-finish-clause-answer : goal.returns-in-Ok-finish-clause-answer
 returns-in-Ok-finish-clause-answer g c =
     let given = c.in-Ok.ensures.given in
     Moves-trans _ _ _ _ _ _ [] [] (Moves-kept _ _ c.args.writer.now c.in-Ok.pair given)
     (c.in-Ok-finish.ensures.answer c.collect_early.new.seat c.args.writer.now
-    (begun_now c.in-Ok.pair c.args.seat.now c.collect_early.new.seat c.args.writer.now given c.requires.writing c.requires.none))
+    (begun_now c.in-Ok.pair c.args.seat.now c.collect_early.new.seat c.args.writer.now given c.requires.can.writing c.requires.can.none))
 
-pub returns-in-Ok-finish-clause-source : goal.returns-in-Ok-finish-clause-source
-returns-in-Ok-finish-clause-source g c = rw c.in-Ok-finish.ensures.back c.in-Ok.ensures.given.source
-
-pub returns-in-Ok-finish-clause-image : goal.returns-in-Ok-finish-clause-image
-returns-in-Ok-finish-clause-image g c = rw c.in-Ok-finish.ensures.back c.in-Ok.ensures.given.size
+pub returns-in-Ok-finish-clause-pair : goal.returns-in-Ok-finish-clause-pair
+returns-in-Ok-finish-clause-pair g c =
+    rw c.in-Ok-finish.ensures.back (record { source = c.in-Ok.ensures.given.source; image = c.in-Ok.ensures.given.size })
 
 pub returns-in-Ok-finish-clause-tally : goal.returns-in-Ok-finish-clause-tally
 returns-in-Ok-finish-clause-tally g c =
@@ -35,7 +33,7 @@ returns-in-Ok-clause-answer g c =
     let given = c.in-Ok.ensures.given in
     HaltsWith-later c.in-Err-finish.halt _ _ _ _ _ _ [] [] (Moves-kept _ _ c.args.writer.now c.in-Ok.pair given)
     (c.in-Err-finish.ensures.answer c.collect_early.new.seat c.args.writer.now
-    (begun_now c.in-Ok.pair c.args.seat.now c.collect_early.new.seat c.args.writer.now given c.requires.writing c.requires.none))
+    (begun_now c.in-Ok.pair c.args.seat.now c.collect_early.new.seat c.args.writer.now given c.requires.can.writing c.requires.can.none))
 
 pub returns-in-Ok-clause-own : goal.returns-in-Ok-clause-own
 returns-in-Ok-clause-own g c = writing_delivers c.in-Err-finish.halt c.in-Err-finish.ensures.own

@@ -1,5 +1,5 @@
 use Rattle.std.proofs.Common.{◌≡◌, ◌∙◌, [], refl}
-use Rattle.serve_core.specs.Streams.{IsImageOf, source_in}
+use Rattle.serve_work.specs.Hands.{IsPairOf}
 use Rattle.serve_work.proofs.Staying.{GivesUp-trans, stays_chain, stays_closed}
 use Rattle.serve_work.proofs.Tallying.{Tallies-none, Tallies-trans}
 use Rattle.serve_work.proofs.Moving.{HaltsWith-later, Moves-none, Moves-trans, few_later, none_later, size_later, writing_later}
@@ -17,10 +17,12 @@ pub deliver_early-requires : goal.deliver_early-requires
 deliver_early-requires g c =
     let moved = c.loop.invariant.moved in
     record {
-      size = size_later _ _ _ _ [] moved c.requires.size;
-      few = few_later _ _ _ _ moved c.requires.few;
-      writing = writing_later _ _ _ _ [] moved c.requires.writing;
-      none = none_later _ _ _ _ [] moved c.requires.none;
+      can = record {
+        few = few_later _ _ _ _ moved c.requires.can.few;
+        writing = writing_later _ _ _ _ [] moved c.requires.can.writing;
+        none = none_later _ _ _ _ [] moved c.requires.can.none;
+        size = size_later _ _ _ _ [] moved c.requires.can.size;
+      };
       «open» = stays_closed c.args.seat.now c.loop.seat moved.seat_stays ∙ c.requires.open;
     }
 
@@ -46,11 +48,10 @@ loop-preserved g c =
     let so_far = c.loop.invariant in
     let next = c.in-Ok-Some in
     let chain : c.loop.seat.chain ≡ c.args.seat.now.chain = stays_chain c.args.seat.now c.loop.seat so_far.moved.seat_stays in
-    let source : (source_in next.pair).geometry ≡ c.loop.seat.chain.geometry = rw next.field-0-is at next.ensures.source in
-    let image : IsImageOf c.loop.seat.chain next.pair.image = rw next.field-0-is at next.ensures.image in
+    let pair : IsPairOf c.loop.seat.chain next.pair = rw next.field-0-is at next.ensures.pair in
     record {
       moved = Moves-trans _ _ _ _ _ _ [] [] so_far.moved next.ensures.answer;
       up = GivesUp-trans c.args.seat.now c.loop.seat c.deliver_early.new.seat so_far.up c.deliver_early.ensures.kept;
       tally = Tallies-trans _ _ _ _ _ _ so_far.moved.seat_stays.torn so_far.tally next.ensures.tally;
-      buffers = c.keep.ensures.sized c.args.seat.now.chain so_far.buffers (rw chain at source) (rw chain at image);
+      buffers = c.keep.ensures.sized c.args.seat.now.chain so_far.buffers (rw chain at pair.source) (rw chain at pair.image);
     }

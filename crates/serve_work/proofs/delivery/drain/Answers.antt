@@ -7,17 +7,17 @@ use Rattle.serve_work.proofs.delivery.drain.Goals as goal
 pub loop-init : goal.loop-init
 loop-init g c = record { moved = Moves-none _ _ _ _ refl refl; up = refl; tally = Tallies-none _ _ }
 
-pub deliver-requires-clause-size : goal.deliver-requires-clause-size
-deliver-requires-clause-size g c = size_later _ _ _ _ [] c.loop.invariant.moved c.requires.size
-
-pub deliver-requires-clause-few : goal.deliver-requires-clause-few
-deliver-requires-clause-few g c = few_later _ _ _ _ c.loop.invariant.moved c.requires.few
-
-pub deliver-requires-clause-writing : goal.deliver-requires-clause-writing
-deliver-requires-clause-writing g c = writing_later _ _ _ _ [] c.loop.invariant.moved c.requires.writing
-
-pub deliver-requires-clause-none : goal.deliver-requires-clause-none
-deliver-requires-clause-none g c = none_later _ _ _ _ [] c.loop.invariant.moved c.requires.none
+pub deliver-requires : goal.deliver-requires
+deliver-requires g c =
+    let moved = c.loop.invariant.moved in
+    record {
+      can = record {
+        few = few_later _ _ _ _ moved c.requires.can.few;
+        writing = writing_later _ _ _ _ [] moved c.requires.can.writing;
+        none = none_later _ _ _ _ [] moved c.requires.can.none;
+        size = size_later _ _ _ _ [] moved c.requires.can.size;
+      };
+    }
 
 pub returns-in-Err-clause-left : goal.returns-in-Err-clause-left
 returns-in-Err-clause-left g c = rw (stays_chain c.args.seat.now c.loop.seat c.loop.invariant.moved.seat_stays) at c.in-Err.ensures.left

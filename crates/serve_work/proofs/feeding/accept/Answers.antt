@@ -7,7 +7,7 @@ use Rattle.serve_work.proofs.Allowing.{collection_allowed, offered_allowed}
 use Rattle.serve_work.proofs.Staying.{GivesUp-at, GivesUp-trans, stays_chain, stays_closed}
 use Rattle.serve_work.proofs.Tallying.{KeepsMoments-same, KeepsMoments-trans, Tallies-none, Tallies-still, Tallies-trans}
 use Rattle.serve_work.proofs.Tallying.{none_given, offers_at}
-use Rattle.serve_work.proofs.Moving.{Accounted-later, Moves-at, Moves-none, Moves-trans, few_of}
+use Rattle.serve_work.proofs.Moving.{Accounted-later, Moves-at, Moves-none, Moves-trans, few_of, size_later}
 use Rattle.serve_work.proofs.Offering.{collection_halted, fed_image_of, halted_sized, offer_stopped, offered_tally}
 use Rattle.serve_work.proofs.feeding.accept.Goals as goal
 
@@ -36,11 +36,11 @@ returns-in-Stopped-clause-answer g c =
 
 pub returns-in-Stopped-clause-stop : goal.returns-in-Stopped-clause-stop
 returns-in-Stopped-clause-stop g c =
-    offered_allowed (g.K.Clock.gives c.args.clock.now) c.in-Stopped.stop c.moment.result _ _ _ c.moment.ensures c.in-Stopped.ensures.answer
+    offered_allowed (g.K.Clock.gives c.args.post.clock.now) c.in-Stopped.stop c.moment.result _ _ _ c.moment.ensures c.in-Stopped.ensures.answer
 
 pub returns-in-Err-clause-stop : goal.returns-in-Err-clause-stop
 returns-in-Err-clause-stop g c =
-    rw c.of.ensures (collection_allowed (g.K.Clock.gives c.args.clock.now) c.in-Err.halt c.in-QueueFull.back c.in-Err.ensures.own)
+    rw c.of.ensures (collection_allowed (g.K.Clock.gives c.args.post.clock.now) c.in-Err.halt c.in-QueueFull.back c.in-Err.ensures.own)
 
 pub returns-in-Stopped-clause-buffers : goal.returns-in-Stopped-clause-buffers
 returns-in-Stopped-clause-buffers g c = c.take_image-image.ensures.kept _ c.loop.invariant.buffers
@@ -50,17 +50,19 @@ returns-in-Stopped-clause-tally g c =
     Tallies-still c.args.seat.now c.loop.seat c.offer_once.new.seat c.args.writer.now c.loop.writer c.loop.invariant.tally
     (offered_tally _ _ _ _ _ c.offer_once.ensures.answer)
 
-pub deliver-requires-clause-few : goal.deliver-requires-clause-few
-deliver-requires-clause-few g c =
+pub deliver-requires : goal.deliver-requires
+deliver-requires g c =
     let moved = Moves-at c.args.seat.now c.loop.seat c.offer_once.new.seat c.args.writer.now c.loop.writer c.in-QueueFull.ensures.answer.2
     c.loop.invariant.moved in
-    few_of _ _ (Accounted-later _ _ _ _ [] moved c.requires.accounted)
-
-pub deliver-requires-clause-none : goal.deliver-requires-clause-none
-deliver-requires-clause-none g c =
-    let moved = Moves-at c.args.seat.now c.loop.seat c.offer_once.new.seat c.args.writer.now c.loop.writer c.in-QueueFull.ensures.answer.2
-    c.loop.invariant.moved in
-    (Accounted-later _ _ _ _ [] moved c.requires.accounted).none
+    let accounted = Accounted-later _ _ _ _ [] moved c.requires.accounted in
+    record {
+      can = record {
+        few = few_of _ _ accounted;
+        writing = accounted.writing;
+        none = accounted.none;
+        size = size_later _ _ _ _ [] moved c.requires.size;
+      };
+    }
 
 pub returns-in-Err-clause-back : goal.returns-in-Err-clause-back
 returns-in-Err-clause-back g c =
@@ -86,7 +88,7 @@ returns-in-Err-clause-tally g c =
 
 pub loop-preserved : goal.loop-preserved
 loop-preserved g c =
-    let gives = g.K.Clock.gives c.args.clock.now in
+    let gives = g.K.Clock.gives c.args.post.clock.now in
     let so_far = c.loop.invariant in
     let seat = c.args.seat.now in
     let at = c.offer_once.new.seat in
@@ -109,7 +111,7 @@ loop-preserved g c =
           (KeepsMoments-trans gives seat c.loop.seat at so_far.moments
           (offers_at gives c.moment.result c.loop.seat at c.moment.ensures c.offer_once.ensures.moment))
           (none_given gives at c.deliver.new.seat c.deliver.ensures.tally.seat c.deliver.ensures.kept);
-      buffers = c.keep.ensures.sized seat.chain kept (rw chain at c.in-Ok.ensures.source) (rw chain at c.in-Ok.ensures.image);
+      buffers = c.keep.ensures.sized seat.chain kept (rw chain at c.in-Ok.ensures.pair.source) (rw chain at c.in-Ok.ensures.pair.image);
     }
 
 pub returns-in-JournalFull-clause-buffers : goal.returns-in-JournalFull-clause-buffers
@@ -144,28 +146,28 @@ returns-in-Err-clause-buffers g c =
 
 pub returns-in-Accepted-clause-moments : goal.returns-in-Accepted-clause-moments
 returns-in-Accepted-clause-moments g c =
-    let gives = g.K.Clock.gives c.args.clock.now in
+    let gives = g.K.Clock.gives c.args.post.clock.now in
     let at = c.offer_once.new.seat in
     KeepsMoments-trans gives c.args.seat.now c.loop.seat at c.loop.invariant.moments
     (offers_at gives c.moment.result c.loop.seat at c.moment.ensures c.offer_once.ensures.moment)
 
 pub returns-in-Stopped-clause-moments : goal.returns-in-Stopped-clause-moments
 returns-in-Stopped-clause-moments g c =
-    let gives = g.K.Clock.gives c.args.clock.now in
+    let gives = g.K.Clock.gives c.args.post.clock.now in
     let at = c.offer_once.new.seat in
     KeepsMoments-trans gives c.args.seat.now c.loop.seat at c.loop.invariant.moments
     (offers_at gives c.moment.result c.loop.seat at c.moment.ensures c.offer_once.ensures.moment)
 
 pub returns-in-JournalFull-clause-moments : goal.returns-in-JournalFull-clause-moments
 returns-in-JournalFull-clause-moments g c =
-    let gives = g.K.Clock.gives c.args.clock.now in
+    let gives = g.K.Clock.gives c.args.post.clock.now in
     let at = c.offer_once.new.seat in
     KeepsMoments-trans gives c.args.seat.now c.loop.seat at c.loop.invariant.moments
     (offers_at gives c.moment.result c.loop.seat at c.moment.ensures c.offer_once.ensures.moment)
 
 pub returns-in-Err-clause-moments : goal.returns-in-Err-clause-moments
 returns-in-Err-clause-moments g c =
-    let gives = g.K.Clock.gives c.args.clock.now in
+    let gives = g.K.Clock.gives c.args.post.clock.now in
     let at = c.offer_once.new.seat in
     KeepsMoments-trans gives c.args.seat.now at c.deliver.new.seat
     (KeepsMoments-trans gives c.args.seat.now c.loop.seat at c.loop.invariant.moments

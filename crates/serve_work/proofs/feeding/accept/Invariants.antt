@@ -9,6 +9,6 @@ invariant-loop g l = record {
   up : GivesUp l.initial.seat l.seat;
   frame : arc_value l.frame ≡ arc_value l.initial.frame;
   tally : Tallies l.initial.seat l.seat l.initial.writer l.writer;
-  moments : KeepsMoments (g.K.Clock.gives l.fn.clock) l.initial.seat l.seat;
+  moments : KeepsMoments (g.K.Clock.gives l.fn.post.clock.now) l.initial.seat l.seat;
   buffers : AreBuffersFor l.initial.seat.chain l.buffers;
 }

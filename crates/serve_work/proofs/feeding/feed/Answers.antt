@@ -1,4 +1,4 @@
-use Rattle.std.proofs.Common.{[], Ok, Option, Result, Some, None, subst}
+use Rattle.std.proofs.Common.{[], Ok, Option, Result, Some, None, refl, subst}
 use Rattle.std.specs.Bool.{⊤}
 use Rattle.std.specs.declared.alloc.Global.{Global}
 use Rattle.std.specs.declared.sync.Arc.{Arc}
@@ -20,19 +20,26 @@ returns-in-None-clause-answer g c = λ past before counted h.
     subst (λ (r : ReaderState). FeedsOn c.feed_on.result past r c.feed_on.new.reader c.args.seat.now c.feed_on.new.seat c.args.writer.now
     c.feed_on.new.writer) none (c.feed_on.ensures.answer past counted)
 
-pub accept-requires-clause-frame : goal.accept-requires-clause-frame
-accept-requires-clause-frame g c = rw c.in-Some.is at c.requires.frame
+pub accept-requires : goal.accept-requires
+accept-requires g c = record {
+  size = c.requires.can.size;
+  accounted = c.requires.can.accounted;
+  frame = rw c.in-Some.is at c.requires.frame;
+  buffers = c.requires.can.memory;
+}
 
 pub feed_on-requires-in-Ok : goal.feed_on-requires-in-Ok
 feed_on-requires-in-Ok g c =
     let moved = c.in-Ok.ensures.answer in
     let chain = stays_chain c.args.seat.now c.accept.new.seat moved.seat_stays in
     record {
-      header = rw chain c.requires.header;
-      size = size_later _ _ _ _ _ moved c.requires.size;
-      accounted = Accounted-later _ _ _ _ _ moved c.requires.accounted;
-      «open» = c.requires.open;
-      buffers = rw chain c.accept.ensures.buffers;
+      can = record {
+        header = rw chain c.requires.can.header;
+        is_open = c.requires.can.is_open;
+        size = size_later _ _ _ _ _ moved c.requires.can.size;
+        accounted = Accounted-later _ _ _ _ _ moved c.requires.can.accounted;
+        memory = rw chain c.accept.ensures.buffers;
+      };
     }
 
 pub returns-in-Ok-clause-answer : goal.returns-in-Ok-clause-answer
@@ -49,17 +56,19 @@ returns-in-Ok-clause-answer g c = λ past before counted h.
     c.feed_on-in-Ok.result c.feed_on-in-Ok.new.reader c.feed_on-in-Ok.new.seat c.feed_on-in-Ok.new.writer
     (c.feed_on-in-Ok.ensures.answer past (counted_later past seat c.accept.new.seat c.accept.ensures.tally.seat counted))
 
-pub returns-in-Ok-clause-tally : goal.returns-in-Ok-clause-tally
-returns-in-Ok-clause-tally g c =
-    Tallies-trans _ _ _ _ _ _ c.in-Ok.ensures.answer.seat_stays.torn c.in-Ok.ensures.tally c.feed_on-in-Ok.ensures.tally
-
-pub returns-in-Ok-clause-buffers : goal.returns-in-Ok-clause-buffers
-returns-in-Ok-clause-buffers g c =
-    rw (stays_chain c.args.seat.now c.accept.new.seat c.in-Ok.ensures.answer.seat_stays) at c.feed_on-in-Ok.ensures.buffers
-
-pub returns-in-Ok-clause-frame : goal.returns-in-Ok-clause-frame
-returns-in-Ok-clause-frame g c =
-    rw (stays_chain c.args.seat.now c.accept.new.seat c.in-Ok.ensures.answer.seat_stays) at c.feed_on-in-Ok.ensures.frame
+pub returns-in-Ok-clause-kept : goal.returns-in-Ok-clause-kept
+returns-in-Ok-clause-kept g c =
+    let stays = c.in-Ok.ensures.answer.seat_stays in
+    let chain = stays_chain c.args.seat.now c.accept.new.seat stays in
+    let kept = c.feed_on-in-Ok.ensures.kept in
+    record {
+      tally = Tallies-trans _ _ _ _ _ _ stays.torn c.in-Ok.ensures.tally kept.tally;
+      moments = KeepsMoments-trans _ _ _ _ c.accept.ensures.moments kept.moments;
+      stop = kept.stop;
+      memory = rw chain at kept.memory;
+      frame = rw chain at kept.frame;
+      header = kept.header;
+    }
 
 pub returns-in-Err-clause-answer : goal.returns-in-Err-clause-answer
 returns-in-Err-clause-answer g c = λ past before counted h.
@@ -71,5 +80,12 @@ returns-in-Err-clause-answer g c = λ past before counted h.
     Feeds-unfed before before seat seat writer writer [] (Passes-none before seat writer) past c.in-Err.fed reader c.accept.new.seat
     c.accept.new.writer (arc_value c.in-Some.frame) counted some.0 some.1 c.in-Err.ensures.answer
 
-pub returns-in-Ok-clause-moments : goal.returns-in-Ok-clause-moments
-returns-in-Ok-clause-moments g c = KeepsMoments-trans _ _ _ _ c.accept.ensures.moments c.feed_on-in-Ok.ensures.moments
+pub returns-in-Err-clause-kept : goal.returns-in-Err-clause-kept
+returns-in-Err-clause-kept g c = record {
+  tally = c.in-Err.ensures.tally;
+  moments = c.accept.ensures.moments;
+  stop = c.in-Err.ensures.stop;
+  memory = c.accept.ensures.buffers;
+  frame = c.in-Err.ensures.back;
+  header = refl;
+}

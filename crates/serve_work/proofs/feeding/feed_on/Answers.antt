@@ -10,11 +10,11 @@ loop-init g c = record {
   passed = record {
     frames = [];
     passed = Passes-none c.args.reader.now c.args.seat.now c.args.writer.now;
-    is_open = c.requires.open;
+    is_open = c.requires.can.is_open;
   };
   tally = Tallies-none _ _;
   moments = KeepsMoments-same _ _ _ refl;
-  buffers = c.requires.buffers;
+  buffers = c.requires.can.memory;
 }
 
 pub feed_once-requires : goal.feed_once-requires
@@ -22,11 +22,13 @@ feed_once-requires g c =
     let so_far = c.loop.invariant.passed in
     let chain = stays_chain c.args.seat.now c.loop.seat so_far.passed.moved.seat_stays in
     record {
-      header = rw (so_far.passed.header, chain) c.requires.header;
-      size = size_later _ _ _ _ _ so_far.passed.moved c.requires.size;
-      accounted = Accounted-later _ _ _ _ _ so_far.passed.moved c.requires.accounted;
-      «open» = so_far.is_open;
-      buffers = rw chain c.loop.invariant.buffers;
+      can = record {
+        header = rw (so_far.passed.header, chain) c.requires.can.header;
+        is_open = so_far.is_open;
+        size = size_later _ _ _ _ _ so_far.passed.moved c.requires.can.size;
+        accounted = Accounted-later _ _ _ _ _ so_far.passed.moved c.requires.can.accounted;
+        memory = rw chain c.loop.invariant.buffers;
+      };
     }
 
 pub loop-preserved : goal.loop-preserved
@@ -50,10 +52,12 @@ returns-in-Err g c =
           FeedsOn-behind c.args.reader.now c.loop.reader c.args.seat.now c.loop.seat c.args.writer.now c.loop.writer so_far.frames
           so_far.passed past c.in-Err.fed c.feed_once.new.reader c.feed_once.new.seat c.feed_once.new.writer
           (c.in-Err.ensures.answer past (counted_later past c.args.seat.now c.loop.seat c.loop.invariant.tally.seat counted));
-      tally = Tallies-trans _ _ _ _ _ _ so_far.passed.moved.seat_stays.torn c.loop.invariant.tally c.in-Err.ensures.tally;
-      moments = KeepsMoments-trans _ _ _ _ c.loop.invariant.moments c.feed_once.ensures.moments;
-      stop = c.in-Err.ensures.stop;
-      buffers = rw chain at c.feed_once.ensures.buffers;
-      frame = rw chain at c.in-Err.ensures.frame;
-      header = c.feed_once.ensures.header ∙ so_far.passed.header;
+      kept = record {
+        tally = Tallies-trans _ _ _ _ _ _ so_far.passed.moved.seat_stays.torn c.loop.invariant.tally c.in-Err.ensures.tally;
+        moments = KeepsMoments-trans _ _ _ _ c.loop.invariant.moments c.feed_once.ensures.moments;
+        stop = c.in-Err.ensures.stop;
+        memory = rw chain at c.feed_once.ensures.buffers;
+        frame = rw chain at c.in-Err.ensures.frame;
+        header = c.feed_once.ensures.header ∙ so_far.passed.header;
+      };
     }

@@ -1,4 +1,4 @@
-use Rattle.std.proofs.Common.{Option, Some, None, subst}
+use Rattle.std.proofs.Common.{Option, Some, None, refl, subst}
 use Rattle.std.specs.declared.alloc.Global.{Global}
 use Rattle.std.specs.declared.sync.Arc.{Arc}
 use Rattle.frame_view.specs.declared.frame.Frame.{Frame}
@@ -17,10 +17,16 @@ returns-in-None-clause-answer g c = λ past before writer counted h.
     (c.hold_on.ensures.answer past writer counted)
 
 pub offer_on-requires : goal.offer_on-requires
-offer_on-requires g c = record { size = rw c.in-Some.is at c.requires.frame; unclosed = c.requires.unclosed }
+offer_on-requires g c = record { size = rw c.in-Some.is at c.requires.frame; unclosed = c.requires.can.is_unclosed }
 
-pub hold_on-requires-in-Ok-clause-header : goal.hold_on-requires-in-Ok-clause-header
-hold_on-requires-in-Ok-clause-header g c = rw c.offer_on.ensures.tally.chain c.requires.header
+pub hold_on-requires-in-Ok : goal.hold_on-requires-in-Ok
+hold_on-requires-in-Ok g c = record {
+  can = record {
+    header = rw c.offer_on.ensures.tally.chain c.requires.can.header;
+    is_open = c.requires.can.is_open;
+    is_unclosed = c.in-Ok.ensures.unclosed;
+  };
+}
 
 pub returns-in-Ok-clause-answer : goal.returns-in-Ok-clause-answer
 returns-in-Ok-clause-answer g c = λ past before writer counted h.
@@ -32,11 +38,16 @@ returns-in-Ok-clause-answer g c = λ past before writer counted h.
     first.frames first.passed past c.hold_on-in-Ok.result
     (c.hold_on-in-Ok.ensures.answer past writer (counted_later past c.args.seat.now c.offer_on.new.seat c.offer_on.ensures.tally counted))
 
-pub returns-in-Ok-clause-tally : goal.returns-in-Ok-clause-tally
-returns-in-Ok-clause-tally g c = TalliesSeat-trans _ _ _ c.offer_on.ensures.tally c.hold_on-in-Ok.ensures.tally
-
-pub returns-in-Ok-clause-frame : goal.returns-in-Ok-clause-frame
-returns-in-Ok-clause-frame g c = rw c.offer_on.ensures.tally.chain at c.hold_on-in-Ok.ensures.frame
+pub returns-in-Ok-clause-kept : goal.returns-in-Ok-clause-kept
+returns-in-Ok-clause-kept g c =
+    let kept = c.hold_on-in-Ok.ensures.kept in
+    record {
+      tally = TalliesSeat-trans _ _ _ c.offer_on.ensures.tally kept.tally;
+      moments = KeepsMoments-trans _ _ _ _ c.offer_on.ensures.moments kept.moments;
+      stop = kept.stop;
+      frame = rw c.offer_on.ensures.tally.chain at kept.frame;
+      header = kept.header;
+    }
 
 pub returns-in-Err-clause-answer : goal.returns-in-Err-clause-answer
 returns-in-Err-clause-answer g c = λ past before writer counted h.
@@ -44,5 +55,11 @@ returns-in-Err-clause-answer g c = λ past before writer counted h.
     c.in-Err.ensures.answer past before reader writer counted
     (subst (λ (o : Option (Arc Frame Global)). Holds before reader (text_in o)) c.in-Some.is h)
 
-pub returns-in-Ok-clause-moments : goal.returns-in-Ok-clause-moments
-returns-in-Ok-clause-moments g c = KeepsMoments-trans _ _ _ _ c.offer_on.ensures.moments c.hold_on-in-Ok.ensures.moments
+pub returns-in-Err-clause-kept : goal.returns-in-Err-clause-kept
+returns-in-Err-clause-kept g c = record {
+  tally = c.offer_on.ensures.tally;
+  moments = c.offer_on.ensures.moments;
+  stop = c.in-Err.ensures.stop;
+  frame = c.in-Err.ensures.frame;
+  header = refl;
+}

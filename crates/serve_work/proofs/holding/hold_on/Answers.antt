@@ -9,17 +9,25 @@ loop-init g c = record {
   passed = λ past writer counted. record {
     frames = [];
     passed = Passes-none c.args.reader.now c.args.seat.now writer;
-    is_open = c.requires.open;
+    is_open = c.requires.can.is_open;
   };
   header = refl;
-  is_open = c.requires.open;
-  is_unclosed = c.requires.unclosed;
+  is_open = c.requires.can.is_open;
+  is_unclosed = c.requires.can.is_unclosed;
   tally = seat_same _ _ refl;
   moments = KeepsMoments-same _ _ _ refl;
 }
 
-pub hold_once-requires-clause-header : goal.hold_once-requires-clause-header
-hold_once-requires-clause-header g c = rw (c.loop.invariant.header, c.loop.invariant.tally.chain) c.requires.header
+pub hold_once-requires : goal.hold_once-requires
+hold_once-requires g c =
+    let inv = c.loop.invariant in
+    record {
+      can = record {
+        header = rw (inv.header, inv.tally.chain) c.requires.can.header;
+        is_open = inv.is_open;
+        is_unclosed = inv.is_unclosed;
+      };
+    }
 
 pub loop-preserved : goal.loop-preserved
 loop-preserved g c =
@@ -46,9 +54,11 @@ returns-in-Err g c =
           OffersOn-behind c.args.reader.now c.loop.reader c.hold_once.new.reader c.args.seat.now c.loop.seat c.hold_once.new.seat writer
           so_far.frames so_far.passed past c.in-Err.onward
           (c.in-Err.ensures.answer past writer (counted_later past c.args.seat.now c.loop.seat inv.tally counted));
-      tally = TalliesSeat-trans _ _ _ inv.tally c.hold_once.ensures.tally;
-      moments = KeepsMoments-trans _ _ _ _ inv.moments c.hold_once.ensures.moments;
-      stop = c.in-Err.ensures.stop;
-      frame = rw inv.tally.chain at c.in-Err.ensures.frame;
-      header = c.hold_once.ensures.header ∙ inv.header;
+      kept = record {
+        tally = TalliesSeat-trans _ _ _ inv.tally c.hold_once.ensures.tally;
+        moments = KeepsMoments-trans _ _ _ _ inv.moments c.hold_once.ensures.moments;
+        stop = c.in-Err.ensures.stop;
+        frame = rw inv.tally.chain at c.in-Err.ensures.frame;
+        header = c.hold_once.ensures.header ∙ inv.header;
+      };
     }

@@ -13,5 +13,5 @@ invariant-loop g l = record {
   is_open : l.reader.phase ≡ Open;
   is_unclosed : l.seat.is_closed ≡ false;
   tally : TalliesSeat l.initial.seat l.seat;
-  moments : KeepsMoments (g.K.Clock.gives l.fn.clock) l.initial.seat l.seat;
+  moments : KeepsMoments (g.K.Clock.gives l.fn.post.clock.now) l.initial.seat l.seat;
 }

@@ -12,7 +12,7 @@ pub returns-in-Silent-clause-answer : goal.returns-in-Silent-clause-answer
 returns-in-Silent-clause-answer g c = λ past writer counted. record {
   frames = [];
   passed = Passes-none c.args.reader.now c.args.seat.now writer;
-  is_open = c.requires.open;
+  is_open = c.requires.can.is_open;
 }
 
 pub returns-in-JournalFull-clause-answer : goal.returns-in-JournalFull-clause-answer
@@ -21,14 +21,14 @@ returns-in-JournalFull-clause-answer g c = λ past writer counted. record {
   frames = [];
   passed = Passes-none c.args.reader.now c.args.seat.now writer;
   holds = refl;
-  is_open = c.requires.open;
+  is_open = c.requires.can.is_open;
 }
 
 pub offer_on-requires : goal.offer_on-requires
 offer_on-requires g c =
     let sized : IsOfHeader c.args.reader.now.header (arc_value c.in-Ok-Some.frame).geometry = rw c.in-Ok-Some.field-0-is at
     c.in-Ok-Some.ensures.size in
-    record { size = one_size c.args.reader.now.header _ _ sized c.requires.header; unclosed = c.requires.unclosed }
+    record { size = one_size c.args.reader.now.header _ _ sized c.requires.can.header; unclosed = c.requires.can.is_unclosed }
 
 pub returns-in-Ok-Some-clause-answer : goal.returns-in-Ok-Some-clause-answer
 returns-in-Ok-Some-clause-answer g c = λ past writer counted.
@@ -65,7 +65,7 @@ returns-in-Err-clause-moments g c = KeepsMoments-same _ _ _ refl
 
 pub returns-in-Err-clause-stop : goal.returns-in-Err-clause-stop
 returns-in-Err-clause-stop g c =
-    unread_allowed (g.K.Clock.gives c.args.clock.now) c.in-Err.stop _ _ c.in-Err.ensures.fault
+    unread_allowed (g.K.Clock.gives c.args.post.clock.now) c.in-Err.stop _ _ c.in-Err.ensures.fault
 
 pub returns-in-Silent-clause-tally : goal.returns-in-Silent-clause-tally
 returns-in-Silent-clause-tally g c = seat_same _ _ refl

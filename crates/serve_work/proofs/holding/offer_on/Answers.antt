@@ -31,23 +31,23 @@ returns-clause-answer g c = λ past before reader writer counted taken.
 
 pub returns-clause-stop : goal.returns-clause-stop
 returns-clause-stop g c =
-    offered_allowed (g.K.Clock.gives c.args.clock.now) c.in-Stopped.stop c.moment.result _ _ _ c.moment.ensures c.in-Stopped.ensures.answer
+    offered_allowed (g.K.Clock.gives c.args.post.clock.now) c.in-Stopped.stop c.moment.result _ _ _ c.moment.ensures c.in-Stopped.ensures.answer
 
 pub returns-in-Accepted-clause-moments : goal.returns-in-Accepted-clause-moments
 returns-in-Accepted-clause-moments g c =
-    offers_at (g.K.Clock.gives c.args.clock.now) c.moment.result _ _ c.moment.ensures c.offer_once.ensures.moment
+    offers_at (g.K.Clock.gives c.args.post.clock.now) c.moment.result _ _ c.moment.ensures c.offer_once.ensures.moment
 
 pub returns-in-QueueFull-clause-moments : goal.returns-in-QueueFull-clause-moments
 returns-in-QueueFull-clause-moments g c =
-    offers_at (g.K.Clock.gives c.args.clock.now) c.moment.result _ _ c.moment.ensures c.offer_once.ensures.moment
+    offers_at (g.K.Clock.gives c.args.post.clock.now) c.moment.result _ _ c.moment.ensures c.offer_once.ensures.moment
 
 pub returns-in-JournalFull-clause-moments : goal.returns-in-JournalFull-clause-moments
 returns-in-JournalFull-clause-moments g c =
-    offers_at (g.K.Clock.gives c.args.clock.now) c.moment.result _ _ c.moment.ensures c.offer_once.ensures.moment
+    offers_at (g.K.Clock.gives c.args.post.clock.now) c.moment.result _ _ c.moment.ensures c.offer_once.ensures.moment
 
 pub returns-clause-moments : goal.returns-clause-moments
 returns-clause-moments g c =
-    offers_at (g.K.Clock.gives c.args.clock.now) c.moment.result _ _ c.moment.ensures c.offer_once.ensures.moment
+    offers_at (g.K.Clock.gives c.args.post.clock.now) c.moment.result _ _ c.moment.ensures c.offer_once.ensures.moment
 
 pub returns-in-Accepted-clause-unclosed : goal.returns-in-Accepted-clause-unclosed
 returns-in-Accepted-clause-unclosed g c =

@@ -1,4 +1,8 @@
+use Rattle.std.proofs.Common.{refl}
 use Rattle.serve_work.proofs.live.go_on.Goals as goal
+
+pub next_epoch-requires-clause-blank : goal.next_epoch-requires-clause-blank
+next_epoch-requires-clause-blank g c κs within = record { name_is = refl; parts_are = refl; enough = c.new-blank.ensures; opens = refl }
 
 pub next_epoch-requires-clause-guests : goal.next_epoch-requires-clause-guests
 next_epoch-requires-clause-guests g c κs within =

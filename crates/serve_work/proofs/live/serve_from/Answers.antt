@@ -1,6 +1,9 @@
-use Rattle.std.proofs.Common.{ap}
+use Rattle.std.proofs.Common.{ap, refl}
 use Rattle.serve_work.specs.Live.{Waiting, waiting_of}
 use Rattle.serve_work.proofs.live.serve_from.Goals as goal
+
+pub first_epoch-requires-clause-blank : goal.first_epoch-requires-clause-blank
+first_epoch-requires-clause-blank g c κs within = record { name_is = refl; parts_are = refl; enough = c.new-blank.ensures; opens = refl }
 
 pub first_epoch-requires-clause-first : goal.first_epoch-requires-clause-first
 first_epoch-requires-clause-first g c κs within =

@@ -14,9 +14,17 @@ returns-in-Paused-clause-answer g c = λ past o writer is counted at.
 pub returns-in-Paused-clause-memory : goal.returns-in-Paused-clause-memory
 returns-in-Paused-clause-memory g c = λ writer buffers. record {
   chain = c.args.seat.now.chain;
-  header = rw c.hold.ensures.header c.requires.header;
-  sized = c.in-Paused.ensures.frame;
+  header = rw c.hold.ensures.kept.header c.requires.header;
+  sized = c.in-Paused.ensures.kept.frame;
 }
+
+pub hold-requires : goal.hold-requires
+hold-requires g c =
+    let can = c.requires.can in
+    record {
+      can = record { header = c.requires.header; is_open = can.is_open; is_unclosed = can.is_unclosed };
+      frame = can.frame;
+    }
 
 pub spoil_left-requires : goal.spoil_left-requires
 spoil_left-requires g c = record { fault = of_no_use c.args.held c.requires.can.spoilt }
@@ -29,7 +37,7 @@ returns-in-QueueFull-clause-answer g c = λ past o writer is counted at.
     (spoilt_on c.args.held o c.args.reader.now c.args.seat.now writer (text_in c.args.in_hand) _ at c.hold.new.reader c.hold.new.seat on.1))
 
 pub returns-in-QueueFull-clause-tally : goal.returns-in-QueueFull-clause-tally
-returns-in-QueueFull-clause-tally g c = TalliesSeat-trans _ _ _ c.hold.ensures.tally c.spoil_left.ensures.tally
+returns-in-QueueFull-clause-tally g c = TalliesSeat-trans _ _ _ c.hold.ensures.kept.tally c.spoil_left.ensures.tally
 
 pub spoil_left-requires-in-Stopped : goal.spoil_left-requires-in-Stopped
 spoil_left-requires-in-Stopped g c =
@@ -43,7 +51,7 @@ returns-in-Stopped-clause-answer g c = λ past o writer is counted at.
     c.hold.new.reader c.hold.new.seat on.0 on.1 c.or.ensures)
 
 pub returns-in-Stopped-clause-tally : goal.returns-in-Stopped-clause-tally
-returns-in-Stopped-clause-tally g c = TalliesSeat-trans _ _ _ c.hold.ensures.tally c.spoil_left-in-Stopped.ensures.tally
+returns-in-Stopped-clause-tally g c = TalliesSeat-trans _ _ _ c.hold.ensures.kept.tally c.spoil_left-in-Stopped.ensures.tally
 
 pub returns-in-QueueFull-clause-memory : goal.returns-in-QueueFull-clause-memory
 returns-in-QueueFull-clause-memory g c = c.spoil_left.ensures.memory c.hold.new.reader
@@ -53,21 +61,21 @@ returns-in-Stopped-clause-memory g c = c.spoil_left-in-Stopped.ensures.memory c.
 
 pub returns-in-QueueFull-clause-moments : goal.returns-in-QueueFull-clause-moments
 returns-in-QueueFull-clause-moments g c =
-    let gives = g.K.Clock.gives c.args.clock.now in
-    KeepsMoments-trans gives _ _ _ c.hold.ensures.moments
+    let gives = g.K.Clock.gives c.args.post.clock.now in
+    KeepsMoments-trans gives _ _ _ c.hold.ensures.kept.moments
     (none_accepted gives _ _ c.spoil_left.ensures.tally c.spoil_left.ensures.accepted)
 
 pub returns-in-Stopped-clause-moments : goal.returns-in-Stopped-clause-moments
 returns-in-Stopped-clause-moments g c =
-    let gives = g.K.Clock.gives c.args.clock.now in
-    KeepsMoments-trans gives _ _ _ c.hold.ensures.moments
+    let gives = g.K.Clock.gives c.args.post.clock.now in
+    KeepsMoments-trans gives _ _ _ c.hold.ensures.kept.moments
     (none_accepted gives _ _ c.spoil_left-in-Stopped.ensures.tally c.spoil_left-in-Stopped.ensures.accepted)
 
 pub returns-in-QueueFull-clause-stop : goal.returns-in-QueueFull-clause-stop
-returns-in-QueueFull-clause-stop g c = same_allowed (g.K.Clock.gives c.args.clock.now) _ _ (sym c.spoil_left.ensures.stop)
+returns-in-QueueFull-clause-stop g c = same_allowed (g.K.Clock.gives c.args.post.clock.now) _ _ (sym c.spoil_left.ensures.stop)
 
 pub returns-in-Stopped-clause-stop : goal.returns-in-Stopped-clause-stop
 returns-in-Stopped-clause-stop g c = λ was.
-    let gives = g.K.Clock.gives c.args.clock.now in
+    let gives = g.K.Clock.gives c.args.post.clock.now in
     same_allowed gives _ _ (sym c.spoil_left-in-Stopped.ensures.stop)
-    (first_allowed gives c.in-Stopped.stop c.args.held c.or.result c.in-Stopped.ensures.stop was c.or.ensures)
+    (first_allowed gives c.in-Stopped.stop c.args.held c.or.result c.in-Stopped.ensures.kept.stop was c.or.ensures)

@@ -30,7 +30,7 @@ returns-in-Some-image-clause-memory g c = c.drain_behind.ensures.memory _ _
 
 pub returns-in-Some-image-clause-moments : goal.returns-in-Some-image-clause-moments
 returns-in-Some-image-clause-moments g c =
-    let gives = g.K.Clock.gives c.args.clock.now in
+    let gives = g.K.Clock.gives c.args.post.clock.now in
     none_accepted gives _ _ c.drain_behind.ensures.tally.seat c.drain_behind.ensures.accepted
 
 pub returns-in-Some-Discarding-clause-memory : goal.returns-in-Some-Discarding-clause-memory
@@ -38,20 +38,20 @@ returns-in-Some-Discarding-clause-memory g c = c.discard_left.ensures.memory _ _
 
 pub returns-in-None-image-2-clause-moments : goal.returns-in-None-image-2-clause-moments
 returns-in-None-image-2-clause-moments g c =
-    let gives = g.K.Clock.gives c.args.clock.now in
+    let gives = g.K.Clock.gives c.args.post.clock.now in
     none_accepted gives _ _ c.drain_left.ensures.tally.seat c.drain_left.ensures.accepted
 
 pub returns-in-Some-Discarding-clause-moments : goal.returns-in-Some-Discarding-clause-moments
 returns-in-Some-Discarding-clause-moments g c =
-    let gives = g.K.Clock.gives c.args.clock.now in
+    let gives = g.K.Clock.gives c.args.post.clock.now in
     none_accepted gives _ _ c.discard_left.ensures.tally c.discard_left.ensures.accepted
 
 pub returns-in-Some-Holding-clause-stop : goal.returns-in-Some-Holding-clause-stop
 returns-in-Some-Holding-clause-stop g c = λ was.
-    c.hold_left.ensures.stop (same_allowed (g.K.Clock.gives c.args.clock.now) _ (Some c.in-Some-Holding.held)
+    c.hold_left.ensures.stop (same_allowed (g.K.Clock.gives c.args.post.clock.now) _ (Some c.in-Some-Holding.held)
     (ap course_stop_before (c.in-Some-Holding.is ∙ ap Some c.in-Some-Holding.field-0-is)) was)
 
 pub returns-in-Some-Discarding-clause-stop : goal.returns-in-Some-Discarding-clause-stop
 returns-in-Some-Discarding-clause-stop g c =
-    same_allowed (g.K.Clock.gives c.args.clock.now) _ _
+    same_allowed (g.K.Clock.gives c.args.post.clock.now) _ _
     (ap course_stop_before (c.in-Some-Discarding.is ∙ ap Some c.in-Some-Discarding.field-0-is) ∙ sym c.discard_left.ensures.stop)

@@ -4,15 +4,18 @@ use Rattle.serve_work.proofs.Tallying.{TalliesSeat-trans}
 use Rattle.serve_work.proofs.Stopping.{Serves-later}
 use Rattle.serve_work.proofs.serving.spoil_left.Goals as goal
 
-pub returns-clause-answer : goal.returns-clause-answer
-returns-clause-answer g c = λ past o reader writer serves.
-    c.discard_left.ensures.answer past o reader writer
-    (Serves-later past c.args.stop o.reader reader o.seat c.args.seat.now c.close_torn.new.seat o.writer writer c.requires.fault
-    c.close_torn.ensures.tally (ap (λ (s : StreamSeatValue). s.accepted) c.close_torn.ensures.closed) serves)
-
-pub returns-clause-tally : goal.returns-clause-tally
-returns-clause-tally g c = TalliesSeat-trans _ _ _ c.close_torn.ensures.tally c.discard_left.ensures.tally
-
-pub returns-clause-accepted : goal.returns-clause-accepted
-returns-clause-accepted g c =
-    c.discard_left.ensures.accepted ∙ ap (λ (s : StreamSeatValue). s.accepted) c.close_torn.ensures.closed
+pub returns : goal.returns
+returns g c =
+    let left = c.discard_left.ensures in
+    let accepted = ap (λ (s : StreamSeatValue). s.accepted) c.close_torn.ensures.closed in
+    record {
+      answer = λ past o reader writer serves.
+          left.answer past o reader writer
+          (Serves-later past c.args.stop o.reader reader o.seat c.args.seat.now c.close_torn.new.seat o.writer writer c.requires.fault
+          c.close_torn.ensures.tally accepted serves);
+      tally = TalliesSeat-trans _ _ _ c.close_torn.ensures.tally left.tally;
+      accepted = left.accepted ∙ accepted;
+      stop = left.stop;
+      memory = left.memory;
+      none = left.none;
+    }

@@ -6,6 +6,9 @@ use Rattle.serve_work.proofs.SessionStops.{stops_told}
 use Rattle.serve_work.proofs.SessionTurns.{mismatch, no_bad_limit, none_yet}
 use Rattle.serve_work.proofs.session.serve_session.Goals as goal
 
+pub begin-requires-clause-blank : goal.begin-requires-clause-blank
+begin-requires-clause-blank g c κs within = record { name_is = refl; parts_are = refl; enough = c.new-blank.ensures; opens = refl }
+
 pub go_on-requires-clause-at : goal.go_on-requires-clause-at
 go_on-requires-clause-at g c κs within =
     let first = c.in-Ok.ensures.between in

@@ -1,8 +1,8 @@
 use Rattle.serve_core.specs.Schedule.{opened_schedule}
 use Rattle.serve_work.proofs.session.serve_session.Given as goal
 
-abbrev pub ghosts-first_epoch-L-Ledger : goal.ghosts-first_epoch-L-Ledger
-ghosts-first_epoch-L-Ledger g a = record { name = a.blank.name; parts = a.blank.parts }
+abbrev pub ghosts-begin-L-Ledger : goal.ghosts-begin-L-Ledger
+ghosts-begin-L-Ledger g a = record { name = a.blank.name; parts = a.blank.parts }
 
-abbrev pub ghosts-first_epoch-L-Epoch : goal.ghosts-first_epoch-L-Epoch
-ghosts-first_epoch-L-Epoch g a = record { opening = opened_schedule a.setup }
+abbrev pub ghosts-begin-L-Epoch : goal.ghosts-begin-L-Epoch
+ghosts-begin-L-Epoch g a = record { opening = opened_schedule a.setup }

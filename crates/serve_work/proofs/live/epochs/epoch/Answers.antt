@@ -17,10 +17,12 @@ fill-requires g c =
     let ran = c.run_threads-turns.ensures.run seated.helds seated.turns in
     let few : vec_len c.run_threads-turns.result.0 ≤ 64 = omega (arith, c.run_threads-turns.ensures.count, seated.few) in
     record {
-      seats = seated.places.no_seats;
-      streams = seated.places.no_streams;
-      seats_room = omega (arith, few, seated.places.seats);
-      streams_room = omega (arith, few, seated.places.streams);
+      places = record {
+        no_seats = seated.places.places.no_seats;
+        seats = omega (arith, few, seated.places.places.seats);
+        no_streams = seated.places.places.no_streams;
+        streams = omega (arith, few, seated.places.places.streams);
+      };
       held = (ran.0, ran.1);
     }
 
@@ -59,7 +61,7 @@ with_idle-requires g c =
         c.run_threads-turns.ensures.count,
         c.fill.new.self.seats.ok.0,
         seated.few,
-        seated.places.seats,
+        seated.places.places.seats,
         c.fill.ensures.same_room,
       );
       guests_room = omega (
@@ -79,7 +81,7 @@ with_idle-requires g c =
 pub returns-clause-guests : goal.returns-clause-guests
 returns-clause-guests g c =
     let ws = c.admit_all.ensures.seated.0 in
-    let gives = g.K.Clock.gives c.args.clock.now in
+    let gives = g.K.Clock.gives c.args.setting.clock.now in
     let limit = g.D.Door.limit in
     let times = g.D.Door.times in
     let seated = c.admit_all.ensures.seated.2 in

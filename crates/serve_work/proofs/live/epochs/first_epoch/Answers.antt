@@ -40,7 +40,7 @@ seat-requires g c =
     let new = c.in-Some.ensures.seat request.spec first.streams in
     let none = ap offers_in new.1.0 in
     let there : IsNewIn request.spec seat.number g.L.Epoch.opening =
-    inl (record { setup = c.args.stream.setup; streams = first.streams; opened = sym c.requires.opening; first = new.2 }) in
+    inl (record { setup = c.args.stream.setup; streams = first.streams; opened = sym c.requires.blank.opens; first = new.2 }) in
     let b = began g.D.Door.limit g.D.Door.times g.L.Epoch.opening request seat first.is_request new.0 there none new.1.1 in
     let rest = sessions.Waiting (Unbegun request.reader request.before request.failures) in
     let is : _ ≡ rest = c.new.ensures ∙ rw (first.reader, first.before, first.failures_of) refl in
@@ -66,7 +66,7 @@ epoch-requires-clause-seated g c κs within =
     let new = c.in-Some.ensures.seat request.spec first.streams in
     let none = ap offers_in new.1.0 in
     let there : IsNewIn request.spec seat.number g.L.Epoch.opening =
-    inl (record { setup = c.args.stream.setup; streams = first.streams; opened = sym c.requires.opening; first = new.2 }) in
+    inl (record { setup = c.args.stream.setup; streams = first.streams; opened = sym c.requires.blank.opens; first = new.2 }) in
     let b = began limit times opening request seat first.is_request new.0 there none new.1.1 in
     let rest = sessions.Waiting (Unbegun request.reader request.before request.failures) in
     let is : c.new.result ≡ rest = c.new.ensures ∙ rw (first.reader, first.before, first.failures_of) refl in

@@ -59,7 +59,7 @@ returns-in-Ok-reopen-clause-seated g c = λ ws at.
       helds = helds_of seats guests;
       turns = c.seat_all.ensures.turns;
       tickets = c.seat_all.ensures.tickets ∙ tickets_are limit times desk seats guests ws inside;
-      each = rw (← c.requires.opening) (seated_of limit times desk seats guests ws inside);
+      each = rw (← c.requires.blank.opens) (seated_of limit times desk seats guests ws inside);
     }
 
 pub returns-in-Ok-reopen-clause-limit : goal.returns-in-Ok-reopen-clause-limit

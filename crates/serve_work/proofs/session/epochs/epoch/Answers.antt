@@ -34,10 +34,12 @@ fill-requires-2 g c =
       streams.ok.0,
     ) in
     record {
-      seats = c.requires.at.2.room.no_seats;
-      streams = c.requires.at.2.room.no_streams;
-      seats_room = omega (arith, few, c.requires.at.2.room.seats);
-      streams_room = omega (arith, few, c.requires.at.2.room.streams);
+      places = record {
+        no_seats = c.requires.at.2.room.places.no_seats;
+        seats = omega (arith, few, c.requires.at.2.room.places.seats);
+        no_streams = c.requires.at.2.room.places.no_streams;
+        streams = omega (arith, few, c.requires.at.2.room.places.streams);
+      };
       held = (ran.0, ran.1);
     }
 
@@ -56,10 +58,12 @@ fill-requires g c =
       streams.ok.0,
     ) in
     record {
-      seats = c.requires.at.2.room.no_seats;
-      streams = c.requires.at.2.room.no_streams;
-      seats_room = omega (arith, few, c.requires.at.2.room.seats);
-      streams_room = omega (arith, few, c.requires.at.2.room.streams);
+      places = record {
+        no_seats = c.requires.at.2.room.places.no_seats;
+        seats = omega (arith, few, c.requires.at.2.room.places.seats);
+        no_streams = c.requires.at.2.room.places.no_streams;
+        streams = omega (arith, few, c.requires.at.2.room.places.streams);
+      };
       held = (helds, c.in-Err.ensures.back ∙ c.pair_with_seats-turns.ensures);
     }
 
@@ -70,7 +74,7 @@ returns-in-Err-clause-unended g c =
 
 pub returns-clause-later : goal.returns-clause-later
 returns-clause-later g c =
-    let gives = g.K.Clock.gives c.args.clock.now in
+    let gives = g.K.Clock.gives c.args.setting.clock.now in
     let seats = c.args.opening.opened.1.items in
     let streams = c.args.opening.streams in
     let helds = held_with seats streams.items in

@@ -1,22 +1,25 @@
-use Rattle.std.proofs.Common.{◌++◌, Bool, true, subst}
+use Rattle.std.proofs.Common.{◌++◌, Bool, true, subst, refl}
 use Rattle.serve_work.specs.Sessions.{IsOfEpochs}
 use Rattle.serve_work.proofs.Intervals.{later_on, no_later}
 use Rattle.serve_work.proofs.session.epochs.go_on.Goals as goal
 
+pub run_next-requires-clause-blank : goal.run_next-requires-clause-blank
+run_next-requires-clause-blank g c κs within = record { name_is = refl; parts_are = refl; enough = c.new-blank.ensures; opens = refl }
+
 pub loop-init : goal.loop-init
 loop-init g c = record {
-  between = λ b journal at. no_later b journal (g.K.Clock.gives c.args.clock.now) _ _ at (λ epochs. epochs);
+  between = λ b journal at. no_later b journal (g.K.Clock.gives c.args.setting.clock.now) _ _ at (λ epochs. epochs);
   stops = λ allowed. allowed;
 }
 
-pub next_epoch-requires-clause-at : goal.next_epoch-requires-clause-at
-next_epoch-requires-clause-at g c κs within =
+pub run_next-requires-clause-at : goal.run_next-requires-clause-at
+run_next-requires-clause-at g c κs within =
     let l = c.loop.invariant.between c.requires.at.0 c.requires.at.1 c.requires.at.2 in
     (c.requires.at.0, l.more ++ c.requires.at.1, l.between)
 
 pub loop-preserved : goal.loop-preserved
 loop-preserved g c =
-    let gives = g.K.Clock.gives c.args.clock.now in
+    let gives = g.K.Clock.gives c.args.setting.clock.now in
     record {
       between = λ b journal at.
           let l = c.loop.invariant.between b journal at in

@@ -28,7 +28,7 @@ returns-in-Ok-streams_of-clause-at g c =
     let places : c.len.result ≤ vec_capacity c.in-Ok.lists.2 = c.in-Ok.ensures.places in
     record {
       begun = is_beginning contents failures c.args.limit c.args.setup inputs c.requires.inputs c.in-Ok.ensures.limit;
-      past = no_entry _ _ c.requires.opening;
+      past = no_entry _ _ c.requires.blank.opens;
       stand = begins_at contents failures c.args.limit specs inputs c.in-Ok.lists.0.1.items c.in-Ok-streams_of.streams.items
           c.requires.inputs c.in-Ok.ensures.seats c.in-Ok-streams_of.ensures.streams;
       room = subst (λ (n : ℕ). IsRoomFor n c.in-Ok.lists.1) count c.in-Ok.ensures.room;

@@ -18,7 +18,7 @@ returns-in-Ok-reopen-clause-at g c = λ b journal at.
     let limit = c.limit-limit.result in
     record {
       begun = at.begun;
-      past = subst (λ (x : ScheduleValue). LeadsTo b.schedule journal x) c.requires.opening at.past;
+      past = subst (λ (x : ScheduleValue). LeadsTo b.schedule journal x) c.requires.blank.opens at.past;
       stand = stand_again limit journal b.starts at.helds c.in-Ok-reopen.next.streams.items c.args.interval.streams.items
           at.stand (c.in-Ok-reopen.ensures.streams ∙ ap (map (seat_over limit)) at.seats) at.streams;
       room = subst (λ (n : ℕ). IsRoomFor n c.in-Ok.room) c.len.ensures c.in-Ok.ensures;

@@ -8,10 +8,7 @@ returns-clause-places g c =
       turns = room.turns;
       tickets = omega (arith, c.in_ok-with_capacity.ensures.capacity);
       idle = omega (arith, c.in_ok-with_capacity-2.ensures.capacity);
-      no_seats = room.no_seats;
-      seats = room.seats;
-      no_streams = room.no_streams;
-      streams = room.streams;
+      places = room.places;
       no_guests = c.in_ok-with_capacity-3.ensures.items;
       guests = omega (arith, c.in_ok-with_capacity-3.ensures.capacity);
     }

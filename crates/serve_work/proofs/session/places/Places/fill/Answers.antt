@@ -7,12 +7,13 @@ pub loop-turn-init : goal.loop-turn-init
 loop-turn-init g c =
     let given = c.into_iter-turn-iterator.ensures.into_iter_gives in
     let places = c.args.self.now in
+    let empty = c.requires.places in
     record {
-      parts = parted_none c.args.turns.items _ places.seats.items places.streams.items c.requires.seats c.requires.streams given.0;
+      parts = parted_none c.args.turns.items _ places.seats.items places.streams.items empty.no_seats empty.no_streams given.0;
       left = omega (arith, ap length given.0, given.1, c.args.turns.ok.0);
       same_room = refl;
-      seats = omega (arith, given.1, c.requires.seats_room, ap length c.requires.seats, places.seats.ok.0);
-      streams = omega (arith, given.1, c.requires.streams_room, ap length c.requires.streams, places.streams.ok.0);
+      seats = omega (arith, given.1, empty.seats, ap length empty.no_seats, places.seats.ok.0);
+      streams = omega (arith, given.1, empty.streams, ap length empty.no_streams, places.streams.ok.0);
     }
 
 pub unreachable-requires : goal.unreachable-requires

@@ -3,7 +3,7 @@ use Rattle.serve_work.specs.Sessions.{IsOfEpochs}
 use Rattle.serve_work.proofs.Intervals.{no_later}
 use Rattle.serve_work.proofs.Journals.{behind_full}
 use Rattle.serve_work.proofs.SessionTurns.{later_mismatch}
-use Rattle.serve_work.proofs.session.epochs.next_epoch.Goals as goal
+use Rattle.serve_work.proofs.session.epochs.run_next.Goals as goal
 
 pub epoch-requires-clause-at : goal.epoch-requires-clause-at
 epoch-requires-clause-at g c κs within =
@@ -17,7 +17,7 @@ returns-in-Ok-epoch-clause-later g c = record {
 
 pub returns-in-Err-clause-later : goal.returns-in-Err-clause-later
 returns-in-Err-clause-later g c =
-    let gives = g.K.Clock.gives c.args.clock.now in
+    let gives = g.K.Clock.gives c.args.setting.clock.now in
     record {
       between = λ b journal at.
           no_later b journal gives (IsOfEpochs b.limit b.schedule true) _ (c.in-Err.ensures.back b journal at)

@@ -5,7 +5,7 @@ use Rattle.serve_work.specs.SessionInside.{BeginsAgain, held_with, unread}
 use Rattle.serve_work.proofs.Intervals.{all_starts, on_ok, streams_held}
 use Rattle.serve_work.proofs.SessionStops.{begin_allowed}
 use Rattle.serve_work.proofs.SessionTurns.{all_oks, all_unended, same_length, still_unread, unended_limit, zip_length}
-use Rattle.serve_work.proofs.session.epochs.first_epoch.Goals as goal
+use Rattle.serve_work.proofs.session.epochs.begin.Goals as goal
 
 pub epoch-requires-clause-at : goal.epoch-requires-clause-at
 epoch-requires-clause-at g c κs within = (
@@ -49,6 +49,6 @@ returns-clause-unread g c =
 
 pub returns-clause-stops : goal.returns-clause-stops
 returns-clause-stops g c =
-    let allowed = begin_allowed (g.K.Clock.gives c.args.clock.now) g.W.Sink.contents g.W.Sink.failures
+    let allowed = begin_allowed (g.K.Clock.gives c.args.setting.clock.now) g.W.Sink.contents g.W.Sink.failures
     c.in_ok-opening.opening.streams.items c.args.inputs.items c.in_ok-opening.ensures.unread in
     all_oks _ _ c.epoch.result (λ now later. later.stops allowed) c.epoch.ensures.later

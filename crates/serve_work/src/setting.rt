@@ -1,0 +1,20 @@
+//! What the epochs of a session are given.
+
+use std::alloc::{AllocError, Global};
+
+/// What starts threads and waits, where memory is taken, what is told of the work, and what tells the moments
+/// of offers.
+pub(crate) struct Setting<'a, G, K, T> {
+    pub(crate) rt: &'a T,
+    pub(crate) alloc: Global,
+    pub(crate) gate: &'a G,
+    pub(crate) clock: &'a K,
+}
+
+impl<'a, G, K, T> Clone for Setting<'a, G, K, T> {
+    fn clone(&self) -> Result<Self, AllocError> {
+        Ok(*self)
+    }
+}
+
+impl<'a, G, K, T> Copy for Setting<'a, G, K, T> {}
