@@ -11,8 +11,8 @@ use Rattle.serve_hub.specs.declared.entry.Act.{Act}
 use Rattle.serve_hub.specs.Seats.{StreamSeatValue}
 use Rattle.serve_work.specs.declared.stop.Stop.{Stop}
 use Rattle.serve_work.specs.Clients.{ClientEnds, ClientOutcome, ClientStart, ClientStopsAt, CutsHeader}
-use Rattle.serve_work.specs.Clients.{WroteNothing, collections_in, offers_in}
-use Rattle.serve_work.specs.ClientInside.{Feeds, HasInHand, IsCounted, IsUseful, Moves, Passes, Stays, texts_of}
+use Rattle.serve_work.specs.Clients.{WroteNothing, closes_in, collections_in, offers_in}
+use Rattle.serve_work.specs.ClientInside.{Feeds, HasInHand, IsCounted, IsUseful, Moves, Passes, ShowsClose, Stays, texts_of}
 use Rattle.serve_work.specs.Sends.{Serves}
 use Rattle.serve_work.specs.Hands.{IsBegunPair, counted_with, with_kept}
 use Rattle.serve_work.proofs.Hands.{IsReopened-kept}
@@ -53,6 +53,9 @@ module _ (past : List Act) (old new : StreamSeatValue) (r : IsReopened old new) 
 
   counted_across : IsCounted past old → IsCounted later new
   counted_across e = ap offers_in same_calls ∙ e ∙ sym r.accepted
+
+  close_across : ShowsClose past old → ShowsClose later new
+  close_across shown is_open = ap closes_in same_calls ∙ shown (sym r.is_closed ∙ is_open)
 
   before_across : (first : ℕ) → old.before ≡ first + collections_in past → new.before ≡ first + collections_in later
   before_across first e = omega (arith, e, r.before, collections_counted old.calls.list, collections_both past old.calls.list)
@@ -165,6 +168,7 @@ module _ (past : List Act) (old new : StreamSeatValue) (r : IsReopened old new) 
     fresh = record { accepted = r.accepted ∙ a.fresh.accepted; kept = r.kept ∙ a.fresh.kept; is_open = r.is_closed ∙ a.fresh.is_open };
     stays = Stays-trans start.seat old new a.stays (reopened_stays old new r);
     offers = counted_across past old new r a.offers;
+    closes = close_across past old new r a.closes;
     before = before_across past old new r start.seat.before a.before;
   }
   rest_across start (Begun begun) a = record {
@@ -179,6 +183,7 @@ module _ (past : List Act) (old new : StreamSeatValue) (r : IsReopened old new) 
       number = r.number ∙ a.tally.number;
       chain = r.chain ∙ a.tally.chain;
       offers = counted_across past old new r a.tally.offers;
+      closes = close_across past old new r a.tally.closes;
       images = omega (arith, a.tally.images, ap collections_in all_same);
       before = before_across past old new r start.seat.before a.tally.before;
       torn = λ none. torn_across past old new r
@@ -255,5 +260,6 @@ new_stream_is_unbegun start fresh is_open =
       fresh = first;
       stays = Stays-same start.seat;
       offers = ap (λ (calls : List Act). offers_in ([] ++ calls)) fresh.calls ∙ sym fresh.accepted;
+      closes = λ _. ap (λ (calls : List Act). closes_in ([] ++ calls)) fresh.calls;
       before = omega arith;
     }

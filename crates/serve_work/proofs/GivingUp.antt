@@ -13,8 +13,8 @@ use Rattle.serve_hub.specs.Seats.{CallsValue, StreamSeatValue}
 use Rattle.serve_work.specs.declared.stop.Cause.TheVariants.{NoMemory}
 use Rattle.serve_work.specs.declared.stop.Stop.{Stop}
 use Rattle.serve_work.specs.declared.stop.Stop.TheVariants.{Whole, Read, Write, Refused, Torn}
-use Rattle.serve_work.specs.Clients.{StreamStopsAt}
-use Rattle.serve_work.specs.ClientInside.{Feeds, HasInHand, IsUseful}
+use Rattle.serve_work.specs.Clients.{IsUnclosed, StreamStopsAt}
+use Rattle.serve_work.specs.ClientInside.{Feeds, HasInHand, IsUseful, ShowsClose}
 use Rattle.serve_work.specs.ClientInside.{Moves, StopsReading, StopsReadingAt}
 use Rattle.serve_work.specs.ClientInside.{IsFirst}
 use Rattle.serve_work.specs.Sends.{IsSent, Serves, ServesTo}
@@ -37,6 +37,7 @@ fewer past first seat writer writer' less a = record {
   number = a.number;
   chain = a.chain;
   offers = a.offers;
+  closes = a.closes;
   images = omega (arith, less, a.images);
   before = a.before;
   torn = λ none.
@@ -82,13 +83,13 @@ serves_more past stop o reader seat writer a = record {
 -- in the midst of its input, with a frame in hand if there is one
 module _ (past : List Act) (o : Outset) (is : IsOutset o) (reader : ReaderState) where
   fed_up : (in_hand : Option FrameText) (mid seat : StreamSeatValue) (between writer : WriterState) → IsReadAhead reader.rest reader.left
-      → (at : HasInHand o.reader reader o.seat mid o.writer between in_hand) → seat.accepted ≡ mid.accepted
-      → IsSent (Refused NoMemory) o.seat.chain at.frames o.writer writer
+      → IsUnclosed (past ++ seat.calls.list) → (at : HasInHand o.reader reader o.seat mid o.writer between in_hand)
+      → seat.accepted ≡ mid.accepted → IsSent (Refused NoMemory) o.seat.chain at.frames o.writer writer
       → ServesTo StreamStopsAt past (Refused NoMemory) o.reader reader o.seat seat o.writer writer
-  fed_up in_hand mid seat between writer ahead at same sent = record {
+  fed_up in_hand mid seat between writer ahead unclosed at same sent = record {
     frames = at.frames;
     read = read_in_hand in_hand past o.reader at.before reader o.seat seat at.frames
-        (takes_of o.reader at.before o.seat mid o.writer between at.frames at.passed) at.holds ahead;
+        (takes_of o.reader at.before o.seat mid o.writer between at.frames at.passed) at.holds ahead unclosed;
     count = same ∙ at.passed.moved.count;
     sent = sent;
     torn = λ is. absurd (cc);
@@ -176,19 +177,21 @@ module _ (past : List Act) (o : Outset) (is : IsOutset o) (reader : ReaderState)
 
   -- a fault is held, with a frame in hand if there is one
   held_given : (in_hand : Option FrameText) (held : Stop) (seat : StreamSeatValue) (writer : WriterState)
-      → IsReadAhead reader.rest reader.left → Spoils held o reader seat writer in_hand → ServesTo StreamStopsAt past held o.reader reader o.seat seat o.writer writer
-  held_given None held seat writer ahead at = held_up held o reader seat writer past at ahead
-  held_given (Some frame) held seat writer ahead at =
+      → IsReadAhead reader.rest reader.left → ShowsClose past seat → Spoils held o reader seat writer in_hand
+      → ServesTo StreamStopsAt past held o.reader reader o.seat seat o.writer writer
+  held_given None held seat writer ahead shown at =
+      held_up held o reader seat writer past at ahead (shown (at.is_closed ∙ is.fresh.is_open))
+  held_given (Some frame) held seat writer ahead shown at =
       serves_more past held o reader seat writer (held_told held o reader seat writer frame past at)
 
   -- the image in hand couldn't be written to its end
   fed_fault : (in_hand : Option FrameText) (pair : Collected) (seat : StreamSeatValue) (before writer writer' : WriterState)
-      (fault : WriteFault) → IsReadAhead reader.rest reader.left → IsBegunPair seat.chain pair before writer
+      (fault : WriteFault) → IsReadAhead reader.rest reader.left → ShowsClose past seat → IsBegunPair seat.chain pair before writer
       → HasInHand o.reader reader o.seat (with_kept pair seat) o.writer before in_hand
       → FailsToPut before writer' (frame_text_of pair.image) fault
       → ServesTo StreamStopsAt past (Write fault) o.reader reader o.seat seat o.writer writer'
-  fed_fault in_hand pair seat before writer writer' fault ahead begun at cut =
-      held_given in_hand (Write fault) seat writer' ahead
+  fed_fault in_hand pair seat before writer writer' fault ahead shown begun at cut =
+      held_given in_hand (Write fault) seat writer' ahead shown
       (spoilt_behind (Write fault) o in_hand reader (with_kept pair seat) seat before writer' is at
       (Cuts-finish pair seat before writer writer' fault begun cut) (GivesUp-kept pair seat) (λ useful. useful))
 
@@ -204,30 +207,32 @@ module _ (past : List Act) (o : Outset) (is : IsOutset o) (reader : ReaderState)
       (TalliesSeat-kept pair seat) now)
 
   pub given_up : (course : CourseValue) (seat : StreamSeatValue) (writer writer' : WriterState) (ended first told : Stop)
-      → IsReadAhead reader.rest reader.left → IsAt course past o reader seat writer
+      → IsReadAhead reader.rest reader.left → ShowsClose past seat → IsAt course past o reader seat writer
       → EndsImage (course_image course) seat.chain ended writer writer' → IsFirst (stop_kept course) ended first
       → IsFirst first (Refused NoMemory) told → ServesTo StreamStopsAt past told o.reader reader o.seat seat o.writer writer'
-  given_up (Feeding in_hand None) seat writer writer' ended first told ahead at e now behind =
-      rw (e.1, given_for_none ended first told behind e.0 now) (fed_up in_hand seat seat writer writer ahead at refl
+  given_up (Feeding in_hand None) seat writer writer' ended first told ahead shown at e now behind =
+      rw (e.1, given_for_none ended first told behind e.0 now) (fed_up in_hand seat seat writer writer ahead
+      (shown (at.passed.moved.seat_stays.is_closed ∙ is.fresh.is_open)) at refl
       (inl (sends_whole o.seat o.writer at.frames is.fresh.kept is.writing seat writer at.passed.moved, λ f is. absurd (cc))))
-  given_up (Feeding in_hand (Some pair)) seat writer writer' ended first told ahead at e now behind = elim (e at.0 at.1) [
+  given_up (Feeding in_hand (Some pair)) seat writer writer' ended first told ahead shown at e now behind = elim (e at.0 at.1) [
     | inl well ↦ rw (given_for_none ended first told behind well.0 now)
-        (fed_up in_hand (with_kept pair seat) seat at.0 writer' ahead at.2 refl
+        (fed_up in_hand (with_kept pair seat) seat at.0 writer' ahead (shown (at.2.passed.moved.seat_stays.is_closed ∙ is.fresh.is_open))
+        at.2 refl
         (sent_pair (Refused NoMemory) pair seat at.0 writer writer' at.2.frames (λ f is. absurd (cc)) at.1 at.2.passed.moved well.1))
     | inr cut ↦ rw (given_for_fault ended first told behind (Write cut.0) (λ is. cc) (now ∙ cut.1))
-        (fed_fault in_hand pair seat at.0 writer writer' cut.0 ahead at.1 at.2 cut.2)
+        (fed_fault in_hand pair seat at.0 writer writer' cut.0 ahead shown at.1 at.2 cut.2)
   ]
-  given_up (Holding in_hand held) seat writer writer' ended first told ahead at e now behind =
+  given_up (Holding in_hand held) seat writer writer' ended first told ahead shown at e now behind =
       let fault : held ≡ Whole → ⊥ = of_no_use held at.spoilt in
       rw (e.1, given_for_fault ended first told behind held fault (first_kept held ended first fault now))
-      (held_given in_hand held seat writer ahead at)
-  given_up (Draining stop None) seat writer writer' ended first told ahead at e now behind =
+      (held_given in_hand held seat writer ahead shown at)
+  given_up (Draining stop None) seat writer writer' ended first told ahead shown at e now behind =
       let a = at.1 in
       let moved = moves_until stop o.seat (as_open seat) o.writer writer a.frames at.0 a.moved in
       rw (e.1, same_told stop first told (first_well stop ended first e.0 now) behind)
       (drained_up stop (as_open seat) seat writer a.frames at.0 refl a.read a.count
       (inl (sends_whole o.seat o.writer a.frames is.fresh.kept is.writing (as_open seat) writer moved, no_write stop at.0)))
-  given_up (Draining stop (Some pair)) seat writer writer' ended first told ahead at e now behind =
+  given_up (Draining stop (Some pair)) seat writer writer' ended first told ahead shown at e now behind =
       let a = at.1.2 in
       let kept = as_open (with_kept pair seat) in
       let moved = moves_until stop o.seat kept o.writer at.1.0 a.frames at.0 a.moved in
@@ -240,7 +245,7 @@ module _ (past : List Act) (o : Outset) (is : IsOutset o) (reader : ReaderState)
             rw (given_for_fault ended first told behind first (first_fault stop (Write cut.0) first then (λ useful. useful)) refl)
             (drained_fault stop first pair seat at.1.0 writer writer' cut.0 at.0 then at.1.1 a cut.2)
       ]
-  given_up (Discarding stop) seat writer writer' ended first told ahead at e now behind =
+  given_up (Discarding stop) seat writer writer' ended first told ahead shown at e now behind =
       rw (e.1, given_for_fault ended first told behind stop at.0 (first_kept stop ended first at.0 now))
       (serves_more past stop o reader seat writer at.1)
 

@@ -8,7 +8,7 @@ use Rattle.serve_hub.specs.Seats.{StreamSeatValue, collected_by}
 use Rattle.serve_work.specs.ClientInside.{GivesUp, Tallies, TalliesSeat}
 use Rattle.serve_work.specs.Epochs.{IsReopened}
 use Rattle.serve_work.specs.Hands.{Behind, CanPutOn, IsBegunPair, IsPairOf, counted_with, with_kept}
-use Rattle.serve_work.proofs.Tallying.{Tallies-still, TalliesSeat-same, if_none}
+use Rattle.serve_work.proofs.Tallying.{Tallies-still, TalliesSeat-same, if_none, seat_same}
 
 -- the seat and the writer as they were before an image in hand was begun, or as they are
 pub record StoodBehind (seat s : StreamSeatValue) (writer w : WriterState) : Type 0 where
@@ -44,7 +44,8 @@ module _ (seat s : StreamSeatValue) (writer w : WriterState) (stood : StoodBehin
   stood_tally = TalliesSeat-same seat s (ap (λ (v : StreamSeatValue). v.number) stood.same_seat)
       (ap (λ (v : StreamSeatValue). v.chain) stood.same_seat) (ap (λ (v : StreamSeatValue). v.before) stood.same_seat)
       (ap (λ (v : StreamSeatValue). v.calls) stood.same_seat) (ap (λ (v : StreamSeatValue). v.accepted) stood.same_seat)
-      (ap (λ (v : StreamSeatValue). v.moments) stood.same_seat) (ap (λ (v : StreamSeatValue). v.torn) stood.same_seat)
+      (ap (λ (v : StreamSeatValue). v.moments) stood.same_seat) (ap (λ (v : StreamSeatValue). v.is_closed) stood.same_seat)
+      (ap (λ (v : StreamSeatValue). v.torn) stood.same_seat)
 
   pub stood_chain : s.chain ≡ seat.chain
   stood_chain = ap (λ (v : StreamSeatValue). v.chain) stood.same_seat
@@ -61,7 +62,7 @@ pub GivesUp-kept : (pair : Collected) (seat : StreamSeatValue) → GivesUp (with
 GivesUp-kept pair seat = refl
 
 pub TalliesSeat-kept : (pair : Collected) (seat : StreamSeatValue) → TalliesSeat (with_kept pair seat) seat
-TalliesSeat-kept pair seat = TalliesSeat-same (with_kept pair seat) seat refl refl refl refl refl refl refl
+TalliesSeat-kept pair seat = TalliesSeat-same (with_kept pair seat) seat refl refl refl refl refl refl refl refl
 
 -- and so in the next epoch
 pub IsReopened-kept : (pair : Collected) (old new : StreamSeatValue) → IsReopened old new
@@ -82,7 +83,7 @@ IsReopened-kept pair old new r = record {
 pub Tallies-less : (seat : StreamSeatValue) (writer writer' : WriterState) → writer'.frames ≤ writer.frames
     → Tallies seat seat writer writer'
 Tallies-less seat writer writer' less = record {
-  seat = TalliesSeat-same seat seat refl refl refl refl refl refl refl;
+  seat = seat_same seat seat refl;
   images = omega (arith, less);
   torn = λ none. if_none (λ n. writer'.frames + collected_by seat ≤ writer.frames + n) seat.torn none;
 }

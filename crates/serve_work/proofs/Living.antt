@@ -18,7 +18,7 @@ use Rattle.serve_hub.specs.Seats.{StreamRest, StreamSeatValue, left_by, opened_r
 use Rattle.serve_work.specs.declared.live.guests.Guest.{Guest}
 use Rattle.serve_work.specs.declared.live.guests.Ticket.{Ticket}
 use Rattle.serve_work.specs.declared.live.opening.Hall.{Hall}
-use Rattle.serve_work.specs.Clients.{AllowsStop, AreAtMoments, ClientStart, StreamEnds, offers_in}
+use Rattle.serve_work.specs.Clients.{AllowsStop, AreAtMoments, ClientStart, IsUnclosed, StreamEnds, closes_in, offers_in}
 use Rattle.serve_work.specs.ClientInside.{KeepsMoments}
 use Rattle.serve_work.specs.Live.{IsBehind, IsNewIn, IsOfSpec, IsPart, IsRequest, IsSeatFor, IsServedSince, PartValue}
 use Rattle.serve_work.specs.Live.{RequestValue, Waiting, acts_in_parts, start_with}
@@ -43,9 +43,9 @@ use Rattle.serve_work.proofs.Timing.{timed}
 -- the stream of a request begins with a new seat
 pub began : (limit : ℕ) (times : ℕ → Type 0) (opening : ScheduleValue) (request : RequestValue) (seat : StreamSeatValue)
     → IsRequest request → IsSeatFor request.spec seat → IsNewIn request.spec seat.number opening → offers_in seat.calls.list ≡ 0
-    → seat.moments ≡ None
+    → IsUnclosed seat.calls.list → seat.moments ≡ None
     → Begins limit times opening request (sessions.Waiting (Unbegun request.reader request.before request.failures)) seat
-began limit times opening request seat is new there none no_moments =
+began limit times opening request seat is new there none unclosed no_moments =
     let first : IsFresh seat = record { accepted = new.accepted; kept = new.kept; is_open = new.is_open } in
     record {
       is_request = is;
@@ -63,6 +63,7 @@ began limit times opening request seat is new there none no_moments =
         fresh = first;
         stays = Stays-same seat;
         offers = none ∙ sym new.accepted;
+        closes = λ _. unclosed;
         before = omega arith;
       };
       no_offers = none;
@@ -71,7 +72,7 @@ began limit times opening request seat is new there none no_moments =
     }
 
 pub admitted : (spec : StreamSpec) (seat : StreamSeatValue) → Admits spec seat
-    → IsSeatFor spec seat × (offers_in seat.calls.list ≡ 0) × (seat.moments ≡ None)
+    → IsSeatFor spec seat × (offers_in seat.calls.list ≡ 0) × IsUnclosed seat.calls.list × (seat.moments ≡ None)
 admitted spec seat a = (
   record {
     chain = ap (λ (s : StreamSeatValue). s.chain) a;
@@ -83,6 +84,7 @@ admitted spec seat a = (
     torn = ap (λ (s : StreamSeatValue). s.torn) a;
   },
   ap (λ (s : StreamSeatValue). offers_in s.calls.list) a,
+  ap (λ (s : StreamSeatValue). closes_in s.calls.list) a,
   ap (λ (s : StreamSeatValue). s.moments) a,
 )
 

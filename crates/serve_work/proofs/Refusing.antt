@@ -119,7 +119,7 @@ refusal_tally (hub.Core e) old new same = seat_same old new same
 refusal_tally hub.HistoryFull old new same = seat_same old new same
 refusal_tally hub.StrayLease old new same = seat_same old new same
 refusal_tally (hub.Torn c) old new same =
-    TalliesSeat-torn (collected_by old) old (gives_up old) new (TalliesSeat-same old (gives_up old) refl refl refl refl refl refl refl)
+    TalliesSeat-torn (collected_by old) old (gives_up old) new (TalliesSeat-same old (gives_up old) refl refl refl refl refl refl refl refl)
     refl (omega arith) same
 
 -- what a collection leaves of a seat, whatever its answer

@@ -151,6 +151,7 @@ module _ (n : ℕ) where
       torn = a.stays.torn;
     };
     offers = a.offers;
+    closes = a.closes;
     before = a.before;
   }
   rest_numbered start past seat (Begun begun) a = record {
@@ -165,6 +166,7 @@ module _ (n : ℕ) where
       number = refl;
       chain = a.tally.chain;
       offers = a.tally.offers;
+      closes = a.tally.closes;
       images = a.tally.images;
       before = a.tally.before;
       torn = a.tally.torn;

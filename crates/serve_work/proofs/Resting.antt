@@ -33,7 +33,7 @@ use Rattle.serve_work.specs.Rests.{BegunValue, CanDrain, CanFeed, CanGoOn, HasMe
 use Rattle.serve_work.specs.Rests.{IsAt, IsBefore, IsBegun, IsFresh, IsOutset, IsRunning, IsSilent, IsTallied, IsUnbegun, Outset}
 use Rattle.serve_work.specs.Rests.{as_open, course_of, image_before}
 use Rattle.serve_work.proofs.Hands.{stood_pair, stood_size}
-use Rattle.serve_work.proofs.Tallying.{collections_both, collections_counted, counted_later, if_later, if_more}
+use Rattle.serve_work.proofs.Tallying.{close_shown, collections_both, collections_counted, counted_later, if_later, if_more}
 use Rattle.serve_work.proofs.Moving.{Accounted-later, Moves-trans, few_of, one_size}
 use Rattle.serve_work.proofs.Moving.{size_later}
 use Rattle.serve_work.proofs.Passing.{FeedsOn-behind}
@@ -47,6 +47,7 @@ tallied_later past first seat seat' writer writer' a quiet t = record {
   number = t.seat.number ∙ a.number;
   chain = t.seat.chain ∙ a.chain;
   offers = counted_later past seat seat' t.seat a.offers;
+  closes = close_shown past seat seat' t.seat a.closes;
   images = omega (arith, a.images, t.images, collections_both past seat.calls.list, collections_both past seat'.calls.list);
   before = t.seat.before ∙ a.before;
   torn = λ none.

@@ -14,7 +14,8 @@ use Rattle.serve_work.specs.declared.stop.Cause.TheVariants.{NoMemory}
 use Rattle.serve_work.specs.declared.stop.Halt.TheVariants.{Stopped}
 use Rattle.serve_work.specs.declared.stop.Stop.{Stop}
 use Rattle.serve_work.specs.declared.stop.Stop.TheVariants.{Whole, Read, Write, Refused, Torn}
-use Rattle.serve_work.specs.Clients.{ClientProgress, ClientStopsAt, GivesUpAt, HasMoreOrEnds, StreamStopsAt, reads_at}
+use Rattle.serve_work.specs.Clients.{ClientProgress, ClientStopsAt, GivesUpAt, HasMoreOrEnds, IsUnclosed, StandsOpen, StreamStopsAt}
+use Rattle.serve_work.specs.Clients.{reads_at}
 use Rattle.serve_work.specs.ClientInside.{Breaks, Feeds, GivesUp, HasInHand, Holds, IsFirst, IsNoWrite, IsOfCollection, IsUseful}
 use Rattle.serve_work.specs.ClientInside.{StopsReading, StopsReadingAt, StopsWith, Takes}
 use Rattle.serve_work.specs.Sends.{IsSent, SendsWhole, Serves, ServesTo}
@@ -76,12 +77,12 @@ held_at (Refused cause) at spoilt more = absurd (spoilt tt)
 held_at (Write fault) at spoilt more = more
 held_at Torn at spoilt more = inl more
 
-held_ahead : (held : Stop) (at : ClientProgress) → (IsUseful held → ⊥) → IsReadAhead at.rest at.left → GivesUpAt held at
-held_ahead Whole at spoilt ahead = absurd (spoilt tt)
-held_ahead (Read fault) at spoilt ahead = absurd (spoilt tt)
-held_ahead (Refused cause) at spoilt ahead = absurd (spoilt tt)
-held_ahead (Write fault) at spoilt ahead = ahead
-held_ahead Torn at spoilt ahead = ahead
+held_open : (held : Stop) (at : ClientProgress) → (IsUseful held → ⊥) → StandsOpen at → GivesUpAt held at
+held_open Whole at spoilt stands = absurd (spoilt tt)
+held_open (Read fault) at spoilt stands = absurd (spoilt tt)
+held_open (Refused cause) at spoilt stands = absurd (spoilt tt)
+held_open (Write fault) at spoilt stands = stands
+held_open Torn at spoilt stands = stands
 
 reads_held : (held : Stop) (n : ℕ) → (IsUseful held → ⊥) → reads_at held n ≡ n
 reads_held Whole n spoilt = refl
@@ -111,15 +112,15 @@ next_behind reader before reader' frames frame a one = record {
 -- a client is given up that reads, with a frame in hand or with what was read ahead
 pub read_in_hand : (in_hand : Option FrameText) (past : List Act) (reader before reader' : ReaderState) (seat seat' : StreamSeatValue)
     (frames : List FrameText) → Takes reader before frames → Holds before reader' in_hand → IsReadAhead reader'.rest reader'.left
-    → StopsReadingAt StreamStopsAt past (Refused NoMemory) reader reader' seat seat' frames
-read_in_hand None past reader before reader' seat seat' frames a same ahead = record {
+    → IsUnclosed (past ++ seat'.calls.list) → StopsReadingAt StreamStopsAt past (Refused NoMemory) reader reader' seat seat' frames
+read_in_hand None past reader before reader' seat seat' frames a same ahead unclosed = record {
   rest = before.rest;
   each = a.each;
   taken = a.taken;
-  stops = inr (inr (subst (λ (r : ReaderState). IsReadAhead r.rest reader'.left) same ahead));
+  stops = inr (inr (unclosed, subst (λ (r : ReaderState). IsReadAhead r.rest reader'.left) same ahead));
   reads = ap (λ (r : ReaderState). r.failures) same ∙ a.no_failure;
 }
-read_in_hand (Some frame) past reader before reader' seat seat' frames a one ahead = record {
+read_in_hand (Some frame) past reader before reader' seat seat' frames a one ahead unclosed = record {
   rest = before.rest;
   each = a.each;
   taken = a.taken;
@@ -177,14 +178,14 @@ module _ (held : Stop) (o : Outset) (reader : ReaderState) (seat : StreamSeatVal
 
   -- it is told where the client is given up, with what was read ahead
   pub held_up : (past : List Act) → Spoils held o reader seat writer None → IsReadAhead reader.rest reader.left
-      → ServesTo StreamStopsAt past held o.reader reader o.seat seat o.writer writer
-  held_up past a ahead = record {
+      → IsUnclosed (past ++ seat.calls.list) → ServesTo StreamStopsAt past held o.reader reader o.seat seat o.writer writer
+  held_up past a ahead unclosed = record {
     frames = a.frames;
     read = record {
       rest = a.before.rest;
       each = a.read.each;
       taken = a.read.taken;
-      stops = inr (held_ahead held _ a.spoilt (subst (λ (r : ReaderState). IsReadAhead r.rest reader.left) a.holds ahead));
+      stops = inr (held_open held _ a.spoilt (unclosed, subst (λ (r : ReaderState). IsReadAhead r.rest reader.left) a.holds ahead));
       reads = ap (λ (r : ReaderState). r.failures) a.holds ∙ a.read.no_failure ∙ sym (reads_held held o.reader.failures a.spoilt);
     };
     count = a.count;

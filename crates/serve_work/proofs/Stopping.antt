@@ -111,6 +111,7 @@ close_tally old new (Ok t) closed refused = rw closed (record {
   offers = omega (arith, offers_both old.calls.list (acts.Closed ∷ []));
   moments = λ none. refl;
   collections = omega (arith, collections_both old.calls.list (acts.Closed ∷ []));
+  unclosed = λ is_open. absurd (cc);
   noted = λ n is. is;
   torn = λ none. subst (λ (o : Option ℕ). IfSome o (λ n. collected_by old ≤ n)) (sym none) tt;
 })
@@ -171,20 +172,6 @@ StopsWith-open Torn seat seat' writer writer' frames a = (
   a.2,
 )
 
-TalliesSeat-open : (old new : StreamSeatValue) → TalliesSeat old new → TalliesSeat (as_open old) (as_open new)
-TalliesSeat-open old new t = record {
-  number = t.number;
-  chain = t.chain;
-  before = t.before;
-  added = t.added;
-  calls = t.calls;
-  offers = t.offers;
-  moments = t.moments;
-  collections = t.collections;
-  noted = t.noted;
-  torn = t.torn;
-}
-
 -- the seat closes its stream behind what it moved
 Moves-closed : (seat mid closed : StreamSeatValue) (writer writer' : WriterState) (frames : List FrameText) → seat.is_closed ≡ false
     → MayClose mid closed → closed.torn ≡ mid.torn → Moves seat mid writer writer' frames
@@ -210,34 +197,6 @@ Moves-closed seat mid closed writer writer' frames is_open close untorn a =
       writer_stays = a.writer_stays;
     } in
     subst (λ (s : StreamSeatValue). Moves seat s writer writer' frames) (sym (ap as_open close)) moved
-
-TalliesSeat-opened : (old new : StreamSeatValue) → TalliesSeat old new → TalliesSeat (as_open old) new
-TalliesSeat-opened old new t = record {
-  number = t.number;
-  chain = t.chain;
-  before = t.before;
-  added = t.added;
-  calls = t.calls;
-  offers = t.offers;
-  moments = t.moments;
-  collections = t.collections;
-  noted = t.noted;
-  torn = t.torn;
-}
-
-TalliesSeat-closed : (mid closed : StreamSeatValue) → TalliesSeat mid closed → TalliesSeat mid (as_open closed)
-TalliesSeat-closed mid closed t = record {
-  number = t.number;
-  chain = t.chain;
-  before = t.before;
-  added = t.added;
-  calls = t.calls;
-  offers = t.offers;
-  moments = t.moments;
-  collections = t.collections;
-  noted = t.noted;
-  torn = t.torn;
-}
 
 -- the first was no fault, and the last is told; or the first is
 first_told : (stop last told : Stop) → IsUseful stop → IsFirst stop last told
@@ -360,13 +319,13 @@ read_by past past' stop reader reader' seat mid seat' frames same a = record {
 }
 
 read_later : (past : List Act) (stop : Stop) (reader reader' : ReaderState) (seat mid seat' : StreamSeatValue) (frames : List FrameText)
-    → TalliesSeat mid seat' → StopsReading past stop reader reader' seat mid frames
+    (added : List Act) → seat'.calls.list ≡ mid.calls.list ++ added → StopsReading past stop reader reader' seat mid frames
     → StopsReading past stop reader reader' seat seat' frames
-read_later past stop reader reader' seat mid seat' frames tally a = record {
+read_later past stop reader reader' seat mid seat' frames added calls a = record {
   rest = a.rest;
   each = a.each;
   taken = a.taken;
-  stops = rw (tally.calls, ← (append_assoc past mid.calls.list tally.added)) (stops_later stop _ tally.added a.stops);
+  stops = rw (calls, ← (append_assoc past mid.calls.list added)) (stops_later stop _ added a.stops);
   reads = a.reads;
 }
 
@@ -378,7 +337,7 @@ pub Serves-later : (past : List Act) (stop : Stop) (reader reader' : ReaderState
     → Serves past stop reader reader' seat seat' writer writer'
 Serves-later past stop reader reader' seat mid seat' writer writer' fault tally same a = record {
   frames = a.frames;
-  read = read_later past stop reader reader' seat mid seat' a.frames tally a.read;
+  read = read_later past stop reader reader' seat mid seat' a.frames tally.added tally.calls a.read;
   count = same ∙ a.count;
   sent = a.sent;
   torn = λ is. torn_still mid seat' tally (a.torn is);
@@ -393,7 +352,7 @@ pub Feeds-closed : (past : List Act) (stop : Stop) (reader reader' : ReaderState
     → Feeds past stop reader reader' seat (as_open closed) writer between
 Feeds-closed past stop reader reader' seat mid closed writer between is_open useful close untorn tally a = record {
   frames = a.frames;
-  read = read_later past stop reader reader' seat mid (as_open closed) a.frames (TalliesSeat-closed mid closed tally) a.read;
+  read = read_later past stop reader reader' seat mid (as_open closed) a.frames tally.added tally.calls a.read;
   moved = until_moves stop seat (as_open closed) writer between a.frames useful
       (Moves-closed seat mid closed writer between a.frames is_open close untorn
       (moves_until stop seat mid writer between a.frames useful a.moved));
@@ -413,8 +372,7 @@ Feeds-drained past stop reader reader' seat closed drained writer between writer
     subst (λ (fs : List FrameText). Moves seat (as_open drained) writer writer' fs) (append-nil a.frames) moved in
     record {
       frames = a.frames;
-      read = read_later past stop reader reader' seat (as_open closed) (as_open drained) a.frames (TalliesSeat-open closed drained tally)
-          a.read;
+      read = read_later past stop reader reader' seat (as_open closed) (as_open drained) a.frames tally.added tally.calls a.read;
       moved = until_moves stop seat (as_open drained) writer writer' a.frames useful all;
       count = all.count;
     }
@@ -441,7 +399,7 @@ module _ (past : List Act) (reader reader' : ReaderState) (seat : StreamSeatValu
       → Serves past stop reader reader' seat seat' writer writer'
   Serves-spoilt stop mid seat' writer' spoilt a same tally = record {
     frames = a.frames;
-    read = read_later past stop reader reader' seat mid seat' a.frames tally a.read;
+    read = read_later past stop reader reader' seat mid seat' a.frames tally.added tally.calls a.read;
     count = same ∙ a.count;
     sent = sent_until seat writer a.frames none well stop stop mid writer' (λ f is. is) a.moved;
     torn = λ is. torn_still mid seat' tally (stopped_torn stop seat mid writer writer' a.frames is a.moved);
@@ -461,12 +419,11 @@ module _ (past : List Act) (reader reader' : ReaderState) (seat : StreamSeatValu
       (StopsWith-open last closed drained between writer' [] b) in
       let all : StopsWith last seat (as_open drained) writer writer' a.frames =
       subst (λ (fs : List FrameText). StopsWith last seat (as_open drained) writer writer' fs) (append-nil a.frames) both in
-      let later : TalliesSeat (as_open closed) drained = TalliesSeat-opened closed drained tally in
       elim (first_told stop last told useful first) [
         | inl e ↦ record {
           frames = a.frames;
           read = subst (λ (s : Stop). StopsReading past s reader reader' seat drained a.frames) (sym e.1)
-              (read_later past last reader reader' seat (as_open closed) drained a.frames later
+              (read_later past last reader reader' seat (as_open closed) drained a.frames tally.added tally.calls
               (read_until past reader reader' seat (as_open closed) a.frames
               (subst (λ (s : Stop). StopsReading past s reader reader' seat (as_open closed) a.frames) e.0 a.read) last own));
           count = same ∙ a.count;
@@ -481,7 +438,7 @@ module _ (past : List Act) (reader reader' : ReaderState) (seat : StreamSeatValu
         | inr e ↦ record {
           frames = a.frames;
           read = subst (λ (s : Stop). StopsReading past s reader reader' seat drained a.frames) (sym e.2)
-              (read_later past stop reader reader' seat (as_open closed) drained a.frames later a.read);
+              (read_later past stop reader reader' seat (as_open closed) drained a.frames tally.added tally.calls a.read);
           count = same ∙ a.count;
           sent = sent_until seat writer a.frames none well told last (as_open drained) writer'
               (λ f is. absurd (subst IsNoWrite (sym e.2 ∙ is) e.0)) all;

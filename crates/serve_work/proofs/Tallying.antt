@@ -14,8 +14,9 @@ use Rattle.serve_hub.specs.declared.moments.Moments.{Moments}
 use Rattle.serve_hub.specs.Calls.{Accepts, Collects}
 use Rattle.serve_hub.specs.Journal.{tick_of}
 use Rattle.serve_hub.specs.Seats.{CallsValue, StreamSeatValue, collected_by, first_noted, moments_with, one_collection, torn_at}
-use Rattle.serve_work.specs.Clients.{AreAtMoments, HasOtherNumber, IsAtMoment, collections_in, is_collection, is_offer, offers_in}
-use Rattle.serve_work.specs.ClientInside.{GivesUp, IsCounted, KeepsMoments, OffersAt, Tallies, TalliesSeat}
+use Rattle.serve_work.specs.Clients.{AreAtMoments, HasOtherNumber, IsAtMoment, closes_in, collections_in, is_close, is_collection}
+use Rattle.serve_work.specs.Clients.{is_offer, offers_in}
+use Rattle.serve_work.specs.ClientInside.{GivesUp, IsCounted, KeepsMoments, OffersAt, ShowsClose, Tallies, TalliesSeat}
 
 -- what holds of a number, if there is one
 pub if_more : (P Q : ℕ → Type 0) (o : Option ℕ) → ((n : ℕ) → P n → Q n) → IfSome o P → IfSome o Q
@@ -53,6 +54,9 @@ offers_both past calls = such_among is_offer past calls
 pub collections_both : (past calls : List Act) → collections_in (past ++ calls) ≡ collections_in past + collections_in calls
 collections_both past calls = such_among is_collection past calls
 
+closes_both : (past calls : List Act) → closes_in (past ++ calls) ≡ closes_in past + closes_in calls
+closes_both past calls = such_among is_close past calls
+
 -- as seats count their collections
 pub collections_counted : (calls : List Act) → collections_in calls ≡ sum_by one_collection calls
 collections_counted [] = refl
@@ -79,8 +83,9 @@ none_offered pair old new c =
     ap (λ (v : StreamSeatValue). offers_in v.calls.list) c.seat ∙ offers_both old.calls.list (acts.Collected c.number ∷ [])
 
 pub TalliesSeat-same : (old new : StreamSeatValue) → new.number ≡ old.number → new.chain ≡ old.chain → new.before ≡ old.before
-    → new.calls ≡ old.calls → new.accepted ≡ old.accepted → new.moments ≡ old.moments → new.torn ≡ old.torn → TalliesSeat old new
-TalliesSeat-same old new number chain before calls accepted moments torn = record {
+    → new.calls ≡ old.calls → new.accepted ≡ old.accepted → new.moments ≡ old.moments → new.is_closed ≡ old.is_closed
+    → new.torn ≡ old.torn → TalliesSeat old new
+TalliesSeat-same old new number chain before calls accepted moments closed torn = record {
   number = number;
   chain = chain;
   before = before;
@@ -89,9 +94,17 @@ TalliesSeat-same old new number chain before calls accepted moments torn = recor
   offers = omega (arith, ap (λ (c : CallsValue). offers_in c.list) calls, accepted);
   moments = λ none. moments;
   collections = omega (arith, ap (λ (c : CallsValue). collections_in c.list) calls);
+  unclosed = λ is_open. (sym closed ∙ is_open, refl);
   noted = λ n is. torn ∙ is;
   torn = λ none. if_none (λ n. collected_by old ≤ n) new.torn (torn ∙ none);
 }
+
+pub seat_same : (old new : StreamSeatValue) → new ≡ old → TalliesSeat old new
+seat_same old new same = TalliesSeat-same old new (ap (λ (v : StreamSeatValue). v.number) same)
+    (ap (λ (v : StreamSeatValue). v.chain) same) (ap (λ (v : StreamSeatValue). v.before) same)
+    (ap (λ (v : StreamSeatValue). v.calls) same) (ap (λ (v : StreamSeatValue). v.accepted) same)
+    (ap (λ (v : StreamSeatValue). v.moments) same) (ap (λ (v : StreamSeatValue). v.is_closed) same)
+    (ap (λ (v : StreamSeatValue). v.torn) same)
 
 -- images that were collected stay so
 pub collected_more : (old new : StreamSeatValue) → new.before ≡ old.before
@@ -115,6 +128,10 @@ TalliesSeat-trans a b c p q = record {
   moments = λ none.
       let both = offers_both p.added q.added in q.moments (omega (arith, none, both)) ∙ p.moments (omega (arith, none, both));
   collections = omega (arith, p.collections, q.collections);
+  unclosed = λ is_open.
+      let later = q.unclosed is_open in
+      let first = p.unclosed later.0 in
+      (first.0, omega (arith, first.1, later.1, closes_both p.added q.added));
   noted = λ n is. q.noted n (p.noted n is);
   torn = λ none.
       let more = collected_more a b p.before p.collections in
@@ -136,6 +153,7 @@ TalliesSeat-accept frame n old new a = rw a.seat (record {
   offers = omega (arith, offers_both old.calls.list (acts.Offered a.tick n ∷ []));
   moments = λ none. absurd (omega (arith, none));
   collections = omega (arith, collections_both old.calls.list (acts.Offered a.tick n ∷ []));
+  unclosed = λ is_open. (is_open, refl);
   noted = λ n is. is;
   torn = λ none. if_none (λ n. collected_by old ≤ n) old.torn none;
 })
@@ -150,6 +168,7 @@ TalliesSeat-collect pair old new c = record {
   offers = omega (arith, none_offered pair old new c, ap (λ (v : StreamSeatValue). v.accepted) c.seat);
   moments = λ none. ap (λ (v : StreamSeatValue). v.moments) c.seat;
   collections = omega (arith, one_collected pair old new c);
+  unclosed = λ is_open. (sym (ap (λ (v : StreamSeatValue). v.is_closed) c.seat) ∙ is_open, refl);
   noted = λ n is. ap (λ (v : StreamSeatValue). v.torn) c.seat ∙ is;
   torn = λ none. if_none (λ n. collected_by old ≤ n) new.torn (ap (λ (v : StreamSeatValue). v.torn) c.seat ∙ none);
 }
@@ -166,6 +185,7 @@ TalliesSeat-torn n old mid new t same few is = rw is (record {
   offers = t.offers;
   moments = t.moments;
   collections = t.collections;
+  unclosed = t.unclosed;
   noted = λ m was. ap (λ (o : Option ℕ). first_noted o n) (same ∙ was);
   torn = λ none. subst (λ (o : Option ℕ). IfSome (first_noted o n) (λ m. collected_by old ≤ m)) (sym (same ∙ none)) few;
 })
@@ -182,7 +202,7 @@ Tallies-seat old new writer writer' t same = record {
 }
 
 pub Tallies-none : (seat : StreamSeatValue) (writer : WriterState) → Tallies seat seat writer writer
-Tallies-none seat writer = Tallies-seat seat seat writer writer (TalliesSeat-same seat seat refl refl refl refl refl refl refl) refl
+Tallies-none seat writer = Tallies-seat seat seat writer writer (seat_same seat seat refl) refl
 
 -- behind calls that weren't told Torn
 pub Tallies-trans : (a b c : StreamSeatValue) (writer between writer' : WriterState) → b.torn ≡ a.torn → Tallies a b writer between
@@ -231,15 +251,23 @@ Tallies-give old new writer writer' pair c more = record {
       (ap (λ (v : StreamSeatValue). v.torn) c.seat ∙ none);
 }
 
-pub seat_same : (old new : StreamSeatValue) → new ≡ old → TalliesSeat old new
-seat_same old new same = TalliesSeat-same old new (ap (λ (v : StreamSeatValue). v.number) same)
-    (ap (λ (v : StreamSeatValue). v.chain) same) (ap (λ (v : StreamSeatValue). v.before) same)
-    (ap (λ (v : StreamSeatValue). v.calls) same) (ap (λ (v : StreamSeatValue). v.accepted) same)
-    (ap (λ (v : StreamSeatValue). v.moments) same) (ap (λ (v : StreamSeatValue). v.torn) same)
-
 pub counted_later : (past : List Act) (old new : StreamSeatValue) → TalliesSeat old new → IsCounted past old → IsCounted past new
 counted_later past old new t e =
     omega (arith, t.offers, e, offers_both past old.calls.list, offers_both past new.calls.list)
+
+-- and a close shows
+pub close_shown : (past : List Act) (old new : StreamSeatValue) → TalliesSeat old new → ShowsClose past old → ShowsClose past new
+close_shown past old new t shown is_open =
+    let last = t.unclosed is_open in
+    omega (
+      arith,
+      last.1,
+      shown last.0,
+      ap closes_in t.calls,
+      closes_both old.calls.list t.added,
+      closes_both past old.calls.list,
+      closes_both past new.calls.list,
+    )
 
 pub other_number : (past : List Act) (frame : FrameValue) (n : ℕ) (old new : StreamSeatValue) → IsCounted past old → n ≢ old.accepted
     → Accepts frame n old new → HasOtherNumber (past ++ new.calls.list)

@@ -1,5 +1,5 @@
 -- A fault that stands in the input is told.
-use Rattle.std.proofs.Common.{◌≡◌, ◌⊎◌, ◌++◌, ℕ, List, Option, Some, None, Result, Ok, Err, refl, sym, subst, inl, inr}
+use Rattle.std.proofs.Common.{◌≡◌, ◌⊎◌, ◌++◌, ℕ, List, Option, Some, None, Result, Ok, Err, refl, subst, inl, inr}
 use Rattle.std.specs.Io.KnownBytes.{Consumes, IsAtEnd}
 use Rattle.y4m_header.specs.StreamText.{FrameText, IsFrameOf, text_of}
 use Rattle.y4m_stream.specs.declared.fault.ReadFault.{ReadFault}
@@ -12,7 +12,7 @@ use Rattle.serve_hub.specs.declared.entry.Act.{Act}
 use Rattle.serve_work.specs.declared.stop.Cause.TheVariants.{TooManyFrames, ClockEnd, NoMemory}
 use Rattle.serve_work.specs.declared.stop.Stop.{Stop}
 use Rattle.serve_work.specs.declared.stop.Stop.TheVariants.{Whole, Read, Write, Refused, Torn}
-use Rattle.serve_work.specs.Clients.{ClientProgress, ClientStopsAt, GivesUpAt, HasMoreOrEnds, HasOtherNumber, StreamStopsAt}
+use Rattle.serve_work.specs.Clients.{ClientProgress, ClientStopsAt, GivesUpAt, HasMoreOrEnds, HasOtherNumber, IsUnclosed}
 use Rattle.serve_work.specs.Laws.{InputFaultIsTold, IsOfGivingUp, TellsFault}
 
 module _ (len : ℕ) (bytes : List ℕ) (fault : ReadFault) (left : Option (List ℕ)) (of_bytes : IsOfBytes fault)
@@ -55,24 +55,16 @@ module _ (len : ℕ) (bytes : List ℕ) (fault : ReadFault) (left : Option (List
     told_at Torn (inl a) = absurd (neither a)
     told_at Torn (inr a) = inr (refl, a.0)
 
-    -- the same of a stream
-    torn_or_told : (stop : Stop) → TellsFault fault stop ⊎ (stop ≡ Torn) × HasOtherNumber calls
-        → TellsFault fault stop ⊎ IsOfGivingUp stop
-    torn_or_told stop (inl a) = inl a
-    torn_or_told stop (inr a) = inr (subst IsOfGivingUp (sym a.0) tt)
-
-    of_giving_up : (stop : Stop) → GivesUpAt stop at → IsOfGivingUp stop
-    of_giving_up Whole a = a
-    of_giving_up (Read told) a = a
-    of_giving_up (Refused TooManyFrames) a = a
-    of_giving_up (Refused ClockEnd) a = a
-    of_giving_up (Refused NoMemory) a = tt
-    of_giving_up (Write f) a = tt
-    of_giving_up Torn a = tt
-
-    stream_told_at : (stop : Stop) → StreamStopsAt stop at → TellsFault fault stop ⊎ IsOfGivingUp stop
-    stream_told_at stop (inl a) = torn_or_told stop (told_at stop a)
-    stream_told_at stop (inr a) = inr (of_giving_up stop a)
+    -- of a stream that was given up
+    of_giving_up : (stop : Stop) → GivesUpAt stop at → IsOfGivingUp stop × IsUnclosed calls
+    of_giving_up Whole a = absurd a
+    of_giving_up (Read told) a = absurd a
+    of_giving_up (Refused TooManyFrames) a = absurd a
+    of_giving_up (Refused ClockEnd) a = absurd a
+    of_giving_up (Refused NoMemory) (inl a) = absurd (not_at_end rest same a.0)
+    of_giving_up (Refused NoMemory) (inr a) = (tt, a.0)
+    of_giving_up (Write f) a = (tt, a.0)
+    of_giving_up Torn a = (tt, a.0)
 
 -- a client that was cut off before it read anything, or such a stop
 or_told : (A B P Q : Type 0) → (P → Q) → A ⊎ B ⊎ P → A ⊎ B ⊎ Q
@@ -80,12 +72,20 @@ or_told A B P Q f (inl a) = inl a
 or_told A B P Q f (inr (inl a)) = inr (inl a)
 or_told A B P Q f (inr (inr a)) = inr (inr (f a))
 
+-- and a stream that may have been given up
+or_given_up : (A B P Q R S : Type 0) → (P → Q) → (R → S) → A ⊎ B ⊎ (P ⊎ R) → (A ⊎ B ⊎ Q) ⊎ S
+or_given_up A B P Q R S f g (inl a) = inl (inl a)
+or_given_up A B P Q R S f g (inr (inl a)) = inl (inr (inl a))
+or_given_up A B P Q R S f g (inr (inr (inl a))) = inl (inr (inr (f a)))
+or_given_up A B P Q R S f g (inr (inr (inr a))) = inr (g a)
+
 pub input_fault_is_told : InputFaultIsTold
 input_fault_is_told start past seat end fault bytes left of_bytes stands =
     let len : ℕ = data_len_of start.reader.header in
     let calls : List Act = past ++ seat.calls.list in (
       λ e same. or_told _ _ _ _
           (told_at len bytes fault left of_bytes stands end.accepted start.seat.frames e.rest end.left calls same end.stop) e.stops,
-      λ e same. or_told _ _ _ _
-          (stream_told_at len bytes fault left of_bytes stands end.accepted start.seat.frames e.rest end.left calls same end.stop) e.stops,
+      λ e same. or_given_up _ _ _ _ _ _
+          (told_at len bytes fault left of_bytes stands end.accepted start.seat.frames e.rest end.left calls same end.stop)
+          (of_giving_up len bytes fault left of_bytes stands end.accepted start.seat.frames e.rest end.left calls same end.stop) e.stops,
     )

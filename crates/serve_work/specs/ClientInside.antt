@@ -37,7 +37,7 @@ use Rattle.serve_work.specs.declared.stop.Halt.TheVariants.{Full, Stopped}
 use Rattle.serve_work.specs.declared.stop.Stop.{Stop}
 use Rattle.serve_work.specs.declared.stop.Stop.TheVariants.{Whole, Read, Write, Refused, Torn}
 use Rattle.serve_work.specs.Clients.{AllowsStop, AreAtMoments, ClientProgress, ClientStopsAt, HasOtherNumber}
-use Rattle.serve_work.specs.Clients.{collections_in, offers_in, reads_at}
+use Rattle.serve_work.specs.Clients.{IsUnclosed, collections_in, offers_in, reads_at}
 use Rattle.serve_work.specs.Hands.{Behind, CanPutOn, IsPairOf, counted_with}
 
 -- a refusal that isn't that of a full journal
@@ -148,6 +148,10 @@ IsKept places more old new =
 abbrev pub IsCounted : List Act → StreamSeatValue → Type 0
 IsCounted past seat = offers_in (past ++ seat.calls.list) ≡ seat.accepted
 
+-- where the seat is open, no call closed its stream, these calls of earlier epochs included
+abbrev pub ShowsClose : List Act → StreamSeatValue → Type 0
+ShowsClose past seat = seat.is_closed ≡ false → IsUnclosed (past ++ seat.calls.list)
+
 -- what stays of a stream's seat while its frames move
 pub record Stays (old new : StreamSeatValue) : Type 0 where
   pub number : new.number ≡ old.number
@@ -166,8 +170,8 @@ pub record Accounted (seat : StreamSeatValue) (writer : WriterState) : Type 0 wh
   pub none : writer.part ≡ 0
 
 -- calls were added to the seat's, among them each offer and each collection that was accepted; where no
--- offer was, the moments of the first and the latest stay. What it noted of a Torn stays; where it is told so
--- first, no fewer images were collected than before
+-- offer was, the moments of the first and the latest stay. Where it is open still, none of them closed it.
+-- What it noted of a Torn stays; where it is told so first, no fewer images were collected than before
 pub record TalliesSeat (old new : StreamSeatValue) : Type 0 where
   pub number : new.number ≡ old.number
   pub chain : new.chain ≡ old.chain
@@ -177,6 +181,7 @@ pub record TalliesSeat (old new : StreamSeatValue) : Type 0 where
   pub offers : offers_in new.calls.list + old.accepted ≡ offers_in old.calls.list + new.accepted
   pub moments : offers_in added ≡ 0 → new.moments ≡ old.moments
   pub collections : collections_in old.calls.list ≤ collections_in new.calls.list
+  pub unclosed : new.is_closed ≡ false → (old.is_closed ≡ false) × IsUnclosed added
   pub noted : (n : ℕ) → old.torn ≡ Some n → new.torn ≡ Some n
   pub torn : old.torn ≡ None → IfSome new.torn (λ n. collected_by old ≤ n)
 

@@ -15,7 +15,7 @@ use Rattle.y4m_stream.specs.Reader.{ReaderState, data_len_of, failures_at}
 use Rattle.y4m_stream.specs.Served.{IsImageText, IsServedText, served_header}
 use Rattle.y4m_stream.specs.Writer.{CutsShort, FlushesOrFails}
 use Rattle.serve_hub.specs.declared.entry.Act.{Act}
-use Rattle.serve_hub.specs.declared.entry.Act.TheVariants.{Collected, Offered}
+use Rattle.serve_hub.specs.declared.entry.Act.TheVariants.{Closed, Collected, Offered}
 use Rattle.serve_hub.specs.Journal.{tick_of}
 use Rattle.serve_hub.specs.Seats.{StreamSeatValue}
 use Rattle.serve_work.specs.declared.stop.Cause.TheVariants.{ClockEnd, NoMemory, TooManyFrames}
@@ -63,11 +63,22 @@ abbrev pub is_collection : Act → Bool
 is_collection (Collected number) = true
 is_collection act = false
 
+abbrev pub is_close : Act → Bool
+is_close Closed = true
+is_close act = false
+
 abbrev pub offers_in : List Act → ℕ
 offers_in calls = length (filter is_offer calls)
 
 abbrev pub collections_in : List Act → ℕ
 collections_in calls = length (filter is_collection calls)
+
+abbrev pub closes_in : List Act → ℕ
+closes_in calls = length (filter is_close calls)
+
+-- none of these calls closed the stream
+abbrev pub IsUnclosed : List Act → Type 0
+IsUnclosed calls = closes_in calls ≡ 0
 
 -- an offer was answered with another number than how many were accepted before it
 pub record HasOtherNumber (calls : List Act) : Type 0 where
@@ -127,12 +138,16 @@ ClientStopsAt (Refused cause) at = HasNext at.len at.rest at.left
 ClientStopsAt (Write fault) at = HasMoreOrEnds at
 ClientStopsAt Torn at = HasMoreOrEnds at ⊎ HasOtherNumber at.calls × IsReadAhead at.rest at.left
 
--- where a stream stands that is given up while it reads, or while images are left to write, or while a fault
--- is held: no frame behind those that were accepted need have been read
+-- no call closed the stream, and no more than a line behind the frames that were accepted was read
+abbrev pub StandsOpen : ClientProgress → Type 0
+StandsOpen at = IsUnclosed at.calls × IsReadAhead at.rest at.left
+
+-- where a stream stands that is given up: at its input's end, with images left to write; or open, while it reads
+-- or a fault is held, and no frame behind those that were accepted need have been read
 abbrev pub GivesUpAt : Stop → ClientProgress → Type 0
-GivesUpAt (Refused NoMemory) at = HasEnded at ⊎ IsReadAhead at.rest at.left
-GivesUpAt (Write fault) at = IsReadAhead at.rest at.left
-GivesUpAt Torn at = IsReadAhead at.rest at.left
+GivesUpAt (Refused NoMemory) at = HasEnded at ⊎ StandsOpen at
+GivesUpAt (Write fault) at = StandsOpen at
+GivesUpAt Torn at = StandsOpen at
 GivesUpAt stop at = ⊥
 
 -- why no more frames of a stream were accepted: its client stopped, or the stream was given up

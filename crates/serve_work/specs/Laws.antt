@@ -13,8 +13,8 @@ use Rattle.serve_work.specs.declared.stop.Stop.{Stop}
 use Rattle.serve_work.specs.declared.stop.Cause.TheVariants.{NoMemory}
 use Rattle.serve_work.specs.declared.stop.Stop.TheVariants.{Read, Refused, Torn, Whole, Write}
 use Rattle.serve_work.specs.Clients.{ClientEnds, ClientOutcome, ClientProgress, ClientStart, ClientStopsAt}
-use Rattle.serve_work.specs.Clients.{CutsHeader, Ends, HasOtherNumber, StreamEnds, StreamStopsAt, WroteImages}
-use Rattle.serve_work.specs.Clients.{WroteNothing}
+use Rattle.serve_work.specs.Clients.{CutsHeader, Ends, HasOtherNumber, IsUnclosed, StreamEnds, StreamStopsAt}
+use Rattle.serve_work.specs.Clients.{WroteImages, WroteNothing}
 
 -- the text is the whole input, all of it was read, and what it is served as was written
 pub record ServesAll (input : Option (List ℕ)) (text : List ℕ) (frames : List FrameText)
@@ -68,18 +68,25 @@ IsOfGivingUp (Write fault) = ⊤
 IsOfGivingUp Torn = ⊤
 IsOfGivingUp stop = ⊥
 
--- where a fault lies in the bytes behind the frames that were accepted, a client tells it, unless it read
--- nothing, or an offer was answered with another number; so it is told of a stream, unless that was given up
+-- the fault is told, unless no frame was read, or the stop is Torn, and an offer among these calls was answered
+-- with another number
+abbrev pub IsToldOrTorn : ReadFault → List Act → ClientStart → ClientOutcome → Type 0
+IsToldOrTorn fault calls start end =
+    WroteNothing start end ⊎ CutsHeader start end ⊎ TellsFault fault end.stop
+    ⊎ (end.stop ≡ Torn) × HasOtherNumber calls
+
+-- where a fault lies in the bytes behind the frames that were accepted, a client tells it, and so it is told
+-- of a stream, unless that was given up before it was closed
 abbrev pub InputFaultIsTold : Type 0
 InputFaultIsTold =
     (start : ClientStart) (past : List Act) (seat : StreamSeatValue) (end : ClientOutcome) (fault : ReadFault)
     (bytes : List ℕ) (left : Option (List ℕ)) → IsOfBytes fault
     → StandsAtFrame (data_len_of start.reader.header) fault (Some bytes) left
-    → ((e : ClientEnds start past seat end) → e.rest ≡ Some bytes → WroteNothing start end
-    ⊎ CutsHeader start end ⊎ TellsFault fault end.stop
-    ⊎ (end.stop ≡ Torn) × HasOtherNumber (past ++ seat.calls.list))
-    × ((e : StreamEnds start past seat end) → e.rest ≡ Some bytes → WroteNothing start end
-    ⊎ CutsHeader start end ⊎ TellsFault fault end.stop ⊎ IsOfGivingUp end.stop)
+    → ((e : ClientEnds start past seat end) → e.rest ≡ Some bytes
+    → IsToldOrTorn fault (past ++ seat.calls.list) start end)
+    × ((e : StreamEnds start past seat end) → e.rest ≡ Some bytes
+    → IsToldOrTorn fault (past ++ seat.calls.list) start end
+    ⊎ IsOfGivingUp end.stop × IsUnclosed (past ++ seat.calls.list))
 
 -- a front of the text was written
 pub record WroteFront (served : List ℕ) (start : ClientStart) (end : ClientOutcome) : Type 0 where

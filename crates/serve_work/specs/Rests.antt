@@ -25,8 +25,8 @@ use Rattle.serve_core.specs.declared.collected.Collected.{Collected}
 use Rattle.serve_work.specs.Clients.{ClientStart, collections_in}
 use Rattle.serve_work.specs.Hands.{Behind, CanPutOn, IsBegunPair, IsPairOf, counted_with, with_kept}
 use Rattle.serve_work.specs.ClientInside.{Accounted, AreBuffersFor, Feeds, HasInHand, Holds, IsCounted}
-use Rattle.serve_work.specs.ClientInside.{IsNoNewEnd, IsSized, IsUseful, Stays, Takes, Tallies, TalliesSeat}
-use Rattle.serve_work.specs.ClientInside.{text_in}
+use Rattle.serve_work.specs.ClientInside.{IsNoNewEnd, IsSized, IsUseful, ShowsClose, Stays, Takes, Tallies}
+use Rattle.serve_work.specs.ClientInside.{TalliesSeat, text_in}
 use Rattle.serve_work.specs.Sends.{IsSent, Serves}
 
 -- what a client does next
@@ -275,11 +275,13 @@ HasMemoryAt reader writer buffers (steps.Paused course) = HasMemoryFor reader wr
 HasMemoryAt reader writer buffers (steps.Done stop) = ⊤
 
 -- the stream's offers are as many as its frames that were accepted, and no more images were put than were
--- collected, and than were before an answer was first told Torn
+-- collected, and than were before an answer was first told Torn. A close is among the calls only where the
+-- seat is closed
 pub record IsTallied (past : List Act) (first seat : StreamSeatValue) (writer : WriterState) : Type 0 where
   pub number : seat.number ≡ first.number
   pub chain : seat.chain ≡ first.chain
   pub offers : IsCounted past seat
+  pub closes : ShowsClose past seat
   pub images : writer.frames ≤ collections_in (past ++ seat.calls.list)
   pub before : seat.before ≡ first.before + collections_in past
   pub torn : first.torn ≡ None → IfSome seat.torn (λ n. first.before + writer.frames ≤ n)
@@ -295,6 +297,7 @@ pub record IsUnbegun (start : ClientStart) (past : List Act) (seat : StreamSeatV
   pub fresh : IsFresh seat
   pub stays : Stays start.seat seat
   pub offers : IsCounted past seat
+  pub closes : ShowsClose past seat
   pub before : seat.before ≡ start.seat.before + collections_in past
 
 -- the header line was written, and then the client came so far

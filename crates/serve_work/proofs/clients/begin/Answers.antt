@@ -84,6 +84,7 @@ returns-clause-turn g c = λ start past is.
         number = is.stays.number;
         chain = is.stays.chain;
         offers = is.offers;
+        closes = is.closes;
         images = omega (arith, opened.frames);
         before = is.before;
         torn = λ none.

@@ -25,7 +25,7 @@ returns g c =
           let e = subst (λ image. EndsImage image seat.chain ended inside.writer writer) c.into_kept-kept.ensures.image
           (c.end_image-ended.ensures.ended seat.chain) in
           let serves = given_up past o (outset_of start b.shown b.opened b.first b.is_opened) inside.reader course seat inside.writer writer ended
-          c.or.result c.or-stop.result c.into_source.ensures.ahead b.at e now c.or-stop.ensures in
+          c.or.result c.or-stop.result c.into_source.ensures.ahead b.tally.closes b.at e now c.or-stop.ensures in
           let tally = tallied_ended course past start.seat o inside.reader seat ended inside.writer writer b.at e b.tally in
           let finish = c.finish-writer.ensures in
           Ends-served start _ b.shown b.opened b.header b.is_opened StreamStopsAt past c.or-stop.result inside.reader seat

@@ -49,7 +49,7 @@ seat-requires-clause-ready g c =
     let request : RequestValue = request_of g.W.Sink.contents g.W.Sink.failures c.args.request in
     let is : IsRequest request = record { header = c.requires.input.header; is_open = c.requires.input.is_open } in
     let a = admitted c.args.request.spec seat c.in-Ok.ensures.seat in
-    let b = began g.D.Door.limit g.D.Door.times g.L.Epoch.opening request seat is a.0 (inr c.in-Ok.ensures.behind) a.1 a.2 in
+    let b = began g.D.Door.limit g.D.Door.times g.L.Epoch.opening request seat is a.0 (inr c.in-Ok.ensures.behind) a.1 a.2 a.3 in
     subst (λ (v : StreamValue). IsReadyAt v seat) (sym c.new.ensures)
     (may_go g.D.Door.limit g.D.Door.times g.L.Epoch.opening request
     (sessions.Waiting (Unbegun request.reader request.before request.failures)) seat b)
@@ -66,7 +66,7 @@ returns-in-Ok g c =
     let w : Waiting = waiting_of g.W.Sink.contents g.W.Sink.failures c.args.request in
     let is : IsRequest w.request = record { header = c.requires.input.header; is_open = c.requires.input.is_open } in
     let a = admitted c.args.request.spec seat c.in-Ok.ensures.seat in
-    let b = began g.D.Door.limit g.D.Door.times g.L.Epoch.opening w.request seat is a.0 (inr c.in-Ok.ensures.behind) a.1 a.2 in
+    let b = began g.D.Door.limit g.D.Door.times g.L.Epoch.opening w.request seat is a.0 (inr c.in-Ok.ensures.behind) a.1 a.2 a.3 in
     let held = held_at seat c.new.result in
     let turn : HasTurn g.D.Door.limit g.D.Door.times g.L.Epoch.opening w held =
     subst (λ (v : StreamValue). Begins g.D.Door.limit g.D.Door.times g.L.Epoch.opening w.request v seat) (sym c.new.ensures) b in

@@ -1,5 +1,5 @@
 use Rattle.std.proofs.Common.{◌≡◌, ◌∙◌, [], ◌∷◌, ap, arith, inl, inr, length, refl, subst, sym}
-use Rattle.serve_work.specs.Clients.{offers_in}
+use Rattle.serve_work.specs.Clients.{closes_in, offers_in}
 use Rattle.serve_work.specs.declared.live.guests.Ticket.{Ticket}
 use Rattle.serve_work.specs.Live.{IsNewIn, RequestValue, Waiting}
 use Rattle.serve_work.specs.LiveInside.{AreSeated, Begins, HasTurn, TakesSeat}
@@ -39,9 +39,10 @@ seat-requires g c =
     let request : RequestValue = c.requires.first.0.request in
     let new = c.in-Some.ensures.seat request.spec first.streams in
     let none = ap offers_in new.1.0 in
+    let unclosed = ap closes_in new.1.0 in
     let there : IsNewIn request.spec seat.number g.L.Epoch.opening =
     inl (record { setup = c.args.stream.setup; streams = first.streams; opened = sym c.requires.blank.opens; first = new.2 }) in
-    let b = began g.D.Door.limit g.D.Door.times g.L.Epoch.opening request seat first.is_request new.0 there none new.1.1 in
+    let b = began g.D.Door.limit g.D.Door.times g.L.Epoch.opening request seat first.is_request new.0 there none unclosed new.1.1 in
     let rest = sessions.Waiting (Unbegun request.reader request.before request.failures) in
     let is : _ ≡ rest = c.new.ensures ∙ rw (first.reader, first.before, first.failures_of) refl in
     record {
@@ -65,9 +66,10 @@ epoch-requires-clause-seated g c κs within =
     let request : RequestValue = w.request in
     let new = c.in-Some.ensures.seat request.spec first.streams in
     let none = ap offers_in new.1.0 in
+    let unclosed = ap closes_in new.1.0 in
     let there : IsNewIn request.spec seat.number g.L.Epoch.opening =
     inl (record { setup = c.args.stream.setup; streams = first.streams; opened = sym c.requires.blank.opens; first = new.2 }) in
-    let b = began limit times opening request seat first.is_request new.0 there none new.1.1 in
+    let b = began limit times opening request seat first.is_request new.0 there none unclosed new.1.1 in
     let rest = sessions.Waiting (Unbegun request.reader request.before request.failures) in
     let is : c.new.result ≡ rest = c.new.ensures ∙ rw (first.reader, first.before, first.failures_of) refl in
     let held = held_at seat c.new.result in

@@ -9,7 +9,7 @@ use Rattle.serve_work.specs.Rests.{IsRestOf, IsUnbegun, RestValue, rest_image, r
 use Rattle.serve_work.specs.RestInside.{rest_of}
 use Rattle.serve_work.specs.Sends.{TellsKept}
 use Rattle.serve_work.proofs.Ending.{Ends-unopened}
-use Rattle.serve_work.proofs.Tallying.{TalliesSeat-same}
+use Rattle.serve_work.proofs.Tallying.{seat_same}
 use Rattle.serve_work.proofs.rest.ClientRest.give_up.Goals as goal
 
 pub returns-in-Unbegun : goal.returns-in-Unbegun
@@ -23,7 +23,7 @@ returns-in-Unbegun g c =
           subst (IsRestOf start past seat) rest at in
           let kept : Keeps start.before (contents writer) = subst (λ b. Keeps b (contents writer)) is.same_contents (Keeps-refl (contents writer))
           in
-          Ends-unopened start _ StreamStopsAt past seat seat _ _ _ is (TalliesSeat-same seat seat refl refl refl refl refl refl refl) refl refl
+          Ends-unopened start _ StreamStopsAt past seat seat _ _ _ is (seat_same seat seat refl) refl refl
           (c.into_source.ensures.failures ∙ ap (λ (r : ReaderState). r.failures) (c.in-Unbegun.reader-is ∙ is.same_reader))
           (inl (record {
             stop = refl;
