@@ -34,7 +34,7 @@ AllowsOnward Gives (onward.Paused in_hand) = ⊤
 AllowsOnward Gives onward.QueueFull = ⊤
 AllowsOnward Gives (onward.Stopped stop) = AllowsStop Gives stop
 
--- what a client needs that reads on so
+-- what a client needs that reads on with a fault held
 pub record CanHoldOn (reader : ReaderState) (seat : StreamSeatValue) : Type 0 where
   pub header : IsOfHeader reader.header seat.chain.geometry
   pub is_open : reader.phase ≡ Open

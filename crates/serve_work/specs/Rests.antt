@@ -340,7 +340,7 @@ IsRestOf start past seat (Begun begun) = IsBegun start past seat begun
 abbrev pub IsRest : StreamSeatValue → RestValue → Type 0
 IsRest seat rest = (start : ClientStart) × (past : List Act) × IsRestOf start past seat rest
 
--- what is left was thrown away behind this stop, which is no end, or the journal is full
+-- what is left was thrown away behind this stop, or the journal is full
 pub record Discards (kept : Stop) (old new : StreamSeatValue) (step : Step) : Type 0 where
   pub answer : (past : List Act) (o : Outset) (reader : ReaderState) (writer : WriterState)
       → Serves past kept o.reader reader o.seat old o.writer writer → Comes step past o reader new writer

@@ -2,8 +2,8 @@
 
 use std::alloc::{AllocError, Global};
 
-/// What starts threads and waits, where memory is taken, what is told of the work, and what tells the moments
-/// of offers.
+/// What starts threads and waits, where memory is taken, who is told of the work (`Gate`), and who tells the
+/// moments of offers (`Clock`).
 pub(crate) struct Setting<'a, G, K, T> {
     pub(crate) rt: &'a T,
     pub(crate) alloc: Global,
