@@ -1,4 +1,4 @@
--- What a blur keeps between its rows: sums of columns, sums of four of these, and the means of squares.
+-- What a blur works with: rows of the plane, sums of its columns, and the means of squares.
 use Rattle.std.specs.Prelude.{◌≡◌, ℕ, ◌+◌, ◌*◌, ◌/◌, ◌<◌, ◌≤◌, List, length, slice_index}
 use Rattle.y4m_header.specs.declared.limits.TheConstants.{LONGEST_SIDE}
 use Rattle.filters.specs.declared.limits.TheConstants.{MOST_RADIUS}
@@ -62,8 +62,8 @@ abbrev pub AreMeans : ℕ → List ℕ → List ℕ → Type 0
 AreMeans side columns means = (x : ℕ) → x < length means → slice_index means x
     ≡ (sum_below (λ j. slice_index columns (x + j)) side + side * side / 2) / (side * side)
 
--- the rounded means of the squares round each of `count` columns, of which the first and the last stand for those
--- beside them
+-- the rounded means of the squares round each of `count` columns, of which the first and the last stand for
+-- those beside them
 abbrev pub AreMeansRound : ℕ → ℕ → List ℕ → List ℕ → Type 0
 AreMeansRound radius count columns means = (x : ℕ) → x < count →
     let sum = sum_below (λ j. column columns radius (clamped count radius x j)) (side radius) in

@@ -105,7 +105,8 @@ pub record WritesStep (chain : ChainValue) (k : ℕ) (source : Frame) (old new :
   pub line : line_of (frame_of after) ≡ line_of (frame_of before)
   pub written : (op band : ℕ) → IsStep (counts_of chain) k op band
       → WritesBand chain op band (frames_by source old before) (frames_by source new after)
-  pub done : AreDone chain (frames_by source old before) k → AreDone chain (frames_by source new after) (k + 1)
+  pub done : AreDone chain (frames_by source old before) k
+      → AreDone chain (frames_by source new after) (k + 1)
 
 -- one step more is done: its band is written, and all else stays
 pub record StepsOn (old new : JobValue) : Type 0 where

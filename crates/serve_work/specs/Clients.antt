@@ -142,8 +142,8 @@ ClientStopsAt Torn at = HasMoreOrEnds at ⊎ HasOtherNumber at.calls × IsReadAh
 abbrev pub StandsOpen : ClientProgress → Type 0
 StandsOpen at = IsUnclosed at.calls × IsReadAhead at.rest at.left
 
--- where a stream stands that is given up: at its input's end, with images left to write; or open, while it reads
--- or a fault is held, and no frame behind those that were accepted need have been read
+-- where a stream stands that is given up: at its input's end, with images left to write; or open, while it
+-- reads or a fault is held, and no frame behind those that were accepted need have been read
 abbrev pub GivesUpAt : Stop → ClientProgress → Type 0
 GivesUpAt (Refused NoMemory) at = HasEnded at ⊎ StandsOpen at
 GivesUpAt (Write fault) at = StandsOpen at

@@ -68,8 +68,8 @@ IsOfGivingUp (Write fault) = ⊤
 IsOfGivingUp Torn = ⊤
 IsOfGivingUp stop = ⊥
 
--- the fault is told, unless no frame was read, or the stop is Torn, and an offer among these calls was answered
--- with another number
+-- the fault is told, unless no frame was read, or the stop is Torn, and an offer among these calls was
+-- answered with another number
 abbrev pub IsToldOrTorn : ReadFault → List Act → ClientStart → ClientOutcome → Type 0
 IsToldOrTorn fault calls start end =
     WroteNothing start end ⊎ CutsHeader start end ⊎ TellsFault fault end.stop

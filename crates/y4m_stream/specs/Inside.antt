@@ -34,7 +34,8 @@ use Rattle.y4m_stream.specs.Writer.{WriterState, CutsShort, FailsToPut, IsWriter
 use Rattle.y4m_stream.specs.Writer.{write_failures_at}
 use Rattle.y4m_header.specs.declared.limits.TheConstants.{MOST_FRAMES}
 use Rattle.y4m_stream.specs.Served.{IsAskedFor, IsHeaderOfImages, IsImageText, AreImages, served_header}
-use Rattle.y4m_stream.specs.Filtered.{Progress, CountsReads, IsLineAhead, LacksChain, StopsAt, filter_reads_told}
+use Rattle.y4m_stream.specs.Filtered.{Progress, CountsReads, IsLineAhead, LacksChain, StopsAt}
+use Rattle.y4m_stream.specs.Filtered.{filter_reads_told}
 
 -- the bytes that were read from a source and not yet taken, what it has left, and how many of its reads
 -- failed

@@ -129,8 +129,8 @@ fn pass_beside<T: Threads, R: Source + Drop + Send, W: Sink>(
 ///
 /// A fault that is met in reading is answered once the image before it is written. Where a write and the read
 /// beside it both fail, the write's fault is answered. So where it is, one frame more may have been read than
-/// images were begun, or its reading may have failed. In the first clause `last` is the source as it was given
-/// up.
+/// images were begun, or its reading may have failed. In the first clause `last` is the source as it was
+/// given up.
 pub fn filter_overlapped<T: Threads, R: Source + Drop + Send, W: Sink>(
     rt: &T,
     alloc: Global,

@@ -25,7 +25,8 @@ fn mean_row(columns: &mut [u16], radius: usize, fours: &mut [u16], target: &mut 
     requires sized { length target.old + 2 * radius ≡ length columns.old }
     requires fours { length fours.old ≡ length columns.old }
     requires bytes { (x : ℕ) → x < length target.old → column columns.old radius x ≤ 255 * side radius }
-    ensures kept { (x : ℕ) → x < length target.old → column columns.new radius x ≡ column columns.old radius x }
+    ensures kept { (x : ℕ) → x < length target.old →
+        column columns.new radius x ≡ column columns.old radius x }
     ensures means { AreMeansRound radius (length target.old) columns.old target.new }
 {
     repeat_ends(columns, radius);
@@ -33,7 +34,9 @@ fn mean_row(columns: &mut [u16], radius: usize, fours: &mut [u16], target: &mut 
 }
 
 /// Writes the rows from `from` up to `to` of the blurred plane, with two arrays of `ROOM` sums: those of the
-/// columns, and those of four columns.
+/// columns, and those of four columns. It has a frame of its own on the stack, so that no other operation
+/// takes the room of these arrays.
+#[inline(never)]
 fn blur_band<const ROOM: usize>(plane: &SourcePlane, from: usize, to: usize, target: &mut [u8])
     requires room { plane.now.width + 2 * plane.now.radius ≤ ROOM }
     requires most { ROOM ≤ WIDEST_ROOM }

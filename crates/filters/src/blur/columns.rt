@@ -52,7 +52,8 @@ fn move_row(columns: &mut [u16], radius: usize, entering: &[u8], leaving: &[u8])
     requires enters { length entering.now + 2 * radius ≡ length columns.old }
     requires leaves { length leaving.now ≡ length entering.now }
     requires room { (x : ℕ) → x < length entering.now → slice_index columns.old (radius + x) ≤ 65280 }
-    requires kept { (x : ℕ) → x < length entering.now → slice_index leaving.now x ≤ column columns.old radius x }
+    requires kept { (x : ℕ) → x < length entering.now →
+        slice_index leaving.now x ≤ column columns.old radius x }
     ensures { (x : ℕ) → x < length entering.now →
         slice_index columns.new (radius + x) + slice_index leaving.now x
         ≡ slice_index columns.old (radius + x) + slice_index entering.now x }
