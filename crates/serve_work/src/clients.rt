@@ -273,12 +273,11 @@ fn go_on<L: Epoch, R: Source + Drop, W: Sink, K: Clock, T: Wait>(
 /// Serves one stream: it offers the frames that it reads, and writes the images that it collects.
 ///
 /// The header line is written first, with the size of the images. Before each frame it writes the images that
-/// are there or come soon. While its queue is full, or while it reads ahead and keeps as many frames as it
-/// may, it waits for an image and writes it; at the end of the input, and at any fault, it closes the stream
-/// and collects the images that are left. After a fault of the writer, or an answer that contradicts the
-/// seat, these are thrown away, and nothing more is written; where that came before a frame was read, frames
-/// are read and offered on until the queue is full or the input ends, and it is told then. Once a stream
-/// runs, frames and images have the memory of those before them.
+/// are there or come soon. While its queue is full it waits for an image and writes it; at the end of the
+/// input, and at any fault, it closes the stream and collects the images that are left. After a fault of the
+/// writer, or an answer that contradicts the seat, these are thrown away, and nothing more is written; where
+/// that came before a frame was read, frames are read and offered on until the queue is full or the input
+/// ends, and it is told then. Once a stream runs, frames and images have the memory of those before them.
 ///
 /// Where the journal is full it pauses, also while its input is silent, and tells what is left to do: in the
 /// next epoch a call with the stream's seat of that epoch goes on from there, with the frame first that it

@@ -43,8 +43,8 @@ pub(crate) fn deliver<L: Epoch, W: Sink, T: Wait>(
     }
 }
 
-/// Collects an image that is there, or also one that comes soon. Where the client reads ahead, it waits for
-/// none, unless it keeps as many frames as it may: then for any.
+/// Collects an image that is there, or also one that comes soon. Where the client reads ahead, it doesn't
+/// wait for the last ones.
 fn collect_early<L: Epoch, T: Wait>(
     rt: &T,
     hub: &Hub<L>,
@@ -54,12 +54,10 @@ fn collect_early<L: Epoch, T: Wait>(
     ensures given { IfOk result (λ pair. Gives pair seat.old seat.new) }
     ensures refused { IfErr result (λ e. IsCollectRefused e seat.old seat.new) }
 {
-    if !ahead {
-        hub.collect_soon(rt, seat)
-    } else if seat.kept() < most_ahead(seat) {
+    if ahead && seat.kept() < most_ahead(seat) {
         hub.try_collect(rt, seat)
     } else {
-        hub.collect(rt, seat)
+        hub.collect_soon(rt, seat)
     }
 }
 
@@ -93,8 +91,7 @@ fn deliver_early<L: Epoch, W: Sink, T: Wait>(
     }
 }
 
-/// Collects and writes the images that are there, or that it waits for as `collect_early` says, and keeps
-/// their memory.
+/// Collects and writes the images that are there or come soon, and keeps their memory.
 pub(crate) fn deliver_ready<L: Epoch, W: Sink, T: Wait>(
     rt: &T,
     hub: &Hub<L>,

@@ -231,7 +231,7 @@ fn accept<L: Epoch, W: Sink, K: Clock, T: Wait>(
     unreachable!()
 }
 
-/// Delivers images as `deliver_ready` says, and reads and offers a frame where one is there.
+/// Delivers the images that are there or come soon, and reads and offers a frame where one is there.
 fn feed_once<L: Epoch, R: Source + Drop, W: Sink, K: Clock, T: Wait>(
     post: Post<'_, L, K, T>,
     seat: &mut StreamSeat<L>,

@@ -12,10 +12,7 @@ const GLANCE: u64 = 1;
 
 /// The bytes of a frame up to which it costs more to wait for its image, which wakes two threads, than to do
 /// its work.
-const SMALL: usize = 1 << 18;
-
-/// The bytes of a frame up to which it pays to read the next one beside the work on it, whatever that is.
-const MEDIUM: usize = 1 << 20;
+const SMALL: usize = 1 << 20;
 
 /// What a client finds that is about to read.
 #[derive(Clone, Copy, Debug, PartialEq, Eq)]
@@ -43,7 +40,7 @@ pub(crate) fn await_input<L: Epoch, R: Source + Drop, T: Wait>(
     }
 }
 
-/// Whether a frame is read beside the work on others: where it isn't large, or that takes long, since a
+/// Whether a frame is read beside the work on others: where they are small, or where that takes long, since a
 /// filter looks at more than a band's own rows; and where the frame is there. The source is asked for it in
 /// each case, so that a slow one is read meanwhile.
 pub(crate) fn reads_ahead<L: Epoch, R: Source + Drop>(
@@ -51,16 +48,15 @@ pub(crate) fn reads_ahead<L: Epoch, R: Source + Drop>(
     reader: &StreamReader<R>,
 ) -> bool {
     let chain = seat.spec().chain();
-    let pays = chain.geometry().bytes() <= MEDIUM || chain.steps() < chain.cost();
+    let pays = is_small(seat) || chain.steps() < chain.cost();
     reader.is_ready(if pays { GLANCE } else { 0 }) && pays
 }
 
-/// How many frames it keeps before it waits for an image, where it reads ahead: as many small ones as it can,
-/// and else two, of which one is read beside the work on the other.
+/// How many frames it keeps before it waits for an image, where it reads ahead.
 pub(crate) fn most_ahead<L: Epoch>(seat: &StreamSeat<L>) -> usize {
-    if seat.spec().chain().geometry().bytes() <= SMALL {
-        seat.places()
-    } else {
-        2
-    }
+    if is_small(seat) { seat.places() } else { 2 }
+}
+
+fn is_small<L: Epoch>(seat: &StreamSeat<L>) -> bool {
+    seat.spec().chain().geometry().bytes() <= SMALL
 }
