@@ -1,4 +1,4 @@
--- What a blur works with: rows of the plane, sums of its columns, and the means of squares.
+-- What a blur works with: a plane and its rows, sums of its columns, the means of squares, and blurred rows.
 use Rattle.std.specs.Prelude.{◌≡◌, ℕ, ◌+◌, ◌*◌, ◌/◌, ◌<◌, ◌≤◌, List, length, slice_index}
 use Rattle.y4m_header.specs.declared.limits.TheConstants.{LONGEST_SIDE}
 use Rattle.filters.specs.declared.limits.TheConstants.{MOST_RADIUS}

@@ -21,6 +21,7 @@ pub struct RowSpan {
     pub to: usize,
 }
 
+/// Writes the frame's rows of the span, each sample changed by the table.
 pub fn table_rows(table: Table, source: &Frame, span: RowSpan, rows: &mut [u8])
     requires { IsSpanOf source.now.geometry span rows.old }
     ensures { AreImageRows (Op.Table table) source.now source.now.geometry span rows.new }
@@ -28,6 +29,7 @@ pub fn table_rows(table: Table, source: &Frame, span: RowSpan, rows: &mut [u8])
     table_row(table, span.p, source.rows(span.p, span.from, span.to), rows);
 }
 
+/// Writes the frame's rows of the span, each with its first sample last.
 #[tactic(auto, using(crate::proofs::ReadRows::rows_held))]
 pub fn mirrored_rows(source: &Frame, span: RowSpan, rows: &mut [u8])
     requires { IsSpanOf source.now.geometry span rows.old }
@@ -43,6 +45,7 @@ pub fn mirrored_rows(source: &Frame, span: RowSpan, rows: &mut [u8])
     }
 }
 
+/// Writes the rows of the span of the frame turned upside down.
 #[tactic(auto, using(crate::proofs::ReadRows::rows_held))]
 pub fn opposite_rows(source: &Frame, span: RowSpan, rows: &mut [u8])
     requires { IsSpanOf source.now.geometry span rows.old }
@@ -72,6 +75,7 @@ fn offsets(crop: Crop, geometry: Geometry, p: usize) -> (usize, usize)
     }
 }
 
+/// Writes the rows of the span of the rectangle, whose geometry is `target`.
 #[tactic(auto, using(crate::proofs::ReadRows::rows_held))]
 pub fn cropped_rows(crop: Crop, source: &Frame, target: Geometry, span: RowSpan, rows: &mut [u8])
     requires rectangle { IsRectangleOf crop source.now.geometry }
@@ -88,6 +92,7 @@ pub fn cropped_rows(crop: Crop, source: &Frame, target: Geometry, span: RowSpan,
     }
 }
 
+/// Writes the rows of the span of the blurred frame. It reads rows of the plane beside the span too.
 pub fn blurred_rows(blur: Blur, source: &Frame, span: RowSpan, rows: &mut [u8])
     requires radius { HasGoodRadius (Op.Blur blur) }
     requires span { IsSpanOf source.now.geometry span rows.old }

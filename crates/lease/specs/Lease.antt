@@ -26,8 +26,8 @@ pub record IsLease (lease : LeaseValue) : Type 0 where
   pub own : lease.used ≤ lease.job.done
   pub left : lease.job.done + (lease.granted - lease.used) ≤ steps_of lease.job.chain
 
--- what a step under a lease does: it is refused where all that were granted are done; else the job has one
--- step more, which counts and is paid for
+-- what a step under a lease does: it is refused where all that were granted are done; else one step more of
+-- the job is done, which counts and is paid for
 pub record TakesStep {T E : Type 0} (old new : LeaseValue) (answer : Result T E) : Type 0 where
   pub refused : IsErr answer ↔ (old.used ≡ old.granted)
   pub err : OnErr answer (new ≡ old)

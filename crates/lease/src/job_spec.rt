@@ -22,12 +22,14 @@ impl Model for JobSpec {
 impl JobSpec {
     ghost use Rattle.std.specs.Prelude.{◌≡◌, ◌↔◌, IsTrue};
 
+    /// To each frame is done what this chain does.
     pub fn new(chain: Chain) -> JobSpec
         ensures { result ≡ chain }
     {
         JobSpec { chain }
     }
 
+    /// The chain that is applied to the frame.
     pub fn chain(&self) -> &Chain
         ensures { result.now ≡ self.now }
     {

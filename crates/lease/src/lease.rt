@@ -103,6 +103,7 @@ impl Lease {
         self.job.spec()
     }
 
+    /// The number of the job's stream.
     pub fn stream(&self) -> u32
         ensures { result ≡ self.now.stream }
     {

@@ -18,7 +18,7 @@ frame_of canvas = canvas.frame
 abbrev pub height_of : CanvasValue → ℕ
 height_of canvas = canvas.height.rows
 
--- a canvas whose samples are all 0
+-- a canvas of this geometry, in bands of this height, with this line, whose samples are all 0
 pub record IsBlankCanvas (g : Geometry) (h : BandHeight) (line : List ℕ) (canvas : CanvasValue) : Type 0 where
   pub frame : IsFrameWith g line (replicate (frame_len g) 0) (frame_of canvas)
   pub height : height_of canvas ≡ h.rows

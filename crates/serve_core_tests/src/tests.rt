@@ -109,7 +109,7 @@ fn same<T: PartialEq + Debug + Drop>(rt: &impl Abort, got: T, want: T) {
     assert_eq!(rt; got, want);
 }
 
-/// The same, and tells where it was.
+/// Compares what a call gave with what is wanted, and tells where it was.
 fn same_at<T: PartialEq + Debug + Drop, P: Display + Drop>(
     rt: &impl Abort,
     got: T,

@@ -31,6 +31,7 @@ pub record Ends : Type 0 where
   pub before : Option (List ℕ)
   pub after : Option (List ℕ)
 
+-- the ends with these four, in that order
 abbrev pub ends_of : Option (List ℕ) → Option (List ℕ) → Option (List ℕ) → Option (List ℕ) → Ends
 ends_of input left before after = record { input = input; left = left; before = before; after = after }
 

@@ -29,7 +29,7 @@ fn same<T: PartialEq + Debug + Drop>(rt: &impl Abort, got: T, want: T) {
     assert_eq!(rt; got, want);
 }
 
-/// The same, where another answer may come for want of memory.
+/// Compares what a call gave with what is wanted, where another answer may come for want of memory.
 fn same_unless_refused<T: PartialEq + Debug + Drop>(rt: &impl Abort, got: T, want: T) {
     assert_eq!(rt; got, want, "unless memory was refused");
 }
@@ -133,7 +133,7 @@ fn open_fault<W: Write + Drop>(output: W, header: &Header) -> Option<WriteFault>
 const STREAM: &[u8] =
     b"YUV4MPEG2 W2 H2 F25:1 Cmono\nFRAME\n\x00\x01\xfe\xffFRAME Ip\n\x10\x20\x30\x40FRAME\nFRAM";
 
-/// The same, each byte v of the data being 255 - v.
+/// That stream, each byte v of the data being 255 - v.
 const INVERTED: &[u8] =
     b"YUV4MPEG2 W2 H2 F25:1 Cmono\nFRAME\n\xff\xfe\x01\x00FRAME Ip\n\xef\xdf\xcf\xbfFRAME\n\xb9\xad\xbe\xb2";
 

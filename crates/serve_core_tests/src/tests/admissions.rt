@@ -133,7 +133,7 @@ fn entered(alloc: Global, desk: &mut Desk, spec: StreamSpec) -> Result<u32, Refu
     }
 }
 
-/// The same of a newcomer.
+/// The number of the stream that a desk admits as this newcomer, or why it doesn't.
 fn joined(desk: &mut Desk, newcomer: Newcomer) -> Result<u32, Refusal> {
     match desk.admit_newcomer(newcomer) {
         Ok(s) => Ok(s),

@@ -276,7 +276,7 @@ fn shows_anew(
     Ok(())
 }
 
-/// The same of the image that it makes in the frame's own place and into canvases that are there.
+/// Compares the image that a chain makes in the frame's own place and into canvases that are there.
 fn shows_in_place(
     rt: &impl Abort,
     alloc: Global,
