@@ -1,6 +1,6 @@
 -- The parts of a band in the planes of a frame.
 use Rattle.std.proofs.Common.{ℕ, ◌≡◌, ◌+◌, ◌-◌, ◌*◌, ◌<◌, ◌≤◌, ◌⊎◌, inl, inr, zero, suc, List, ◌++◌, length}
-use Rattle.std.proofs.Common.{take, drop, arith, ap, sym, ◌∙◌, subst, Bool, true, false, nat_lt}
+use Rattle.std.proofs.Common.{take, drop, arith, ap, refl, sym, ◌∙◌, subst, Bool, true, false, nat_lt}
 use Rattle.std.proofs.Common.{if◌then◌else◌}
 use Rattle.std.proofs.Math.Nat.{mul-le-mul_right}
 use Rattle.std.proofs.lemmas.Bool.Decides.{nat_tests}
@@ -56,6 +56,10 @@ pub parts_meet : (g : Geometry) (p from row to : ℕ) → from ≤ row → row �
     → part_len g p from to ≡ part_len g p from row + part_len g p row to
 parts_meet g p from row to h k = between_rows (rows_above g p from) (rows_above g p row) (rows_above g p to)
     (lent_columns g p) (rows_above-le g p from row h) (rows_above-le g p row to k)
+
+-- how many samples a part has that goes with these luma rows
+pub same_len : (g h : Geometry) (p a b from to : ℕ) → (g ≡ h) × (a ≡ from) × (b ≡ to) → part_len g p a b ≡ part_len h p from to
+same_len g h p a b from to is = rw (is.0, is.1, is.2) refl
 
 -- what holds of each of four planes, where the frame has it
 pub each_plane : (n : ℕ) → (n ≡ 1) ⊎ ((n ≡ 3) ⊎ (n ≡ 4)) → (Q : ℕ → List ℕ → Type 0) (luma cb cr alpha : List ℕ)

@@ -28,6 +28,26 @@ impl Part {
     ghost use Rattle.row_bands.specs.HalvesInside.{HasPlanesOfPart, GivesRows, part_len};
     ghost use Rattle.row_bands.specs.HalvesInside.{AreSamplesOfPart, HaveLensOfPart};
 
+    /// The rows above luma row `row`, and those from it on.
+    fn split(self, row: usize) -> (Part, Part)
+        requires { (self.from ≤ row) × (row ≤ self.to) }
+        ensures top { (result.0.geometry ≡ self.geometry) × (result.0.from ≡ self.from) × (result.0.to ≡ row) }
+        ensures bottom { (result.1.geometry ≡ self.geometry) × (result.1.from ≡ row) × (result.1.to ≡ self.to) }
+    {
+        let Part { geometry, from, to } = self;
+        let top = Part {
+            geometry,
+            from,
+            to: row,
+        };
+        let bottom = Part {
+            geometry,
+            from: row,
+            to,
+        };
+        (top, bottom)
+    }
+
     /// Calls `note`, and writes the part's rows of each plane; a plane that the frame hasn't has no samples.
     fn paint<P: Painter, N: Fn(u32)>(
         self,
@@ -150,18 +170,8 @@ fn paint_runs<R: Threads, P: Painter + Sync, N: Fn(u32) + Sync>(
     ensures parts { HaveParts (GivesRows (P.picture painter.now) (P.paint_gives painter.now) part.geometry)
         part.from row part.to part.geometry luma.new cb.new cr.new alpha.new }
 {
-    let geometry = part.geometry;
-    let lent = geometry.lent();
-    let top = Part {
-        geometry,
-        from: part.from,
-        to: row,
-    };
-    let bottom = Part {
-        geometry,
-        from: row,
-        to: part.to,
-    };
+    let lent = part.geometry.lent();
+    let (top, bottom) = part.split(row);
     let (luma_top, luma_bottom) = luma.split_at_mut(top.len(0, lent.luma));
     let (cb_top, cb_bottom) = cb.split_at_mut(top.len(1, lent.cb));
     let (cr_top, cr_bottom) = cr.split_at_mut(top.len(2, lent.cr));
