@@ -94,6 +94,6 @@ impl Band<'_> {
         ensures value { result.now ≡ row_of (band_geometry self.old) (samples_of (band_frame self.old)) p y }
         ensures len { length result.now ≡ plane_width (band_geometry self.old) p }
     {
-        self.canvas.row_mut(p, y)
+        self.canvas.rows_mut(p, y, y + 1)
     }
 }

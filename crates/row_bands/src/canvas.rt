@@ -27,7 +27,7 @@ impl Canvas {
     ghost use Rattle.y4m_header.specs.Chroma.{plane_count};
     ghost use Rattle.y4m_header.specs.FrameLine.{IsFrameLine};
     ghost use Rattle.frame_view.specs.Places.{plane_width, plane_height, frame_len};
-    ghost use Rattle.frame_view.specs.Rows.{row_of, run_of};
+    ghost use Rattle.frame_view.specs.Rows.{run_of};
     ghost use Rattle.frame_view.specs.Frame.{line_of, samples_of};
     ghost use Rattle.row_bands.specs.Bands.{band_count};
     ghost use Rattle.row_bands.specs.Canvas.{frame_of, height_of, IsBandOf, IsBlankCanvas, KeepsAllButLine};
@@ -126,16 +126,5 @@ impl Canvas {
         ensures len { length result.now ≡ (to - from) * plane_width self.old.frame.geometry p }
     {
         self.frame.rows_mut(p, from, to)
-    }
-
-    /// Row `y` of plane `p`, lent for writing.
-    pub(crate) fn row_mut(&mut self, p: usize, y: usize) -> &mut [u8]
-        requires plane { p < plane_count self.old.frame.geometry.chroma }
-        requires row { y < plane_height self.old.frame.geometry p }
-        ensures* writes_back { sem 𝓛 (LendsCanvasRows self.entry p y result) }
-        ensures value { result.now ≡ row_of self.old.frame.geometry (samples_of self.old.frame) p y }
-        ensures len { length result.now ≡ plane_width self.old.frame.geometry p }
-    {
-        self.frame.row_mut(p, y)
     }
 }
