@@ -20,8 +20,8 @@ def leases():
     run = subprocess.run([os.path.join(s.TOP, "bench", "deadlines")], stdout=subprocess.PIPE, text=True)
     if run.returncode != 0:
         sys.exit("the table of two deadlines isn't there")
-    rows = [[cell.strip() for cell in row.strip("|").split("|")] for row in run.stdout.splitlines()[2:]]
-    first, *served = [(row[1], int(row[3] or 0), (int(row[5]), int(row[7]))) for row in rows]
+    rows = [row.split() for row in run.stdout.splitlines()[1:]]
+    first, *served = [(row[1], int(row[3]), (int(row[5]), int(row[7]))) for row in rows]
     return first[2], served
 
 
