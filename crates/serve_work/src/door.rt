@@ -1,5 +1,5 @@
 //! Where the streams of a session come from that come and go, and where they are told.
-ghost use Rattle.std.specs.Prelude.{ℕ, ◌≡◌, ◌++◌, List, [], ◌∷◌, IfNone, IfSome, IsSomeAnd};
+ghost use Rattle.std.specs.Prelude.{ℕ, ◌≡◌, ◌++◌, List, [], ◌∷◌, IfNone, IfSome, IsFalse, IsSomeAnd};
 ghost use Rattle.serve_work.specs.Live.{IsAnswer, IsStanding, Waiting, waiting_of};
 ghost use Rattle.serve_work.specs.Sessions.{IsInput};
 
@@ -8,8 +8,12 @@ use y4m_stream::{Sink, Source};
 
 /// What tells whether a request is there, or a question (see [`Door::asks`]).
 pub trait Bell {
+    /// That no more requests come, by which is told.
+    ghost is_over: { Self → Type 0 };
+
     /// Waits until a request or a question is there. Answers whether one is: no other comes where none is.
-    fn wait(&self) -> bool;
+    fn wait(&self) -> bool
+        ensures over { IsFalse result → is_over self.now };
 
     /// Waits for a request or a question, for at most so many milliseconds, and answers whether one is there.
     fn is_there(&self, patience: u64) -> bool;

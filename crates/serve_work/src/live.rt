@@ -112,6 +112,7 @@ pub fn serve_live<
     requires times { (at : ℕ) → K.gives clock.now at → D.times at }
     requires nobody { D.waits door.old [] }
     ensures answered { IfOk result (λ _. D.waits door.new []) }
+    ensures over { IfOk result (λ _. D.is_over door.new) }
     ensures bad_limit { IsErrOf result SessionFault.BadLimit ↔ ¬ IsLiveLimit limit }
     ensures fault { IfErr result (λ e. (e ≡ SessionFault.BadLimit) ⊎ (e ≡ SessionFault.Mismatch)) }
 {

@@ -1,5 +1,5 @@
 //! The door of a run whose streams come and go.
-ghost use Rattle.std.specs.Prelude.{ℕ, ◌≡◌, ◌++◌, [], ◌∷◌, IfNone, IfOk, IfSome, map};
+ghost use Rattle.std.specs.Prelude.{ℕ, ⊤, ◌≡◌, ◌++◌, [], ◌∷◌, IfNone, IfOk, IfSome, map};
 ghost use Rattle.serve_work.specs.Sessions.{IsInput};
 ghost use Rattle.serve_report.specs.Moments.{IsMoment};
 
@@ -189,6 +189,8 @@ where
     T: Wait + Clock,
     L: Limit,
 {
+    ghost is_over = { λ _. ⊤ };
+
     fn wait(&self) -> bool {
         let table = self.lobby.table.lock(self.rt);
         let table = self

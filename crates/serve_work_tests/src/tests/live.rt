@@ -94,6 +94,8 @@ impl<'a, R: Source, W: Sink> Sheet<'a, R, W> {
 }
 
 impl<'a, R: Source, W: Sink> Bell for Sheet<'a, R, W> {
+    ghost is_over = { λ _. ⊤ };
+
     fn wait(&self) -> bool {
         self.is_asked() || self.has_come()
     }
