@@ -1,6 +1,6 @@
 -- The journals of a session's epochs, one behind the other.
 use Rattle.std.specs.Prelude.{IsFalse, IsTrue, flat_map, if◌then◌else◌, sum_by}
-use Rattle.std.proofs.Common.{ℕ, ◌≡◌, ◌<◌, ◌++◌, ◌∙◌, Bool, true, false, List, [], ◌∷◌, map, refl, sym, ap, subst, arith}
+use Rattle.std.proofs.Common.{ℕ, ◌≡◌, ◌<◌, ◌++◌, ◌∙◌, Bool, true, false, List, [], ◌∷◌, length, map, refl, sym, ap, subst, arith}
 use Rattle.std.proofs.lemmas.List.Concat.{flat_map-cons}
 use Rattle.std.proofs.lemmas.List.Sums.{sum_by-cons}
 use Rattle.serve_core.specs.Bare.{Blank}
@@ -17,12 +17,13 @@ use Rattle.serve_hub.specs.Journal.{transcript_of}
 use Rattle.serve_hub.proofs.Opened.{only_closes}
 use Rattle.serve_work.specs.Intervals.{Beginning, IsBehind, LeadsTo}
 use Rattle.serve_work.specs.Sessions.{AreEpochs, IsEpoch, IsOfEpochs, open_streams}
+use Rattle.serve_work.specs.Workers.{HaveSpent}
 
 full_or_over : (limit : ℕ) (specs : List StreamSpec) (opening : State Blank) (waits : Bool) (epochs : List (List Entry))
     → AreEpochs limit specs opening true epochs → AreEpochs limit specs opening waits epochs
 full_or_over limit specs opening waits [] are = tt
 full_or_over limit specs opening waits (epoch ∷ before) are =
-    (are.0, record { free = are.1.free; fits = are.1.fits; full = λ _. are.1.full refl })
+    (are.0, record { free = are.1.free; spent = are.1.spent; fits = are.1.fits; full = λ _. are.1.full refl })
 
 -- epochs that another may come behind are those of a session, whether a stream waits or not
 pub behind_full : (limit : ℕ) (opening : ScheduleValue) (waits : Bool) (journal : List Entry)
@@ -48,14 +49,16 @@ as_open (stream ∷ streams) =
       as_open streams,
     )
 
--- a book that is left with no lease out ends an epoch
+-- a book that is left with all leases spent ends an epoch
 pub ends_epoch : (limit : ℕ) (waits : Bool) (book : BookValue) → IsBook book → book.limit ≡ limit → AreFree book.desk.workers
-    → (IsTrue waits → entries_left book < 2) → IsEpoch limit waits book.past (desk_state book.desk)
-ends_epoch limit waits book is same free few =
+    → HaveSpent (length book.desk.workers) book.past → (IsTrue waits → entries_left book < 2)
+    → IsEpoch limit waits book.past (desk_state book.desk)
+ends_epoch limit waits book is same free spent few =
     let closes = only_closes book.desk free in
     let are_open : open_streams (desk_state book.desk) ≡ sum_by one_open book.desk.streams = as_open book.desk.streams in
     record {
       free = free;
+      spent = spent;
       fits = omega (arith, is.fits, same, closes, are_open);
       full = λ on. let no_more = few on in omega (arith, no_more, same, closes, are_open);
     }

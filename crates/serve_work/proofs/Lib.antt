@@ -22,6 +22,7 @@ pub mod SessionStops
 pub mod SessionTurns
 pub mod Showing
 pub mod Slots
+pub mod SpentLeases
 pub mod Spoiling
 pub mod Staying
 pub mod Stopping

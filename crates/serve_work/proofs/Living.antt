@@ -27,6 +27,7 @@ use Rattle.serve_work.specs.LiveInside.{HasTurn, IsGuestAt, IsGuestIn, Stood, Ta
 use Rattle.serve_work.specs.Rests.{IsFresh, Unbegun}
 use Rattle.serve_work.specs.Sessions.{AreTimed, IsStreamTold, ServedValue}
 use Rattle.serve_work.specs.StreamInside as sessions
+use Rattle.serve_work.specs.Workers.{HaveSpent}
 use Rattle.serve_work.specs.SessionInside.{AllGoOn, GoesOn, HeldValue, IsReady, IsReadyAt, StandsAt}
 use Rattle.serve_work.specs.StreamInside.{StreamValue, stream_stop}
 use Rattle.serve_work.proofs.Intervals.{ready_at, reopened, stands_across}
@@ -100,21 +101,23 @@ may_go limit times opening request stream seat b =
     ready_at (start_with request b.first) (acts_in_parts b.parts) seat stream b.stands
     (rw b.is_new.chain b.is_request.header)
 
--- a book that is left with no lease out is that of an epoch, in which streams went on by a clock that gives such
+-- a book that is left with all leases spent is that of an epoch, in which streams went on by a clock that gives such
 -- times
 module _ (limit : ℕ) (times : ℕ → Type 0) (opening : ScheduleValue) (book : BookValue) (is : IsBook book)
-    (from : book.opening ≡ opening) (of_limit : book.limit ≡ limit) (free : AreFree book.desk.workers) where
+    (from : book.opening ≡ opening) (of_limit : book.limit ≡ limit) (free : AreFree book.desk.workers)
+    (spent : HaveSpent (length book.desk.workers) book.past) where
   abbrev part_of : ℕ → PartValue
   part_of number = record { number = number; opening = opening; journal = book.past; last = book.desk }
 
   is_part : (number : ℕ) → AreTimed times number (specs_of book.desk) (opening_of book) book.past
       → IsPart limit times (part_of number)
   is_part number at =
-      let ends = ends_epoch limit false book is of_limit free (λ on. absurd (cc)) in
+      let ends = ends_epoch limit false book is of_limit free spent (λ on. absurd (cc)) in
       record {
         leads = subst (λ (x : ScheduleValue). IsJournal (specs_of book.desk) (desk_state x) book.past (desk_state book.desk)) from
             is.journal;
         free = free;
+        spent = spent;
         fits = ends.fits;
         timed = subst (λ (x : ScheduleValue). AreTimed times number (specs_of book.desk) (desk_state x) book.past) from at;
       }

@@ -29,6 +29,7 @@ use Rattle.serve_work.specs.declared.request.Standing.{Standing}
 use Rattle.serve_work.specs.Clients.{AllowsStop, ClientStart, collections_in, offers_in}
 use Rattle.serve_work.specs.Rests.{IsRestOf, RestValue}
 use Rattle.serve_work.specs.Sessions.{AreTimed, IsServed, IsStreamTold, ServedValue, open_streams}
+use Rattle.serve_work.specs.Workers.{HaveSpent}
 
 -- a stream that is to be served: what it is served with, its reader, and what is known of its writer
 pub record RequestValue : Type 0 where
@@ -102,12 +103,13 @@ abbrev pub acts_in_parts : List PartValue → List Act
 acts_in_parts [] = []
 acts_in_parts (part ∷ before) = acts_in_parts before ++ acts_in_part part
 
--- the epoch's journal leads from where it opened to where it ended; no worker holds a lease there, and the
--- journal has room for a close of each open stream. Each entry of a frame of the stream is at one of these
--- times
+-- the epoch's journal leads from where it opened to where it ended; each lease was settled with its whole
+-- grant, and the journal has room for a close of each open stream. Each entry of a frame of the stream is at
+-- one of these times
 pub record IsPart (limit : ℕ) (times : ℕ → Type 0) (part : PartValue) : Type 0 where
   pub leads : IsJournal (specs_of part.last) (desk_state part.opening) part.journal (desk_state part.last)
   pub free : AreFree part.last.workers
+  pub spent : HaveSpent (length part.last.workers) part.journal
   pub fits : length part.journal + open_streams (desk_state part.last) ≤ limit
   pub timed : AreTimed times part.number (specs_of part.last) (desk_state part.opening) part.journal
 

@@ -23,6 +23,7 @@ use Rattle.serve_hub.specs.Seats.{StreamSeatValue}
 use Rattle.serve_work.specs.declared.stop.Stop.TheVariants.{Whole}
 use Rattle.serve_work.specs.Clients.{AllowsStop, ClientEnds, ClientOutcome, ClientStart, IsAtMoment}
 use Rattle.serve_work.specs.Clients.{StreamEnds}
+use Rattle.serve_work.specs.Workers.{HaveSpent}
 
 -- nothing was read of a stream's frames, and its header has the size of the stream's chain
 pub record IsInput {W : Type 0} (spec : StreamSpec) (input : ReaderState × W) : Type 0 where
@@ -106,11 +107,12 @@ AllTimed Gives opening journal starts =
 abbrev pub open_streams : State Blank → ℕ
 open_streams m = sum_by (λ x. if x.is_closed then 0 else 1) m.streams
 
--- an epoch with this journal ends in this state: no worker holds a lease, and the journal has room for a
--- close of each open stream. Where a stream waits for another, it has none for a lease and its settlement
--- beside these
+-- an epoch with this journal ends in this state: each lease was settled with its whole grant, and the journal
+-- has room for a close of each open stream. Where a stream waits for another, it has none for a lease and its
+-- settlement beside these
 pub record IsEpoch (limit : ℕ) (waits : Bool) (epoch : List Entry) (m : State Blank) : Type 0 where
   pub free : AreFree m.workers
+  pub spent : HaveSpent (length m.workers) epoch
   pub fits : length epoch + open_streams m ≤ limit
   pub full : IsTrue waits → limit < length epoch + open_streams m + 2
 

@@ -1,7 +1,10 @@
 -- What a worker adds to its seat's calls.
-use Rattle.std.specs.Prelude.{ℕ, ◌≡◌, ◌⊎◌, List, [], ◌∷◌, ◌++◌, ⊤}
+use Rattle.std.specs.Prelude.{ℕ, ◌≡◌, ◌<◌, ◌⊎◌, List, [], ◌∷◌, ◌++◌, ⊤, reverse}
 use Rattle.serve_hub.specs.declared.entry.Act.{Act}
 use Rattle.serve_hub.specs.declared.entry.Act.TheVariants.{Leased, Settled}
+use Rattle.serve_hub.specs.declared.entry.Entry.{Entry}
+use Rattle.serve_hub.specs.declared.entry.Seat.TheVariants.{Worker}
+use Rattle.serve_hub.specs.Ends.{acts_of}
 use Rattle.serve_hub.specs.Seats.{WorkSeatValue}
 
 -- leases, each followed by the settlement of its whole grant
@@ -10,7 +13,11 @@ AreSpent [] = ⊤
 AreSpent (Leased stream number grant ∷ Settled bands finished ∷ calls) = (bands ≡ grant) × AreSpent calls
 AreSpent calls = ⊥
 
--- the same, and then one more lease, which wasn't settled
+-- by a journal that has the latest entry first, so are the calls of each of so many workers
+abbrev pub HaveSpent : (workers : ℕ) → List Entry → Type 0
+HaveSpent workers journal = (n : ℕ) → n < workers → AreSpent (acts_of (Worker n) (reverse journal))
+
+-- such calls of a worker, and then one more lease, which wasn't settled
 pub record HasLast (calls : List Act) : Type 0 where
   pub spent : List Act
   pub stream : ℕ

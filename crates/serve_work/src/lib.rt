@@ -25,6 +25,7 @@ pub mod rest;
 mod serving;
 pub mod session;
 mod setting;
+mod spent;
 pub mod stop;
 pub mod workers;
 

@@ -20,6 +20,7 @@ use crate::session::places::Places;
 use crate::session::room::{Room, empty_slots, fill_slots};
 use crate::session::turn::Stream;
 use crate::setting::Setting;
+use crate::spent::have_spent;
 use serve_core::{Refusal as Core, Setup};
 use serve_hub::{Epoch, Hub, Refusal, StreamSeat};
 use std::alloc::Global;
@@ -105,6 +106,9 @@ fn epoch<
     fill_slots(&mut slots, work_seats);
     let (turns, goes_on) = run_threads::<L, R, W, D, G, K, T>(setting, &hub, &slots, turns, &*door);
     empty_slots(slots, &mut back);
+    if !have_spent(&back) {
+        return Err(SessionFault::Mismatch);
+    }
     places.fill(turns);
     let Places { mut seats, streams } = places;
     with_tickets(&mut guests, tickets, streams);

@@ -19,6 +19,7 @@ use super::turn::{Stream, pair_with_seats};
 use super::unended::Unended;
 use crate::bounds::{Host, LentClock, LentGate, SentSink, SentSource};
 use crate::setting::Setting;
+use crate::spent::have_spent;
 use serve_core::Setup;
 use serve_hub::limits::MOST_SEATS;
 use serve_hub::{Ended, Epoch};
@@ -90,6 +91,9 @@ fn epoch<L: Epoch + Send + Sync, R: SentSource, W: SentSink, G: LentGate, K: Len
         }
     };
     empty_slots(slots, &mut back);
+    if !have_spent(&back) {
+        return Err(Unended::Mismatch);
+    }
     places.fill(turns);
     let Places { seats, streams } = places;
     let Ok(ended) = hub.finish(seats, back) else {

@@ -1,4 +1,4 @@
-use Rattle.std.proofs.Common.{◌≡◌, ◌≤◌, ◌++◌, ◌∙◌, List, Option, Some, ap, arith, length, map, subst, sym}
+use Rattle.std.proofs.Common.{ℕ, ◌≡◌, ◌≤◌, ◌++◌, ◌∙◌, List, Option, Some, ap, arith, length, map, subst, sym}
 use Rattle.std.specs.Prelude.{reverse, vec_len}
 use Rattle.std.proofs.Common.{length-append}
 use Rattle.serve_hub.specs.Ends.{AreStreamCalls, AreStreamsOf, ClocksReached}
@@ -8,6 +8,8 @@ use Rattle.serve_work.specs.declared.live.guests.Ticket.{Ticket}
 use Rattle.serve_work.specs.LiveInside.{AllAt, AreAsAsked, IsGuestAt, guests_of, nobody}
 use Rattle.serve_work.specs.SessionInside.{HeldValue}
 use Rattle.serve_work.proofs.Living.{all_had, guests_at}
+use Rattle.serve_work.specs.Workers.{HaveSpent}
+use Rattle.serve_work.proofs.SpentLeases.{seats_have_spent}
 use Rattle.serve_work.proofs.SessionTurns.{same_length}
 use Rattle.serve_work.proofs.live.epochs.epoch.Goals as goal
 
@@ -92,8 +94,11 @@ returns-clause-guests g c =
     let calls = subst (AreStreamCalls (reverse ended.book.past)) own c.in-Ok.ensures.calls.of_streams in
     let reached = subst (ClocksReached ended.book) own c.in-Ok.ensures.clock_reached in
     let of_limit = c.in-Ok.ensures.limit ∙ c.requires.limit in
+    let spent = subst (λ (n : ℕ). HaveSpent n ended.book.past) (sym c.in-Ok.ensures.all_workers)
+    (seats_have_spent _ ended.book.past _ c.in-Ok.ensures.calls.of_workers c.in-Ok.ensures.each_worker
+    (c.have_spent.ensures c.if-not-have_spent.false)) in
     let had = all_had limit times g.L.Epoch.opening ended.book c.in-Ok.ensures.book c.in-Ok.ensures.history.same of_limit
-    c.in-Ok.ensures.free gives c.requires.times ws seated.helds ran.0 idle seated.each ran.2 calls reached in
+    c.in-Ok.ensures.free spent gives c.requires.times ws seated.helds ran.0 idle seated.each ran.2 calls reached in
     let streams = c.fill.new.self.streams.items in
     let guests = c.with_idle.ensures.guests
     ∙ ap (λ (gs : List (Option (Guest _ _))). gs ++ nobody idle) (c.with_tickets.ensures.guests

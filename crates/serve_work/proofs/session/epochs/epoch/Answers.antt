@@ -1,4 +1,4 @@
-use Rattle.std.proofs.Common.{◌≡◌, ◌≤◌, ◌∙◌, Some, ap, arith, length, map, refl, subst}
+use Rattle.std.proofs.Common.{ℕ, ◌≡◌, ◌≤◌, ◌∙◌, Some, ap, arith, length, map, refl, subst, sym}
 use Rattle.std.specs.Prelude.{reverse, vec_len}
 use Rattle.serve_hub.specs.Ends.{AreStreamCalls, AreStreamsOf, ClocksReached}
 use Rattle.serve_hub.specs.Seats.{left_by}
@@ -6,6 +6,8 @@ use Rattle.serve_work.specs.SessionInside.{BeginsAgain, HeldValue, held_with}
 use Rattle.serve_work.proofs.Intervals.{all_back, all_ready, entries_on, held_length, held_new, leads_on, reached_on}
 use Rattle.serve_work.proofs.Journals.{ends_epoch, epoch_ends}
 use Rattle.serve_work.proofs.SessionStops.{go_on_allowed}
+use Rattle.serve_work.specs.Workers.{HaveSpent}
+use Rattle.serve_work.proofs.SpentLeases.{seats_have_spent}
 use Rattle.serve_work.proofs.SessionTurns.{all_timed, all_went, same_length, stand_on, zip_length}
 use Rattle.serve_work.proofs.session.epochs.epoch.Goals as goal
 
@@ -98,13 +100,16 @@ returns-clause-later g c =
           let on = leads_on b.schedule _ journal ended.book at.past c.in-Ok-finish.ensures.book same as_many in
           let reached = subst (ClocksReached ended.book) own c.in-Ok-finish.ensures.clock_reached in
           let hub_limit = c.in-Ok-finish.ensures.limit ∙ at.limit in
+          let spent = subst (λ (n : ℕ). HaveSpent n ended.book.past) (sym c.in-Ok-finish.ensures.all_workers)
+          (seats_have_spent _ ended.book.past _ c.in-Ok-finish.ensures.calls.of_workers c.in-Ok-finish.ensures.each_worker
+          (c.have_spent.ensures c.if-not-have_spent.false)) in
           record {
             more = ended.book.past;
             epochs =
                 epoch_ends b c.args.is_first c.in-Some.is_cut c.any_waits-waits.result journal ended.book.past ended.book.desk
                 c.in-Some.ensures.empty c.in-Some.ensures.later
                 (λ goes_on. ends_epoch b.limit _ ended.book c.in-Ok-finish.ensures.book hub_limit c.in-Ok-finish.ensures.free
-                (c.in-Some.ensures.full goes_on)) on;
+                spent (c.in-Some.ensures.full goes_on)) on;
             moments = all_timed gives journal ended.book.past b.schedule _ b.starts helds ran.0 at.past.is_journal.leads.1
                 (entries_on b.schedule _ ended.book c.in-Ok-finish.ensures.book same on.specs) at.stand ran.2 calls
                 (reached_on b.schedule _ ended.book _ same on.specs reached) (held_new seats streams.items at.no_calls);
