@@ -12,6 +12,9 @@ BYTES, SHARES, THREADS, WORDS = "blue", "green", "orange", "violet"
 FLOORS = {
     "y4mserve": (WORDS, "The program with its own words, files and pipes; what these give or take is not proved."),
     "serve_report": (WORDS, "At status 0 what the words ask for is done, or some text was written where they ask for help."),
+    "serve_words": (WORDS, "What clap finds in the words is asked for; all checks pass, or the first fault is told."),
+    "serve_watch": (WORDS, "Each record of a trace has its text, and stands behind those before it."),
+    "serve_files": (WORDS, "What is read ahead is given once and in order; what came of a write is told once."),
     "serve_script": (WORDS, "A script prints exactly the lines that the definitions give for it."),
     "serve_work": (THREADS, "Each stream writes a front of its own images, all at a whole end, then charged for just these."),
     "serve_hub": (THREADS, "Threads that share one lock have one legal history, from epoch to epoch."),

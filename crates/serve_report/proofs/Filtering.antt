@@ -7,7 +7,7 @@ use Rattle.y4m_stream.specs.Front.{IsFrameAhead}
 use Rattle.y4m_stream.specs.declared.fault.FilterFault.{FilterFault}
 use Rattle.y4m_stream.specs.declared.fault.FilterFault.TheVariants.{Read, Ops, Write, TooManyFrames}
 use Rattle.serve_report.specs.Filtering.{AreAsked, FiltersAll, FiltersTo}
-use Rattle.serve_report.specs.declared.words.FilterWords.{FilterWords}
+use Rattle.serve_words.specs.declared.request.FilterWords.{FilterWords}
 
 stops_ahead : (fault : FilterFault) (at : Progress) (ends : Ends) → StopsAt IsLineAhead fault at 0 ends
     → StopsAt IsFrameAhead fault at 0 ends

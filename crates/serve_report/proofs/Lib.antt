@@ -1,17 +1,8 @@
-pub mod Asking
 pub mod Apart
 pub mod Inputs
 pub mod Reporting
-pub mod TakenAhead
 pub mod Openings
 pub mod Filtering
-pub mod Found
-pub mod Commands
-pub mod Subcommands
-pub mod PlainWords
-pub mod FoundWords
-pub mod KnownStreams
-pub mod KnownWords
 pub mod Lines
 pub mod Feeding
 pub mod TakenBack

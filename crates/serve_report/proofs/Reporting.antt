@@ -1,20 +1,11 @@
--- The lines of a report, one after the other.
-use Rattle.std.proofs.Common.{◌≡◌, ℕ, ◌+◌, ◌<◌, List, [], ◌∷◌, ◌++◌, length, get_or, take}
-use Rattle.std.proofs.Common.{◌∙◌, ap, sym, subst, arith, inl, inr}
-use Rattle.std.proofs.lemmas.List.{flat_map_more, take_more}
-use Rattle.std.specs.List.{AllByRecursion, flat_map}
+-- What a session leaves where no moment is past the last.
+use Rattle.std.proofs.Common.{ℕ, List, [], ◌∷◌, sym, subst, arith, inl, inr}
+use Rattle.std.specs.List.{AllByRecursion}
 use Rattle.serve_core.specs.Setup.{StreamSpec}
 use Rattle.serve_report.specs.Entrants.{IsInTime, Leaves}
 use Rattle.serve_report.specs.Moments.{AreMoments}
 use Rattle.serve_work.specs.Clients.{AllowsStop, ClientStart}
 use Rattle.serve_work.specs.Sessions.{ServedValue}
-
--- one line more
-pub text_more : {T : Type 0} (text : T → List ℕ) (lines : List T) (i : ℕ) (d : T) → i < length lines
-    → flat_map text (take (i + 1) lines) ≡ flat_map text (take i lines) ++ text (get_or lines i d)
-text_more text lines i d less =
-    ap (flat_map text) (take_more lines i d less)
-    ∙ sym (flat_map_more text [] (take i lines) (get_or lines i d))
 
 -- a session whose clock gives no moment past the last leaves no stream that was stopped by it
 module _ (Gives : ℕ → Type 0) (most : AreMoments Gives) where

@@ -2,10 +2,10 @@
 use Rattle.std.specs.Prelude.{ℕ, ◌≡◌, ◌||◌, Bool, true, false, IsTrue, List, [], ◌∷◌, ◌++◌, codes, map}
 use Rattle.std.specs.Prelude.{All, AllPairs, Any, Option, None, Some}
 use Rattle.std.specs.List.{flat_map}
-use Rattle.serve_report.specs.ServeChecks.{Fault, RepeatedFile}
-use Rattle.serve_report.specs.StreamWords.{StreamAsked}
-use Rattle.serve_report.specs.declared.files.Place.{Place}
-use Rattle.serve_report.specs.declared.files.Place.TheVariants as places
+use Rattle.serve_words.specs.ServeChecks.{Fault, RepeatedFile}
+use Rattle.serve_words.specs.StreamWords.{StreamAsked}
+use Rattle.serve_files.specs.declared.files.Place.{Place}
+use Rattle.serve_files.specs.declared.files.Place.TheVariants as places
 use Rattle.serve_report.specs.declared.serve.apart.FileUse.{FileUse}
 
 -- this was told of what stands behind the name

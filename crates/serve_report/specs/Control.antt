@@ -8,7 +8,7 @@ use Rattle.filters.specs.OpsText.{ops_of}
 use Rattle.filters.specs.declared.limits.TheConstants.{MOST_OPS}
 use Rattle.serve_script.specs.ScriptText.{is_silent}
 use Rattle.serve_script.specs.SessionWords.{behind_word, first_word, name_of}
-use Rattle.serve_report.specs.StreamWords.{StreamAsked, stream_beside, stream_told}
+use Rattle.serve_words.specs.StreamWords.{StreamAsked, stream_beside, stream_told}
 use Rattle.serve_report.specs.declared.control.line.Ask.{Ask}
 use Rattle.serve_report.specs.declared.control.line.Ask.TheVariants as asks
 use Rattle.serve_report.specs.declared.control.line.LineFault.{LineFault}

@@ -11,14 +11,14 @@ use Rattle.serve_script.specs.ScriptReport.{line_text}
 use Rattle.serve_report.specs.Apart.{FilesGive, OfPlace}
 use Rattle.serve_report.specs.Moments.{AreMoments, IsMoment}
 use Rattle.serve_report.specs.Openings.{IsOpening, OfName, Opening, entrant_of, specs_in, starts_in}
-use Rattle.serve_report.specs.ServeChecks.{AreSaid, ChecksGive, HasOptions, all_told}
+use Rattle.serve_words.specs.ServeChecks.{AreSaid, ChecksGive, HasOptions, all_told}
 use Rattle.serve_report.specs.ServeReport.{row_text, stop_told}
-use Rattle.serve_report.specs.declared.serve.checks.Checked.{Checked}
+use Rattle.serve_words.specs.declared.checks.Checked.{Checked}
 use Rattle.serve_report.specs.declared.serve.opening.Entrant.{Entrant}
 use Rattle.serve_report.specs.declared.serve.report.StreamRow.{StreamRow}
 use Rattle.serve_report.specs.declared.serve.report.StreamStop.{StreamStop}
 use Rattle.serve_report.specs.declared.serve.report.StreamStop.TheVariants as stops
-use Rattle.serve_report.specs.declared.words.ServeWords.{ServeWords}
+use Rattle.serve_words.specs.declared.request.ServeWords.{ServeWords}
 use Rattle.serve_work.specs.Clients.{ClientStart}
 use Rattle.serve_work.specs.Sessions.{IsSession, ServedValue}
 use Rattle.serve_work.specs.declared.stop.Cause.TheVariants.{ClockEnd}

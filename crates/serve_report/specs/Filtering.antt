@@ -5,7 +5,7 @@ use Rattle.filters.specs.declared.op.Op.{Op}
 use Rattle.row_bands.specs.declared.band_height.BandHeight.{BandHeight}
 use Rattle.y4m_stream.specs.Filtered.{IsFilteredAhead}
 use Rattle.y4m_stream.specs.declared.fault.FilterFault.{FilterFault}
-use Rattle.serve_report.specs.declared.words.FilterWords.{FilterWords}
+use Rattle.serve_words.specs.declared.request.FilterWords.{FilterWords}
 
 -- the operations and the rows of a band are those of the words
 pub record AreAsked (words : FilterWords) (ops : List Op) (height : BandHeight) : Type 0 where

@@ -18,7 +18,7 @@ use Rattle.y4m_header.specs.declared.limits.TheConstants.{MOST_FRAMES}
 use Rattle.serve_hub.specs.Seats.{opened_streams}
 use Rattle.serve_work.specs.Clients.{ClientStart}
 use Rattle.serve_work.specs.Sessions.{starts_of}
-use Rattle.serve_report.specs.declared.serve.checks.Asked.{Asked}
+use Rattle.serve_words.specs.declared.checks.Asked.{Asked}
 use Rattle.serve_report.specs.declared.serve.opening.Entrant.{Entrant}
 use Rattle.serve_report.specs.declared.serve.opening.Tried.{Tried}
 use Rattle.serve_report.specs.declared.serve.ready.Ready.{Ready}

@@ -6,11 +6,11 @@ use Rattle.serve_script.specs.declared.fault.ReplayFault.{ReplayFault}
 use Rattle.serve_report.specs.Apart.{OfPlace}
 use Rattle.serve_report.specs.Entrants.{ServesAll}
 use Rattle.serve_report.specs.Filtering.{FiltersAll}
-use Rattle.serve_report.specs.Help.{AskForHelp}
+use Rattle.serve_words.specs.Help.{AskForHelp}
 use Rattle.serve_report.specs.Openings.{OfName}
-use Rattle.serve_report.specs.Options.{AskFor}
-use Rattle.serve_report.specs.declared.words.Request.{Request}
-use Rattle.serve_report.specs.declared.words.Request.TheVariants as asked
+use Rattle.serve_words.specs.Options.{AskFor}
+use Rattle.serve_words.specs.declared.request.Request.{Request}
+use Rattle.serve_words.specs.declared.request.Request.TheVariants as asked
 
 -- what is answered where the input is run as a script, and what was written
 abbrev pub Replays : (input before after : Option (List ℕ)) → Result Bool ReplayFault → Type 0

@@ -20,5 +20,5 @@ mod threads;
 mod tickets;
 mod voice;
 
-pub use crate::serve::{AdmitFault, Asked, StreamRow, StreamStop, StreamWord};
+pub use crate::serve::{AdmitFault, StreamRow, StreamStop};
 pub use run::{lines_of, run_control};

@@ -6,15 +6,15 @@ ghost use Rattle.y4m_stream.specs.Filtered.{IsFiltered, IsFilteredAhead};
 ghost use Rattle.serve_report.specs.Filtering.{AreAsked, FiltersAll, FiltersTo};
 ghost use Rattle.serve_report.specs.Runs.{IsDone, Replays, RunsWell};
 
-use crate::files::Files;
 use crate::lent::{LentWriter, Loan, NamedWriter};
-use crate::progress::{Unwatched, Watch, WatchedSink, WatchedSource, following};
 use crate::serve::run_serve;
 use crate::tell::tell;
-use crate::words::{FilterWords, NoRequest, Request, read_words};
 use filters::{FilterError, Op, parse_ops};
 use row_bands::BandHeight;
+use serve_files::Files;
 use serve_script::{ReplayFault, replay};
+use serve_watch::{Unwatched, Watch, WatchedSink, WatchedSource, following};
+use serve_words::{FilterWords, NoRequest, Request, read_words};
 use std::alloc::Global;
 use std::fmt;
 use std::io::{Read, Write};

@@ -2,10 +2,7 @@
 mod frames;
 
 use crate::compare::same_at;
-use serve_report::Lookout;
-use serve_report::inlet::{Inflow, Inlet, inflow_of};
-use serve_report::lookout::Looker;
-use serve_report::reading::Reading;
+use serve_files::{Inflow, Inlet, Looker, Lookout, Reading, inflow_of};
 use std::alloc::Global;
 use std::io::{self, ErrorKind, Read};
 use std::process::Abort;

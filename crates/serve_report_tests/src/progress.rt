@@ -1,6 +1,6 @@
 //! The line on a terminal that shows how far streams are.
 use crate::compare::same_at;
-use serve_report::progress::{Board, Line};
+use serve_watch::{Board, Line};
 use std::process::Abort;
 use test_tools::Room;
 

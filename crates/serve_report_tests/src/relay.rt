@@ -1,6 +1,6 @@
 //! A writer whose writes can be waited for a while.
 use crate::compare::same_at;
-use serve_report::{Carrier, Relay};
+use serve_files::{Carrier, Relay};
 use std::alloc::Global;
 use std::io::{self, ErrorKind, Write};
 use std::process::Abort;

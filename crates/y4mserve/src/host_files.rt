@@ -1,7 +1,7 @@
 //! The files of the system.
 ghost use Rattle.std.specs.Prelude.{⊤};
 
-use serve_report::{FileId, Files, Inlet, Outlet, Place};
+use serve_files::{FileId, Files, Inlet, Outlet, Place};
 use std::array;
 use std::fs::{self, File, Metadata, OpenOptions};
 use std::io::{self, ErrorKind, IsTerminal, Write};

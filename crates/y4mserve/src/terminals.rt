@@ -1,6 +1,5 @@
 //! The terminals that the program's streams may be, and what the error stream's shows of a run.
-use serve_report::Watch;
-use serve_report::progress::{Board, Line};
+use serve_watch::{Board, Line, Watch};
 use std::io::{IsTerminal, Lock};
 use std::sync::OnceLock;
 use std::time::Instant;

@@ -2,10 +2,10 @@
 ghost use Rattle.std.specs.Prelude.{◌≡◌};
 ghost use Rattle.std.specs.Io.{ReadsAtMost};
 ghost use Rattle.std.specs.Io.KnownBytes.{ReadConsumes};
-ghost use Rattle.serve_report.specs.Inlets.{inflow_remaining};
+ghost use Rattle.serve_files.specs.Inlets.{inflow_remaining};
 
 use super::order::Order;
-use crate::inlet::Inflow;
+use serve_files::Inflow;
 use std::alloc::Global;
 use std::io::{self, ErrorKind, Read};
 use std::sync::{Arc, Wait};

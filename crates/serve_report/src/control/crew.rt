@@ -1,8 +1,7 @@
 //! The threads that read and write for streams that are to be opened.
 
 use super::order::Order;
-use crate::lookout::Looker;
-use crate::relay::Carrier;
+use serve_files::{Carrier, Looker};
 use std::alloc::Global;
 use std::io::{Read, Write};
 use std::sync::{Arc, Mutex, Wait};

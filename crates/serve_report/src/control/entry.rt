@@ -1,8 +1,8 @@
 //! A stream of a run that hasn't ended.
 
 use super::order::Order;
-use crate::files::{Files, Place};
 use crate::serve::{FileUse, Ready};
+use serve_files::{Files, Place};
 use std::alloc::Global;
 use std::mem;
 use std::sync::Arc;

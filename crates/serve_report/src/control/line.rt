@@ -6,13 +6,13 @@ ghost use Rattle.filters.specs.declared.limits.TheConstants.{MOST_OPS};
 ghost use Rattle.serve_script.specs.ScriptText.{is_silent};
 ghost use Rattle.serve_report.specs.Control.{IsWrongBy, ask_told, closed_in, fault_word, line_asks};
 ghost use Rattle.serve_report.specs.Control.{text_asks};
-ghost use Rattle.serve_report.specs.ServeChecks.{IsSaid};
-ghost use Rattle.serve_report.specs.StreamWords.{stream_told};
+ghost use Rattle.serve_words.specs.ServeChecks.{IsSaid};
+ghost use Rattle.serve_words.specs.StreamWords.{stream_told};
 
-use crate::serve::{Asked, StreamWord, parse_word_beside};
 use cbs_account::{Account, BadBandwidth};
 use filters::{FilterError, parse_ops};
 use serve_script::is_name;
+use serve_words::{Asked, StreamWord, parse_word_beside};
 use std::alloc::Global;
 use std::fmt;
 

@@ -1,6 +1,6 @@
 //! What the lines of a control are read from.
 
-use crate::inlet::{Inflow, Inlet, inflow_of};
+use serve_files::{Inflow, Inlet, inflow_of};
 use std::alloc::Global;
 use std::io::{self, Empty, Read};
 use std::sync::Wait;

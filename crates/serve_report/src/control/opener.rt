@@ -1,8 +1,8 @@
 //! Opening a stream beside the others.
 ghost use Rattle.std.specs.Prelude.{ℕ, ◌≡◌, IfOk, List, Option, Some};
-ghost use Rattle.serve_report.specs.Inlets.{inflow_remaining};
+ghost use Rattle.serve_files.specs.Inlets.{inflow_remaining};
+ghost use Rattle.serve_files.specs.Outlets.{outflow_contents};
 ghost use Rattle.serve_report.specs.Openings.{IsEntry, entry_of};
-ghost use Rattle.serve_report.specs.Outlets.{outflow_contents};
 ghost use Rattle.y4m_stream.specs.Reader.{IsOpened};
 
 use super::StreamStop;
@@ -11,15 +11,12 @@ use super::crew::{Crew, Helpers};
 use super::errand::Errand;
 use super::lobby::Lobby;
 use super::order::Order;
-use crate::files::Files;
-use crate::inlet::{Inflow, inflow_by};
-use crate::lookout::Looker;
-use crate::outlet::{OverOutflow, outflow_by};
-use crate::progress::{Watch, WatchedSink, WatchedSource};
-use crate::relay::Carrier;
-use crate::serve::{Asked, Ready, job_of, spec_of};
+use crate::serve::{Ready, job_of, spec_of};
 use frame_view::Geometry;
 use row_bands::BandHeight;
+use serve_files::{Carrier, Files, Inflow, Looker, OverOutflow, inflow_by, outflow_by};
+use serve_watch::{Watch, WatchedSink, WatchedSource};
+use serve_words::Asked;
 use std::alloc::Global;
 use std::io::{Read, Write};
 use std::sync::{Arc, Wait};

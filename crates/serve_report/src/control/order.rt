@@ -1,8 +1,8 @@
 //! A stream that was asked for.
 ghost use Rattle.std.specs.Prelude.{◌≡◌, IfOk, string_bytes};
 
-use super::StreamWord;
-use crate::reading::Reading;
+use serve_files::Reading;
+use serve_words::StreamWord;
 use std::alloc::{AllocError, Global};
 use std::sync::atomic::{AtomicBool, Ordering};
 

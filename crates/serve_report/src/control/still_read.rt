@@ -1,9 +1,8 @@
 //! Inputs of streams that have ended.
 
 use super::entry::Entry;
-use crate::files::Place;
-use crate::reading::Reading;
 use crate::serve::FileUse;
+use serve_files::{Place, Reading};
 use std::alloc::{AllocError, Global};
 use y4m_stream::{Sink, Source};
 

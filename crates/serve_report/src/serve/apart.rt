@@ -3,10 +3,10 @@ ghost use Rattle.std.specs.Prelude.{◌≡◌, ◌↔◌, AllPairs, Any, IfOk, I
 ghost use Rattle.std.specs.Prelude.{None, Some};
 ghost use Rattle.serve_report.specs.Apart.{AreUses, Clash, FilesGive, IsApart, IsFirstClash};
 ghost use Rattle.serve_report.specs.Apart.{IsTraceApart};
-ghost use Rattle.serve_report.specs.ServeChecks.{MayTell, all_told};
+ghost use Rattle.serve_words.specs.ServeChecks.{MayTell, all_told};
 
-use super::checks::{Asked, WordFault};
-use crate::files::{Files, Place};
+use serve_files::{Files, Place};
+use serve_words::{Asked, WordFault};
 use std::alloc::{AllocError, Global};
 
 /// Where the report goes.

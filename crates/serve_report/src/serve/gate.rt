@@ -1,7 +1,7 @@
 //! The gates of a run.
 
 use super::opening::Entrant;
-use crate::watch::Watch;
+use serve_watch::Watch;
 use serve_work::{Gate, Stint};
 use std::alloc::{AllocError, Global};
 

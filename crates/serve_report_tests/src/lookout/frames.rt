@@ -1,7 +1,7 @@
 //! What is wanted of a reader is awaited whole, and nothing beyond it is read.
 use super::{PATIENCE, TEXT, answers, read_by, shut, started};
 use crate::compare::same_at;
-use serve_report::Lookout;
+use serve_files::Lookout;
 use std::alloc::Global;
 use std::io::{self, Read};
 use std::process::Abort;

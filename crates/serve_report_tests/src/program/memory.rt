@@ -1,7 +1,7 @@
 //! Files in memory, which a run opens and makes by name.
 ghost use Rattle.std.specs.Prelude.{⊤};
 
-use serve_report::{Files, Inlet, Outlet, Place};
+use serve_files::{Files, Inlet, Outlet, Place};
 use std::alloc::Global;
 use std::io::{self, ErrorKind, Write};
 use std::sync::{Mutex, Wait};

@@ -2,7 +2,8 @@
 use super::memory::{Given, Made, Memory};
 use super::{words_of, written};
 use crate::compare::same_at;
-use serve_report::{Unwatched, Watch, run_on};
+use serve_report::run_on;
+use serve_watch::{Unwatched, Watch};
 use std::alloc::Global;
 use std::process::Abort;
 use std::sync::Wait;

@@ -2,8 +2,8 @@
 use super::memory::NoFiles;
 use super::{words_of, written};
 use crate::compare::same_at;
-use serve_report::trace::Doing;
-use serve_report::{Watch, run_on};
+use serve_report::run_on;
+use serve_watch::{Doing, Watch};
 use std::alloc::Global;
 use std::io::Read;
 use std::process::Abort;

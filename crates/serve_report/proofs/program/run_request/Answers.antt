@@ -1,6 +1,6 @@
 use Rattle.std.proofs.Common.{subst, sym}
 use Rattle.serve_report.specs.Runs.{IsDone}
-use Rattle.serve_report.specs.declared.words.Request.{Request}
+use Rattle.serve_words.specs.declared.request.Request.{Request}
 use Rattle.serve_report.proofs.program.run_request.Goals as goal
 
 pub returns-in-Serve-clause-well : goal.returns-in-Serve-clause-well

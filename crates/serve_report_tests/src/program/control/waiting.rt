@@ -6,7 +6,7 @@ use super::{Talk, talks, text_by};
 use crate::compare::same_at;
 use crate::program::memory::{Made, Memory, Output};
 use crate::program::serving::{A, A_INVERTED, holds};
-use serve_report::{FileId, Files, Inlet, Outlet, Place};
+use serve_files::{FileId, Files, Inlet, Outlet, Place};
 use std::alloc::Global;
 use std::io::{self, ErrorKind};
 use std::process::Abort;

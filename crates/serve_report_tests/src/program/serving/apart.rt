@@ -2,7 +2,7 @@
 use super::{A, A_INVERTED, Expected, given, holds, serves};
 use crate::compare::same_at;
 use crate::program::memory::{Made, Memory};
-use serve_report::{FileId, Place};
+use serve_files::{FileId, Place};
 use std::alloc::Global;
 use std::process::Abort;
 use std::sync::Wait;

@@ -3,7 +3,7 @@ use super::{A, A_INVERTED, B, B_TURNED, Expected, TWO, given, holds, runs_in, se
 use crate::compare::same_at;
 use crate::program::memory::{Given, Made, Memory};
 use crate::program::written;
-use serve_report::Unwatched;
+use serve_watch::Unwatched;
 use std::alloc::Global;
 use std::process::Abort;
 use std::sync::Wait;

@@ -3,7 +3,7 @@ use super::{A, A_INVERTED, B, B_TURNED, TWO, given, holds, runs_in};
 use crate::compare::same_at;
 use crate::program::memory::{Made, Memory};
 use crate::program::written;
-use serve_report::Unwatched;
+use serve_watch::Unwatched;
 use std::alloc::Global;
 use std::process::Abort;
 use std::sync::Wait;

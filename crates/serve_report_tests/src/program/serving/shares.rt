@@ -3,7 +3,8 @@ ghost use Rattle.std.specs.Prelude.{⊤};
 
 use crate::compare::same_at;
 use crate::program::{words_of, written};
-use serve_report::{Files, Inlet, Outlet, Place, main_on};
+use serve_files::{Files, Inlet, Outlet, Place};
+use serve_report::main_on;
 use std::alloc::Global;
 use std::io::{self, Empty, ErrorKind, Read, Write};
 use std::process::Abort;

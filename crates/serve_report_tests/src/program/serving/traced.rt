@@ -5,8 +5,8 @@ use super::{A, A_INVERTED, B, B_TURNED, Expected, given, holds, runs_in, serves}
 use crate::compare::same_at;
 use crate::program::memory::{Made, Memory};
 use crate::program::written;
-use serve_report::trace::Trace;
-use serve_report::{FileId, Place, Unwatched, Watch};
+use serve_files::{FileId, Place};
+use serve_watch::{Trace, Unwatched, Watch};
 use std::alloc::{AllocError, Global};
 use std::io;
 use std::process::Abort;

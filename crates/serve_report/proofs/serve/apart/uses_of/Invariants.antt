@@ -1,6 +1,6 @@
 use Rattle.std.proofs.Common.{take}
 use Rattle.serve_report.specs.Apart.{AreUses}
-use Rattle.serve_report.specs.ServeChecks.{all_told}
+use Rattle.serve_words.specs.ServeChecks.{all_told}
 use Rattle.serve_report.proofs.serve.apart.uses_of.Given as goal
 
 -- the report's file and those of the streams so far

@@ -3,7 +3,7 @@ use Rattle.std.proofs.KnownBytes.{Appends-trans}
 use Rattle.std.specs.Io.KnownBytes.{Appends}
 use Rattle.serve_report.specs.ServeReport.{row_text}
 use Rattle.serve_script.specs.ScriptReport.{line_text}
-use Rattle.serve_report.proofs.Reporting.{text_more}
+use Rattle.serve_watch.proofs.Texts.{text_more}
 use Rattle.serve_report.proofs.serve.rows.write_rows.Goals as goal
 
 pub loop-row-preserved : goal.loop-row-preserved

@@ -1,0 +1,4 @@
+pub mod ReadAhead
+pub mod Inlets
+pub mod Outlets
+pub mod Relays

@@ -1,7 +1,0 @@
-use Rattle.std.proofs.Common.{◌∙◌, codes}
-use Rattle.clap.specs.Matches.{found_of}
-use Rattle.serve_report.proofs.Found.{first_by_row}
-use Rattle.serve_report.proofs.words.given.trace_of.Goals as goal
-
-pub returns : goal.returns
-returns c = c.get_str.ensures ∙ first_by_row (found_of c.args.matches.now) (codes "trace")
