@@ -274,7 +274,7 @@ where
         (Reports F.open_gives F.create_gives (K.gives clock.now) checked.entry (W.contents output.old)
         (W.contents output.new)) }
 {
-    let told = begun(alloc, &checked.streams, told);
+    let told = announce_streams(alloc, &checked.streams, told);
     let rows = serve_files(rt, alloc, checked, files, told, clock);
     if let Some(watch) = told {
         watch.ends();
@@ -286,7 +286,7 @@ where
 
 /// Tells a watch which streams begin, and answers it. Where there is no memory for their names, none is told
 /// of the run.
-pub fn begun<'w, V: Watch>(
+pub fn announce_streams<'w, V: Watch>(
     alloc: Global,
     streams: &[Asked<'_>],
     told: Option<&'w V>,

@@ -109,7 +109,7 @@ impl<R: Source + Drop, W: Sink + Drop, S: Drop> Entry<R, W, S> {
     }
 
     /// It was opened, and waits to be served.
-    pub fn opened(&mut self, ready: Ready<R, W>) {
+    pub fn make_ready(&mut self, ready: Ready<R, W>) {
         self.held = None;
         self.stage = Stage::Ready(ready);
     }

@@ -90,10 +90,10 @@ impl<'o, R: Source + Drop, W: Sink + Drop, S: Drop, O: Write, E: Write> Lobby<'o
     }
 
     /// A stream was opened, and waits to be served.
-    pub fn opened<T: Wait>(&self, rt: &T, order: &Order, ready: Ready<R, W>) {
+    pub fn make_ready<T: Wait>(&self, rt: &T, order: &Order, ready: Ready<R, W>) {
         let mut table = self.table.lock(rt);
         if let Some(entry) = table.entry_mut(order.number) {
-            entry.opened(ready);
+            entry.make_ready(ready);
         }
         drop(table);
         self.changed.notify_all();

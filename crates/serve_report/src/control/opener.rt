@@ -87,7 +87,7 @@ where
         rt, alloc, height, files, lobby, &order, asked, helpers, stream, told,
     );
     match ready {
-        Ok(ready) => lobby.opened(rt, &order, ready),
+        Ok(ready) => lobby.make_ready(rt, &order, ready),
         Err(stop) => lobby.stopped(rt, &order, stop_of(&order, stop)),
     }
 }

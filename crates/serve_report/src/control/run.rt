@@ -11,7 +11,7 @@ use super::lobby::Lobby;
 use super::opener::{Shared, open_errand};
 use super::threads::{Form, Openers, serve_beside};
 use super::voice::Voice;
-use crate::serve::{RunClock, RunFault, begun};
+use crate::serve::{RunClock, RunFault, announce_streams};
 use crate::tell::tell;
 use serve_files::Files;
 use serve_watch::Watch;
@@ -109,7 +109,7 @@ fn begun_some<'w, V: Watch>(
     if streams.is_empty() {
         return None;
     }
-    begun(alloc, streams, told)
+    announce_streams(alloc, streams, told)
 }
 
 /// Serves the streams, tells what they came to, and answers the program's status.
