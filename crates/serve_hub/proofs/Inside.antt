@@ -1,6 +1,6 @@
 -- What a book keeps after an accepted call.
 use Rattle.std.proofs.Common.{ℕ, ◌+◌, ◌^◌, ◌≡◌, ◌≤◌, List, [], ◌∷◌, ◌++◌, length, reverse, Some, slice_get}
-use Rattle.std.proofs.Common.{◌<◌, Bool, true, false, ◌-◌, if◌then◌else◌, inl, inr, slice_index_or, slice_set, refl, sym, ◌∙◌, ap, subst, arith}
+use Rattle.std.proofs.Common.{◌<◌, Bool, true, false, if◌then◌else◌, inl, inr, slice_index_or, slice_set, refl, sym, ◌∙◌, ap, subst, arith}
 use Rattle.std.proofs.lemmas.Option.{slice_get-get_or}
 use Rattle.serve_core.proofs.Events.Streams.{same_or}
 use Rattle.serve_core.proofs.Items.Lists.{slice_get_set_other, slice_get_set_same}

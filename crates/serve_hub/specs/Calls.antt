@@ -1,6 +1,7 @@
 -- How the calls of a hub leave the seats, and which refusals a seat can be told.
 use Rattle.std.specs.Prelude.{ℕ, ◌+◌, ◌≡◌, ◌≢◌, ◌≤◌, ◌<◌, ◌↔◌, ◌⊎◌, ⊤, true, IsTrue, List, [], ◌∷◌}
-use Rattle.std.specs.Prelude.{◌++◌, drop, length, slice_get, Option, Some, MatchOption}
+use Rattle.std.specs.Prelude.{◌++◌, drop, length, slice_get, Option, Some, IfSome, IsSome, MatchOption}
+use Rattle.std.specs.Prelude.{MatchResult, Result}
 use Rattle.std.specs.Arc.{arc_value}
 use Rattle.cbs_account.specs.declared.limits.TheConstants.{LAST_MOMENT}
 use Rattle.frame_view.specs.declared.frame.Frame.{Frame}
@@ -20,6 +21,7 @@ use Rattle.serve_hub.specs.declared.entry.Settled as code
 use Rattle.serve_hub.specs.declared.entry.Settled.TheVariants as settled
 use Rattle.serve_hub.specs.declared.chain_part.ChainPart.{ChainPart}
 use Rattle.serve_hub.specs.declared.chain_part.ChainPart.TheVariants as parts
+use Rattle.serve_hub.specs.declared.offer.Offer.{Offer}
 use Rattle.serve_hub.specs.declared.refusal.Came.{Came}
 use Rattle.serve_hub.specs.declared.refusal.Came.TheVariants as came
 use Rattle.serve_hub.specs.declared.refusal.Refusal.{Refusal}
@@ -28,7 +30,6 @@ use Rattle.serve_hub.specs.declared.refused.AdmitRefused.{AdmitRefused}
 use Rattle.serve_hub.specs.declared.refused.CollectRefused.{CollectRefused}
 use Rattle.serve_hub.specs.declared.refused.LeaseRefused.{LeaseRefused}
 use Rattle.serve_hub.specs.declared.refused.OfferRefused.{OfferRefused}
-use Rattle.serve_hub.specs.declared.refused.OverRefused.{OverRefused}
 use Rattle.serve_hub.specs.Answers.{is_finished}
 use Rattle.serve_hub.specs.Journal.{tick_of}
 use Rattle.serve_hub.specs.Seats.{HasPlace, StreamSeatValue, WorkSeatValue, collected_by, moments_with}
@@ -175,22 +176,38 @@ GetsOther frame e old new = ⊥
 abbrev pub AcceptsOther : FrameValue → Refusal → (old new : StreamSeatValue) → Type 0
 AcceptsOther frame e old new = (mid : StreamSeatValue) × GetsOther frame e old mid × (new ≡ noted e mid)
 
--- a refused frame comes back, and the seat stays as it was, but that it notes a Torn
-pub record ReturnsFrame (at : ℕ) (frame : Frame) (e : Refusal) (old new : StreamSeatValue) : Type 0 where
-  pub told : IsOfferTold old at frame.geometry e
+-- an offer is accepted at its moment, which isn't past the last, with the seat's next number
+pub record AcceptsOffer (offer : Offer) (number : ℕ) (old new : StreamSeatValue) : Type 0 where
+  pub next : number ≡ old.accepted
+  pub accepts : Accepts (value_of (arc_value offer.frame)) number old new
+  pub moment : Notes offer.at old new
+  pub in_time : offer.at ≤ LAST_MOMENT
+
+-- where there was memory of an image, some comes back, and what comes back is that of an image of the chain
+pub record ReturnsMemory (chain : ChainValue) (memory back : Option Frame) : Type 0 where
+  pub there : IsSome memory → IsSome back
+  pub of_chain : IfSome back (IsImageOf chain)
+
+-- a refused offer comes back, and the seat stays as it was, but that it notes a Torn
+pub record ReturnsOffer (offer back : Offer) (e : Refusal) (old new : StreamSeatValue) : Type 0 where
+  pub at : back.at ≡ offer.at
+  pub frame : arc_value back.frame ≡ arc_value offer.frame
+  pub memory : ReturnsMemory old.chain offer.memory back.memory
+  pub told : IsOfferTold old offer.at (arc_value offer.frame).geometry e
   pub seat : new ≡ noted e old
 
--- why an offer is refused. The frame doesn't come back where it was accepted after all
-abbrev pub IsOfferRefused : (at : ℕ) → Frame → OfferRefused → (old new : StreamSeatValue) → Type 0
-IsOfferRefused at frame e old new =
-    MatchOption e.frame (AcceptsOther (value_of frame) e.refusal old new) (λ back.
-    (arc_value back ≡ frame) × ReturnsFrame at frame e.refusal old new)
+-- a refused offer, which past the last moment is refused for that. It doesn't come back where it was accepted
+-- after all, at its moment
+pub record IsOfferRefused (offer : Offer) (e : OfferRefused) (old new : StreamSeatValue) : Type 0 where
+  pub back : MatchOption e.offer
+      (AcceptsOther (value_of (arc_value offer.frame)) e.refusal old new × Notes offer.at old new)
+      (λ back. ReturnsOffer offer back e.refusal old new)
+  pub late : LAST_MOMENT < offer.at → e.refusal ≡ Core cores.ClockEnd
 
--- and over an image, which comes back with the frame, as the memory of the next image
-abbrev pub IsOverRefused : (at : ℕ) → Frame → OverRefused → (old new : StreamSeatValue) → Type 0
-IsOverRefused at frame e old new =
-    MatchOption e.back (AcceptsOther (value_of frame) e.refusal old new) (λ back.
-    (arc_value back.0 ≡ frame) × IsImageOf old.chain back.1 × ReturnsFrame at frame e.refusal old new)
+-- the answer to an offer
+abbrev pub AnswersOffer : Offer → Result ℕ OfferRefused → (old new : StreamSeatValue) → Type 0
+AnswersOffer offer result old new =
+    MatchResult result (λ number. AcceptsOffer offer number old new) (λ e. IsOfferRefused offer e old new)
 
 -- the seat closed its stream
 abbrev pub Closes : (old new : StreamSeatValue) → Type 0

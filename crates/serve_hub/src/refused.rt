@@ -1,25 +1,17 @@
 //! What comes back with a refusal of a hub.
 
+use crate::offer::Offer;
 use crate::refusal::Refusal;
-use frame_view::Frame;
 use lease::Lease;
 use serve_core::{Collected, StreamSpec};
-use std::sync::Arc;
 
-/// An offer was refused, and the frame comes back. There is none where it was accepted after all, with a
-/// number that contradicts the seat.
+/// An offer was refused, and comes back, where its frame wasn't accepted after all with a number that
+/// contradicts the seat. It may have the memory of an image where none was given, and that image may have the
+/// frame's line.
 #[derive(Debug, Drop)]
 pub struct OfferRefused {
     pub refusal: Refusal,
-    pub frame: Option<Arc<Frame>>,
-}
-
-/// An offer over an image was refused, and the frame and the image come back, where the frame wasn't accepted
-/// after all. The image may have the frame's line.
-#[derive(Debug, Drop)]
-pub struct OverRefused {
-    pub refusal: Refusal,
-    pub back: Option<(Arc<Frame>, Frame)>,
+    pub offer: Option<Offer>,
 }
 
 /// A stream wasn't admitted, and its spec comes back.

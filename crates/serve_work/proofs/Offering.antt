@@ -109,8 +109,8 @@ offered_back o at frame frame' old left new same stays p = rw (stays, ← same) 
 pub offered_tally : (o : Offered) (at : ℕ) (frame : Frame) (old new : StreamSeatValue) → IsOffered o at frame old new
     → TalliesSeat old new
 offered_tally offered.Accepted at frame old new p = TalliesSeat-accept (value_of frame) p.0 old new p.1
-offered_tally (offered.QueueFull back image) at frame old new p = seat_same old new p.2
-offered_tally (offered.JournalFull back image) at frame old new p = seat_same old new p.2
+offered_tally (offered.QueueFull back) at frame old new p = seat_same old new p.2
+offered_tally (offered.JournalFull back) at frame old new p = seat_same old new p.2
 offered_tally (offered.Stopped Whole) at frame old new p = absurd p
 offered_tally (offered.Stopped (Read fault)) at frame old new p = absurd p
 offered_tally (offered.Stopped (Write fault)) at frame old new p = absurd p

@@ -22,6 +22,7 @@ use Rattle.serve_core.specs.declared.refusal.Refusal.TheVariants as cores
 use Rattle.serve_core.specs.declared.collected.Collected.{Collected}
 use Rattle.serve_core.specs.Streams.{IsImageOf}
 use Rattle.serve_hub.specs.declared.entry.Act.{Act}
+use Rattle.serve_hub.specs.declared.offer.Offer.{Offer}
 use Rattle.serve_hub.specs.declared.refusal.Refusal.{Refusal}
 use Rattle.serve_hub.specs.declared.refusal.Refusal.TheVariants.{Core, HistoryFull}
 use Rattle.serve_hub.specs.Calls.{Accepts, Notes}
@@ -277,10 +278,10 @@ abbrev pub MovesOrHalts : {T : Type 0} → Result T Halt → StreamSeatValue →
 MovesOrHalts (Ok t) seat seat' writer writer' frames = Moves seat seat' writer writer' frames
 MovesOrHalts (Err halt) seat seat' writer writer' frames = HaltsWith halt seat seat' writer writer' []
 
--- a frame comes back, with the memory of an image if one was at hand
-abbrev pub ComesBack : Arc Frame Global → Option Frame → Frame → StreamSeatValue → StreamSeatValue → Type 0
-ComesBack back image frame old new =
-    (arc_value back ≡ frame) × IfSome image (IsImageOf old.chain) × (new ≡ old)
+-- a frame comes back, perhaps with the memory of an image
+abbrev pub ComesBack : Offer → Frame → StreamSeatValue → StreamSeatValue → Type 0
+ComesBack back frame old new =
+    (arc_value back.frame ≡ frame) × IfSome back.memory (IsImageOf old.chain) × (new ≡ old)
 
 -- the seat, told Torn
 abbrev pub as_torn : StreamSeatValue → StreamSeatValue
@@ -290,8 +291,8 @@ as_torn seat = torn_at (collected_by seat) seat
 -- or the client stops
 abbrev pub IsOffered : Offered → (at : ℕ) → Frame → StreamSeatValue → StreamSeatValue → Type 0
 IsOffered offered.Accepted at frame old new = (n : ℕ) × Accepts (value_of frame) n old new
-IsOffered (offered.QueueFull back image) at frame old new = ComesBack back image frame old new
-IsOffered (offered.JournalFull back image) at frame old new = ComesBack back image frame old new
+IsOffered (offered.QueueFull back) at frame old new = ComesBack back frame old new
+IsOffered (offered.JournalFull back) at frame old new = ComesBack back frame old new
 IsOffered (offered.Stopped (Refused cause)) at frame old new =
     (cause ≡ causes.TooManyFrames → old.accepted ≡ old.frames) × (cause ≡ causes.ClockEnd → LAST_MOMENT < at)
     × (new ≡ old)

@@ -21,7 +21,7 @@ use crate::post::Post;
 use crate::stop::{Cause, Halt, Stop};
 use frame_view::Frame;
 use serve_core::{Collected, Refusal as Core};
-use serve_hub::{Epoch, OfferRefused, OverRefused, Refusal, StreamSeat};
+use serve_hub::{Epoch, Offer, OfferRefused, Refusal, StreamSeat};
 use std::alloc::Global;
 use std::sync::{Arc, Wait};
 use y4m_stream::reader::Phase;
@@ -31,10 +31,10 @@ use y4m_stream::{Sink, Source, StreamReader, StreamWriter};
 #[derive(Drop)]
 pub(crate) enum Offered {
     Accepted,
-    /// The queue is full. It comes back, with the memory of an image if one was at hand.
-    QueueFull(Arc<Frame>, Option<Frame>),
+    /// The queue is full, and the offer comes back.
+    QueueFull(Offer),
     /// The same, the journal being full.
-    JournalFull(Arc<Frame>, Option<Frame>),
+    JournalFull(Offer),
     Stopped(Stop),
 }
 
@@ -125,65 +125,41 @@ fn read_into<R: Source + Drop>(
     }
 }
 
-/// New memory for the image of a frame, where it is granted.
-#[tactic(auto, using(filters::proofs::ChainImages::is_frame_line))]
-fn new_image<L: Epoch>(alloc: Global, seat: &StreamSeat<L>, frame: &Frame) -> Option<Frame>
-    ensures { IfSome result (IsImageOf seat.now.chain) }
-{
-    Frame::blank(alloc, seat.spec().chain().out_geometry(), frame.line()).ok()
-}
-
-/// Offers a frame once, over the memory of an image if one is at hand, else over new memory, so that none is
-/// lost where the queue is full.
+/// Offers a frame once.
 pub(crate) fn offer_once<L: Epoch, K, T: Wait>(
     post: Post<'_, L, K, T>,
     seat: &mut StreamSeat<L>,
-    at: u64,
-    frame: Arc<Frame>,
-    image: Option<Frame>,
+    offer: Offer,
 ) -> Offered
-    requires image { IfSome image (IsImageOf seat.old.chain) }
-    requires size { (arc_value frame).geometry ≡ seat.old.chain.geometry }
+    requires memory { IfSome offer.memory (IsImageOf seat.old.chain) }
+    requires size { (arc_value offer.frame).geometry ≡ seat.old.chain.geometry }
     requires open { seat.old.is_closed ≡ false }
-    ensures answer { IsOffered result at (arc_value frame) seat.old seat.new }
-    ensures moment { OffersAt at seat.old seat.new }
+    ensures answer { IsOffered result offer.at (arc_value offer.frame) seat.old seat.new }
+    ensures moment { OffersAt offer.at seat.old seat.new }
 {
-    let Post { rt, alloc, hub, .. } = post;
-    match image.or_else(|| new_image(alloc, seat, &frame)) {
-        None => match hub.offer(rt, alloc, seat, at, frame) {
-            Ok(_) => Offered::Accepted,
-            Err(OfferRefused { frame: None, .. }) => Offered::Stopped(Stop::Torn),
-            Err(
-                OfferRefused {
-                    refusal,
-                    frame: Some(frame),
-                },
-            ) => offered_of(refusal, frame, None),
-        },
-        Some(image) => match hub.offer_over(rt, alloc, seat, at, frame, image) {
-            Ok(_) => Offered::Accepted,
-            Err(OverRefused { back: None, .. }) => Offered::Stopped(Stop::Torn),
-            Err(
-                OverRefused {
-                    refusal,
-                    back: Some((frame, image)),
-                },
-            ) => offered_of(refusal, frame, Some(image)),
-        },
+    match post.hub.offer(post.rt, post.alloc, seat, offer) {
+        Ok(_) => Offered::Accepted,
+        Err(OfferRefused { offer: None, .. }) => Offered::Stopped(Stop::Torn),
+        Err(
+            OfferRefused {
+                refusal,
+                offer: Some(back),
+            },
+        ) => offered_of(refusal, back),
     }
 }
 
-/// What a frame comes to that was refused and came back, with the memory of an image if one was at hand.
-fn offered_of(refusal: Refusal, frame: Arc<Frame>, image: Option<Frame>) -> Offered
+/// What a frame comes to that was refused and came back.
+fn offered_of(refusal: Refusal, back: Offer) -> Offered
     ensures { (at : ℕ) (seat : StreamSeatValue) → seat.is_closed ≡ false
-        → (arc_value frame).geometry ≡ seat.chain.geometry
-        → IsOfferTold seat at (arc_value frame).geometry refusal
-        → IfSome image (IsImageOf seat.chain)
-        → IsOffered result at (arc_value frame) seat (noted refusal seat) }
+        → (arc_value back.frame).geometry ≡ seat.chain.geometry
+        → IsOfferTold seat at (arc_value back.frame).geometry refusal
+        → IfSome back.memory (IsImageOf seat.chain)
+        → IsOffered result at (arc_value back.frame) seat (noted refusal seat) }
 {
     match refusal {
-        Refusal::Core(Core::Full) => Offered::QueueFull(frame, image),
-        Refusal::HistoryFull => Offered::JournalFull(frame, image),
+        Refusal::Core(Core::Full) => Offered::QueueFull(back),
+        Refusal::HistoryFull => Offered::JournalFull(back),
         refusal => Offered::Stopped(Stop::of(refusal)),
     }
 }
@@ -210,17 +186,21 @@ fn accept<L: Epoch, W: Sink, K: Clock, T: Wait>(
 {
     let mut frame = frame;
     for _ in post.rt.forever() {
-        let image = buffers.take_image();
-        match offer_once(post, seat, post.clock.moment(), frame, image) {
+        let offer = Offer {
+            at: post.clock.moment(),
+            frame,
+            memory: buffers.take_image(),
+        };
+        match offer_once(post, seat, offer) {
             Offered::Accepted => return Ok(()),
             Offered::Stopped(stop) => return Err(Fed::Stopped(stop)),
-            Offered::JournalFull(back, image) => {
-                buffers.keep_image(image);
-                return Err(Fed::Paused(Some(back), None));
+            Offered::JournalFull(back) => {
+                buffers.keep_image(back.memory);
+                return Err(Fed::Paused(Some(back.frame), None));
             }
-            Offered::QueueFull(back, image) => {
-                frame = back;
-                buffers.keep_image(image);
+            Offered::QueueFull(back) => {
+                buffers.keep_image(back.memory);
+                frame = back.frame;
             }
         }
         match deliver(post.rt, post.hub, seat, writer) {

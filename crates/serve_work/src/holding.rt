@@ -15,7 +15,7 @@ use crate::input::{Input, await_input};
 use crate::post::Post;
 use crate::stop::Stop;
 use frame_view::Frame;
-use serve_hub::{Epoch, StreamSeat};
+use serve_hub::{Epoch, Offer, StreamSeat};
 use std::sync::{Arc, Wait};
 use y4m_stream::reader::Phase;
 use y4m_stream::{Source, StreamReader};
@@ -47,10 +47,15 @@ fn offer_on<L: Epoch, K: Clock, T: Wait>(
     ensures stop { IfErr result (AllowsOnward (K.gives post.entry.clock.now)) }
     ensures frame { IfErr result (IsSizedOnward seat.old.chain) }
 {
-    match offer_once(post, seat, post.clock.moment(), frame, None) {
+    let offer = Offer {
+        at: post.clock.moment(),
+        frame,
+        memory: None,
+    };
+    match offer_once(post, seat, offer) {
         Offered::Accepted => Ok(()),
-        Offered::QueueFull(_, _) => Err(Onward::QueueFull),
-        Offered::JournalFull(back, _) => Err(Onward::Paused(Some(back))),
+        Offered::QueueFull(_) => Err(Onward::QueueFull),
+        Offered::JournalFull(back) => Err(Onward::Paused(Some(back.frame))),
         Offered::Stopped(stop) => Err(Onward::Stopped(stop)),
     }
 }

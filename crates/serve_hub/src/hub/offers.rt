@@ -1,17 +1,15 @@
 //! Frames that threads offer.
-ghost use Rattle.std.specs.Prelude.{◌≡◌, ◌<◌, IfErr, IfNone, IfOk, IsErr, MatchOption, OnOk};
+ghost use Rattle.std.specs.Prelude.{◌≡◌, IfErr, IfNone, IfOk, IfSome, MatchOption, OnOk};
 ghost use Rattle.std.specs.Arc.{arc_value};
 ghost use Rattle.filters.specs.ChainImage.{value_of};
-ghost use Rattle.serve_core.specs.declared.refusal.Refusal.TheVariants.{ClockEnd};
 ghost use Rattle.serve_core.specs.Streams.{IsFresh, IsImageOf};
-ghost use Rattle.serve_hub.specs.declared.refusal.Refusal.TheVariants.{Core};
-ghost use Rattle.serve_hub.specs.Calls.{Accepts, AcceptsOther, IsOfferRefused, IsOfferTold, IsOverRefused};
-ghost use Rattle.serve_hub.specs.Calls.{Notes, noted};
+ghost use Rattle.serve_hub.specs.Calls.{Accepts, AcceptsOther, AnswersOffer, IsOfferTold, Notes, noted};
 
 use super::Hub;
 use crate::epoch::Epoch;
+use crate::offer::Offer;
 use crate::refusal::Refusal;
-use crate::refused::{OfferRefused, OverRefused};
+use crate::refused::OfferRefused;
 use crate::stream_seat::StreamSeat;
 use cbs_account::limits::LAST_MOMENT;
 use frame_view::Frame;
@@ -24,92 +22,44 @@ impl<L: Epoch> Hub<L> {
     /// The seat's stream is offered a frame at a moment, or now if that is later. It answers the frame's
     /// number.
     ///
-    /// It takes the memory for the frame's job before it takes the lock.
+    /// It makes the frame's job before it takes the lock. Over the memory of an image it takes more only for
+    /// the frame's line, and only where the image has another.
     pub fn offer(
         &self,
         rt: &impl Wait,
         alloc: Global,
         seat: &mut StreamSeat<L>,
-        at: u64,
-        frame: Arc<Frame>,
+        offer: Offer,
     ) -> Result<u64, OfferRefused>
-        ensures accepted { IfOk result (λ n. (n ≡ seat.old.accepted)
-            × Accepts (value_of (arc_value frame)) n seat.old seat.new) }
-        ensures moment { OnOk result (Notes at seat.old seat.new) }
-        ensures other_moment { IfErr result (λ e. IfNone e.frame (Notes at seat.old seat.new)) }
-        ensures refused { IfErr result (λ e. IsOfferRefused at (arc_value frame) e seat.old seat.new) }
-        ensures clock_end { LAST_MOMENT < at → IsErr result }
-        ensures ended { IfErr result (λ e. LAST_MOMENT < at → e.refusal ≡ Core ClockEnd) }
+        requires { IfSome offer.memory (IsImageOf seat.old.chain) }
+        ensures { AnswersOffer offer result seat.old seat.new }
     {
-        if at > LAST_MOMENT {
+        if offer.at > LAST_MOMENT {
             return Err(OfferRefused {
                 refusal: Refusal::Core(CoreRefusal::ClockEnd),
-                frame: Some(frame),
+                offer: Some(offer),
             });
         }
-        match seat.job(alloc, frame) {
-            Err(frame) => Err(OfferRefused {
+        let Offer { at, frame, memory } = offer;
+        match seat.job(alloc, frame, memory) {
+            Err((frame, memory)) => Err(OfferRefused {
                 refusal: self.refusal(rt, seat, at, &frame),
-                frame: Some(frame),
+                offer: Some(Offer { at, frame, memory }),
             }),
             Ok((job, kept)) => match self.enter(rt, seat, at, job, kept) {
                 Ok(number) => Ok(number),
                 Err((refusal, None)) => Err(OfferRefused {
                     refusal,
-                    frame: None,
+                    offer: None,
                 }),
                 Err((refusal, Some(job))) => {
-                    let (frame, _image) = job.undo();
+                    let (frame, image) = job.undo();
+                    let memory = Some(image);
                     Err(OfferRefused {
                         refusal,
-                        frame: Some(frame),
+                        offer: Some(Offer { at, frame, memory }),
                     })
                 }
-            },
-        }
-    }
-
-    /// What [`Hub::offer`] does, in the memory of an image of the seat's stream that isn't needed any more.
-    /// It takes memory only for the frame's line, and only where the image has another.
-    pub fn offer_over(
-        &self,
-        rt: &impl Wait,
-        alloc: Global,
-        seat: &mut StreamSeat<L>,
-        at: u64,
-        frame: Arc<Frame>,
-        image: Frame,
-    ) -> Result<u64, OverRefused>
-        requires { IsImageOf seat.old.chain image }
-        ensures accepted { IfOk result (λ n. (n ≡ seat.old.accepted)
-            × Accepts (value_of (arc_value frame)) n seat.old seat.new) }
-        ensures moment { OnOk result (Notes at seat.old seat.new) }
-        ensures other_moment { IfErr result (λ e. IfNone e.back (Notes at seat.old seat.new)) }
-        ensures refused { IfErr result (λ e. IsOverRefused at (arc_value frame) e seat.old seat.new) }
-        ensures clock_end { LAST_MOMENT < at → IsErr result }
-        ensures ended { IfErr result (λ e. LAST_MOMENT < at → e.refusal ≡ Core ClockEnd) }
-    {
-        if at > LAST_MOMENT {
-            return Err(OverRefused {
-                refusal: Refusal::Core(CoreRefusal::ClockEnd),
-                back: Some((frame, image)),
-            });
-        }
-        match seat.job_over(alloc, frame, image) {
-            Err((frame, image)) => Err(OverRefused {
-                refusal: self.refusal(rt, seat, at, &frame),
-                back: Some((frame, image)),
-            }),
-            Ok((job, kept)) => match self.enter(rt, seat, at, job, kept) {
-                Ok(number) => Ok(number),
-                Err((refusal, None)) => Err(OverRefused {
-                    refusal,
-                    back: None,
-                }),
-                Err((refusal, Some(job))) => Err(OverRefused {
-                    refusal,
-                    back: Some(job.undo()),
-                }),
             },
         }
     }

@@ -9,6 +9,7 @@ ghost use Rattle.serve_hub.specs.declared.refusal.Came.TheVariants.{NoPlace};
 ghost use Rattle.serve_hub.specs.declared.refusal.Refusal.TheVariants.{Torn};
 ghost use Rattle.serve_hub.specs.Answers.{IsOfferAnswer};
 ghost use Rattle.serve_hub.specs.Calls.{Accepts, AllowsOffer, GetsOther, IsOfBook, IsOfferTold, NotesFrom};
+ghost use Rattle.serve_hub.specs.Calls.{ReturnsMemory};
 ghost use Rattle.serve_hub.specs.Seats.{HasPlace, kept_more};
 
 use super::StreamSeat;
@@ -24,51 +25,37 @@ use std::alloc::Global;
 use std::sync::Arc;
 
 impl<L: Epoch> StreamSeat<L> {
-    /// The job of a frame, and the frame for the seat to keep. A frame of another size comes back, and so
-    /// does one for whose job no memory is granted.
+    /// The job of a frame, over the memory of an image of the seat's chain if one is at hand, and the frame
+    /// for the seat to keep. A frame of another size comes back with the memory, and so does one for whose
+    /// job no memory is granted.
     pub(crate) fn job(
         &self,
         alloc: Global,
         frame: Arc<Frame>,
-    ) -> Result<(Job, Arc<Frame>), Arc<Frame>>
+        memory: Option<Frame>,
+    ) -> Result<(Job, Arc<Frame>), (Arc<Frame>, Option<Frame>)>
+        requires { IfSome memory (IsImageOf self.now.chain) }
         ensures fresh { IfOk result (λ made. IsFresh self.now.chain made.0) }
         ensures source { IfOk result (λ made. made.0.source ≡ arc_value frame) }
         ensures kept { IfOk result (λ made. arc_value made.1 ≡ arc_value frame) }
         ensures size { IfOk result (λ made. (arc_value frame).geometry ≡ self.now.chain.geometry) }
-        ensures back { IfErr result (λ back. back ≡ frame) }
+        ensures back { IfErr result (λ back. back.0 ≡ frame) }
+        ensures memory { IfErr result (λ back. ReturnsMemory self.now.chain memory back.1) }
     {
         let (Ok(spec), Ok(kept)) = (Arc::try_clone(&self.spec), Arc::try_clone(&frame)) else {
-            return Err(frame);
+            return Err((frame, memory));
         };
-        match Job::new(alloc, spec, frame) {
-            Ok(job) => Ok((job, kept)),
-            Err(JobRefused::WrongSize(frame)) => Err(frame),
-            Err(JobRefused::NoMemory(frame)) => Err(frame),
-        }
-    }
-
-    /// A job for a frame in the memory of an image of the seat's chain, which comes back with a frame that
-    /// got none.
-    pub(crate) fn job_over(
-        &self,
-        alloc: Global,
-        frame: Arc<Frame>,
-        image: Frame,
-    ) -> Result<(Job, Arc<Frame>), (Arc<Frame>, Frame)>
-        requires { IsImageOf self.now.chain image }
-        ensures fresh { IfOk result (λ made. IsFresh self.now.chain made.0) }
-        ensures source { IfOk result (λ made. made.0.source ≡ arc_value frame) }
-        ensures kept { IfOk result (λ made. arc_value made.1 ≡ arc_value frame) }
-        ensures size { IfOk result (λ made. (arc_value frame).geometry ≡ self.now.chain.geometry) }
-        ensures back { IfErr result (λ back. (back.0 ≡ frame) × IsImageOf self.now.chain back.1) }
-    {
-        let (Ok(spec), Ok(kept)) = (Arc::try_clone(&self.spec), Arc::try_clone(&frame)) else {
-            return Err((frame, image));
-        };
-        match Job::over(alloc, spec, frame, image) {
-            Ok(job) => Ok((job, kept)),
-            Err(OverRefused::WrongSize(frame, image)) => Err((frame, image)),
-            Err(OverRefused::NoMemory(frame, image)) => Err((frame, image)),
+        match memory {
+            None => match Job::new(alloc, spec, frame) {
+                Ok(job) => Ok((job, kept)),
+                Err(JobRefused::WrongSize(frame)) => Err((frame, None)),
+                Err(JobRefused::NoMemory(frame)) => Err((frame, None)),
+            },
+            Some(image) => match Job::over(alloc, spec, frame, image) {
+                Ok(job) => Ok((job, kept)),
+                Err(OverRefused::WrongSize(frame, image)) => Err((frame, Some(image))),
+                Err(OverRefused::NoMemory(frame, image)) => Err((frame, Some(image))),
+            },
         }
     }
 

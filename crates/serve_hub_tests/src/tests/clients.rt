@@ -1,11 +1,11 @@
 //! Those who offer the frames of one stream, and check its images.
-ghost use Rattle.std.specs.Prelude.{◌≡◌, IfOk};
+ghost use Rattle.std.specs.Prelude.{◌≡◌, IfOk, IfSome};
 ghost use Rattle.serve_core.specs.Streams.{IsImageOf};
 
 use super::{Core, frame_of};
 use frame_view::Frame;
 use serve_core::Collected;
-use serve_hub::{Came, Epoch, Hub, Refusal, StreamSeat};
+use serve_hub::{Came, Epoch, Hub, Offer, Refusal, StreamSeat};
 use std::alloc::Global;
 use std::sync::{Arc, Wait};
 use std::test::Fail;
@@ -114,11 +114,7 @@ impl<L: Epoch> Client<L> {
                 self.collect_soon(rt, hub)?;
             }
             let frame = self.frame(n)?;
-            if self.seat.kept() < 4 {
-                self.offer(rt, hub, n, frame)?;
-            } else {
-                self.offer_over(rt, hub, n, frame)?;
-            }
+            self.offer(rt, hub, n, frame)?;
             self.most = self.most.max(self.seat.kept());
         }
         Ok(())
@@ -140,27 +136,26 @@ impl<L: Epoch> Client<L> {
         &mut self,
         rt: &R,
         hub: &Hub<L>,
-        n: u64,
+        at: u64,
         frame: Arc<Frame>,
     ) -> Result<(), Refusal> {
-        match hub.offer(rt, self.alloc, &mut self.seat, n, frame) {
+        let memory = self.memory(rt, hub)?;
+        let offer = Offer { at, frame, memory };
+        match hub.offer(rt, self.alloc, &mut self.seat, offer) {
             Ok(_) => Ok(()),
             Err(refused) => Err(refused.refusal),
         }
     }
 
-    fn offer_over<R: Wait>(
-        &mut self,
-        rt: &R,
-        hub: &Hub<L>,
-        n: u64,
-        frame: Arc<Frame>,
-    ) -> Result<(), Refusal> {
-        let image = self.collect(rt, hub)?;
-        match hub.offer_over(rt, self.alloc, &mut self.seat, n, frame, image) {
-            Ok(_) => Ok(()),
-            Err(refused) => Err(refused.refusal),
+    /// The memory of the next image, where four frames were accepted.
+    fn memory<R: Wait>(&mut self, rt: &R, hub: &Hub<L>) -> Result<Option<Frame>, Refusal>
+        ensures { IfOk result (λ memory. IfSome memory (IsImageOf self.new.seat.chain)) }
+    {
+        if self.seat.kept() < 4 {
+            return Ok(None);
         }
+        let image = self.collect(rt, hub)?;
+        Ok(Some(image))
     }
 
     /// The next image.

@@ -14,7 +14,7 @@ use super::{Core, LINE, PLAIN, came_back, frame_of, same, setup_of};
 use frame_view::Frame;
 use lease::{Job, JobSpec, is_same_spec};
 use serve_core::Setup;
-use serve_hub::{Book, Epoch, OverRefused, Refusal, Settled};
+use serve_hub::{Book, Epoch, OfferRefused, Refusal, Settled};
 use std::alloc::Global;
 use std::process::Abort;
 use std::sync::{Arc, Wait};
@@ -206,24 +206,33 @@ fn over_image<L: Epoch>(
     seated: &mut Seated<L>,
     s: u32,
     frame: Arc<Frame>,
-) -> Result<Result<u64, OverRefused>, Refusal> {
+) -> Result<Result<u64, OfferRefused>, Refusal> {
     let Seated { hub, streams, .. } = seated;
     let Some(seat) = streams.get_mut(s as usize) else {
         return Err(Refusal::Core(Core::NoStream));
     };
     match hub.try_collect(rt, seat) {
-        Ok(pair) => Ok(hub.offer_over(rt, alloc, seat, 0, frame, pair.image)),
+        Ok(pair) => {
+            let memory = Some(pair.image);
+            let offer = serve_hub::Offer {
+                at: 0,
+                frame,
+                memory,
+            };
+            Ok(hub.offer(rt, alloc, seat, offer))
+        }
         Err(refused) => Err(refused.refusal),
     }
 }
 
 /// The answer of an offer over an image, which came back with the frame where it was refused.
-fn over_answer(answer: Result<u64, OverRefused>, samples: &[u8]) -> Result<Answer, Fail> {
+fn over_answer(answer: Result<u64, OfferRefused>, samples: &[u8]) -> Result<Answer, Fail> {
     match answer {
         Ok(number) => Ok(Accepted(number)),
         Err(refused) => {
-            let (frame, image) = refused.back.ok_or("nothing came back")?;
-            both_back(refused.refusal, &frame, &image, samples)
+            let back = refused.offer.ok_or("nothing came back")?;
+            let image = back.memory.ok_or("no image came back")?;
+            both_back(refused.refusal, &back.frame, &image, samples)
         }
     }
 }

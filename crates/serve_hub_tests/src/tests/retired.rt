@@ -42,7 +42,12 @@ fn offered_at_nine<L: Epoch>(
 ) -> Result<(), Fail> {
     let Seated { hub, streams, .. } = seated;
     let seat = streams.get_mut(1).ok_or("no seat")?;
-    match hub.offer(rt, alloc, seat, 9, frame_of(alloc, &[0x10])?) {
+    let offer = serve_hub::Offer {
+        at: 9,
+        frame: frame_of(alloc, &[0x10])?,
+        memory: None,
+    };
+    match hub.offer(rt, alloc, seat, offer) {
         Ok(_) => Ok(()),
         Err(refused) => Err(refused.refusal.into()),
     }

@@ -9,8 +9,8 @@ use frame_view::Frame;
 use lease::Lease;
 use serve_core::{Collected, Setup};
 use serve_hub::{
-    AdmitRefused, CollectRefused, Ended, Epoch, Hub, LeaseRefused, Mismatch, Moments, OfferRefused,
-    Refusal, Reopened, Settled, StreamSeat, WorkSeat,
+    AdmitRefused, CollectRefused, Ended, Epoch, Hub, LeaseRefused, Mismatch, Moments, Offer,
+    OfferRefused, Refusal, Reopened, Settled, StreamSeat, WorkSeat,
 };
 use std::alloc::Global;
 use std::process::Abort;
@@ -155,11 +155,16 @@ impl<L: Epoch> Seated<L> {
         frame: Arc<Frame>,
     ) -> Result<u64, OfferRefused> {
         let Seated { hub, streams, .. } = self;
+        let offer = Offer {
+            at,
+            frame,
+            memory: None,
+        };
         match streams.get_mut(s as usize) {
-            Some(seat) => hub.offer(rt, alloc, seat, at, frame),
+            Some(seat) => hub.offer(rt, alloc, seat, offer),
             None => Err(OfferRefused {
                 refusal: NO_STREAM,
-                frame: Some(frame),
+                offer: Some(offer),
             }),
         }
     }
@@ -369,8 +374,8 @@ fn offer_answer(answer: Result<u64, OfferRefused>, samples: &[u8]) -> Result<Ans
     match answer {
         Ok(number) => Ok(Answer::Accepted(number)),
         Err(refused) => {
-            let frame = refused.frame.ok_or("no frame")?;
-            came_back(refused.refusal, &frame, samples)
+            let back = refused.offer.ok_or("no offer")?;
+            came_back(refused.refusal, &back.frame, samples)
         }
     }
 }

@@ -26,7 +26,7 @@ offer_once-requires-clause-open g c =
     stays_closed c.args.seat.now c.loop.seat c.loop.invariant.moved.seat_stays ∙ c.requires.accounted.is_open
 
 pub returns-in-Accepted-clause-buffers : goal.returns-in-Accepted-clause-buffers
-returns-in-Accepted-clause-buffers g c = c.take_image-image.ensures.kept _ c.loop.invariant.buffers
+returns-in-Accepted-clause-buffers g c = c.take_image.ensures.kept _ c.loop.invariant.buffers
 
 pub returns-in-Stopped-clause-answer : goal.returns-in-Stopped-clause-answer
 returns-in-Stopped-clause-answer g c =
@@ -40,10 +40,10 @@ returns-in-Stopped-clause-stop g c =
 
 pub returns-in-Err-clause-stop : goal.returns-in-Err-clause-stop
 returns-in-Err-clause-stop g c =
-    rw c.of.ensures (collection_allowed (g.K.Clock.gives c.args.post.clock.now) c.in-Err.halt c.in-QueueFull.back c.in-Err.ensures.own)
+    rw c.of.ensures (collection_allowed (g.K.Clock.gives c.args.post.clock.now) c.in-Err.halt c.in-QueueFull.back.frame c.in-Err.ensures.own)
 
 pub returns-in-Stopped-clause-buffers : goal.returns-in-Stopped-clause-buffers
-returns-in-Stopped-clause-buffers g c = c.take_image-image.ensures.kept _ c.loop.invariant.buffers
+returns-in-Stopped-clause-buffers g c = c.take_image.ensures.kept _ c.loop.invariant.buffers
 
 pub returns-in-Stopped-clause-tally : goal.returns-in-Stopped-clause-tally
 returns-in-Stopped-clause-tally g c =
@@ -71,7 +71,7 @@ returns-in-Err-clause-back g c =
     let so_far = c.loop.invariant in
     let moved = Moves-at seat c.loop.seat at c.args.writer.now c.loop.writer c.in-QueueFull.ensures.answer.2 so_far.moved in
     let up = GivesUp-at seat c.loop.seat at c.in-QueueFull.ensures.answer.2 so_far.up in
-    rw c.of.ensures (halted_sized c.in-Err.halt c.in-QueueFull.back (arc_value c.args.frame) seat at c.deliver.new.seat
+    rw c.of.ensures (halted_sized c.in-Err.halt c.in-QueueFull.back.frame (arc_value c.args.frame) seat at c.deliver.new.seat
     c.args.writer.now c.loop.writer c.deliver.new.writer (c.in-QueueFull.ensures.answer.0 ∙ so_far.frame) moved
     c.in-Err.ensures.answer c.in-Err.ensures.left c.requires.frame c.requires.size)
 
@@ -84,7 +84,7 @@ returns-in-Err-clause-tally g c =
     let all = Tallies-trans seat at c.deliver.new.seat writer c.loop.writer (counted_with (image_in c.in-Err.halt) c.deliver.new.writer)
     moved.seat_stays.torn (Tallies-still seat c.loop.seat at writer c.loop.writer c.loop.invariant.tally
     (offered_tally _ _ _ _ _ c.offer_once.ensures.answer)) c.in-Err.ensures.tally in
-    rw (c.of.ensures, fed_image_of c.in-Err.halt c.in-QueueFull.back) all
+    rw (c.of.ensures, fed_image_of c.in-Err.halt c.in-QueueFull.back.frame) all
 
 pub loop-preserved : goal.loop-preserved
 loop-preserved g c =
@@ -95,8 +95,8 @@ loop-preserved g c =
     let moved = Moves-at seat c.loop.seat at c.args.writer.now c.loop.writer c.in-QueueFull.ensures.answer.2 so_far.moved in
     let up = GivesUp-at seat c.loop.seat at c.in-QueueFull.ensures.answer.2 so_far.up in
     let chain : at.chain ≡ seat.chain = stays_chain seat at moved.seat_stays in
-    let taken : AreBuffersFor seat.chain c.take_image-image.new.self = c.take_image-image.ensures.kept _ so_far.buffers in
-    let there : IfSome c.in-QueueFull.image (IsImageOf seat.chain) = rw (stays_chain seat c.loop.seat so_far.moved.seat_stays) at
+    let taken : AreBuffersFor seat.chain c.take_image.new.self = c.take_image.ensures.kept _ so_far.buffers in
+    let there : IfSome c.in-QueueFull.back.memory (IsImageOf seat.chain) = rw (stays_chain seat c.loop.seat so_far.moved.seat_stays) at
     c.in-QueueFull.ensures.answer.1 in
     let kept = c.keep_image-in-QueueFull.ensures.sized seat.chain taken there in
     record {
@@ -118,8 +118,8 @@ pub returns-in-JournalFull-clause-buffers : goal.returns-in-JournalFull-clause-b
 returns-in-JournalFull-clause-buffers g c =
     let so_far = c.loop.invariant in
     let seat = c.args.seat.now in
-    let taken : AreBuffersFor seat.chain c.take_image-image.new.self = c.take_image-image.ensures.kept _ so_far.buffers in
-    let there : IfSome c.in-JournalFull.image (IsImageOf seat.chain) = rw (stays_chain seat c.loop.seat so_far.moved.seat_stays) at
+    let taken : AreBuffersFor seat.chain c.take_image.new.self = c.take_image.ensures.kept _ so_far.buffers in
+    let there : IfSome c.in-JournalFull.back.memory (IsImageOf seat.chain) = rw (stays_chain seat c.loop.seat so_far.moved.seat_stays) at
     c.in-JournalFull.ensures.answer.1 in
     c.keep_image.ensures.sized seat.chain taken there
 
@@ -130,7 +130,7 @@ returns-in-Err-clause-answer g c =
     let at = c.offer_once.new.seat in
     let moved = Moves-at seat c.loop.seat at c.args.writer.now c.loop.writer c.in-QueueFull.ensures.answer.2 so_far.moved in
     let up = GivesUp-at seat c.loop.seat at c.in-QueueFull.ensures.answer.2 so_far.up in
-    rw c.of.ensures (collection_halted c.in-Err.halt c.in-QueueFull.back (arc_value c.args.frame) seat at c.deliver.new.seat
+    rw c.of.ensures (collection_halted c.in-Err.halt c.in-QueueFull.back.frame (arc_value c.args.frame) seat at c.deliver.new.seat
     c.args.writer.now c.loop.writer c.deliver.new.writer
     (c.in-QueueFull.ensures.answer.0 ∙ so_far.frame) moved up c.in-Err.ensures.own c.in-Err.ensures.drained c.requires.accounted.is_open
     c.in-Err.ensures.answer c.deliver.ensures.kept)
@@ -139,8 +139,8 @@ pub returns-in-Err-clause-buffers : goal.returns-in-Err-clause-buffers
 returns-in-Err-clause-buffers g c =
     let so_far = c.loop.invariant in
     let seat = c.args.seat.now in
-    let taken : AreBuffersFor seat.chain c.take_image-image.new.self = c.take_image-image.ensures.kept _ so_far.buffers in
-    let there : IfSome c.in-QueueFull.image (IsImageOf seat.chain) = rw (stays_chain seat c.loop.seat so_far.moved.seat_stays) at
+    let taken : AreBuffersFor seat.chain c.take_image.new.self = c.take_image.ensures.kept _ so_far.buffers in
+    let there : IfSome c.in-QueueFull.back.memory (IsImageOf seat.chain) = rw (stays_chain seat c.loop.seat so_far.moved.seat_stays) at
     c.in-QueueFull.ensures.answer.1 in
     c.keep_image-in-QueueFull.ensures.sized seat.chain taken there
 

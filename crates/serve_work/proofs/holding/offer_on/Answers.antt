@@ -15,13 +15,13 @@ returns-in-Accepted-clause-answer g c = λ past before reader writer counted tak
 pub returns-in-QueueFull-clause-answer : goal.returns-in-QueueFull-clause-answer
 returns-in-QueueFull-clause-answer g c = λ past before reader writer counted taken. (
   _,
-  offered_in_vain before reader (arc_value c.args.frame) taken c.args.seat.now c.offer_once.new.seat writer c.in-QueueFull.field-0
+  offered_in_vain before reader (arc_value c.args.frame) taken c.args.seat.now c.offer_once.new.seat writer c.in-QueueFull.field-0.frame
       c.in-QueueFull.ensures.answer.0 c.in-QueueFull.ensures.answer.2,
 )
 
 pub returns-in-JournalFull-clause-answer : goal.returns-in-JournalFull-clause-answer
 returns-in-JournalFull-clause-answer g c = λ past before reader writer counted taken.
-    offered_in_vain before reader (arc_value c.args.frame) taken c.args.seat.now c.offer_once.new.seat writer c.in-JournalFull.back
+    offered_in_vain before reader (arc_value c.args.frame) taken c.args.seat.now c.offer_once.new.seat writer c.in-JournalFull.back.frame
     c.in-JournalFull.ensures.answer.0 c.in-JournalFull.ensures.answer.2
 
 pub returns-clause-answer : goal.returns-clause-answer

@@ -15,7 +15,8 @@ use frame_view::{Frame, Geometry};
 use lease::{Job, Lease, Scratch};
 use serve_core::{Setup, StreamSpec};
 use serve_hub::{
-    Ended, Epoch, Hub, LeaseRefused, OfferRefused, Refusal, Reopened, Settled, StreamSeat, WorkSeat,
+    Ended, Epoch, Hub, LeaseRefused, Offer, OfferRefused, Refusal, Reopened, Settled, StreamSeat,
+    WorkSeat,
 };
 use serve_work::{ClientRest, ClientTurn, Stop, client};
 use std::alloc::Global;
@@ -233,13 +234,13 @@ fn offer<L: Epoch>(
 ) {
     let header = header_of(rt, alloc);
     for n in 0..count {
-        let frame = strange(rt, alloc, &header);
-        same_at(
-            rt,
-            refusal_of(hub.offer(rt, alloc, seat, 0, frame)),
-            None,
-            n,
-        );
+        let offer = Offer {
+            at: 0,
+            frame: strange(rt, alloc, &header),
+            memory: None,
+        };
+        let refusal = refusal_of(hub.offer(rt, alloc, seat, offer));
+        same_at(rt, refusal, None, n);
     }
 }
 
