@@ -93,6 +93,12 @@ pub tally_behind : (a b c : StreamSeatValue) (writer between : WriterState) (ima
     → TalliesSeat b c → image ≡ None → Tallies a c writer (counted_with image between)
 tally_behind a b c writer between image p t none = rw none (Tallies-still a b c writer between p t)
 
+-- no image was written since
+pub tally_silent : (a b c : StreamSeatValue) (writer between writer' : WriterState) (image : Option Collected)
+    → Tallies a b writer between
+    → TalliesSeat b c → (image ≡ None) × (writer' ≡ between) → Tallies a c writer (counted_with image writer')
+tally_silent a b c writer between writer' image p t same = rw same.1 (tally_behind a b c writer between image p t same.0)
+
 -- the writer can go on with what is left in hand
 pub left_can : (image : Option Collected) (chain : ChainValue) (writer : WriterState)
     → IfSome image (λ pair. IsPairOf chain pair × CanPutOn writer pair) → IfSome image (CanPutOn writer)

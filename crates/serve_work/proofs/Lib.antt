@@ -12,6 +12,7 @@ pub mod Moving
 pub mod Offering
 pub mod OfferingOn
 pub mod Passing
+pub mod Pipelines
 pub mod Refusing
 pub mod Renumbered
 pub mod Resting

@@ -48,6 +48,12 @@ Passes-still reader seat seat' writer writer' moved = record {
   no_failure = refl;
 }
 
+-- the reader being the same
+pub Passes-same : (reader reader' : ReaderState) (seat seat' : StreamSeatValue) (writer writer' : WriterState) → reader' ≡ reader
+    → Moves seat seat' writer writer' [] → Passes reader reader' seat seat' writer writer' []
+Passes-same reader reader' seat seat' writer writer' same moved =
+    rw same (Passes-still reader seat seat' writer writer' moved)
+
 pub sized_still : (seat seat' : StreamSeatValue) (writer writer' : WriterState) → Moves seat seat' writer writer' []
     → IsWriterFor seat.chain writer → IsWriterFor seat.chain writer'
 sized_still seat seat' writer writer' moved size = subst (λ (c : ChainValue). IsWriterFor c writer')

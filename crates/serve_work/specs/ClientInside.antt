@@ -14,7 +14,7 @@ use Rattle.filters.specs.ChainImage.{FrameValue, value_of}
 use Rattle.y4m_stream.specs.declared.fault.WriteFault.{WriteFault}
 use Rattle.y4m_header.specs.declared.limits.TheConstants.{MOST_FRAMES}
 use Rattle.y4m_stream.specs.declared.reader.Phase.TheVariants.{Open}
-use Rattle.y4m_stream.specs.Reader.{FailsAtFrame, IsOfHeader, ReaderState, TakesFrame, data_len_of}
+use Rattle.y4m_stream.specs.Reader.{FailsAtFrame, ReaderState, TakesFrame, data_len_of}
 use Rattle.y4m_stream.specs.Reader.{frame_text_of}
 use Rattle.y4m_stream.specs.Served.{AreImages, IsImageText}
 use Rattle.y4m_stream.specs.Writer.{FailsToPut, IsWriterFor, WriterState}
@@ -39,7 +39,7 @@ use Rattle.serve_work.specs.declared.stop.Stop.{Stop}
 use Rattle.serve_work.specs.declared.stop.Stop.TheVariants.{Whole, Read, Write, Refused, Torn}
 use Rattle.serve_work.specs.Clients.{AllowsStop, AreAtMoments, ClientProgress, ClientStopsAt, HasOtherNumber}
 use Rattle.serve_work.specs.Clients.{IsUnclosed, collections_in, offers_in, reads_at}
-use Rattle.serve_work.specs.Hands.{Behind, CanPutOn, IsPairOf, counted_with}
+use Rattle.serve_work.specs.Hands.{Behind, CanPutOn, IsPairOf}
 
 -- a refusal that isn't that of a full journal
 abbrev pub stop_of : Refusal → Stop
@@ -397,15 +397,6 @@ pub record HasPassed (reader reader' : ReaderState) (seat seat' : StreamSeatValu
   pub passed : Passes reader reader' seat seat' writer writer' frames
   pub is_open : reader'.phase ≡ Open
 
--- what a client needs that reads on
-pub record CanReadOn (reader : ReaderState) (seat : StreamSeatValue) (writer : WriterState)
-    (buffers : Buffers) : Type 0 where
-  pub header : IsOfHeader reader.header seat.chain.geometry
-  pub is_open : reader.phase ≡ Open
-  pub size : IsWriterFor seat.chain writer
-  pub accounted : Accounted seat writer
-  pub memory : AreBuffersFor seat.chain buffers
-
 -- some frames passed, and the one behind them is in hand, if there is one
 pub record HasInHand (reader reader' : ReaderState) (seat seat' : StreamSeatValue)
     (writer writer' : WriterState) (in_hand : Option FrameText) : Type 0 where
@@ -484,13 +475,3 @@ IsSizedFed chain writer (feds.Paused in_hand image) =
     IsSized chain in_hand × IsWriterFor chain writer × IsLeft chain writer (Full image)
 IsSizedFed chain writer (feds.Held stop) = ⊤
 IsSizedFed chain writer (feds.Stopped stop) = ⊤
-
--- what is known of a client that stopped reading so, or was paused by a full journal
-pub record HasFed (Gives : ℕ → Type 0) (fed : Fed) (reader reader' : ReaderState) (old new : StreamSeatValue)
-    (writer writer' : WriterState) (buffers : Buffers) : Type 0 where
-  pub tally : Tallies old new writer (counted_with (fed_image fed) writer')
-  pub moments : KeepsMoments Gives old new
-  pub stop : AllowsFed Gives fed
-  pub memory : AreBuffersFor old.chain buffers
-  pub frame : IsSizedFed old.chain writer' fed
-  pub header : reader'.header ≡ reader.header

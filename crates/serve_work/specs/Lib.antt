@@ -5,6 +5,7 @@ pub mod Hands
 pub mod Holding
 pub mod Intervals
 pub mod Laws
+pub mod Pipelines
 pub mod RestInside
 pub mod Rests
 pub mod Sends

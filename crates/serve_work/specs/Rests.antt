@@ -25,8 +25,7 @@ use Rattle.serve_core.specs.declared.collected.Collected.{Collected}
 use Rattle.serve_work.specs.Clients.{ClientStart, collections_in}
 use Rattle.serve_work.specs.Hands.{Behind, CanPutOn, IsBegunPair, IsPairOf, counted_with, with_kept}
 use Rattle.serve_work.specs.ClientInside.{Accounted, AreBuffersFor, Feeds, HasInHand, Holds, IsCounted}
-use Rattle.serve_work.specs.ClientInside.{IsNoNewEnd, IsSized, IsUseful, ShowsClose, Stays, Takes, Tallies}
-use Rattle.serve_work.specs.ClientInside.{TalliesSeat, text_in}
+use Rattle.serve_work.specs.ClientInside.{IsSized, IsUseful, ShowsClose, Stays, Takes, text_in}
 use Rattle.serve_work.specs.Sends.{IsSent, Serves}
 
 -- what a client does next
@@ -339,25 +338,3 @@ IsRestOf start past seat (Begun begun) = IsBegun start past seat begun
 -- this is left to do of the seat's stream
 abbrev pub IsRest : StreamSeatValue → RestValue → Type 0
 IsRest seat rest = (start : ClientStart) × (past : List Act) × IsRestOf start past seat rest
-
--- what is left was thrown away behind this stop, or the journal is full
-pub record Discards (kept : Stop) (old new : StreamSeatValue) (step : Step) : Type 0 where
-  pub answer : (past : List Act) (o : Outset) (reader : ReaderState) (writer : WriterState)
-      → Serves past kept o.reader reader o.seat old o.writer writer → Comes step past o reader new writer
-  pub tally : TalliesSeat old new
-  pub accepted : new.accepted ≡ old.accepted
-  pub stop : step_stop step ≡ Some kept
-  pub memory : (reader : ReaderState) (writer : WriterState) (buffers : Buffers)
-      → HasMemoryAt reader writer buffers step
-  pub none : step_image step ≡ None
-
--- what is left was written behind this stop, with the image in hand first if there is one, or the journal is
--- full
-pub record Drains (kept : Stop) (image : Option Collected) (old new : StreamSeatValue)
-    (writer writer' : WriterState) (step : Step) : Type 0 where
-  pub answer : (past : List Act) (o : Outset) (reader : ReaderState) → IsOutset o
-      → IsAt (Draining kept image) past o reader old writer → Comes step past o reader new writer'
-  pub tally : Tallies old new (counted_with image writer) (counted_with (step_image step) writer')
-  pub accepted : new.accepted ≡ old.accepted
-  pub stop : IsNoNewEnd (Some kept) (step_stop step)
-  pub memory : (reader : ReaderState) (buffers : Buffers) → HasMemoryAt reader writer' buffers step

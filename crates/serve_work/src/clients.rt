@@ -9,7 +9,8 @@ ghost use Rattle.y4m_stream.specs.Writer.{IsOpenedFor, WriterState};
 ghost use Rattle.serve_work.specs.ClientInside.{AreBuffersFor, HasPlaces, IsCounted, IsNoNewEnd};
 ghost use Rattle.serve_work.specs.ClientInside.{KeepsAllowed, KeepsMoments, TalliesSeat};
 ghost use Rattle.serve_work.specs.Clients.{AllowsStop, ClientEnds, ClientStart};
-ghost use Rattle.serve_work.specs.Rests.{CanGoOn, IsFresh, IsRest, IsRestOf, IsRunning, IsTallied, IsUnbegun};
+ghost use Rattle.serve_work.specs.Pipelines.{CanFollow};
+ghost use Rattle.serve_work.specs.Rests.{IsFresh, IsRest, IsRestOf, IsRunning, IsTallied, IsUnbegun};
 ghost use Rattle.serve_work.specs.Rests.{course_stop_before, reader_in, rest_stop};
 ghost use Rattle.serve_work.specs.Turns.{PausesAtFull, Turns, left_unread, seat_in, turn_stop};
 ghost use Rattle.serve_work.specs.Sends.{Flushes, Serves};
@@ -18,9 +19,10 @@ use crate::begun::{Begun, State};
 use crate::buffers::Buffers;
 use crate::course::Course;
 use crate::gate::Clock;
+use crate::pipeline::Pipeline;
 use crate::post::Post;
 use crate::rest::ClientRest;
-use crate::serving::{Step, serve};
+use crate::serving::Step;
 use crate::stop::{Cause, Stop};
 use filters::FilterError;
 use serve_hub::{Epoch, Hub, RoomLeft, StreamSeat};
@@ -89,9 +91,8 @@ pub(crate) fn stop_after_flush(stop: Stop, flush: Result<(), WriteFault>) -> Sto
 }
 
 /// Where nothing was written, or not all of the header line: the stream is closed, and nothing is offered.
-fn end_unopened<L: Epoch, R: Source + Drop, W: Sink, T: Wait>(
-    rt: &T,
-    hub: &Hub<L>,
+fn end_unopened<L: Epoch, R: Source + Drop, W: Sink, K, T: Wait>(
+    post: Post<'_, L, K, T>,
     mut seat: StreamSeat<L>,
     reader: StreamReader<R>,
     writer: W,
@@ -102,7 +103,7 @@ fn end_unopened<L: Epoch, R: Source + Drop, W: Sink, T: Wait>(
     ensures outcome { result.outcome ≡ left_unread reader (W.contents writer) (W.failures writer)
         (W.is_flushed writer) stop }
 {
-    let _ = hub.close(rt, &mut seat);
+    let _ = post.hub.close(post.rt, &mut seat);
     ClientEnd {
         seat,
         source: reader.into_source(),
@@ -133,20 +134,24 @@ fn prepare<L: Epoch>(
 
 /// Flushes what was written of a stream that is done.
 fn end<L: Epoch, R: Source + Drop, W: Sink>(
-    seat: StreamSeat<L>,
-    reader: StreamReader<R>,
-    writer: StreamWriter<W>,
+    pipeline: Pipeline<L, R, W>,
     stop: Stop,
 ) -> ClientEnd<L, R, W>
-    ensures seat { result.seat ≡ seat }
+    ensures seat { result.seat ≡ pipeline.seat }
     ensures stop { IsNoNewEnd (Some stop) (Some result.outcome.stop) }
     ensures ends { (start : ClientStart) (past : List Act) (shown : HeaderValue) (opened : WriterState)
         → IsHeaderOfImages start.seat.chain start.reader.header shown
         → IsOpenedFor shown start.before start.failures opened → IsFresh start.seat
-        → Serves past stop start.reader reader start.seat seat opened writer
-        → IsTallied past start.seat seat writer
+        → Serves past stop start.reader pipeline.reader start.seat pipeline.seat opened pipeline.writer
+        → IsTallied past start.seat pipeline.seat pipeline.writer
         → ClientEnds start past result.seat result.outcome }
 {
+    let Pipeline {
+        seat,
+        reader,
+        writer,
+        ..
+    } = pipeline;
     let accepted = seat.accepted();
     let delivered = writer.frames();
     let (writer, flush) = writer.finish();
@@ -163,30 +168,28 @@ fn end<L: Epoch, R: Source + Drop, W: Sink>(
 /// Goes on with a stream whose header line was written.
 fn run<L: Epoch, R: Source + Drop, W: Sink, K: Clock, T: Wait>(
     post: Post<'_, L, K, T>,
-    mut seat: StreamSeat<L>,
-    mut reader: StreamReader<R>,
-    mut writer: StreamWriter<W>,
-    mut buffers: Buffers,
+    pipeline: Pipeline<L, R, W>,
     course: Option<Course>,
 ) -> ClientTurn<L, R, W>
-    requires header { IsOfHeader reader.header seat.chain.geometry }
-    requires can { CanGoOn course reader seat writer buffers }
-    ensures turn { (start : ClientStart) (past : List Act) → IsRunning course start past reader seat writer
+    requires header { IsOfHeader pipeline.reader.header pipeline.seat.chain.geometry }
+    requires can { CanFollow course pipeline }
+    ensures turn { (start : ClientStart) (past : List Act)
+        → IsRunning course start past pipeline.reader pipeline.seat pipeline.writer
         → Turns start past result }
-    ensures moments { KeepsMoments (K.gives post.entry.clock.now) seat (seat_in result) }
+    ensures moments { KeepsMoments (K.gives post.entry.clock.now) pipeline.seat (seat_in result) }
     ensures stop { KeepsAllowed (K.gives post.entry.clock.now) (course_stop_before course)
         (turn_stop result) }
 {
-    match serve(
-        post,
-        &mut seat,
-        &mut reader,
-        &mut writer,
-        &mut buffers,
-        course,
-    ) {
-        Step::Done(stop) => ClientTurn::Ended(end(seat, reader, writer, stop)),
+    let mut pipeline = pipeline;
+    match pipeline.serve(post, course) {
+        Step::Done(stop) => ClientTurn::Ended(end(pipeline, stop)),
         Step::Paused(course) => {
+            let Pipeline {
+                seat,
+                reader,
+                writer,
+                buffers,
+            } = pipeline;
             let accepted = seat.accepted();
             let begun = Begun {
                 reader,
@@ -224,20 +227,22 @@ fn begin<L: Epoch, R: Source + Drop, W: Sink, K: Clock, T: Wait>(
 {
     let Ok((resized, buffers)) = prepare(post.alloc, &seat, reader.header()) else {
         let stop = Stop::Refused(Cause::NoMemory);
-        return ClientTurn::Ended(end_unopened(post.rt, post.hub, seat, reader, writer, stop));
+        return ClientTurn::Ended(end_unopened(post, seat, reader, writer, stop));
     };
     match StreamWriter::open(writer, shown_header(&resized, reader.header())) {
         Err((writer, fault)) => {
-            ClientTurn::Ended(end_unopened(
-                post.rt,
-                post.hub,
+            let stop = Stop::Write(fault);
+            ClientTurn::Ended(end_unopened(post, seat, reader, writer, stop))
+        }
+        Ok(output) => {
+            let pipeline = Pipeline {
                 seat,
                 reader,
-                writer,
-                Stop::Write(fault),
-            ))
+                writer: output,
+                buffers,
+            };
+            run(post, pipeline, None)
         }
-        Ok(output) => run(post, seat, reader, output, buffers, None),
     }
 }
 
@@ -265,7 +270,13 @@ fn go_on<L: Epoch, R: Source + Drop, W: Sink, K: Clock, T: Wait>(
                 course,
                 ..
             } = begun;
-            run(post, seat, reader, writer, buffers, Some(course))
+            let pipeline = Pipeline {
+                seat,
+                reader,
+                writer,
+                buffers,
+            };
+            run(post, pipeline, Some(course))
         }
     }
 }

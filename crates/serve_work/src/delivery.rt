@@ -9,14 +9,14 @@ ghost use Rattle.serve_work.specs.ClientInside.{IsOfDelivery, MovesOrHalts, Tall
 ghost use Rattle.serve_work.specs.Hands.{IsPairOf, counted_with, image_at};
 ghost use Rattle.serve_work.specs.Rests.{CanDrain};
 
-use crate::buffers::Buffers;
 use crate::hand::finish;
 use crate::input::most_ahead;
+use crate::pipeline::Pipeline;
 use crate::stop::Halt;
 use serve_core::{Collected, Refusal as Core};
 use serve_hub::{CollectRefused, Epoch, Hub, Refusal, StreamSeat};
 use std::sync::Wait;
-use y4m_stream::{Sink, StreamWriter};
+use y4m_stream::{Sink, Source, StreamWriter};
 
 /// Collects an image and writes it. It stops at `Whole` where nothing is left to collect. Where the journal
 /// is full before all of the image went out, that is in hand.
@@ -91,34 +91,35 @@ fn deliver_early<L: Epoch, W: Sink, T: Wait>(
     }
 }
 
-/// Collects and writes the images that are there or come soon, and keeps their memory.
-pub(crate) fn deliver_ready<L: Epoch, W: Sink, T: Wait>(
-    rt: &T,
-    hub: &Hub<L>,
-    seat: &mut StreamSeat<L>,
-    writer: &mut StreamWriter<W>,
-    buffers: &mut Buffers,
-    ahead: bool,
-) -> Result<(), Halt>
-    requires can { CanDrain seat.old writer.old }
-    requires open { seat.old.is_closed ≡ false }
-    requires buffers { AreBuffersFor seat.old.chain buffers.old }
-    ensures answer { MovesOrHalts result seat.old seat.new writer.old writer.new [] }
-    ensures own { IfErr result IsOfDelivery }
-    ensures left { IfErr result (IsLeft seat.old.chain writer.new) }
-    ensures tally { Tallies seat.old seat.new writer.old
-        (counted_with (image_at image_in result) writer.new) }
-    ensures kept { GivesUp seat.old seat.new }
-    ensures buffers { AreBuffersFor seat.old.chain buffers.new }
-{
-    for _ in 0..seat.kept() {
-        match deliver_early(rt, hub, seat, writer, ahead) {
-            Ok(Some(pair)) => buffers.keep(pair),
-            Ok(None) => return Ok(()),
-            Err(halt) => return Err(halt),
+impl<L: Epoch, R: Source, W: Sink> Pipeline<L, R, W> {
+    /// Collects and writes the images that are there or come soon, and keeps their memory.
+    pub(crate) fn deliver_ready<T: Wait>(
+        &mut self,
+        rt: &T,
+        hub: &Hub<L>,
+        ahead: bool,
+    ) -> Result<(), Halt>
+        requires can { CanDrain self.old.seat self.old.writer }
+        requires open { self.old.seat.is_closed ≡ false }
+        requires buffers { AreBuffersFor self.old.seat.chain self.old.buffers }
+        ensures answer { MovesOrHalts result self.old.seat self.new.seat self.old.writer self.new.writer [] }
+        ensures own { IfErr result IsOfDelivery }
+        ensures left { IfErr result (IsLeft self.old.seat.chain self.new.writer) }
+        ensures tally { Tallies self.old.seat self.new.seat self.old.writer
+            (counted_with (image_at image_in result) self.new.writer) }
+        ensures kept { GivesUp self.old.seat self.new.seat }
+        ensures buffers { AreBuffersFor self.old.seat.chain self.new.buffers }
+        ensures reader { self.new.reader ≡ self.old.reader }
+    {
+        for _ in 0..self.seat.kept() {
+            match deliver_early(rt, hub, &mut self.seat, &mut self.writer, ahead) {
+                Ok(Some(pair)) => self.buffers.keep(pair),
+                Ok(None) => return Ok(()),
+                Err(halt) => return Err(halt),
+            }
         }
+        Ok(())
     }
-    Ok(())
 }
 
 /// Collects and writes until nothing is left, or that fails.

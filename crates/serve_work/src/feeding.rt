@@ -1,22 +1,20 @@
 //! Frames on their way from a reader to a seat.
-ghost use Rattle.std.specs.Prelude.{◌≡◌, ℕ, List, None, Ok, IfErr, IfOk, IfSome, OnOk, false};
+ghost use Rattle.std.specs.Prelude.{◌≡◌, ℕ, List, None, Ok, Some, IfErr, IfOk, IfSome, OnOk, false};
+ghost use Rattle.std.specs.Result.{result_err};
 ghost use Rattle.std.specs.Arc.{arc_value};
 ghost use Rattle.serve_core.specs.Streams.{IsImageOf};
 ghost use Rattle.serve_hub.specs.declared.entry.Act.{Act};
 ghost use Rattle.serve_hub.specs.Calls.{IsOfferTold, noted};
 ghost use Rattle.serve_hub.specs.Seats.{StreamSeatValue};
 ghost use Rattle.y4m_stream.specs.Reader.{IsOfHeader, MeetsEnd, ReaderState, TakesFrame, frame_text_of};
-ghost use Rattle.y4m_stream.specs.Writer.{IsWriterFor};
-ghost use Rattle.serve_work.specs.ClientInside.{AllowsFed, AreBuffersFor, Accounted, CanReadOn, FeedsOn};
-ghost use Rattle.serve_work.specs.ClientInside.{HasFed, HasPassed, Holds, IsCounted, IsOffered, IsSized};
-ghost use Rattle.serve_work.specs.ClientInside.{IsSizedFed, IsUnread, KeepsMoments, Offers, OffersAt};
-ghost use Rattle.serve_work.specs.ClientInside.{Tallies, fed_before, fed_image, fed_of, text_in};
-ghost use Rattle.serve_work.specs.Hands.{counted_with, image_at};
+ghost use Rattle.serve_work.specs.ClientInside.{Holds, IsCounted, IsOffered, IsSized, IsUnread, Offers};
+ghost use Rattle.serve_work.specs.ClientInside.{OffersAt, fed_before, fed_of, text_in};
+ghost use Rattle.serve_work.specs.Pipelines.{CanOffer, CanReadOn, HasFed, PassesOn, StopsFeeding};
 
-use crate::buffers::Buffers;
-use crate::delivery::{deliver, deliver_ready};
+use crate::delivery::deliver;
 use crate::gate::Clock;
 use crate::input::{Input, await_input, reads_ahead};
+use crate::pipeline::Pipeline;
 use crate::post::Post;
 use crate::stop::{Cause, Halt, Stop};
 use frame_view::Frame;
@@ -25,7 +23,7 @@ use serve_hub::{Epoch, Offer, OfferRefused, Refusal, StreamSeat};
 use std::alloc::Global;
 use std::sync::{Arc, Wait};
 use y4m_stream::reader::Phase;
-use y4m_stream::{Sink, Source, StreamReader, StreamWriter};
+use y4m_stream::{Sink, Source, StreamReader};
 
 /// What became of a frame that was offered once.
 #[derive(Drop)]
@@ -164,137 +162,109 @@ fn offered_of(refusal: Refusal, back: Offer) -> Offered
     }
 }
 
-/// Offers a frame until it is accepted; while the queue is full it collects and writes.
-fn accept<L: Epoch, W: Sink, K: Clock, T: Wait>(
-    post: Post<'_, L, K, T>,
-    seat: &mut StreamSeat<L>,
-    writer: &mut StreamWriter<W>,
-    buffers: &mut Buffers,
-    frame: Arc<Frame>,
-) -> Result<(), Fed>
-    requires size { IsWriterFor seat.old.chain writer.old }
-    requires accounted { Accounted seat.old writer.old }
-    requires frame { (arc_value frame).geometry ≡ seat.old.chain.geometry }
-    requires buffers { AreBuffersFor seat.old.chain buffers.old }
-    ensures answer { Offers result (arc_value frame) seat.old seat.new writer.old writer.new }
-    ensures back { IfErr result (IsSizedFed seat.old.chain writer.new) }
-    ensures buffers { AreBuffersFor seat.old.chain buffers.new }
-    ensures tally { Tallies seat.old seat.new writer.old
-        (counted_with (image_at fed_image result) writer.new) }
-    ensures moments { KeepsMoments (K.gives post.entry.clock.now) seat.old seat.new }
-    ensures stop { IfErr result (AllowsFed (K.gives post.entry.clock.now)) }
-{
-    let mut frame = frame;
-    for _ in post.rt.forever() {
-        let offer = Offer {
-            at: post.clock.moment(),
-            frame,
-            memory: buffers.take_image(),
-        };
-        match offer_once(post, seat, offer) {
-            Offered::Accepted => return Ok(()),
-            Offered::Stopped(stop) => return Err(Fed::Stopped(stop)),
-            Offered::JournalFull(back) => {
-                buffers.keep_image(back.memory);
-                return Err(Fed::Paused(Some(back.frame), None));
+impl<L: Epoch, R: Source + Drop, W: Sink> Pipeline<L, R, W> {
+    /// Offers a frame until it is accepted; while the queue is full it collects and writes.
+    fn accept<K: Clock, T: Wait>(
+        &mut self,
+        post: Post<'_, L, K, T>,
+        frame: Arc<Frame>,
+    ) -> Result<(), Fed>
+        requires can { CanOffer self.old }
+        requires frame { (arc_value frame).geometry ≡ self.old.seat.chain.geometry }
+        ensures answer { Offers result (arc_value frame) self.old.seat self.new.seat
+            self.old.writer self.new.writer }
+        ensures kept { HasFed (K.gives post.entry.clock.now) (result_err result) self.old self.new }
+        ensures reader { self.new.reader ≡ self.old.reader }
+    {
+        let mut frame = frame;
+        for _ in post.rt.forever() {
+            let offer = Offer {
+                at: post.clock.moment(),
+                frame,
+                memory: self.buffers.take_image(),
+            };
+            match offer_once(post, &mut self.seat, offer) {
+                Offered::Accepted => return Ok(()),
+                Offered::Stopped(stop) => return Err(Fed::Stopped(stop)),
+                Offered::JournalFull(back) => {
+                    self.buffers.keep_image(back.memory);
+                    return Err(Fed::Paused(Some(back.frame), None));
+                }
+                Offered::QueueFull(back) => {
+                    self.buffers.keep_image(back.memory);
+                    frame = back.frame;
+                }
             }
-            Offered::QueueFull(back) => {
-                buffers.keep_image(back.memory);
-                frame = back.frame;
+            match deliver(post.rt, post.hub, &mut self.seat, &mut self.writer) {
+                Ok(pair) => self.buffers.keep(pair),
+                Err(halt) => return Err(Fed::of(halt, frame)),
             }
         }
-        match deliver(post.rt, post.hub, seat, writer) {
-            Ok(pair) => buffers.keep(pair),
-            Err(halt) => return Err(Fed::of(halt, frame)),
-        }
+        unreachable!()
     }
-    unreachable!()
-}
 
-/// Delivers the images that are there or come soon, and reads and offers a frame where one is there.
-fn feed_once<L: Epoch, R: Source + Drop, W: Sink, K: Clock, T: Wait>(
-    post: Post<'_, L, K, T>,
-    seat: &mut StreamSeat<L>,
-    reader: &mut StreamReader<R>,
-    writer: &mut StreamWriter<W>,
-    buffers: &mut Buffers,
-) -> Result<(), Fed>
-    requires can { CanReadOn reader.old seat.old writer.old buffers.old }
-    ensures passed { OnOk result (HasPassed reader.old reader.new seat.old seat.new writer.old writer.new) }
-    ensures answer { IfErr result (λ fed. (past : List Act) → IsCounted past seat.old
-        → FeedsOn fed past reader.old reader.new seat.old seat.new writer.old writer.new) }
-    ensures tally { Tallies seat.old seat.new writer.old
-        (counted_with (image_at fed_image result) writer.new) }
-    ensures moments { KeepsMoments (K.gives post.entry.clock.now) seat.old seat.new }
-    ensures stop { IfErr result (AllowsFed (K.gives post.entry.clock.now)) }
-    ensures buffers { AreBuffersFor seat.old.chain buffers.new }
-    ensures frame { IfErr result (IsSizedFed seat.old.chain writer.new) }
-    ensures header { reader.new.header ≡ reader.old.header }
-{
-    let ahead = reads_ahead(seat, reader);
-    match deliver_ready(post.rt, post.hub, seat, writer, buffers, ahead) {
-        Ok(()) => {}
-        Err(halt) => return Err(Fed::without_frame(halt)),
-    }
-    match await_input(post.rt, post.hub, reader) {
-        Input::Ready => {}
-        Input::Silent => return Ok(()),
-        Input::JournalFull => return Err(Fed::Paused(None, None)),
-    }
-    let memory = buffers.take_source();
-    match read_into(post.alloc, reader, memory) {
-        Ok(Some(frame)) => accept(post, seat, writer, buffers, frame),
-        Ok(None) => Err(Fed::Stopped(Stop::Whole)),
-        Err(stop) => Err(Fed::Stopped(stop)),
-    }
-}
-
-/// Reads and offers frames until that fails, the input ends, the journal is full, or an image can't be
-/// delivered.
-fn feed_on<L: Epoch, R: Source + Drop, W: Sink, K: Clock, T: Wait>(
-    post: Post<'_, L, K, T>,
-    seat: &mut StreamSeat<L>,
-    reader: &mut StreamReader<R>,
-    writer: &mut StreamWriter<W>,
-    buffers: &mut Buffers,
-) -> Fed
-    requires can { CanReadOn reader.old seat.old writer.old buffers.old }
-    ensures answer { (past : List Act) → IsCounted past seat.old
-        → FeedsOn result past reader.old reader.new seat.old seat.new writer.old writer.new }
-    ensures kept { HasFed (K.gives post.entry.clock.now) result reader.old reader.new seat.old seat.new
-        writer.old writer.new buffers.new }
-{
-    for _ in post.rt.forever() {
-        match feed_once(post, seat, reader, writer, buffers) {
+    /// Delivers the images that are there or come soon, and reads and offers a frame where one is there.
+    fn feed_once<K: Clock, T: Wait>(&mut self, post: Post<'_, L, K, T>) -> Result<(), Fed>
+        requires can { CanReadOn self.old }
+        ensures passed { OnOk result (PassesOn self.old self.new) }
+        ensures answer { IfErr result (λ fed. (past : List Act) → IsCounted past self.old.seat
+            → StopsFeeding fed past self.old.reader self.old self.new) }
+        ensures kept { HasFed (K.gives post.entry.clock.now) (result_err result) self.old self.new }
+    {
+        let ahead = reads_ahead(&self.seat, &self.reader);
+        match self.deliver_ready(post.rt, post.hub, ahead) {
             Ok(()) => {}
-            Err(fed) => return fed,
+            Err(halt) => return Err(Fed::without_frame(halt)),
+        }
+        match await_input(post.rt, post.hub, &self.reader) {
+            Input::Ready => {}
+            Input::Silent => return Ok(()),
+            Input::JournalFull => return Err(Fed::Paused(None, None)),
+        }
+        let memory = self.buffers.take_source();
+        match read_into(post.alloc, &mut self.reader, memory) {
+            Ok(Some(frame)) => self.accept(post, frame),
+            Ok(None) => Err(Fed::Stopped(Stop::Whole)),
+            Err(stop) => Err(Fed::Stopped(stop)),
         }
     }
-    unreachable!()
-}
 
-/// The same. The frame in hand, if there is one, is offered first.
-pub(crate) fn feed<L: Epoch, R: Source + Drop, W: Sink, K: Clock, T: Wait>(
-    post: Post<'_, L, K, T>,
-    seat: &mut StreamSeat<L>,
-    reader: &mut StreamReader<R>,
-    writer: &mut StreamWriter<W>,
-    buffers: &mut Buffers,
-    in_hand: Option<Arc<Frame>>,
-) -> Fed
-    requires can { CanReadOn reader.old seat.old writer.old buffers.old }
-    requires frame { IsSized seat.old.chain in_hand }
-    ensures answer { (past : List Act) (before : ReaderState) → IsCounted past seat.old
-        → Holds before reader.old (text_in in_hand)
-        → FeedsOn result past before reader.new seat.old seat.new writer.old writer.new }
-    ensures kept { HasFed (K.gives post.entry.clock.now) result reader.old reader.new seat.old seat.new
-        writer.old writer.new buffers.new }
-{
-    match in_hand {
-        None => feed_on(post, seat, reader, writer, buffers),
-        Some(frame) => match accept(post, seat, writer, buffers, frame) {
-            Ok(()) => feed_on(post, seat, reader, writer, buffers),
-            Err(fed) => fed,
-        },
+    /// Reads and offers frames until that fails, the input ends, the journal is full, or an image can't be
+    /// delivered.
+    fn feed_on<K: Clock, T: Wait>(&mut self, post: Post<'_, L, K, T>) -> Fed
+        requires can { CanReadOn self.old }
+        ensures answer { (past : List Act) → IsCounted past self.old.seat
+            → StopsFeeding result past self.old.reader self.old self.new }
+        ensures kept { HasFed (K.gives post.entry.clock.now) (Some result) self.old self.new }
+    {
+        for _ in post.rt.forever() {
+            match self.feed_once(post) {
+                Ok(()) => {}
+                Err(fed) => return fed,
+            }
+        }
+        unreachable!()
+    }
+
+    /// Offers the frame in hand first, if there is one, and then feeds on.
+    pub(crate) fn feed<K: Clock, T: Wait>(
+        &mut self,
+        post: Post<'_, L, K, T>,
+        in_hand: Option<Arc<Frame>>,
+    ) -> Fed
+        requires can { CanReadOn self.old }
+        requires frame { IsSized self.old.seat.chain in_hand }
+        ensures answer { (past : List Act) (before : ReaderState) → IsCounted past self.old.seat
+            → Holds before self.old.reader (text_in in_hand)
+            → StopsFeeding result past before self.old self.new }
+        ensures kept { HasFed (K.gives post.entry.clock.now) (Some result) self.old self.new }
+    {
+        match in_hand {
+            None => self.feed_on(post),
+            Some(frame) => match self.accept(post, frame) {
+                Ok(()) => self.feed_on(post),
+                Err(fed) => fed,
+            },
+        }
     }
 }

@@ -109,7 +109,7 @@ fn hold_on<L: Epoch, R: Source + Drop, K: Clock, T: Wait>(
     unreachable!()
 }
 
-/// The same. The frame in hand, if there is one, is offered first.
+/// Offers the frame in hand first, if there is one, and then holds on.
 pub(crate) fn hold<L: Epoch, R: Source + Drop, K: Clock, T: Wait>(
     post: Post<'_, L, K, T>,
     seat: &mut StreamSeat<L>,

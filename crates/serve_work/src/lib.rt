@@ -19,6 +19,7 @@ mod holding;
 mod input;
 pub mod laws;
 pub mod live;
+mod pipeline;
 mod post;
 pub mod request;
 pub mod rest;

@@ -70,7 +70,7 @@ pub(crate) fn work_in<L: Epoch, G: LentGate, T: Threads + Wait>(
     }
 }
 
-/// The same, where the workers begin.
+/// Runs a worker from its slot, where the workers begin.
 fn begin_in<L: Epoch, G: LentGate, T: Threads + Wait>(
     rt: &T,
     hub: &Hub<L>,

@@ -6,7 +6,8 @@ use Rattle.serve_work.proofs.clients.end.Goals as goal
 pub returns-clause-ends : goal.returns-clause-ends
 returns-clause-ends g c = λ start past shown opened header is_opened fresh serves tally.
     let finish = c.finish-writer.ensures in
-    Ends-served start _ shown opened header is_opened ClientStopsAt past c.args.stop c.args.reader c.args.seat c.args.writer _
+    let left = c.args.pipeline in
+    Ends-served start _ shown opened header is_opened ClientStopsAt past c.args.stop left.reader left.seat left.writer _
     (stops_flushed c.args.stop c.finish-writer.result.1) serves fresh tally
     (record {
       kept = finish.kept;

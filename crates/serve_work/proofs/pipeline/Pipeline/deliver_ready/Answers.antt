@@ -3,7 +3,7 @@ use Rattle.serve_work.specs.Hands.{IsPairOf}
 use Rattle.serve_work.proofs.Staying.{GivesUp-trans, stays_chain, stays_closed}
 use Rattle.serve_work.proofs.Tallying.{Tallies-none, Tallies-trans}
 use Rattle.serve_work.proofs.Moving.{HaltsWith-later, Moves-none, Moves-trans, few_later, none_later, size_later, writing_later}
-use Rattle.serve_work.proofs.delivery.deliver_ready.Goals as goal
+use Rattle.serve_work.proofs.pipeline.Pipeline.deliver_ready.Goals as goal
 
 pub loop-init : goal.loop-init
 loop-init g c = record {
@@ -11,6 +11,7 @@ loop-init g c = record {
   up = refl;
   tally = Tallies-none _ _;
   buffers = c.requires.buffers;
+  reader = refl;
 }
 
 pub deliver_early-requires : goal.deliver_early-requires
@@ -23,7 +24,7 @@ deliver_early-requires g c =
         none = none_later _ _ _ _ [] moved c.requires.can.none;
         size = size_later _ _ _ _ [] moved c.requires.can.size;
       };
-      «open» = stays_closed c.args.seat.now c.loop.seat moved.seat_stays ∙ c.requires.open;
+      «open» = stays_closed c.args.self.now.seat c.loop.self.seat moved.seat_stays ∙ c.requires.open;
     }
 
 pub returns-in-Ok-None-clause-answer : goal.returns-in-Ok-None-clause-answer
@@ -37,7 +38,8 @@ returns-in-Ok-None-clause-tally g c =
     Tallies-trans _ _ _ _ _ _ c.loop.invariant.moved.seat_stays.torn c.loop.invariant.tally c.in-Ok-None.ensures.tally
 
 pub returns-in-Err-clause-left : goal.returns-in-Err-clause-left
-returns-in-Err-clause-left g c = rw (stays_chain c.args.seat.now c.loop.seat c.loop.invariant.moved.seat_stays) at c.in-Err.ensures.left
+returns-in-Err-clause-left g c =
+    rw (stays_chain c.args.self.now.seat c.loop.self.seat c.loop.invariant.moved.seat_stays) at c.in-Err.ensures.left
 
 pub returns-in-Err-clause-tally : goal.returns-in-Err-clause-tally
 returns-in-Err-clause-tally g c =
@@ -47,11 +49,13 @@ pub loop-preserved : goal.loop-preserved
 loop-preserved g c =
     let so_far = c.loop.invariant in
     let next = c.in-Ok-Some in
-    let chain : c.loop.seat.chain ≡ c.args.seat.now.chain = stays_chain c.args.seat.now c.loop.seat so_far.moved.seat_stays in
-    let pair : IsPairOf c.loop.seat.chain next.pair = rw next.field-0-is at next.ensures.pair in
+    let seat = c.args.self.now.seat in
+    let chain : c.loop.self.seat.chain ≡ seat.chain = stays_chain seat c.loop.self.seat so_far.moved.seat_stays in
+    let pair : IsPairOf c.loop.self.seat.chain next.pair = rw next.field-0-is at next.ensures.pair in
     record {
       moved = Moves-trans _ _ _ _ _ _ [] [] so_far.moved next.ensures.answer;
-      up = GivesUp-trans c.args.seat.now c.loop.seat c.deliver_early.new.seat so_far.up c.deliver_early.ensures.kept;
+      up = GivesUp-trans c.args.self.now.seat c.loop.self.seat c.deliver_early.new.seat so_far.up c.deliver_early.ensures.kept;
       tally = Tallies-trans _ _ _ _ _ _ so_far.moved.seat_stays.torn so_far.tally next.ensures.tally;
-      buffers = c.keep.ensures.sized c.args.seat.now.chain so_far.buffers (rw chain at pair.source) (rw chain at pair.image);
+      buffers = c.keep.ensures.sized c.args.self.now.seat.chain so_far.buffers (rw chain at pair.source) (rw chain at pair.image);
+      reader = so_far.reader;
     }
