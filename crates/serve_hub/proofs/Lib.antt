@@ -21,4 +21,5 @@ pub mod Sharing
 pub mod Moving
 pub mod Freeing
 pub mod Admitting
+pub mod Agreeing
 pub mod Retiring

@@ -1,7 +1,6 @@
 -- What is left of a hub whose seats are all back.
 use Rattle.std.specs.Prelude.{ℕ, ◌+◌, ◌*◌, ◌≡◌, ◌≢◌, ◌≤◌, ◌<◌, ◌⊎◌, ◌==◌, Bool, true, false, List, [], ◌∷◌}
-use Rattle.std.specs.Prelude.{⊤, All, filter, length, map, reverse, sum_by, IsSomeAnd, Option}
-use Rattle.std.specs.Prelude.{Some}
+use Rattle.std.specs.Prelude.{⊤, All, filter, length, map, reverse, sum_by, IsSomeAnd, Option, Some}
 use Rattle.std.specs.List.{Any}
 use Rattle.serve_core.specs.Bare.{Blank, measures_any, is_any_image}
 use Rattle.serve_core.specs.Desk.{desk_state}
@@ -11,15 +10,18 @@ use Rattle.serve_core.specs.Schedule.{HasStream, ScheduleValue}
 use Rattle.serve_core.specs.Setup.{StreamSpec, cost}
 use Rattle.serve_core.specs.States.{State}
 use Rattle.serve_core.specs.Streams.{KeptStream}
+use Rattle.serve_hub.specs.declared.ended.Fault.{Fault}
+use Rattle.serve_hub.specs.declared.ended.Fault.TheVariants as faults
 use Rattle.serve_hub.specs.declared.entry.Act.{Act}
 use Rattle.serve_hub.specs.declared.entry.Act.TheVariants.{Leased, Offered}
 use Rattle.serve_hub.specs.declared.entry.Entry.{Entry}
 use Rattle.serve_hub.specs.declared.entry.Seat.{Seat}
 use Rattle.serve_hub.specs.declared.entry.Seat.TheVariants.{Stream, Worker}
 use Rattle.serve_hub.specs.declared.moments.Moments.{Moments}
-use Rattle.serve_hub.specs.Books.{BookValue, book_transcript, opening_of, specs_of}
+use Rattle.serve_hub.specs.Books.{BookValue, IsBook, book_transcript, opening_of, specs_of}
 use Rattle.serve_hub.specs.Journal.{clock_in}
-use Rattle.serve_hub.specs.Seats.{StreamRest, StreamSeatValue, WorkSeatValue, collected_by}
+use Rattle.serve_hub.specs.Seats.{HubValue, StreamRest, StreamSeatValue, UnlockedValue, WorkSeatValue}
+use Rattle.serve_hub.specs.Seats.{collected_by, left_by}
 
 abbrev pub is_same_seat : Seat → Seat → Bool
 is_same_seat (Stream a) (Stream b) = a == b
@@ -66,16 +68,15 @@ abbrev pub calls_in : List StreamSeatValue → List WorkSeatValue → ℕ
 calls_in streams workers =
     sum_by (λ s. length s.calls.list) streams + sum_by (λ s. length s.calls.list) workers
 
--- the seats' lists are the journal, each entry in just one of them
-pub record AreCalls (b : BookValue) (streams : List StreamSeatValue) (workers : List WorkSeatValue)
-    : Type 0 where
-  pub of_streams : AreStreamCalls (reverse b.past) streams
-  pub of_workers : AreWorkCalls (reverse b.past) workers
-  pub once : length b.past ≡ calls_in streams workers
+-- there are as many seats as streams and workers
+abbrev pub AreThere : (all_streams all_workers : ℕ) → List StreamSeatValue → List WorkSeatValue → Type 0
+AreThere all_streams all_workers streams workers =
+    (length streams ≡ all_streams) × (length workers ≡ all_workers)
 
--- so many seats of streams and of workers aren't all of a hub's
-abbrev pub IsMissing : (all_streams all_workers streams workers : ℕ) → Type 0
-IsMissing all_streams all_workers streams workers = (streams ≢ all_streams) ⊎ (workers ≢ all_workers)
+-- there are not
+abbrev pub IsMissing : (all_streams all_workers : ℕ) → List StreamSeatValue → List WorkSeatValue → Type 0
+IsMissing all_streams all_workers streams workers =
+    (length streams ≢ all_streams) ⊎ (length workers ≢ all_workers)
 
 abbrev pub is_lease : Act → Bool
 is_lease (Leased s number grant) = true
@@ -88,6 +89,21 @@ begins_with_lease (act ∷ acts) = is_lease act
 -- the latest call of a worker is a lease, which is still out
 abbrev pub HasLeaseOut : WorkSeatValue → Type 0
 HasLeaseOut seat = begins_with_lease (reverse seat.calls.list) ≡ true
+
+-- no worker has
+abbrev pub NoLeaseOut : List WorkSeatValue → Type 0
+NoLeaseOut workers = All (λ s. ¬ HasLeaseOut s) workers
+
+-- what doesn't fit between so many streams and workers and these seats, if anything does: the first of what is
+-- asked
+abbrev pub IsFault : Option Fault → (all_streams all_workers : ℕ) → List StreamSeatValue → List WorkSeatValue
+    → Type 0
+IsFault (Some faults.SeatMissing) all_streams all_workers streams workers =
+    IsMissing all_streams all_workers streams workers
+IsFault (Some faults.LeaseOut) all_streams all_workers streams workers =
+    AreThere all_streams all_workers streams workers × ¬ NoLeaseOut workers
+IsFault fault all_streams all_workers streams workers =
+    AreThere all_streams all_workers streams workers × NoLeaseOut workers
 
 -- a book opened from this desk, of so many workers, which a legal transcript of a setup led to
 pub record IsOpening (opening of_book : ScheduleValue) (workers : ℕ) : Type 0 where
@@ -128,7 +144,45 @@ pub record IsStreamOf (seat : StreamSeatValue) (stream : KeptStream) : Type 0 wh
 abbrev pub AreStreamsOf : ScheduleValue → List StreamSeatValue → Type 0
 AreStreamsOf desk seats = All (λ s. HasStream desk s.number (IsStreamOf s)) seats
 
+-- a book of this limit agrees with its seats: each stream and each worker has one, whose list is its entries of
+-- the journal, in order; the streams are as their seats tell, and no worker holds a lease
+pub record Agree (all_streams all_workers most : ℕ) (b : BookValue) (streams : List StreamSeatValue)
+    (workers : List WorkSeatValue) : Type 0 where
+  pub limit : b.limit ≡ most
+  pub all : length b.desk.streams ≡ all_streams
+  pub there : AreThere all_streams all_workers streams workers
+  pub each_stream : HaveStreams all_streams streams
+  pub each_worker : HaveWorkers all_workers workers
+  pub of_streams : AreStreamCalls (reverse b.past) streams
+  pub of_workers : AreWorkCalls (reverse b.past) workers
+  pub kept : AreStreamsOf b.desk streams
+  pub clock_reached : ClocksReached b streams
+  pub free : AreFree b.desk.workers
+
 -- a stream was charged at least what its collected frames cost, and at most what its accepted ones do
 pub record IsCharged (stream : KeptStream) : Type 0 where
   pub least : stream.state.collected * cost stream.state.spec ≤ stream.state.charged
   pub most : stream.state.charged ≤ stream.state.accepted * cost stream.state.spec
+
+-- what is left of a hub that opened from this desk, whose seats are all back: they agree with its book, and
+-- leave it what they kept
+pub record IsEndOf (opening : ScheduleValue) (hub : HubValue) (streams : List StreamSeatValue)
+    (workers : List WorkSeatValue) (e : EndedValue) : Type 0 where
+  pub agree : Agree (length e.book.desk.streams) hub.workers hub.limit e.book streams workers
+  -- each entry is in just one list
+  pub once : length e.book.past ≡ calls_in streams workers
+  pub settled : NoLeaseOut workers
+  pub is_book : IsBook e.book
+  pub history : IsHistory opening e.book
+  pub all_workers : length e.book.desk.workers ≡ hub.workers
+  pub charges : All IsCharged e.book.desk.streams
+  pub left : e.streams ≡ map left_by streams
+
+-- why a hub isn't ended that opened from this desk: it comes back, with the book that stood under its lock
+pub record IsUnended (opening : ScheduleValue) (was : HubValue) (streams : List StreamSeatValue)
+    (workers : List WorkSeatValue) (fault : Fault) (unlocked : UnlockedValue) : Type 0 where
+  pub hub : unlocked.hub ≡ was
+  pub is_book : IsBook unlocked.book
+  pub opened : unlocked.book.opening ≡ opening
+  pub more : length opening.streams ≤ length unlocked.book.desk.streams
+  pub fits_not : IsFault (Some fault) (length unlocked.book.desk.streams) was.workers streams workers

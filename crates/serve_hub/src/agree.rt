@@ -118,7 +118,7 @@ pub(crate) fn have_their_streams<L: Epoch>(book: &Book, seats: &Vec<StreamSeat<L
 
 /// Whether the clock had reached the moment of each seat's first frame wherever the journal has an accepted
 /// frame of the seat. It was at `opened_at` when the book was opened.
-pub(crate) fn clocks_reached<L: Epoch>(
+pub(crate) fn clocks_agree<L: Epoch>(
     book: &Book,
     opened_at: u64,
     seats: &Vec<StreamSeat<L>>,
@@ -127,7 +127,7 @@ pub(crate) fn clocks_reached<L: Epoch>(
     ensures { IsTrue result → ClocksReached book.now seats.now.items }
 {
     for seat in seats {
-        if !clock_reached(book.journal(), opened_at, seat.number(), seat.moments()) {
+        if !clock_agrees(book.journal(), opened_at, seat.number(), seat.moments()) {
             return false;
         }
     }
@@ -135,7 +135,7 @@ pub(crate) fn clocks_reached<L: Epoch>(
 }
 
 /// Whether it had, for a single stream.
-fn clock_reached(journal: &[Entry], opened_at: u64, number: u32, moments: Option<Moments>) -> bool
+fn clock_agrees(journal: &[Entry], opened_at: u64, number: u32, moments: Option<Moments>) -> bool
     ensures { (specs : List StreamSpec) (opening : State Blank) → opening.clock ≡ opened_at → IsTrue result
         → ClockReached number moments specs opening (reverse journal.now) }
 {

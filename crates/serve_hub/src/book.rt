@@ -89,7 +89,7 @@ impl Book {
 
     /// A book of the same desk with this journal, which is empty, and what was accepted until then, the
     /// oldest first.
-    pub(crate) fn reopened(self, journal: Vec<Entry>, limit: usize) -> (Book, Vec<Entry>)
+    pub(crate) fn reopen(self, journal: Vec<Entry>, limit: usize) -> (Book, Vec<Entry>)
         requires empty { journal.items ≡ [] }
         requires capacity { limit ≤ vec_capacity journal }
         requires most { limit ≤ MOST_ENTRIES }
@@ -110,7 +110,7 @@ impl Book {
 
     /// A book of the desk without its released streams, with this journal, which is empty, and what was
     /// accepted until then, the oldest first.
-    pub(crate) fn retired(self, journal: Vec<Entry>) -> (Book, Vec<Entry>)
+    pub(crate) fn retire(self, journal: Vec<Entry>) -> (Book, Vec<Entry>)
         requires empty { journal.items ≡ [] }
         requires capacity { self.limit ≤ vec_capacity journal }
         requires free { AreFree self.desk.workers }

@@ -70,7 +70,7 @@ impl Ended {
 
     /// A book of the same desk with this journal, which is empty, what the seats of the streams left, and
     /// what was accepted until then, the oldest first.
-    pub(crate) fn reopened(
+    pub(crate) fn into_book(
         self,
         journal: Vec<Entry>,
         limit: usize,
@@ -84,7 +84,7 @@ impl Ended {
         ensures past { reverse result.2.items ≡ self.book.past }
     {
         let Ended { book, streams } = self;
-        let (book, past) = book.reopened(journal, limit);
+        let (book, past) = book.reopen(journal, limit);
         (book, streams, past)
     }
 
@@ -102,7 +102,7 @@ impl Ended {
             return Err(self);
         }
         match Vec::with_capacity(alloc, self.book.limit()) {
-            Ok(journal) => Ok(self.retired(journal)),
+            Ok(journal) => Ok(self.retire_over(journal)),
             Err(_) => Err(self),
         }
     }
@@ -126,7 +126,7 @@ impl Ended {
     }
 
     /// What is left without the released streams, with this journal, which is empty.
-    fn retired(self, journal: Vec<Entry>) -> Retired
+    fn retire_over(self, journal: Vec<Entry>) -> Retired
         requires empty { journal.items ≡ [] }
         requires capacity { self.book.limit ≤ vec_capacity journal }
         requires some { 1 ≤ length (staying self.book.desk) }
@@ -137,7 +137,7 @@ impl Ended {
     {
         let Ended { book, mut streams } = self;
         keep_staying(book.desk(), &mut streams);
-        let (book, journal) = book.retired(journal);
+        let (book, journal) = book.retire(journal);
         let ended = Ended::new(book, streams);
         Retired { ended, journal }
     }

@@ -1,15 +1,12 @@
 //! A book that threads share.
-ghost use Rattle.std.specs.Prelude.{◌≡◌, ◌+◌, ◌≤◌, ◌↔◌, [], All, IfErr, IfNone, IfOk, IsErrOf, IsFalse};
-ghost use Rattle.std.specs.Prelude.{IsTrue, MatchResult, OnOk, Some, length, map, reverse, vec_len};
+ghost use Rattle.std.specs.Prelude.{◌≡◌, ◌≤◌, ◌↔◌, All, IfErr, IfNone, IfOk, IsErrOf, IsFalse, IsTrue};
+ghost use Rattle.std.specs.Prelude.{length, map, vec_len};
 ghost use Rattle.std.specs.List.{range_with_len};
 ghost use Rattle.serve_core.specs.Schedule.{opened_schedule};
 ghost use Rattle.serve_core.specs.Setup.{IsWithinLimits};
-ghost use Rattle.serve_hub.specs.declared.ended.Fault.TheVariants as faults;
-ghost use Rattle.serve_hub.specs.Books.{IsBook, IsLimit};
-ghost use Rattle.serve_hub.specs.Ends.{AreCalls, AreFree, AreStreamCalls, AreStreamsOf, AreWorkCalls};
-ghost use Rattle.serve_hub.specs.Ends.{ClocksReached, HasLeaseOut, HaveStreams, HaveWorkers, IsCharged};
-ghost use Rattle.serve_hub.specs.Ends.{IsHistory, IsMissing, IsOpening};
-ghost use Rattle.serve_hub.specs.Seats.{hub_of, left_by, opened_rests, opened_streams, opened_worker};
+ghost use Rattle.serve_hub.specs.Books.{IsLimit};
+ghost use Rattle.serve_hub.specs.Ends.{Agree, IsEndOf, IsFault, IsUnended, NoLeaseOut};
+ghost use Rattle.serve_hub.specs.Seats.{hub_of, opened_rests, opened_streams, opened_worker};
 
 mod admissions;
 mod epochs;
@@ -102,7 +99,7 @@ impl<L: Epoch> Hub<L> {
         let Ok(book) = Book::new(alloc, setup, limit) else {
             return Err(HubError::NoMemory);
         };
-        Ok(room.opened(book, limit, rests, workers))
+        Ok(room.into_hub(book, limit, rests, workers))
     }
 
     pub(crate) fn of(shared: Shared<L>, streams: usize, workers: usize, limit: usize) -> Hub<L>
@@ -131,35 +128,9 @@ impl<L: Epoch> Hub<L> {
         streams: Vec<StreamSeat<L>>,
         workers: Vec<WorkSeat<L>>,
     ) -> Result<Ended, Mismatch<L>>
-        ensures calls { IfOk result (λ ended. AreCalls ended.book streams.items workers.items) }
-        ensures each_stream { IfOk result (λ ended.
-            HaveStreams (length ended.book.desk.streams) streams.items) }
-        ensures each_worker { OnOk result (HaveWorkers self.workers workers.items) }
-        ensures history { IfOk result (λ ended. IsHistory L.opening ended.book) }
-        ensures book { IfOk result (λ ended. IsBook ended.book) }
-        ensures limit { IfOk result (λ ended. ended.book.limit ≡ self.limit) }
-        ensures free { IfOk result (λ ended. AreFree ended.book.desk.workers) }
-        ensures kept { IfOk result (λ ended. AreStreamsOf ended.book.desk streams.items) }
-        ensures clock_reached { IfOk result (λ ended. ClocksReached ended.book streams.items) }
-        ensures charges { IfOk result (λ ended. All IsCharged ended.book.desk.streams) }
-        ensures left { IfOk result (λ ended. ended.streams ≡ map left_by streams.items) }
-        ensures all_workers { IfOk result (λ ended. length ended.book.desk.workers ≡ self.workers) }
-        ensures missing { MatchResult result
-            (λ ended. ¬ IsMissing (length ended.book.desk.streams) self.workers (vec_len streams)
-            (vec_len workers))
-            (λ m. (m.fault ≡ faults.SeatMissing)
-            ↔ IsMissing (length m.unlocked.book.desk.streams) self.workers (vec_len streams)
-            (vec_len workers)) }
-        ensures all_streams { IfErr result (λ m.
-            length L.opening.streams ≤ length m.unlocked.book.desk.streams) }
-        ensures of_opening { IfErr result (λ m.
-            IsBook m.unlocked.book × (m.unlocked.book.opening ≡ L.opening)) }
-        ensures out { IfErr result (λ m. m.fault ≡ faults.LeaseOut
-            → ¬ All (λ s. ¬ HasLeaseOut s) workers.items) }
-        ensures differs { IfErr result (λ m. m.fault ≡ faults.Differs
-            → All (λ s. ¬ HasLeaseOut s) workers.items) }
-        ensures settled { OnOk result (All (λ s. ¬ HasLeaseOut s) workers.items) }
-        ensures hub { IfErr result (λ m. m.unlocked.hub ≡ self) }
+        ensures end { IfOk result (IsEndOf L.opening self streams.items workers.items) }
+        ensures refused { IfErr result (λ m.
+            IsUnended L.opening self streams.items workers.items m.fault m.unlocked) }
         ensures back { IfErr result (λ m. (m.streams.items ≡ streams.items)
             × (m.workers.items ≡ workers.items)) }
     {
@@ -249,26 +220,9 @@ fn fault<L: Epoch>(
     streams: &Vec<StreamSeat<L>>,
     workers: &Vec<WorkSeat<L>>,
 ) -> Option<Fault>
-    ensures missing { (result ≡ Some faults.SeatMissing)
-        ↔ IsMissing counts.0 counts.1 (vec_len streams.now) (vec_len workers.now) }
-    ensures out { result ≡ Some faults.LeaseOut → ¬ All (λ s. ¬ HasLeaseOut s) workers.now.items }
-    ensures differs { result ≡ Some faults.Differs → All (λ s. ¬ HasLeaseOut s) workers.now.items }
-    ensures settled { IfNone result (All (λ s. ¬ HasLeaseOut s) workers.now.items) }
-    ensures there { IfNone result ((vec_len streams.now ≡ shared.now.streams)
-        × (vec_len workers.now ≡ shared.now.workers)) }
-    ensures of_streams { IfNone result
-        (AreStreamCalls (reverse shared.now.book.past) streams.now.items) }
-    ensures of_workers { IfNone result
-        (AreWorkCalls (reverse shared.now.book.past) workers.now.items) }
-    ensures count { IfNone result (shared.now.streams ≡ length shared.now.book.desk.streams) }
-    ensures each_stream { IfNone result (HaveStreams counts.0 streams.now.items) }
-    ensures each_worker { IfNone result (HaveWorkers counts.1 workers.now.items) }
-    ensures kept { IfNone result (AreStreamsOf shared.now.book.desk streams.now.items) }
-    ensures clock_reached { IfNone result (ClocksReached shared.now.book streams.now.items) }
-    ensures free { IfNone result (AreFree shared.now.book.desk.workers) }
-    ensures opened { IfNone result (IsOpening L.opening shared.now.book.opening counts.1) }
-    ensures book { IfNone result (IsBook shared.now.book) }
-    ensures limit { IfNone result (shared.now.book.limit ≡ limit) }
+    ensures fault { IsFault result counts.0 counts.1 streams.now.items workers.now.items }
+    ensures agree { IfNone result (Agree shared.now.streams shared.now.workers limit shared.now.book
+        streams.now.items workers.now.items) }
 {
     let (stream_count, worker_count) = counts;
     if streams.len() != stream_count || workers.len() != worker_count {
@@ -285,8 +239,8 @@ fn fault<L: Epoch>(
 
 /// Whether a worker's latest call is a lease.
 fn any_lease_out<L: Epoch>(seats: &Vec<WorkSeat<L>>) -> bool
-    ensures out { IsTrue result → ¬ All (λ s. ¬ HasLeaseOut s) seats.now.items }
-    ensures settled { IsFalse result → All (λ s. ¬ HasLeaseOut s) seats.now.items }
+    ensures out { IsTrue result → ¬ NoLeaseOut seats.now.items }
+    ensures settled { IsFalse result → NoLeaseOut seats.now.items }
 {
     seats.iter().any(|seat| seat.has_lease())
 }

@@ -70,7 +70,7 @@ impl<L: Epoch> Room<L> {
     }
 
     /// The hub of this book, with a seat over what each stream's last one left, and one for each worker.
-    pub(crate) fn opened(
+    pub(crate) fn into_hub(
         self,
         book: Book,
         limit: usize,

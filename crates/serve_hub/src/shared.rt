@@ -1,6 +1,6 @@
 //! What stands under the lock of a hub.
 ghost use Rattle.std.specs.Prelude.{◌≡◌, ◌+◌, ◌<◌, ◌≤◌, ◌↔◌, ◌⊎◌, [], All, IfErr, IfNone, IfOk, IfSome};
-ghost use Rattle.std.specs.Prelude.{IsFalse, IsTrue, length, map, reverse, sum_by, vec_len};
+ghost use Rattle.std.specs.Prelude.{IsFalse, IsTrue, length, map, sum_by, vec_len};
 ghost use Rattle.std.specs.Vec.{vec_capacity};
 ghost use Rattle.y4m_header.specs.declared.limits.TheConstants.{MOST_FRAMES};
 ghost use Rattle.serve_core.specs.declared.refusal.Refusal.TheVariants.{Drained, Empty};
@@ -10,12 +10,11 @@ ghost use Rattle.serve_hub.specs.declared.entry.Act.TheVariants.{Admitted};
 ghost use Rattle.serve_hub.specs.declared.entry.Seat.TheVariants.{Stream};
 ghost use Rattle.serve_hub.specs.Books.{Appends, IsBook, room};
 ghost use Rattle.serve_hub.specs.Calls.{Admits, IsAdmitRefused};
-ghost use Rattle.serve_hub.specs.Ends.{AreFree, AreStreamCalls, AreStreamsOf, AreWorkCalls, HaveStreams};
-ghost use Rattle.serve_hub.specs.Ends.{ClocksReached, HaveWorkers, IsOpening, calls_in};
+ghost use Rattle.serve_hub.specs.Ends.{Agree, IsOpening, calls_in};
 ghost use Rattle.serve_hub.specs.Seats.{collected_by, left_by, opened_rest};
 
 use crate::agree::{
-    clocks_reached, have_streams, have_their_streams, have_workers, streams_agree, workers_agree,
+    clocks_agree, have_streams, have_their_streams, have_workers, streams_agree, workers_agree,
 };
 use crate::book::Book;
 use crate::calls::Calls;
@@ -131,7 +130,7 @@ impl<L: Epoch> Shared<L> {
                 rest.number = number;
                 let calls = Calls::over(list, self.limit, self.spare.split_off(1, 0));
                 self.streams += 1;
-                Ok(StreamSeat::admitted(rest, calls, &self.book, &mut self.total))
+                Ok(StreamSeat::of_newcomer(rest, calls, &self.book, &mut self.total))
             }
         }
     }
@@ -141,7 +140,7 @@ impl<L: Epoch> Shared<L> {
         ensures count { result ≡ length self.now.book.desk.streams }
         ensures more { length L.opening.streams ≤ result }
         ensures book { IsBook self.now.book }
-        ensures opening { self.now.book.opening ≡ L.opening }
+        ensures opened { IsOpening L.opening self.now.book.opening self.now.workers }
     {
         // The call is made for what it recalls, that the book keeps what every book keeps.
         let _journal = self.book.journal();
@@ -217,21 +216,8 @@ impl<L: Epoch> Shared<L> {
         streams: &Vec<StreamSeat<L>>,
         workers: &Vec<WorkSeat<L>>,
     ) -> bool
-        ensures book { IsBook self.now.book }
-        ensures limit { IsTrue result → self.now.book.limit ≡ limit }
-        ensures opened { IsOpening L.opening self.now.book.opening self.now.workers }
-        ensures streams { IsTrue result → vec_len streams.now ≡ self.now.streams }
-        ensures workers { IsTrue result → vec_len workers.now ≡ self.now.workers }
-        ensures count { IsTrue result → self.now.streams ≡ length self.now.book.desk.streams }
-        ensures of_streams { IsTrue result
-            → AreStreamCalls (reverse self.now.book.past) streams.now.items }
-        ensures of_workers { IsTrue result
-            → AreWorkCalls (reverse self.now.book.past) workers.now.items }
-        ensures each_stream { IsTrue result → HaveStreams self.now.streams streams.now.items }
-        ensures each_worker { IsTrue result → HaveWorkers self.now.workers workers.now.items }
-        ensures kept { IsTrue result → AreStreamsOf self.now.book.desk streams.now.items }
-        ensures clock_reached { IsTrue result → ClocksReached self.now.book streams.now.items }
-        ensures free { IsTrue result → AreFree self.now.book.desk.workers }
+        ensures { IsTrue result → Agree self.now.streams self.now.workers limit self.now.book
+            streams.now.items workers.now.items }
     {
         let journal = self.book.journal();
         self.limit == limit
@@ -243,18 +229,15 @@ impl<L: Epoch> Shared<L> {
             && have_streams(self.streams, streams)
             && have_workers(self.workers, workers)
             && have_their_streams(&self.book, streams)
-            && clocks_reached(&self.book, self.opened_at, streams)
+            && clocks_agree(&self.book, self.opened_at, streams)
             && self.book.is_free()
     }
 
     /// The book, with what the seats leave. It has as many entries as they made calls.
     pub(crate) fn into_ended(self, streams: Vec<StreamSeat<L>>, workers: Vec<WorkSeat<L>>) -> Ended
-        requires streams { vec_len streams ≡ self.streams }
-        requires workers { vec_len workers ≡ self.workers }
-        requires count { self.streams ≡ length self.book.desk.streams }
         requires is_book { IsBook self.book }
-        requires kept { AreStreamsOf self.book.desk streams.items }
-        requires free { AreFree self.book.desk.workers }
+        requires agree { Agree self.streams self.workers self.book.limit self.book streams.items
+            workers.items }
         ensures book { result.book ≡ self.book }
         ensures counted { length result.book.past ≡ calls_in streams.items workers.items }
         ensures left { result.streams ≡ map left_by streams.items }

@@ -109,7 +109,7 @@ impl<L: Epoch> StreamSeat<L> {
     }
 
     /// The seat of a stream whose admission is the book's latest entry, which the total doesn't count yet.
-    pub(crate) fn admitted(
+    pub(crate) fn of_newcomer(
         rest: SeatRest,
         calls: Calls<L>,
         book: &Book,

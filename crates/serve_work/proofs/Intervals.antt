@@ -13,7 +13,7 @@ use Rattle.serve_core.specs.Streams.{KeptStream, opened}
 use Rattle.serve_hub.specs.declared.entry.Act.{Act}
 use Rattle.serve_hub.specs.declared.entry.Entry.{Entry}
 use Rattle.serve_hub.specs.Books.{BookValue, IsBook, IsLimit, book_transcript, specs_of}
-use Rattle.serve_hub.specs.Ends.{ClockReached, ClocksReached, IsMissing}
+use Rattle.serve_hub.specs.Ends.{ClockReached, ClocksReached}
 use Rattle.serve_hub.specs.Journal.{AreEntries, IsJournal}
 use Rattle.serve_hub.proofs.Journals.{joined_is}
 use Rattle.serve_hub.proofs.Specs.{added, specs_led}
@@ -105,16 +105,6 @@ pub no_entry : (first last : ScheduleValue) → first ≡ last → LeadsTo first
 no_entry first last same =
     subst (λ (x : ScheduleValue). LeadsTo first [] x) same
     (record { is_journal = record { entries = tt; leads = (tt, refl) }; specs = refl })
-
-equal : (m n : ℕ) → (m ≢ n → ⊥) → m ≡ n
-equal zero zero not = refl
-equal zero (suc n) not = absurd (not (λ e. omega (arith, e)))
-equal (suc m) zero not = absurd (not (λ e. omega (arith, e)))
-equal (suc m) (suc n) not = ap suc (equal m n (λ differs. not (λ e. differs (omega (arith, e)))))
-
--- where no seat is missing, each stream has one
-pub all_back : (streams workers count most : ℕ) → ¬ IsMissing count most streams workers → streams ≡ count
-all_back streams workers count most not = equal streams count (λ differs. not (inl differs))
 
 none_more : (xs ys : List StreamSpec) → length (xs ++ ys) ≡ length xs → ys ≡ []
 none_more xs [] e = refl

@@ -74,8 +74,8 @@ impl<L: Epoch> Hub<L> {
                 ended,
             });
         };
-        let (book, rests, journal) = ended.reopened(journal, limit);
-        let (hub, streams, workers) = room.opened(book, limit, rests, workers);
+        let (book, rests, journal) = ended.into_book(journal, limit);
+        let (hub, streams, workers) = room.into_hub(book, limit, rests, workers);
         Ok(Reopened {
             hub,
             streams,

@@ -1,58 +1,53 @@
-use Rattle.std.proofs.Common.{◌∙◌, All, Some, ap, sym, subst, length, rules}
-use Rattle.std.specs.Prelude.{reverse}
+use Rattle.std.proofs.Common.{ℕ, ◌≡◌, ◌≤◌, ◌∙◌, Some, ap, refl, sym, subst, length}
 use Rattle.serve_core.specs.Schedule.{ScheduleValue}
-use Rattle.serve_hub.specs.Books.{BookValue}
-use Rattle.serve_hub.specs.Ends.{AreFree, AreStreamCalls, AreStreamsOf, AreWorkCalls, ClocksReached, IsCharged, IsHistory}
+use Rattle.serve_hub.specs.Books.{BookValue, IsBook}
+use Rattle.serve_hub.specs.Ends.{IsHistory}
 use Rattle.serve_hub.specs.Seats.{HubValue}
+use Rattle.serve_hub.proofs.Agreeing.{agree_at, fault_at}
 use Rattle.serve_hub.proofs.Histories.{charged_between, history}
 use Rattle.serve_hub.proofs.Opened.{same_workers}
 use Rattle.serve_hub.proofs.hub.Hub.finish.Goals as goal
 
-pub returns-clause-calls : goal.returns-clause-calls
-returns-clause-calls g c =
-    let same = sym c.into_ended.ensures.book in record {
-      of_streams = subst (λ (b : BookValue). AreStreamCalls (reverse b.past) c.args.streams.items) same
-          c.in_default.ensures.of_streams;
-      of_workers = subst (λ (b : BookValue). AreWorkCalls (reverse b.past) c.args.workers.items) same
-          c.in_default.ensures.of_workers;
+pub into_ended-requires-clause-agree : goal.into_ended-requires-clause-agree
+into_ended-requires-clause-agree g c =
+    let agree = c.in_default.ensures.agree in
+    agree_at _ _ _ _ _ _ _ _ _ _ refl refl (sym agree.limit) refl agree
+
+pub returns-clause-end : goal.returns-clause-end
+returns-clause-end g c =
+    let told = c.in_default.ensures in
+    let b = c.into_inner-shared.result.book in
+    let is = c.all_streams.ensures.book in
+    let opened = c.all_streams.ensures.opened in
+    let same = sym c.into_ended.ensures.book in
+    let count : c.into_inner-shared.result.streams ≡ length c.into_ended.result.book.desk.streams =
+    sym told.agree.all ∙ ap (λ (x : BookValue). length x.desk.streams) same in
+    let workers : c.into_inner-shared.result.workers ≡ c.args.self.workers =
+    sym told.agree.there.1 ∙ told.fault.0.1 ∙ ap (λ (h : HubValue). h.workers) c.self.view_is in
+    record {
+      agree = agree_at _ _ _ _ _ _ _ _ _ _ count workers (ap (λ (h : HubValue). h.limit) c.self.view_is) same told.agree;
       once = c.into_ended.ensures.counted;
+      settled = told.fault.1;
+      is_book = subst IsBook same is;
+      history = subst (λ (x : BookValue). IsHistory g.L.Epoch.opening x) same (history _ _ _ is opened);
+      all_workers = ap (λ (x : BookValue). length x.desk.workers) c.into_ended.ensures.book
+          ∙ same_workers b is
+          ∙ ap (λ (x : ScheduleValue). length x.workers) opened.same
+          ∙ opened.each_worker
+          ∙ workers;
+      charges = charged_between _ (subst IsBook same is);
+      left = c.into_ended.ensures.left;
     }
 
-pub returns-clause-history : goal.returns-clause-history
-returns-clause-history g c =
-    let told = c.in_default.ensures in
-    subst (λ (b : BookValue). IsHistory g.L.Epoch.opening b) (sym c.into_ended.ensures.book)
-    (history _ _ _ told.book told.opened)
-
-pub returns-clause-free : goal.returns-clause-free
-returns-clause-free g c =
-    subst (λ (b : BookValue). AreFree b.desk.workers) (sym c.into_ended.ensures.book) c.in_default.ensures.free
-
-pub returns-clause-kept : goal.returns-clause-kept
-returns-clause-kept g c =
-    subst (λ (b : BookValue). AreStreamsOf b.desk c.args.streams.items) (sym c.into_ended.ensures.book)
-    c.in_default.ensures.kept
-
-pub returns-clause-clock_reached : goal.returns-clause-clock_reached
-returns-clause-clock_reached g c =
-    subst (λ (b : BookValue). ClocksReached b c.args.streams.items) (sym c.into_ended.ensures.book) c.in_default.ensures.clock_reached
-
-pub returns-clause-charges : goal.returns-clause-charges
-returns-clause-charges g c =
-    subst (λ (b : BookValue). All IsCharged b.desk.streams) (sym c.into_ended.ensures.book)
-    (charged_between _ c.in_default.ensures.book)
-
-pub returns-clause-all_workers : goal.returns-clause-all_workers
-returns-clause-all_workers g c =
-    let told = c.in_default.ensures in
-    ap (λ (b : BookValue). length b.desk.workers) c.into_ended.ensures.book
-    ∙ same_workers c.into_inner-shared.result.book told.book
-    ∙ ap (λ (x : ScheduleValue). length x.workers) told.opened.same
-    ∙ told.opened.each_worker
-    ∙ ap (λ (h : HubValue). h.workers) c.self.view_is
-
-pub returns-in-Some-clause-missing : goal.returns-in-Some-clause-missing
-returns-in-Some-clause-missing c = search rules
-
-pub returns-in-Some-clause-differs : goal.returns-in-Some-clause-differs
-returns-in-Some-clause-differs g c e = c.in-Some.ensures.differs (ap Some e)
+pub returns-in-Some-clause-refused : goal.returns-in-Some-clause-refused
+returns-in-Some-clause-refused g c =
+    let same = sym c.of.ensures.book in record {
+      hub = c.of.ensures.hub ∙ c.self.view_is;
+      is_book = subst IsBook same c.all_streams.ensures.book;
+      opened = ap (λ (x : BookValue). x.opening) c.of.ensures.book ∙ c.all_streams.ensures.opened.same;
+      more = subst (λ (x : BookValue). length g.L.Epoch.opening.streams ≤ length x.desk.streams) same
+          (subst (λ (n : ℕ). length g.L.Epoch.opening.streams ≤ n) c.all_streams.ensures.count c.all_streams.ensures.more);
+      fits_not = fault_at (Some c.in-Some.fault) _ _ _ _ c.args.streams.items c.args.workers.items
+          (c.all_streams.ensures.count ∙ ap (λ (x : BookValue). length x.desk.streams) same)
+          (ap (λ (h : HubValue). h.workers) c.self.view_is) c.in-Some.ensures.fault;
+    }

@@ -3,8 +3,8 @@ use Rattle.serve_hub.specs.Books.{BookValue}
 use Rattle.serve_hub.proofs.Opened.{is_opening}
 use Rattle.serve_hub.proofs.hub.Hub.new.Goals as goal
 
-pub opened-requires-clause-opening : goal.opened-requires-clause-opening
-opened-requires-clause-opening g c =
+pub into_hub-requires-clause-opening : goal.into_hub-requires-clause-opening
+into_hub-requires-clause-opening g c =
     is_opening _ c.in-Ok.book.opening c.args.setup _ c.recall_limits.ensures
     (ap (λ (b : BookValue). b.opening) c.in-Ok.ensures.book) c.requires.opening c.workers-workers.ensures
 

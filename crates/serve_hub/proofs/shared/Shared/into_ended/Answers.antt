@@ -8,7 +8,7 @@ use Rattle.serve_hub.proofs.shared.Shared.into_ended.Goals as goal
 
 pub merge_streams-requires-clause-few : goal.merge_streams-requires-clause-few
 merge_streams-requires-clause-few g c =
-    few_collected c.args.self.book c.args.streams.items c.requires.is_book c.requires.kept
+    few_collected c.args.self.book c.args.streams.items c.requires.is_book c.requires.agree.kept
 
 -- there is room for what the seats of all 64 streams leave
 pub merge_streams-requires-clause-room : goal.merge_streams-requires-clause-room
@@ -17,8 +17,9 @@ merge_streams-requires-clause-room g c =
     let is = subst (λ (s : SharedValue). IsBook s.book) (sym c.self.view_is) c.requires.is_book in
     omega (
       arith,
-      c.requires.streams,
-      c.requires.count,
+      c.args.streams.ok.0,
+      c.requires.agree.there.0,
+      c.requires.agree.all,
       ap (λ (s : SharedValue). length s.book.desk.streams) c.self.view_is,
       (few_here b.desk (reached_now _ b _ is c.self.invariant.4)).0,
       c.self.invariant.6,
@@ -26,7 +27,7 @@ merge_streams-requires-clause-room g c =
 
 pub new-requires-clause-free : goal.new-requires-clause-free
 new-requires-clause-free g c =
-    subst (λ (s : SharedValue). AreFree s.book.desk.workers) (sym c.self.view_is) c.requires.free
+    subst (λ (s : SharedValue). AreFree s.book.desk.workers) (sym c.self.view_is) c.requires.agree.free
 
 pub new-requires-clause-each_stream : goal.new-requires-clause-each_stream
 new-requires-clause-each_stream g c =
@@ -34,9 +35,8 @@ new-requires-clause-each_stream g c =
       arith,
       ap length c.merge_streams.ensures.left,
       length-map c.args.streams.items left_by,
-      c.args.streams.ok.0,
-      c.requires.streams,
-      c.requires.count,
+      c.requires.agree.there.0,
+      c.requires.agree.all,
       ap (λ (s : SharedValue). length s.book.desk.streams) c.self.view_is,
     )
 

@@ -3,7 +3,7 @@ use Rattle.std.specs.Prelude.{reverse, vec_len}
 use Rattle.serve_hub.specs.Ends.{AreStreamCalls, AreStreamsOf, ClocksReached}
 use Rattle.serve_hub.specs.Seats.{left_by}
 use Rattle.serve_work.specs.SessionInside.{BeginsAgain, HeldValue, held_with}
-use Rattle.serve_work.proofs.Intervals.{all_back, all_ready, entries_on, held_length, held_new, leads_on, reached_on}
+use Rattle.serve_work.proofs.Intervals.{all_ready, entries_on, held_length, held_new, leads_on, reached_on}
 use Rattle.serve_work.proofs.Journals.{ends_epoch, epoch_ends}
 use Rattle.serve_work.proofs.SessionStops.{go_on_allowed}
 use Rattle.serve_work.specs.Workers.{HaveSpent}
@@ -87,31 +87,30 @@ returns-clause-later g c =
       between = λ b journal at.
           let as_many : length ended.book.desk.streams ≡ length b.schedule.streams = omega (
             arith,
-            all_back _ _ _ _ c.in-Ok-finish.ensures.missing,
-            c.fill-2.new.self.seats.ok.0,
+            c.in-Ok-finish.ensures.end.agree.there.0,
             ap length own,
             same_length (λ (held : HeldValue). held.seat) ran.0,
             all_went gives helds ran.0 ran.2,
             zip_length (BeginsAgain journal) b.starts helds at.stand,
             at.begun.each,
           ) in
-          let calls = subst (AreStreamCalls (reverse ended.book.past)) own c.in-Ok-finish.ensures.calls.of_streams in
-          let same = c.in-Ok-finish.ensures.history.same in
-          let on = leads_on b.schedule _ journal ended.book at.past c.in-Ok-finish.ensures.book same as_many in
-          let reached = subst (ClocksReached ended.book) own c.in-Ok-finish.ensures.clock_reached in
-          let hub_limit = c.in-Ok-finish.ensures.limit ∙ at.limit in
-          let spent = subst (λ (n : ℕ). HaveSpent n ended.book.past) (sym c.in-Ok-finish.ensures.all_workers)
-          (seats_have_spent _ ended.book.past _ c.in-Ok-finish.ensures.calls.of_workers c.in-Ok-finish.ensures.each_worker
-          (c.have_spent.ensures c.if-not-have_spent.false)) in
+          let calls = subst (AreStreamCalls (reverse ended.book.past)) own c.in-Ok-finish.ensures.end.agree.of_streams in
+          let same = c.in-Ok-finish.ensures.end.history.same in
+          let on = leads_on b.schedule _ journal ended.book at.past c.in-Ok-finish.ensures.end.is_book same as_many in
+          let reached = subst (ClocksReached ended.book) own c.in-Ok-finish.ensures.end.agree.clock_reached in
+          let hub_limit = c.in-Ok-finish.ensures.end.agree.limit ∙ at.limit in
+          let spent = subst (λ (n : ℕ). HaveSpent n ended.book.past) (sym c.in-Ok-finish.ensures.end.all_workers)
+          (seats_have_spent _ ended.book.past _ c.in-Ok-finish.ensures.end.agree.of_workers
+          c.in-Ok-finish.ensures.end.agree.each_worker (c.have_spent.ensures c.if-not-have_spent.false)) in
           record {
             more = ended.book.past;
             epochs =
                 epoch_ends b c.args.is_first c.in-Some.is_cut c.any_waits-waits.result journal ended.book.past ended.book.desk
                 c.in-Some.ensures.empty c.in-Some.ensures.later
-                (λ goes_on. ends_epoch b.limit _ ended.book c.in-Ok-finish.ensures.book hub_limit c.in-Ok-finish.ensures.free
+                (λ goes_on. ends_epoch b.limit _ ended.book c.in-Ok-finish.ensures.end.is_book hub_limit c.in-Ok-finish.ensures.end.agree.free
                 spent (c.in-Some.ensures.full goes_on)) on;
             moments = all_timed gives journal ended.book.past b.schedule _ b.starts helds ran.0 at.past.is_journal.leads.1
-                (entries_on b.schedule _ ended.book c.in-Ok-finish.ensures.book same on.specs) at.stand ran.2 calls
+                (entries_on b.schedule _ ended.book c.in-Ok-finish.ensures.end.is_book same on.specs) at.stand ran.2 calls
                 (reached_on b.schedule _ ended.book _ same on.specs reached) (held_new seats streams.items at.no_calls);
             between = record {
               begun = at.begun;
@@ -119,9 +118,9 @@ returns-clause-later g c =
               helds = ran.0;
               stand = stand_on gives journal ended.book.past b.starts helds ran.0 at.stand ran.2 calls;
               streams = c.fill-2.ensures.streams ran.0 ran.1;
-              seats = c.in-Ok-finish.ensures.left ∙ ap (map left_by) own;
-              kept = subst (AreStreamsOf ended.book.desk) own c.in-Ok-finish.ensures.kept;
-              charges = c.in-Ok-finish.ensures.charges;
+              seats = c.in-Ok-finish.ensures.end.left ∙ ap (map left_by) own;
+              kept = subst (AreStreamsOf ended.book.desk) own c.in-Ok-finish.ensures.end.agree.kept;
+              charges = c.in-Ok-finish.ensures.end.charges;
               limit = hub_limit;
               untold = at.untold;
               places = omega (arith, all_went gives helds ran.0 ran.2, held_length seats streams.items, streams.ok.0, at.places);

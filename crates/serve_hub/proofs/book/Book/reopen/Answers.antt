@@ -1,7 +1,7 @@
 use Rattle.std.proofs.Common.{◌≤◌, sym, subst, arith}
 use Rattle.std.proofs.lemmas.List.{length-reverse}
 use Rattle.serve_hub.specs.Books.{BookValue, reserved}
-use Rattle.serve_hub.proofs.book.Book.reopened.Goals as goal
+use Rattle.serve_hub.proofs.book.Book.reopen.Goals as goal
 
 pub opened_over-book-requires-clause-sound : goal.opened_over-book-requires-clause-sound
 opened_over-book-requires-clause-sound c = c.self.invariant.is_book.sound

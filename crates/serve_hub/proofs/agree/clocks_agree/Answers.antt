@@ -3,7 +3,7 @@ use Rattle.std.proofs.lemmas.List.Elements.{All-more, at_read}
 use Rattle.serve_hub.specs.Books.{opening_of, specs_of}
 use Rattle.serve_hub.specs.Ends.{ClockReached, ClocksReached}
 use Rattle.serve_hub.specs.Seats.{StreamSeatValue}
-use Rattle.serve_hub.proofs.agree.clocks_reached.Goals as goal
+use Rattle.serve_hub.proofs.agree.clocks_agree.Goals as goal
 
 pub loop-seat-preserved : goal.loop-seat-preserved
 loop-seat-preserved g c =
@@ -15,7 +15,7 @@ loop-seat-preserved g c =
     let here : seat ≡ slice_index_or seats i seat =
     subst (λ (xs : List StreamSeatValue). seat ≡ slice_index_or xs i seat) c.deref-seat-items.ensures.value
     c.seat-item.is in
-    let reached = c.if-not-clock_reached.ensures (specs_of b.desk) (opening_of b) (sym c.requires) refl in
+    let reached = c.if-not-clock_agrees.ensures (specs_of b.desk) (opening_of b) (sym c.requires) refl in
     All-more IsHere seats i seat (omega arith) c.loop-seat.invariant
     (at_read seats IsHere i seat (omega arith) here (rw (← c.number.ensures, ← c.moments.ensures, ← c.journal.ensures.past) reached) seat)
 

@@ -8,7 +8,7 @@ use Rattle.serve_core.specs.Schedule.{ScheduleValue}
 use Rattle.serve_hub.specs.Books.{BookValue, reserved}
 use Rattle.serve_hub.proofs.Histories.{few_here}
 use Rattle.serve_hub.proofs.Retiring.{reached_sound, reserved_kept}
-use Rattle.serve_hub.proofs.book.Book.retired.Goals as goal
+use Rattle.serve_hub.proofs.book.Book.retire.Goals as goal
 
 pub retire-requires-clause-few : goal.retire-requires-clause-few
 retire-requires-clause-few c =

@@ -2,9 +2,9 @@ use Rattle.std.proofs.Common.{List, reverse, refl, subst, arith, take_all}
 use Rattle.serve_hub.specs.declared.entry.Entry.{Entry}
 use Rattle.serve_hub.specs.Ends.{ClockReached}
 use Rattle.serve_hub.proofs.Clocks.{reached_more}
-use Rattle.serve_hub.proofs.agree.clock_reached.Goals.{else-is_offer_of-via-else-is_offer_of}
-use Rattle.serve_hub.proofs.agree.clock_reached.Goals.{else-is_offer_of-via-then-is_offer_of+else-not-is_first_reached}
-use Rattle.serve_hub.proofs.agree.clock_reached.Goals as goal
+use Rattle.serve_hub.proofs.agree.clock_agrees.Goals.{else-is_offer_of-via-else-is_offer_of}
+use Rattle.serve_hub.proofs.agree.clock_agrees.Goals.{else-is_offer_of-via-then-is_offer_of+else-not-is_first_reached}
+use Rattle.serve_hub.proofs.agree.clock_agrees.Goals as goal
 
 pub loop-entry-preserved : goal.loop-entry-preserved
 loop-entry-preserved c = λ specs opening opened.

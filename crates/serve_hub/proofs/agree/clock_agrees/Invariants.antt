@@ -4,7 +4,7 @@ use Rattle.serve_core.specs.Setup.{StreamSpec}
 use Rattle.serve_core.specs.States.{State}
 use Rattle.serve_hub.specs.Ends.{ClockReached}
 use Rattle.serve_hub.specs.Journal.{clock_in}
-use Rattle.serve_hub.proofs.agree.clock_reached.Given as goal
+use Rattle.serve_hub.proofs.agree.clock_agrees.Given as goal
 
 abbrev pub invariant-loop-entry : goal.invariant-loop-entry
 invariant-loop-entry l =
