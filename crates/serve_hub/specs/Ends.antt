@@ -94,8 +94,8 @@ HasLeaseOut seat = begins_with_lease (reverse seat.calls.list) ≡ true
 abbrev pub NoLeaseOut : List WorkSeatValue → Type 0
 NoLeaseOut workers = All (λ s. ¬ HasLeaseOut s) workers
 
--- what doesn't fit between so many streams and workers and these seats, if anything does: the first of what is
--- asked
+-- the first that is wrong with the seats of so many streams and workers, if anything is: a seat is missing, a
+-- lease is out, or else what they tell differs from the book
 abbrev pub IsFault : Option Fault → (all_streams all_workers : ℕ) → List StreamSeatValue → List WorkSeatValue
     → Type 0
 IsFault (Some faults.SeatMissing) all_streams all_workers streams workers =
@@ -144,8 +144,9 @@ pub record IsStreamOf (seat : StreamSeatValue) (stream : KeptStream) : Type 0 wh
 abbrev pub AreStreamsOf : ScheduleValue → List StreamSeatValue → Type 0
 AreStreamsOf desk seats = All (λ s. HasStream desk s.number (IsStreamOf s)) seats
 
--- a book of this limit agrees with its seats: each stream and each worker has one, whose list is its entries of
--- the journal, in order; the streams are as their seats tell, and no worker holds a lease
+-- a book with a journal of at most so many entries agrees with its seats, one for each of so many streams
+-- and workers: each seat's list is its entries of the journal, in order; the streams are as their seats tell,
+-- and no worker holds a lease
 pub record Agree (all_streams all_workers most : ℕ) (b : BookValue) (streams : List StreamSeatValue)
     (workers : List WorkSeatValue) : Type 0 where
   pub limit : b.limit ≡ most

@@ -5,9 +5,9 @@ use crate::refusal::Refusal;
 use lease::Lease;
 use serve_core::{Collected, StreamSpec};
 
-/// An offer was refused, and comes back, where its frame wasn't accepted after all with a number that
-/// contradicts the seat. It may have the memory of an image where none was given, and that image may have the
-/// frame's line.
+/// An offer was refused, and comes back. There is none where its frame was accepted after all, with a number
+/// that contradicts the seat. It may have the memory of an image where none was given; that of any image may
+/// have the frame's line.
 #[derive(Debug, Drop)]
 pub struct OfferRefused {
     pub refusal: Refusal,

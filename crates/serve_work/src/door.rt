@@ -8,7 +8,7 @@ use y4m_stream::{Sink, Source};
 
 /// What tells whether a request is there, or a question (see [`Door::asks`]).
 pub trait Bell {
-    /// That no more requests come, by which is told.
+    /// That it has told that no more requests come. What that means is the door's to say.
     ghost is_over: { Self → Type 0 };
 
     /// Waits until a request or a question is there. Answers whether one is: no other comes where none is.

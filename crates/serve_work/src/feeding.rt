@@ -31,7 +31,7 @@ pub(crate) enum Offered {
     Accepted,
     /// The queue is full, and the offer comes back.
     QueueFull(Offer),
-    /// The same, the journal being full.
+    /// The journal is full, and the offer comes back.
     JournalFull(Offer),
     Stopped(Stop),
 }

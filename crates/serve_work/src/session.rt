@@ -76,8 +76,9 @@ pub enum SessionFault {
     /// streams come and go never ends so: it tells a stream for which there is no memory.
     #[error("NoMemory")]
     NoMemory,
-    /// The journal isn't what the seats and the hub tell, or a stream that came isn't served with what its
-    /// request asked for.
+    /// The journal isn't what the seats and the hub tell, isn't full where a stream waits, or has a lease
+    /// that wasn't settled with its whole grant; or a stream that came isn't served with what its request
+    /// asked for.
     #[error("Mismatch")]
     Mismatch,
 }

@@ -19,7 +19,7 @@ fn are_spent(calls: &[Act]) -> bool
     grant.is_none()
 }
 
-/// Whether the calls of all these workers are such.
+/// Whether each lease of these workers was settled with its whole grant.
 pub(crate) fn have_spent<L: Epoch>(seats: &Vec<WorkSeat<L>>) -> bool
     ensures { IsTrue result → All (λ s. AreSpent s.calls.list) seats.now.items }
 {

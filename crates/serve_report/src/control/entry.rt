@@ -108,7 +108,7 @@ impl<R: Source + Drop, W: Sink + Drop, S: Drop> Entry<R, W, S> {
         self.output = output;
     }
 
-    /// It was opened, and waits to be served.
+    /// Has the stream wait to be served, now that it is opened.
     pub fn make_ready(&mut self, ready: Ready<R, W>) {
         self.held = None;
         self.stage = Stage::Ready(ready);

@@ -89,7 +89,7 @@ impl<'o, R: Source + Drop, W: Sink + Drop, S: Drop, O: Write, E: Write> Lobby<'o
         true
     }
 
-    /// A stream was opened, and waits to be served.
+    /// Has a stream that was opened wait to be served.
     pub fn make_ready<T: Wait>(&self, rt: &T, order: &Order, ready: Ready<R, W>) {
         let mut table = self.table.lock(rt);
         if let Some(entry) = table.entry_mut(order.number) {

@@ -13,7 +13,8 @@ pub(super) enum Unended<R: Source, W: Sink> {
     Unopened(SessionFault, Vec<(StreamReader<R>, W)>),
     /// The thread of a worker was refused, where all are needed. None began, and the streams come back.
     Unbegun(Vec<Stream<R, W>>),
-    /// The journal isn't what the seats and the hub tell, or isn't full where a stream waits.
+    /// The journal isn't what the seats and the hub tell, a lease wasn't settled with its whole grant, or the
+    /// journal isn't full where a stream waits.
     Mismatch,
 }
 
