@@ -31,8 +31,10 @@ impl Part {
     /// The rows above luma row `row`, and those from it on.
     fn split(self, row: usize) -> (Part, Part)
         requires { (self.from ≤ row) × (row ≤ self.to) }
-        ensures top { (result.0.geometry ≡ self.geometry) × (result.0.from ≡ self.from) × (result.0.to ≡ row) }
-        ensures bottom { (result.1.geometry ≡ self.geometry) × (result.1.from ≡ row) × (result.1.to ≡ self.to) }
+        ensures top { (result.0.geometry ≡ self.geometry) × (result.0.from ≡ self.from)
+            × (result.0.to ≡ row) }
+        ensures bottom { (result.1.geometry ≡ self.geometry) × (result.1.from ≡ row)
+            × (result.1.to ≡ self.to) }
     {
         let Part { geometry, from, to } = self;
         let top = Part {

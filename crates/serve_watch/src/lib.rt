@@ -1,5 +1,5 @@
-//! What is seen of a run while it goes on: how far each stream has come, and the trace of what its workers and
-//! clients do.
+//! What is seen of a run while it goes on: how far each stream has come, and the trace of what its workers
+//! and clients do.
 #![tactic(auto)]
 
 mod progress;
