@@ -72,7 +72,7 @@ impl Job {
             source.line(),
         );
         match canvas {
-            Ok(canvas) => Ok(Job::waiting(spec, source, canvas)),
+            Ok(canvas) => Ok(Job::of_canvas(spec, source, canvas)),
             Err(_) => Err(JobRefused::NoMemory(source)),
         }
     }
@@ -108,10 +108,10 @@ impl Job {
             return Err(OverRefused::NoMemory(source, image));
         }
         let canvas = Canvas::over(image, spec.chain().band_height());
-        Ok(Job::waiting(spec, source, canvas))
+        Ok(Job::of_canvas(spec, source, canvas))
     }
 
-    fn waiting(spec: Arc<JobSpec>, source: Arc<Frame>, canvas: Canvas) -> Job
+    fn of_canvas(spec: Arc<JobSpec>, source: Arc<Frame>, canvas: Canvas) -> Job
         requires geometry { (arc_value source).geometry ≡ (arc_value spec).geometry }
         requires canvas { IsImageCanvas (arc_value spec) canvas }
         requires line { line_of (frame_of canvas) ≡ line_of (arc_value source) }

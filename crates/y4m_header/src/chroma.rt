@@ -28,7 +28,7 @@ impl Chroma {
     ghost use Rattle.y4m_header.specs.Chroma.{horizontal_divisor, vertical_divisor, plane_count};
 
     /// The form that the value of the tag C names; without a tag C there is no value.
-    pub fn named(value: Option<&[u8]>) -> Option<Chroma>
+    pub fn of_tag(value: Option<&[u8]>) -> Option<Chroma>
         ensures { (chroma : Chroma)
             → (result ≡ Some chroma) ↔ NamesChroma (option_copied value.entry) chroma }
     {

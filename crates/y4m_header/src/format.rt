@@ -76,7 +76,7 @@ fn read_tags(line: &[u8]) -> Result<Format, HeaderError>
     ensures refused { IfErr result (λ error. IsRefusedAs error line.now) }
 {
     let (width, height) = read_sizes(line)?;
-    let Some(chroma) = Chroma::named(tags_with(b'C', line).first) else {
+    let Some(chroma) = Chroma::of_tag(tags_with(b'C', line).first) else {
         return Err(HeaderError::UnknownChroma);
     };
     Ok(Format {

@@ -58,7 +58,7 @@ fn is_at_end<R: Source>(input: &mut Lookahead<R>) -> Result<bool, ReadFault>
     ensures err { IfErr result (λ fault. (fault ≡ ReadFault.Device) × (input.new.held ≡ [])) }
     ensures told { input.new.failures ≡ failures_told result input.old.failures }
 {
-    if !input.held().is_empty() {
+    if !input.bytes().is_empty() {
         return Ok(false);
     }
     match input.fill() {
@@ -81,7 +81,7 @@ pub fn find_frame_line<R: Source>(input: &mut Lookahead<R>) -> Result<Option<usi
         return Ok(None);
     }
     let end = find_line(input)?;
-    match check_frame_line(&input.held()[..end]) {
+    match check_frame_line(&input.bytes()[..end]) {
         Ok(()) => Ok(Some(end)),
         Err(_) => Err(ReadFault::NotFrame),
     }

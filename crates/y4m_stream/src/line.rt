@@ -20,10 +20,10 @@ pub fn find_line<R: Source>(input: &mut Lookahead<R>) -> Result<usize, ReadFault
     ensures told { input.new.failures ≡ failures_told result input.old.failures }
 {
     loop {
-        if let Some(end) = place_of(b'\n', input.held()) {
+        if let Some(end) = place_of(b'\n', input.bytes()) {
             return Ok(end);
         }
-        if input.held().len() == LINE_LIMIT {
+        if input.bytes().len() == LINE_LIMIT {
             return Err(ReadFault::LineTooLong);
         }
         match input.fill() {

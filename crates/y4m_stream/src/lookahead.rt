@@ -55,7 +55,7 @@ impl<R: Source> Lookahead<R> {
     }
 
     /// The bytes that are held.
-    pub fn held(&self) -> &[u8]
+    pub fn bytes(&self) -> &[u8]
         ensures value { result.now ≡ self.now.held }
         ensures few { length self.now.held ≤ LINE_LIMIT }
     {
@@ -99,8 +99,8 @@ impl<R: Source> Lookahead<R> {
         ensures moved { take result out.new ≡ take result self.old.held }
         ensures left { self.new ≡ record self.old { held = drop result self.old.held } }
     {
-        let n = self.held().len().min(out.len());
-        out[..n].copy_from_slice(&self.held()[..n]);
+        let n = self.bytes().len().min(out.len());
+        out[..n].copy_from_slice(&self.bytes()[..n]);
         self.consume(n);
         n
     }

@@ -40,7 +40,7 @@ fn take_header<R: Source>(alloc: Global, input: &mut Lookahead<R>) -> Result<Hea
     ensures told { input.new.failures ≡ failures_told result input.old.failures }
 {
     let end = find_line(input)?;
-    let header = match Header::parse(alloc, &input.held()[..end]) {
+    let header = match Header::parse(alloc, &input.bytes()[..end]) {
         Ok(header) => header,
         Err(HeaderError::NoMemory) => return Err(ReadFault::NoMemory),
         Err(error) => return Err(ReadFault::Header(error)),
@@ -144,7 +144,7 @@ impl<R: Source + Drop> StreamReader<R> {
     /// Whether the next frame has come whole, or the end or a fault is there. It waits for that at most so
     /// many milliseconds, as the source does, and takes no byte.
     pub fn is_ready(&self, milliseconds: u64) -> bool {
-        match lacks(self.input.held(), Geometry::of(&self.header).bytes()) {
+        match lacks(self.input.bytes(), Geometry::of(&self.header).bytes()) {
             Some(wanted) => self.input.source().is_ready(milliseconds, wanted),
             None => true,
         }
@@ -163,7 +163,7 @@ impl<R: Source + Drop> StreamReader<R> {
             return Ok(None);
         };
         let geometry = Geometry::of(&self.header);
-        let mut frame = Frame::blank(alloc, geometry, &self.input.held()[..end])?;
+        let mut frame = Frame::blank(alloc, geometry, &self.input.bytes()[..end])?;
         take_data(&mut self.input, end, &mut frame)?;
         self.phase = Phase::Open;
         Ok(Some(frame))
@@ -184,7 +184,7 @@ impl<R: Source + Drop> StreamReader<R> {
         let Some(end) = begin_frame(&mut self.input, &mut self.phase)? else {
             return Ok(false);
         };
-        frame.set_line(alloc, &self.input.held()[..end])?;
+        frame.set_line(alloc, &self.input.bytes()[..end])?;
         take_data(&mut self.input, end, frame)?;
         self.phase = Phase::Open;
         Ok(true)

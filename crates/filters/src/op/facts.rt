@@ -49,7 +49,7 @@ pub fn is_doable(op: Op, geometry: Geometry) -> bool
     }
 }
 
-fn cropped(crop: Crop, geometry: Geometry) -> Geometry
+fn crop_geometry(crop: Crop, geometry: Geometry) -> Geometry
     requires { IsRectangleOf crop geometry }
     ensures { IsImageGeometry (Op.Crop crop) geometry result }
 {
@@ -66,7 +66,7 @@ pub fn output_of(op: Op, geometry: Geometry) -> Geometry
     ensures { IsImageGeometry op geometry result }
 {
     match op {
-        Op::Crop(crop) => cropped(crop, geometry),
+        Op::Crop(crop) => crop_geometry(crop, geometry),
         Op::Table(_) | Op::HFlip | Op::VFlip | Op::Blur(_) => geometry,
     }
 }

@@ -7,13 +7,13 @@ returns-in_default-clause-refused c =
     let stated = c.in_ok-width.ensures.stated in
     let good = good_sizes line c.in_ok-width.width c.in_ok-width.height stated.2 stated.3 in
     let some = has_sizes line c.in_ok-width.width c.in_ok-width.height stated.2 stated.3 in
-    let names = rw c.tags_with.ensures.first at c.named.ensures in
+    let names = rw c.tags_with.ensures.first at c.of_tag.ensures in
     (stated.0, good, stated.1, some, λ chroma named. c.in_default.not-Some chroma ((names chroma).1 named))
 
 pub returns-clause-stated : goal.returns-clause-stated
 returns-clause-stated c =
     let stated = c.in_ok-width.ensures.stated in
-    let names = rw c.tags_with.ensures.first at c.named.ensures in
+    let names = rw c.tags_with.ensures.first at c.of_tag.ensures in
     record {
       is_y4m = stated.0;
       width = stated.2;

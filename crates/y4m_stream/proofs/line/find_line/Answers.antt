@@ -7,23 +7,23 @@ use Rattle.y4m_stream.proofs.line.find_line.Goals as goal
 
 pub returns-in-Some-clause-line : goal.returns-in-Some-clause-line
 returns-in-Some-clause-line g c =
-    rw (← c.held.ensures.value) (begins_with_line c.held.result.now c.in-Some.end
-    (rw c.held.ensures.value c.held.ensures.few) (sym c.place_of.ensures ∙ c.in-Some.is))
+    rw (← c.bytes.ensures.value) (begins_with_line c.bytes.result.now c.in-Some.end
+    (rw c.bytes.ensures.value c.bytes.ensures.few) (sym c.place_of.ensures ∙ c.in-Some.is))
 
-pub returns-then-held-eq-LINE_LIMIT-clause-fault : goal.returns-then-held-eq-LINE_LIMIT-clause-fault
-returns-then-held-eq-LINE_LIMIT-clause-fault g c =
+pub returns-then-bytes-eq-LINE_LIMIT-clause-fault : goal.returns-then-bytes-eq-LINE_LIMIT-clause-fault
+returns-then-bytes-eq-LINE_LIMIT-clause-fault g c =
     IsLongLine-front _ _ c.loop-end.input.held c.loop-end.invariant.kept
-    (omega (arith, ap length c.held-in-loop-end.ensures.value))
-    (rw (← c.held.ensures.value) (no_feed c.held.result.now (sym c.place_of.ensures ∙ c.in_default.is)))
+    (omega (arith, ap length c.bytes-in-loop-end.ensures.value))
+    (rw (← c.bytes.ensures.value) (no_feed c.bytes.result.now (sym c.place_of.ensures ∙ c.in_default.is)))
 
 pub returns-in-Ok-eq0-clause-fault : goal.returns-in-Ok-eq0-clause-fault
 returns-in-Ok-eq0-clause-fault g c =
     let none : HasNoLineFeed c.loop-end.input.held =
-    rw (← c.held.ensures.value) (no_feed c.held.result.now (sym c.place_of.ensures ∙ c.in_default.is)) in
+    rw (← c.bytes.ensures.value) (no_feed c.bytes.result.now (sym c.place_of.ensures ∙ c.in_default.is)) in
     grind (arith, common_steps)
 
 pub returns-in-Err-clause-fault : goal.returns-in-Err-clause-fault
 returns-in-Err-clause-fault g c =
     let none : HasNoLineFeed c.loop-end.input.held =
-    rw (← c.held.ensures.value) (no_feed c.held.result.now (sym c.place_of.ensures ∙ c.in_default.is)) in
+    rw (← c.bytes.ensures.value) (no_feed c.bytes.result.now (sym c.place_of.ensures ∙ c.in_default.is)) in
     search rules

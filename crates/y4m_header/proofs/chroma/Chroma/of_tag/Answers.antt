@@ -1,6 +1,6 @@
 use Rattle.std.proofs.Common.{refl, None}
 use Rattle.y4m_header.proofs.ChromaTable.{names_form}
-use Rattle.y4m_header.proofs.chroma.Chroma.named.Goals as goal
+use Rattle.y4m_header.proofs.chroma.Chroma.of_tag.Goals as goal
 
 pub returns-in-None : goal.returns-in-None
 returns-in-None c = rw c.in-None.is (names_form None _ refl)

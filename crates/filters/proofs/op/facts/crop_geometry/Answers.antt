@@ -1,6 +1,6 @@
 use Rattle.std.proofs.Common.{arith}
 use Rattle.filters.proofs.ChainSizes.{smaller_data}
-use Rattle.filters.proofs.op.facts.cropped.Goals as goal
+use Rattle.filters.proofs.op.facts.crop_geometry.Goals as goal
 
 pub invariant_of-result-clause-small : goal.invariant_of-result-clause-small
 invariant_of-result-clause-small c =
