@@ -70,8 +70,8 @@ pub trait Files {
             create_gives name.now (Some (outlet_contents Self.Writer.contents outlet))) }
         ensures none { IfErr result (λ _. create_gives name.now None) };
 
-    /// The same of a file that may have been made before in this run. Who asks for it sees to it that no two
-    /// write to one. What was there before may stay until the first write.
+    /// Makes or empties a file that may have been made before in this run. Who asks for it sees to it that no
+    /// two write to one. What was there before may stay until the first write.
     fn make(&self, name: &str) -> io::Result<Outlet<Self::Writer, Self::SlowWriter>>
         ensures file { IfOk result (λ outlet.
             create_gives name.now (Some (outlet_contents Self.Writer.contents outlet))) }

@@ -71,7 +71,7 @@ where
     inflow_by(alloc, inlet, looker)
 }
 
-/// The same by a looker that was started before, if one was.
+/// The inflow of an inlet, by a looker that was started before, if one was.
 pub fn inflow_by<R, S, T>(
     alloc: Global,
     inlet: Inlet<R, S>,
@@ -87,12 +87,12 @@ where
 {
     match inlet {
         Inlet::Prompt(reader) => Inflow::Prompt(reader),
-        Inlet::Slow(reader) => watched(alloc, reader, looker),
+        Inlet::Slow(reader) => look_out(alloc, reader, looker),
     }
 }
 
 /// Looks out at a reader that may wait, where there is a looker.
-fn watched<R, S, T>(alloc: Global, reader: S, looker: Option<Looker<S, T>>) -> Inflow<R, S, T>
+fn look_out<R, S, T>(alloc: Global, reader: S, looker: Option<Looker<S, T>>) -> Inflow<R, S, T>
 where
     R: Read,
     S: Read + Drop,

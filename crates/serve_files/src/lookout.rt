@@ -45,7 +45,7 @@ impl<R: Read + Drop> State<R> {
     fn ask(&mut self, wanted: Wanted) -> bool {
         match mem::replace(self, State::Looking(wanted)) {
             State::Resting(ahead) => {
-                *self = State::asked(ahead, wanted);
+                *self = State::of_ask(ahead, wanted);
                 matches!(self, State::Asked(_, _))
             }
             other => {
@@ -55,7 +55,7 @@ impl<R: Read + Drop> State<R> {
         }
     }
 
-    fn asked(ahead: Ahead<R>, wanted: Wanted) -> State<R> {
+    fn of_ask(ahead: Ahead<R>, wanted: Wanted) -> State<R> {
         if ahead.has(wanted) {
             State::Resting(ahead)
         } else {
@@ -81,7 +81,7 @@ impl<R: Read + Drop> State<R> {
     /// gone the reader is given up. It answers whether the client is to be told.
     fn settle(&mut self, ahead: Ahead<R>) -> bool {
         if let State::Looking(wanted) = *self {
-            *self = State::asked(ahead, wanted);
+            *self = State::of_ask(ahead, wanted);
         }
         !self.is_unknown()
     }

@@ -99,7 +99,7 @@ where
     outflow_by(outlet, carrier)
 }
 
-/// The same by a carrier that was started before, if one was.
+/// The outflow of an outlet, by a carrier that was started before, if one was.
 pub fn outflow_by<W, S, T>(outlet: Outlet<W, S>, carrier: Option<Carrier<S, T>>) -> Outflow<W, S, T>
 where
     W: Write,

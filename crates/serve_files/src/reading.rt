@@ -17,7 +17,7 @@ impl Reading {
         Ok(Reading { flag })
     }
 
-    /// The same for another thread. None where too many have it.
+    /// The flag for another thread. None where too many have it.
     pub fn for_another(&self) -> Option<Reading> {
         let flag = Arc::try_clone(&self.flag).ok()?;
         Some(Reading { flag })

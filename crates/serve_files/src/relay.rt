@@ -41,7 +41,7 @@ impl<W: Write + Drop> State<W> {
     fn ask(&mut self, buf: &[u8]) -> bool {
         match mem::replace(self, State::Carrying) {
             State::Resting(load) => {
-                *self = State::asked(load, buf);
+                *self = State::of_ask(load, buf);
                 matches!(self, State::Asked(_))
             }
             other => {
@@ -51,7 +51,7 @@ impl<W: Write + Drop> State<W> {
         }
     }
 
-    fn asked(load: Load<W>, buf: &[u8]) -> State<W> {
+    fn of_ask(load: Load<W>, buf: &[u8]) -> State<W> {
         let mut load = load;
         if load.is_answered() {
             return State::Resting(load);

@@ -13,7 +13,7 @@ use filters::{FilterError, Op, parse_ops};
 use row_bands::BandHeight;
 use serve_files::Files;
 use serve_script::{ReplayFault, replay};
-use serve_watch::{Unwatched, Watch, WatchedSink, WatchedSource, following};
+use serve_watch::{Unwatched, Watch, WatchedSink, WatchedSource, watch_of_frames};
 use serve_words::{FilterWords, NoRequest, Request, read_words};
 use std::alloc::Global;
 use std::fmt;
@@ -97,7 +97,7 @@ where
     run_on(rt, alloc, words, input, output, errors, files, &Unwatched)
 }
 
-/// The same, under a watch.
+/// Runs the program as [`main_on`] does, under a watch.
 ///
 /// `filter` asks it for terminals once the words are right and before anything is read. It takes no terminal
 /// as its output, status 2. Where its input is one it says what it waits for. Of `filter` and of `serve` the
@@ -290,7 +290,7 @@ where
     (output.into_inner().into_inner().into_lent(), filtered)
 }
 
-/// The same, to the writer itself.
+/// Filters a stream from a reader to the writer itself. A watch is told of its frames and images.
 fn filter_into<T: Threads, R: Read + Drop + Send, W: Write, V: Watch + Sync>(
     rt: &T,
     alloc: Global,
@@ -342,7 +342,7 @@ fn run_filter<T: Threads, R: Read + Drop + Send, W: Write, E: Write, V: Watch + 
     if !asked.is_quiet && watch.input_is_terminal() {
         tell(errors, &AWAITED);
     }
-    let told = following(watch, asked.is_quiet);
+    let told = watch_of_frames(watch, asked.is_quiet);
     let filtered = filter_into(rt, alloc, asked.threads, input, output, ops, height, told);
     if told.is_some() {
         watch.ends();
@@ -366,7 +366,7 @@ fn replay_lent<'w, R: Read + Drop, W: Write, L: Loan>(
     (output.into_inner().into_lent(), answer)
 }
 
-/// The same, to the writer itself.
+/// Runs the script of a reader, and writes to the writer itself.
 fn replay_into<R: Read + Drop, W: Write>(
     alloc: Global,
     input: R,

@@ -25,7 +25,7 @@ use crate::control::{lines_of, run_control};
 use crate::tell::tell;
 use serve_core::{Setup, StreamSpec};
 use serve_files::{Files, Outlet};
-use serve_watch::{Trace, Watch, following};
+use serve_watch::{Trace, Watch, watch_of_frames};
 use serve_words::{Asked, Checked, ServeWords, WordFault, check};
 use serve_work::{Clock, Gate, Served, SessionFault, serve_session};
 use std::alloc::{AllocError, Global};
@@ -119,7 +119,7 @@ where
     if let Err(fault) = tell_apart(alloc, files, &checked.streams) {
         return refuse(errors, fault);
     }
-    let told = following(watch, words.is_quiet);
+    let told = watch_of_frames(watch, words.is_quiet);
     let clock = RunClock::new(rt, words.microseconds());
     if let Some(control) = words.control {
         if words.trace.is_some() {
@@ -184,7 +184,8 @@ where
     }
 }
 
-/// The same, with a trace of the run in this file. Where some of it was lost, that is told at the end.
+/// Serves the streams, with a trace of the run in this file. Where some of it was lost, that is told at the
+/// end.
 fn serve_traced<'t, W, E, F, V, K, T>(
     rt: &'t T,
     alloc: Global,

@@ -8,4 +8,4 @@ mod watch;
 
 pub use progress::{Board, Line, WatchedSink, WatchedSource};
 pub use trace::{Doing, Trace};
-pub use watch::{Unwatched, Watch, following};
+pub use watch::{Unwatched, Watch, watch_of_frames};

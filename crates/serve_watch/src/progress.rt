@@ -172,7 +172,7 @@ impl LineProgress {
         }
     }
 
-    /// The same, with so many images and bytes more. A number of 64 bits stays at its last value.
+    /// It with so many images and bytes more. A number of 64 bits stays at its last value.
     fn with(self, frames: u64, bytes: u64) -> LineProgress
         ensures frames { result.frames ≡ min (self.frames + frames) (2 ^ 64 - 1) }
         ensures bytes { result.bytes ≡ min (self.bytes + bytes) (2 ^ 64 - 1) }
@@ -193,7 +193,7 @@ impl LineProgress {
         has_passed(BETWEEN_LINES, self.shown, time)
     }
 
-    /// The same, where its line is shown at this time.
+    /// It where its line is shown at this time.
     fn shown_at(self, time: u64) -> LineProgress
         ensures { result ≡ record self { shown = Some time } }
     {

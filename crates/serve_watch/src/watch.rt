@@ -52,15 +52,21 @@ pub trait Watch {
     }
 
     /// A worker has a lease.
-    fn leased(&self, _worker: u32) {}
+    fn lease_begins(&self, _worker: u32) {}
 
     /// It has settled it, having done this for a stream, whose deadline and the moment of the clock were told
     /// then.
-    fn settled(&self, _worker: u32, _stream: usize, _stint: Stint, _deadline: Option<(u64, u64)>) {}
+    fn lease_ends(
+        &self,
+        _worker: u32,
+        _stream: usize,
+        _stint: Stint,
+        _deadline: Option<(u64, u64)>,
+    ) {}
 }
 
 /// The watch, where it is told of the frames of a run: it follows them, and the run isn't quiet.
-pub fn following<V: Watch>(watch: &V, is_quiet: bool) -> Option<&V> {
+pub fn watch_of_frames<V: Watch>(watch: &V, is_quiet: bool) -> Option<&V> {
     if is_quiet || !watch.follows_frames() {
         return None;
     }

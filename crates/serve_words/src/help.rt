@@ -26,7 +26,7 @@ Each command has a page of its own, as 'y4mserve help filter'.";
 /// What `filter` does.
 pub const FILTER: &str = "Filters a stream from standard input to standard output";
 
-/// The same, for the long help.
+/// What `filter` does, at length.
 pub const FILTER_LONG: &str = "Reads a YUV4MPEG2 stream (.y4m, 8 bits a sample) from standard input,
 applies the operations of OPS in order to each frame, and writes the stream of
 the images to standard output. The header line stays as it is, but for W and H
@@ -38,7 +38,7 @@ pub const OPERATIONS: &str = "1 to 8 operations joined by '+', as crop:16,8,1888
 /// What `--band` is.
 pub const BAND: &str = "Luma rows of a band, even, 2 to 128";
 
-/// The same, for the long help.
+/// What `--band` is, at length.
 pub const BAND_LONG: &str = "Luma rows of a band, the part of a picture that is worked on at a time:
 even, 2 to 128. The images are the same for each B, and a frame costs
 less for a higher one";
@@ -46,7 +46,7 @@ less for a higher one";
 /// What `--threads` is.
 pub const THREADS: &str = "Threads, 1 or 2";
 
-/// The same, for the long help.
+/// What `--threads` is, at length.
 pub const THREADS_LONG: &str =
     "Threads, 1 or 2. With 2, a frame of 262144 bytes or more is read while
 the image of the one before it is made and written, a smaller one behind
@@ -120,7 +120,7 @@ Status 1:
 /// What `replay` does.
 pub const REPLAY: &str = "Runs a script on an account, or on a machine that serves streams";
 
-/// The same, for the long help.
+/// What `replay` does, at length.
 pub const REPLAY_LONG: &str =
     "Reads a script from standard input, runs its commands, and prints one line for
 each. An account script moves the account of one constant bandwidth server
@@ -264,7 +264,7 @@ Other faults, each one line on standard error behind 'y4mserve: '; status 1:
 /// What `serve` does.
 pub const SERVE: &str = "Filters many streams at once, which share some workers";
 
-/// The same, for the long help.
+/// What `serve` does, at length.
 pub const SERVE_LONG: &str =
     "Filters many streams at once. Each is read from its file IN and written to
 its file OUT as by 'filter'; worker threads do the filtering for all of them,
@@ -274,7 +274,7 @@ each is printed. With --control streams come and go while others run.";
 /// What a word of a stream is.
 pub const STREAM: &str = "A stream: its name, its two files, its share and its operations";
 
-/// The same, for the long help.
+/// What a word of a stream is, at length.
 pub const STREAM_LONG: &str = "A stream, in six parts; there may be 64:
   NAME  1 to 32 letters, digits, '_' or '-', each stream's its own.
   IN    The file that is read.
@@ -288,7 +288,7 @@ and encoders stand on both sides, and IN may be /dev/stdin";
 /// What `--workers` is.
 pub const WORKERS: &str = "Threads that filter, 1 to 16";
 
-/// The same, for the long help.
+/// What `--workers` is, at length.
 pub const WORKERS_LONG: &str =
     "Threads that filter, 1 to 16. Each stream has one more, which reads and
 writes. As many as the machine has processors is the fastest. Shares decide
@@ -297,7 +297,7 @@ only where streams wait for a worker, so where workers are fewer than streams";
 /// What `--quantum` is.
 pub const QUANTUM: &str = "Most bands that a worker does at a time, 1 to 64";
 
-/// The same, for the long help.
+/// What `--quantum` is, at length.
 pub const QUANTUM_LONG: &str = "Most bands of a frame that a worker does before it looks again which
 stream comes first, 1 to 64. A lower one lets a stream that is behind its
 share come sooner, a higher one costs less";
@@ -305,7 +305,7 @@ share come sooner, a higher one costs less";
 /// What `--journal` is.
 pub const JOURNAL: &str = "Most entries of a journal, 66 to 1048576";
 
-/// The same, for the long help.
+/// What `--journal` is, at length.
 pub const JOURNAL_LONG: &str =
     "Most entries of a journal, 66 to 1048576; with --control 130 at least.
 Each call of a stream or a worker is an entry; where the journal is full,
@@ -315,7 +315,7 @@ less often, and takes more memory";
 /// What `--control` is.
 pub const CONTROL: &str = "File of lines that ask for more streams while others run";
 
-/// The same, for the long help.
+/// What `--control` is, at length.
 pub const CONTROL_LONG: &str = "File whose lines are read while streams run, a FIFO or '-' for
 standard input:
   NAME:IN:OUT:Q:T:OPS  A stream comes.
@@ -329,7 +329,7 @@ named on the command line too, or none may";
 /// What `--moment` is.
 pub const MOMENT: &str = "Microseconds of a moment, 1 to 1000000";
 
-/// The same, for the long help.
+/// What `--moment` is, at length.
 pub const MOMENT_LONG: &str = "Microseconds of a moment, 1 to 1000000: the clock is the time since
 the start. Without it a moment passes with each offer of a frame; with
 --control it is 30 unless told otherwise";
@@ -337,7 +337,7 @@ the start. Without it a moment passes with each offer of a frame; with
 /// What `--trace` is.
 pub const TRACE: &str = "File that a trace of the run is written to";
 
-/// The same, for the long help.
+/// What `--trace` is, at length.
 pub const TRACE_LONG: &str = "File that a trace of the run is written to, for ui.perfetto.dev or
 chrome://tracing: what each worker and each stream does when, and how
 many frames of a stream aren't finished and images wait. It is an OUT

@@ -55,7 +55,7 @@ fn parse_stream_word(word: &str) -> Option<StreamWord<'_>>
     })
 }
 
-/// The same where standard input may be taken by something else: no stream is read from it then.
+/// A word of a stream where standard input may be taken by something else: no stream is read from it then.
 pub fn parse_word_beside(word: &str, is_taken: bool) -> Option<StreamWord<'_>>
     ensures { option_map stream_told result ≡ stream_beside is_taken word.now }
 {

@@ -59,6 +59,6 @@ pub trait Door<R: Source, W: Sink>: Bell {
         ensures waits { (ws : List Waiting) → waits self.old ws → waits self.new ws };
 
     /// All were shown. The moment is that of their hub's clock, and `None` where no stream is served.
-    fn shown(&mut self, moment: Option<u64>)
+    fn end_show(&mut self, moment: Option<u64>)
         ensures waits { (ws : List Waiting) → waits self.old ws → waits self.new ws };
 }

@@ -36,11 +36,11 @@ pub trait Gate {
     }
 
     /// Worker `worker` has a lease.
-    fn leased(&self, _worker: u32) {}
+    fn lease_begins(&self, _worker: u32) {}
 
     /// It has settled it, having done this. The hub then told the stream's deadline and the moment of its
     /// clock.
-    fn settled(&self, _worker: u32, _stint: Stint, _deadline: Option<(u64, u64)>) {}
+    fn lease_ends(&self, _worker: u32, _stint: Stint, _deadline: Option<(u64, u64)>) {}
 }
 
 /// What tells the moments at which frames are offered.

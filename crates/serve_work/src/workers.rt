@@ -55,7 +55,7 @@ fn stint_of(lease: &Lease) -> Stint
 fn tell<L: Epoch, G: Gate, T: Wait>(rt: &T, hub: &Hub<L>, worker: u32, stint: Stint, gate: &G) {
     if gate.follows_leases() {
         let deadline = hub.deadline(rt, stint.stream);
-        gate.settled(worker, stint, deadline);
+        gate.lease_ends(worker, stint, deadline);
     }
 }
 
@@ -89,7 +89,7 @@ pub fn work<L: Epoch, G: Gate + Sync, T: Threads + Wait>(
             Ok(lease) => lease,
             Err(refusal) => return (seat, refusal),
         };
-        gate.leased(seat.worker());
+        gate.lease_begins(seat.worker());
         spend(rt, seat.worker(), &mut lease, gate);
         let stint = stint_of(&lease);
         if let Err(refused) = hub.settle(rt, &mut seat, lease) {

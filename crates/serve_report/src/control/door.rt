@@ -89,7 +89,7 @@ where
         };
         let mut voice = self.lobby.voice.lock(self.rt);
         let table = self.lobby.table.lock(self.rt);
-        if let Some(entry) = table.served(ticket) {
+        if let Some(entry) = table.entry_under(ticket) {
             voice.say(&Said::Admitted(&entry.order.name));
         }
     }
@@ -257,12 +257,12 @@ where
         self.say_admitted();
         let mut voice = self.lobby.voice.lock(self.rt);
         let table = self.lobby.table.lock(self.rt);
-        if let Some(entry) = table.served(ticket) {
+        if let Some(entry) = table.entry_under(ticket) {
             voice.say(&Said::Stands(&entry.order.name, standing_of(standing)));
         }
     }
 
-    fn shown(&mut self, moment: Option<u64>) {
+    fn end_show(&mut self, moment: Option<u64>) {
         self.say_admitted();
         let moment = match moment {
             Some(moment) => moment,

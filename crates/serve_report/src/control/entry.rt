@@ -91,20 +91,20 @@ impl<R: Source + Drop, W: Sink + Drop, S: Drop> Entry<R, W, S> {
     }
 
     /// Its input was opened, and stands there. Its header is read next.
-    pub fn input_opened(&mut self, input: Place) {
+    pub fn set_input(&mut self, input: Place) {
         self.input = input;
         self.held = None;
         self.stage = Stage::Header;
     }
 
     /// A share of the workers is kept for it, and its output is made next.
-    pub fn admitted(&mut self) {
+    pub fn note_share(&mut self) {
         self.has_share = true;
         self.stage = Stage::Output;
     }
 
     /// Its output was made, and stands there.
-    pub fn output_made(&mut self, output: Place) {
+    pub fn set_output(&mut self, output: Place) {
         self.output = output;
     }
 

@@ -117,7 +117,7 @@ impl<R: Read> Feed<R> {
         came
     }
 
-    /// The same, but for the number.
+    /// The next line or fault, which isn't counted.
     fn take_next(&mut self) -> Feeding
         ensures line { Feeds self.old result self.new }
         ensures number { self.new.number ≡ self.old.number }
@@ -161,11 +161,11 @@ impl<R: Read> Feed<R> {
         ensures long { IsTrue result ↔ (LONGEST_LINE < length self.now.held) }
         ensures most { length self.now.held ≤ ROOM }
     {
-        self.held().len() > LONGEST_LINE
+        self.bytes().len() > LONGEST_LINE
     }
 
     /// The bytes that are held.
-    fn held(&self) -> &[u8]
+    fn bytes(&self) -> &[u8]
         ensures value { result.now ≡ self.now.held }
         ensures most { length self.now.held ≤ ROOM }
     {
@@ -176,7 +176,7 @@ impl<R: Read> Feed<R> {
     fn line_end(&self) -> Option<usize>
         ensures { result ≡ position (λ byte. byte == 10) self.now.held }
     {
-        place_of(b'\n', self.held())
+        place_of(b'\n', self.bytes())
     }
 
     /// Reads once, where there is room, and answers whether a byte came. The last line is lost.
@@ -244,10 +244,10 @@ impl<R: Read> Feed<R> {
         ensures line { Feeds self.old result self.new }
         ensures number { self.new.number ≡ self.old.number }
     {
-        if self.held().is_empty() {
+        if self.bytes().is_empty() {
             return Feeding::End;
         }
-        if self.held() != END {
+        if self.bytes() != END {
             self.lose_held();
             return Feeding::Fault(LineFault::BadLine);
         }

@@ -64,7 +64,7 @@ impl<'o, R: Source + Drop, W: Sink + Drop, S: Drop, O: Write, E: Write> Lobby<'o
     }
 
     /// Tells that a stream stopped before it was served.
-    pub fn stopped<T: Wait>(&self, rt: &T, order: &Order, stop: StreamStop) {
+    pub fn tell_stop<T: Wait>(&self, rt: &T, order: &Order, stop: StreamStop) {
         let mut voice = self.voice.lock(rt);
         let entry = self.table.lock(rt).take(order.number);
         self.changed.notify_all();
@@ -73,7 +73,7 @@ impl<'o, R: Source + Drop, W: Sink + Drop, S: Drop, O: Write, E: Write> Lobby<'o
     }
 
     /// A stream's input was opened, and stands there. Answers whether no other stream loses by it.
-    pub fn input_opened<T: Wait>(&self, rt: &T, order: &Order, place: Place) -> bool {
+    pub fn set_input<T: Wait>(&self, rt: &T, order: &Order, place: Place) -> bool {
         let mut table = self.table.lock(rt);
         let input = FileUse {
             name: &order.input,
@@ -84,7 +84,7 @@ impl<'o, R: Source + Drop, W: Sink + Drop, S: Drop, O: Write, E: Write> Lobby<'o
             return false;
         }
         if let Some(entry) = table.entry_mut(order.number) {
-            entry.input_opened(place);
+            entry.set_input(place);
         }
         true
     }
@@ -111,7 +111,7 @@ impl<'o, R: Source + Drop, W: Sink + Drop, S: Drop, O: Write, E: Write> Lobby<'o
     }
 
     /// A stream's output was made, and stands there. Answers whether no other stream lost by it.
-    pub fn output_made<T: Wait>(&self, rt: &T, order: &Order, place: Place) -> bool {
+    pub fn set_output<T: Wait>(&self, rt: &T, order: &Order, place: Place) -> bool {
         let mut table = self.table.lock(rt);
         let output = FileUse {
             name: &order.output,
@@ -122,7 +122,7 @@ impl<'o, R: Source + Drop, W: Sink + Drop, S: Drop, O: Write, E: Write> Lobby<'o
             return false;
         }
         if let Some(entry) = table.entry_mut(order.number) {
-            entry.output_made(place);
+            entry.set_output(place);
         }
         true
     }

@@ -88,7 +88,7 @@ where
     );
     match ready {
         Ok(ready) => lobby.make_ready(rt, &order, ready),
-        Err(stop) => lobby.stopped(rt, &order, stop_of(&order, stop)),
+        Err(stop) => lobby.tell_stop(rt, &order, stop_of(&order, stop)),
     }
 }
 
@@ -134,7 +134,7 @@ where
     lobby.admit(rt, order)?;
     let sink = open_output(files, order, word.output, carrier, stream, told)?;
     let place = files.place(word.output);
-    if !lobby.output_made(rt, order, place) {
+    if !lobby.set_output(rt, order, place) {
         return Err(StreamStop::Create);
     }
     let spec = spec_of(word.q, word.t, geometry, job);
@@ -169,7 +169,7 @@ where
     let Ok(inlet) = files.open(name) else {
         return Err(StreamStop::Open);
     };
-    if !lobby.input_opened(rt, order, files.place(name)) {
+    if !lobby.set_input(rt, order, files.place(name)) {
         return Err(StreamStop::Open);
     }
     let inflow = inflow_by(alloc, inlet, looker);

@@ -80,7 +80,7 @@ impl<R: Source + Drop, W: Sink + Drop, S: Drop> Table<R, W, S> {
         let mut tally = self.tally();
         tally.admit(q, t)?;
         if let Some(entry) = self.entry_mut(number) {
-            entry.admitted();
+            entry.note_share();
         }
         Ok(())
     }
@@ -109,7 +109,7 @@ impl<R: Source + Drop, W: Sink + Drop, S: Drop> Table<R, W, S> {
     }
 
     /// The stream that is served under this ticket.
-    pub fn served(&self, ticket: u64) -> Option<&Entry<R, W, S>> {
+    pub fn entry_under(&self, ticket: u64) -> Option<&Entry<R, W, S>> {
         self.entries.iter().find(|entry| entry.is_served(ticket))
     }
 

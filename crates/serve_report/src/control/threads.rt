@@ -95,7 +95,7 @@ where
             }
             let served = serve_lobby(rt, alloc, form, lobby, clock);
             is_over.store(true, Ordering::SeqCst);
-            if let Err(fault) = heard(served, is_heard) {
+            if let Err(fault) = serving_of(served, is_heard) {
                 lobby.fail(rt, fault);
                 gives_up();
             }
@@ -104,7 +104,7 @@ where
 }
 
 /// What serving came to, where there was a thread for the lines, and else that there was none.
-fn heard(served: Result<(), SessionFault>, is_heard: bool) -> Result<(), SessionFault> {
+fn serving_of(served: Result<(), SessionFault>, is_heard: bool) -> Result<(), SessionFault> {
     served?;
     if is_heard {
         Ok(())
@@ -133,7 +133,7 @@ where
     serve_door::<R, W, S, O, E, RunClock<'_, T>, T, Brand>(rt, alloc, form, lobby, clock)
 }
 
-/// The same, where a door's type tells the most entries of a journal.
+/// Serves those who come, by a door whose type tells the most entries of a journal.
 fn serve_door<'l, 'o, R, W, S, O, E, K, T, L>(
     rt: &'l T,
     alloc: Global,
@@ -229,27 +229,19 @@ where
     requires opens { P.IsAlwaysCallable opens.now }
 {
     let mut bids = bids;
-    let errands = first.lock(rt).take().unwrap_or(Vec::new(alloc));
+    let mut errands = first.lock(rt).take().unwrap_or(Vec::new(alloc)).into_iter();
     thread::scope(
         thread::scope_env(),
         rt,
         |scope|
             requires { IsSync P.row × L.IsAlwaysCallable prepares.now × P.IsAlwaysCallable opens.now }
         {
-            for errand in errands {
-                let number = errand.order.number;
-                prepare(prepares, &errand);
-                let opening = scope.spawn(
-                    move ||
-                        requires { P.IsAlwaysCallable opens.now }
-                    { opens(errand) },
-                );
-                if opening.is_err() {
-                    lobby.refuse(rt, number);
-                }
-            }
             for _ in rt.forever() {
-                let errand = match bids.next() {
+                let bidding = match errands.next() {
+                    Some(errand) => Bidding::Open(errand),
+                    None => bids.next(),
+                };
+                let errand = match bidding {
                     Bidding::Done => continue,
                     Bidding::Open(errand) => errand,
                     Bidding::End => break,

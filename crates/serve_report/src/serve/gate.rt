@@ -72,15 +72,15 @@ impl<'w, V: Watch> Gate for WatchedGate<'w, V> {
         }
     }
 
-    fn leased(&self, worker: u32) {
+    fn lease_begins(&self, worker: u32) {
         if let Some(watch) = self.watch {
-            watch.leased(worker);
+            watch.lease_begins(worker);
         }
     }
 
-    fn settled(&self, worker: u32, stint: Stint, deadline: Option<(u64, u64)>) {
+    fn lease_ends(&self, worker: u32, stint: Stint, deadline: Option<(u64, u64)>) {
         if let (Some(watch), Some(place)) = (self.watch, self.places.get(stint.stream as usize)) {
-            watch.settled(worker, *place, stint, deadline);
+            watch.lease_ends(worker, *place, stint, deadline);
         }
     }
 }

@@ -85,7 +85,11 @@ impl ClientLane {
     }
 
     /// A frame has been read.
-    pub fn read<W: Write + Drop, T: Wait + Clock>(&mut self, spool: &Spool<'_, W, T>, now: u64) {
+    pub fn frame_read<W: Write + Drop, T: Wait + Clock>(
+        &mut self,
+        spool: &Spool<'_, W, T>,
+        now: u64,
+    ) {
         self.holds_frame = true;
         self.has_frames = true;
         let done = self.doings.end(now);
@@ -93,7 +97,11 @@ impl ClientLane {
     }
 
     /// An image has been written.
-    pub fn written<W: Write + Drop, T: Wait + Clock>(&mut self, spool: &Spool<'_, W, T>, now: u64) {
+    pub fn image_written<W: Write + Drop, T: Wait + Clock>(
+        &mut self,
+        spool: &Spool<'_, W, T>,
+        now: u64,
+    ) {
         self.holds_image = false;
         let done = self.doings.end(now);
         self.tell(spool, done);

@@ -122,7 +122,7 @@ impl<'t, W: Write + Drop, V: Watch, T: Wait + Clock> Watch for Trace<'t, W, V, T
 
     fn frame_read(&self, stream: usize) {
         if let (Some(lane), Some(now)) = (self.streams.get(stream), self.spool.now()) {
-            lane.read(&self.spool, now);
+            lane.frame_read(&self.spool, now);
         }
         if let Some(told) = self.told {
             told.frame_read(stream);
@@ -131,7 +131,7 @@ impl<'t, W: Write + Drop, V: Watch, T: Wait + Clock> Watch for Trace<'t, W, V, T
 
     fn image_written(&self, stream: usize, bytes: u64) {
         if let (Some(lane), Some(now)) = (self.streams.get(stream), self.spool.now()) {
-            lane.written(&self.spool, now);
+            lane.image_written(&self.spool, now);
         }
         if let Some(told) = self.told {
             told.image_written(stream, bytes);
@@ -164,13 +164,13 @@ impl<'t, W: Write + Drop, V: Watch, T: Wait + Clock> Watch for Trace<'t, W, V, T
         true
     }
 
-    fn leased(&self, worker: u32) {
+    fn lease_begins(&self, worker: u32) {
         if let (Some(lane), Some(now)) = (self.workers.get(worker as usize), self.spool.now()) {
             lane.lock(self.spool.rt()).begin(now);
         }
     }
 
-    fn settled(&self, worker: u32, stream: usize, stint: Stint, deadline: Option<(u64, u64)>) {
+    fn lease_ends(&self, worker: u32, stream: usize, stint: Stint, deadline: Option<(u64, u64)>) {
         let (Some(lane), Some(stream)) = (
             self.workers.get(worker as usize),
             self.streams.get(stream),

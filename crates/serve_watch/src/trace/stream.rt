@@ -94,13 +94,17 @@ impl<'a> StreamLane<'a> {
     }
 
     /// A frame has been read whole.
-    pub fn read<W: Write + Drop, T: Wait + Clock>(&self, spool: &Spool<'_, W, T>, now: u64) {
-        self.client.lock(spool.rt()).read(spool, now);
+    pub fn frame_read<W: Write + Drop, T: Wait + Clock>(&self, spool: &Spool<'_, W, T>, now: u64) {
+        self.client.lock(spool.rt()).frame_read(spool, now);
     }
 
     /// An image has been written whole.
-    pub fn written<W: Write + Drop, T: Wait + Clock>(&self, spool: &Spool<'_, W, T>, now: u64) {
-        self.client.lock(spool.rt()).written(spool, now);
+    pub fn image_written<W: Write + Drop, T: Wait + Clock>(
+        &self,
+        spool: &Spool<'_, W, T>,
+        now: u64,
+    ) {
+        self.client.lock(spool.rt()).image_written(spool, now);
     }
 
     /// The run is over. All is written.

@@ -152,7 +152,7 @@ pub(super) fn show_guests<R: Source + Drop, W: Sink + Drop, D: Door<R, W>>(
     for place in 0..guests.len() {
         show_at(door, ended, guests, place);
     }
-    door.shown(Some(ended.clock()));
+    door.end_show(Some(ended.clock()));
 }
 
 /// Tells the door, if it asks, that no stream is served.
@@ -160,7 +160,7 @@ pub(super) fn show_none<R: Source, W: Sink, D: Door<R, W>>(door: &mut D)
     ensures waits { (ws : List Waiting) → D.waits door.old ws → D.waits door.new ws }
 {
     if door.asks() {
-        door.shown(None);
+        door.end_show(None);
     }
 }
 

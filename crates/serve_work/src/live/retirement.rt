@@ -22,36 +22,15 @@ pub(super) fn without_released<R: Source + Drop, W: Sink + Drop, D: Door<R, W>>(
         → AreGuests D.limit D.times interval.ended ws interval.guests.items
         → AreGuests D.limit D.times result.ended ws result.guests.items }
 {
+    let Some((marks, mut kept)) = marks_and_room(alloc, &interval) else {
+        return interval;
+    };
     let Interval {
         ended,
         guests,
         workers,
         goes_on,
     } = interval;
-    let Some(marks) = marks_of(alloc, &ended, guests.len()) else {
-        return Interval {
-            ended,
-            guests,
-            workers,
-            goes_on,
-        };
-    };
-    let Ok(mut kept) = Vec::with_capacity(alloc, guests.len()) else {
-        return Interval {
-            ended,
-            guests,
-            workers,
-            goes_on,
-        };
-    };
-    if !are_told(&marks, &guests) {
-        return Interval {
-            ended,
-            guests,
-            workers,
-            goes_on,
-        };
-    }
     match ended.retire(alloc) {
         Err(ended) => Interval {
             ended,
@@ -69,6 +48,28 @@ pub(super) fn without_released<R: Source + Drop, W: Sink + Drop, D: Door<R, W>>(
             }
         }
     }
+}
+
+/// Which of the streams stay, and room for as many. There is none where one that doesn't stay wasn't told, or
+/// where memory is refused.
+fn marks_and_room<R: Source + Drop, W: Sink + Drop>(
+    alloc: Global,
+    interval: &Interval<R, W>,
+) -> Option<(Vec<bool>, Vec<Option<Guest<R, W>>>)>
+    ensures marks { IfSome result (λ made. made.0.items ≡ map
+        (λ rest. stays interval.now.ended.book.desk rest.number)
+        (take (length interval.now.guests.items) interval.now.ended.streams)) }
+    ensures told { IfSome result (λ made. AreToldBut made.0.items interval.now.guests.items) }
+    ensures none { IfSome result (λ made. made.1.items ≡ []) }
+    ensures room { IfSome result (λ made. vec_len interval.now.guests ≤ vec_capacity made.1) }
+{
+    let Interval { ended, guests, .. } = interval;
+    let marks = marks_of(alloc, ended, guests.len())?;
+    let kept = Vec::with_capacity(alloc, guests.len()).ok()?;
+    if !are_told(&marks, guests) {
+        return None;
+    }
+    Some((marks, kept))
 }
 
 /// Which of the streams stay whose seats were handed over at these places.

@@ -58,7 +58,7 @@ impl<R: Source + Drop, W: Sink + Drop> Stream<R, W> {
         }
     }
 
-    fn waiting(rest: ClientRest<R, W>) -> Stream<R, W>
+    fn of_rest(rest: ClientRest<R, W>) -> Stream<R, W>
         ensures { result ≡ rules.Waiting rest }
     {
         Stream {
@@ -66,7 +66,7 @@ impl<R: Source + Drop, W: Sink + Drop> Stream<R, W> {
         }
     }
 
-    fn over(served: Served<R, W>) -> Stream<R, W>
+    fn of_served(served: Served<R, W>) -> Stream<R, W>
         ensures { result ≡ rules.Over served.outcome }
     {
         Stream {
@@ -122,12 +122,12 @@ impl<L: Epoch, R: Source + Drop, W: Sink + Drop> Held<L, R, W> {
     {
         let Held { seat, stream } = self;
         match stream.state {
-            State::Over(served) => Held::new(seat, Stream::over(served)),
+            State::Over(served) => Held::new(seat, Stream::of_served(served)),
             State::Waiting(rest) => match client(rt, alloc, hub, seat, rest, clock) {
-                ClientTurn::Paused(seat, rest, _) => Held::new(seat, Stream::waiting(rest)),
+                ClientTurn::Paused(seat, rest, _) => Held::new(seat, Stream::of_rest(rest)),
                 ClientTurn::Ended(end) => {
                     let (seat, served) = part(end);
-                    Held::new(seat, Stream::over(served))
+                    Held::new(seat, Stream::of_served(served))
                 }
             },
         }

@@ -136,7 +136,7 @@ impl<'a, R: Source + Drop, W: Sink + Drop> Door<R, W> for Sheet<'a, R, W> {
         let _ = self.told.push_back(Line::Stands(ticket, standing));
     }
 
-    fn shown(&mut self, moment: Option<u64>) {
+    fn end_show(&mut self, moment: Option<u64>) {
         let _ = self.told.push_back(Line::Shown(moment));
         let _ = self.questions.pop_front();
     }

@@ -25,7 +25,7 @@ new-requires-in-Paused g c =
     let after : IsRestOf ready.1.0 ready.1.1 c.in-Paused.seat c.in-Paused.rest =
     c.in-Paused.ensures.turn ready.1.0 ready.1.1 (rw c.in-Waiting.rest-is ready.1.2) in
     record {
-      ready = rw c.waiting.ensures (
+      ready = rw c.of_rest.ensures (
         header_stays ready.1.0 ready.1.1 ready.1.1 inside.seat c.in-Paused.seat c.in-Waiting.rest c.in-Paused.rest ready.1.2 after ready.0,
         (ready.1.0, ready.1.1, after),
       );
@@ -37,7 +37,7 @@ returns-in-Over g c =
     let over : inside.stream ≡ Over c.in-Over.served.outcome = sym c.stream.view_is ∙ ap stream_of c.in-Over.is in
     let same : c.args.self ≡ c.new.result =
     sym c.self.view_is ∙ ap (held_at inside.seat) (over ∙ ap (λ (s : ServedValue). Over s.outcome) (sym c.in-Over.served-is)
-    ∙ sym c.over.ensures) ∙ sym c.new.ensures in (
+    ∙ sym c.of_served.ensures) ∙ sym c.new.ensures in (
       λ start past at. subst (Stands start past) same at,
       KeepsMoments-same _ _ _ (sym (ap (λ (held : HeldValue). held.seat) same)),
       λ allowed. subst (λ (held : HeldValue). IfSome (stream_stop held.stream)
@@ -51,10 +51,10 @@ returns-in-Paused g c =
       λ start past at.
           let was : IsRestOf start past inside.seat c.in-Waiting.rest =
           subst (λ s. StandsAt s start past inside.seat) waits (subst (Stands start past) (sym c.self.view_is) at) in
-          rw (c.new-in-Paused.ensures, c.waiting.ensures) (c.in-Paused.ensures.turn start past (rw c.in-Waiting.rest-is was)),
+          rw (c.new-in-Paused.ensures, c.of_rest.ensures) (c.in-Paused.ensures.turn start past (rw c.in-Waiting.rest-is was)),
       rw c.new-in-Paused.ensures (subst (λ (held : HeldValue). KeepsMoments (g.K.Clock.gives c.args.clock.now) held.seat
           c.in-Paused.seat) c.self.view_is c.in-Paused.ensures.moments),
-      λ allowed. rw (c.new-in-Paused.ensures, c.waiting.ensures) (c.in-Paused.ensures.stop (rw c.in-Waiting.rest-is
+      λ allowed. rw (c.new-in-Paused.ensures, c.of_rest.ensures) (c.in-Paused.ensures.stop (rw c.in-Waiting.rest-is
           (stop_inside (g.K.Clock.gives c.args.clock.now) inside.seat inside.stream _ c.args.self waits c.self.view_is allowed))),
     )
 
