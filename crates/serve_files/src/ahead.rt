@@ -74,7 +74,7 @@ impl<R: Read> Ahead<R> {
         if !matches!(self.told, Told::Nothing) {
             return true;
         }
-        let held = self.stock.held();
+        let held = self.stock.bytes();
         wanted.least(held).min(self.stock.room()) <= held.len()
     }
 
@@ -93,7 +93,7 @@ impl<R: Read> Ahead<R> {
             return;
         }
         self.stock.widen(wanted.most());
-        let held = self.stock.held();
+        let held = self.stock.bytes();
         let most = wanted.least(held).min(self.stock.room());
         if most <= held.len() {
             return;

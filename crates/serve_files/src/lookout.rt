@@ -37,7 +37,7 @@ impl<R: Read + Drop> State<R> {
     }
 
     /// Whether the looker has something to do.
-    fn calls(&self) -> bool {
+    fn has_task(&self) -> bool {
         matches!(self, State::Asked(_, _) | State::Over)
     }
 
@@ -124,7 +124,7 @@ fn look_out<R: Read + Drop, T: Wait>(rt: &T, post: &Post<R>) {
     for _ in rt.forever() {
         let mut state = post
             .changed
-            .wait_while(rt, post.state.lock(rt), |state| !state.calls());
+            .wait_while(rt, post.state.lock(rt), |state| !state.has_task());
         let Some((mut ahead, wanted)) = state.lend() else {
             return;
         };

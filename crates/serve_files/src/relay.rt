@@ -32,7 +32,7 @@ impl<W: Write + Drop> State<W> {
     }
 
     /// Whether the carrier has something to do.
-    fn calls(&self) -> bool {
+    fn has_task(&self) -> bool {
         matches!(self, State::Asked(_) | State::Over)
     }
 
@@ -114,7 +114,7 @@ fn carry_on<W: Write + Drop, T: Wait>(rt: &T, post: &Post<W>) {
     for _ in rt.forever() {
         let mut state = post
             .changed
-            .wait_while(rt, post.state.lock(rt), |state| !state.calls());
+            .wait_while(rt, post.state.lock(rt), |state| !state.has_task());
         let Some(mut load) = state.lend() else {
             return;
         };

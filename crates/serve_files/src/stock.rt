@@ -53,7 +53,7 @@ impl Stock {
     }
 
     /// The bytes that are held.
-    pub fn held(&self) -> &[u8]
+    pub fn bytes(&self) -> &[u8]
         ensures { result.now ≡ self.now.held }
     {
         &self.bytes[self.from..self.to]

@@ -104,7 +104,7 @@ impl Book {
             units,
             ..
         } = self;
-        let book = opened_over(desk, journal, limit, taken - past.len(), units);
+        let book = book_over(desk, journal, limit, taken - past.len(), units);
         (book, past)
     }
 
@@ -129,7 +129,7 @@ impl Book {
             ..
         } = self;
         desk.retire();
-        let book = opened_over(desk, journal, limit, taken - past.len(), units);
+        let book = book_over(desk, journal, limit, taken - past.len(), units);
         (book, past)
     }
 
@@ -237,7 +237,7 @@ impl Book {
 }
 
 /// A book over this desk with this journal, which is empty, and places for the units of its workers.
-fn opened_over(
+fn book_over(
     desk: Desk,
     journal: Vec<Entry>,
     limit: usize,

@@ -30,8 +30,8 @@ ask_told asks.State = State
 ask_told asks.End = End
 
 -- the name in a line `close NAME`, if it is one
-abbrev pub closed_in : List ℕ → Option (List ℕ)
-closed_in line =
+abbrev pub name_to_close : List ℕ → Option (List ℕ)
+name_to_close line =
     if bytes_eq (first_word line) (codes "close") then option_and_then name_of (behind_word line) else None
 
 -- what a text asks for, if it does; where standard input is taken, no stream is read from it
@@ -39,7 +39,7 @@ abbrev pub text_asks : (is_taken : Bool) → List ℕ → Option Asking
 text_asks is_taken text =
     if bytes_eq text (codes "state") then Some State
     else if bytes_eq text (codes "end") then Some End
-    else option_map_or (λ name. Some (Close name)) (closed_in text)
+    else option_map_or (λ name. Some (Close name)) (name_to_close text)
     (option_map Serve (stream_beside is_taken text))
 
 -- the same of a line, whose bytes may be no text

@@ -77,15 +77,15 @@ abbrev pub is_whole : StreamRow → Bool
 is_whole row = is_whole_stop row.stop
 
 -- the units that were done for all streams, or the greatest number of 64 bits
-abbrev pub charged_in : List StreamRow → ℕ
-charged_in rows = fold (λ units row. min (units + row.charged) (2 ^ 64 - 1)) 0 rows
+abbrev pub units_in : List StreamRow → ℕ
+units_in rows = fold (λ units row. min (units + row.charged) (2 ^ 64 - 1)) 0 rows
 
 abbrev pub rows_text : List StreamRow → List ℕ
 rows_text rows = flat_map (λ row. line_text (row_text row)) rows
 
 -- a line for each stream, and then `units N`
 abbrev pub report_text : List StreamRow → List ℕ
-report_text rows = rows_text rows ++ line_text (codes "units " ++ decimal (charged_in rows))
+report_text rows = rows_text rows ++ line_text (codes "units " ++ decimal (units_in rows))
 
 -- what a session of these streams, by a clock that may give these moments and with at most so many entries in
 -- an epoch's journal, left of them; where none takes part there is none

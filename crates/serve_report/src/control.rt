@@ -21,4 +21,4 @@ mod tickets;
 mod voice;
 
 pub use crate::serve::{AdmitFault, StreamRow, StreamStop};
-pub use run::{lines_of, run_control};
+pub use run::{lines_file, run_control};

@@ -14,14 +14,14 @@ use self::apart::{tell_apart, tell_control_apart, tell_trace_apart};
 pub use self::clock::Counter;
 pub use self::gate::PlainGate;
 use self::gate::WatchedGate;
-use self::opening::{Opened, Tried, all_tried, open_all};
+use self::opening::{Opened, Tried, gather_opened, open_all};
 pub use self::opening::{job_of, spec_of};
 use self::ready::Input;
 pub use self::ready::Ready;
 pub use self::report::{AdmitFault, StreamRow, StreamStop};
 use self::rows::{are_whole, rows_of, write_report};
 pub use self::run_clock::RunClock;
-use crate::control::{lines_of, run_control};
+use crate::control::{lines_file, run_control};
 use crate::tell::tell;
 use serve_core::{Setup, StreamSpec};
 use serve_files::{Files, Outlet};
@@ -126,7 +126,7 @@ where
             tell(errors, &TRACED_CONTROL);
             return 2;
         }
-        if let Err(clash) = tell_control_apart(files, lines_of(control), &checked.streams) {
+        if let Err(clash) = tell_control_apart(files, lines_file(control), &checked.streams) {
             return refuse(errors, clash);
         }
         return run_control(
@@ -134,7 +134,7 @@ where
         );
     }
     match words.trace {
-        None => serve_told(rt, alloc, checked, output, errors, files, told, &clock),
+        None => serve_and_report(rt, alloc, checked, output, errors, files, told, &clock),
         Some(file) => {
             if let Err(clash) = tell_trace_apart(alloc, files, file, &checked.streams) {
                 return refuse(errors, clash);
@@ -147,7 +147,7 @@ where
 }
 
 /// Serves the streams, and tells their report, or why there is none.
-fn serve_told<W, E, F, V, K, T>(
+fn serve_and_report<W, E, F, V, K, T>(
     rt: &T,
     alloc: Global,
     checked: Checked<'_>,
@@ -218,7 +218,7 @@ where
     let workers = checked.workers;
     let file = trace_file(files, file);
     let trace = Trace::start(rt, alloc, file, workers, names, told);
-    let status = serve_told(
+    let status = serve_and_report(
         rt,
         alloc,
         checked,
@@ -364,7 +364,7 @@ where
         entrants,
         specs,
         inputs,
-    } = all_tried(alloc, tried)?;
+    } = gather_opened(alloc, tried)?;
     // No memory is taken after the session, so that one that ended is reported.
     let rows = Vec::with_capacity(alloc, entrants.len())?;
     let gate = WatchedGate::new(alloc, entrants.as_slice(), told)?;

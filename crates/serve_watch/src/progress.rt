@@ -194,7 +194,7 @@ impl LineProgress {
     }
 
     /// It where its line is shown at this time.
-    fn shown_at(self, time: u64) -> LineProgress
+    fn mark_shown(self, time: u64) -> LineProgress
         ensures { result ≡ record self { shown = Some time } }
     {
         LineProgress {
@@ -250,7 +250,7 @@ impl Line {
         let now = *progress;
         if now.is_due(time) {
             now.show(errors, time);
-            *progress = now.shown_at(time);
+            *progress = now.mark_shown(time);
         }
     }
 

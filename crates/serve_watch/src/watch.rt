@@ -41,7 +41,7 @@ pub trait Watch {
     fn begins_doing(&self, _stream: usize, _doing: Doing) {}
 
     /// It has come back from that, and whether it failed.
-    fn has_done(&self, _stream: usize, _has_failed: bool) {}
+    fn ends_doing(&self, _stream: usize, _has_failed: bool) {}
 
     /// An epoch of the run begins.
     fn epoch_begins(&self) {}
@@ -89,6 +89,6 @@ pub(crate) fn tell_begin<V: Watch>(watch: Option<&V>, stream: usize, doing: Doin
 /// Tells it that the client has come back from that.
 pub(crate) fn tell_done<V: Watch>(watch: Option<&V>, stream: usize, has_failed: bool) {
     if let Some(watch) = watch {
-        watch.has_done(stream, has_failed);
+        watch.ends_doing(stream, has_failed);
     }
 }

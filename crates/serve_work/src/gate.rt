@@ -22,10 +22,10 @@ pub trait Gate {
     fn before_band(&self, worker: u32, stream: u32, number: u64);
 
     /// Whether a band of a frame of so many samples may be done by two threads, where it can be halved.
-    fn in_halves(&self, samples: usize) -> bool;
+    fn allows_halves(&self, samples: usize) -> bool;
 
     /// Worker `worker`, or the thread that helps it, is about to do half 0 or 1 of a band.
-    fn in_half(&self, worker: u32, half: u32);
+    fn before_half(&self, worker: u32, half: u32);
 
     /// An epoch begins: none of its threads was started yet.
     fn epoch_begins(&self) {}

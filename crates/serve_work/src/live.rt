@@ -23,7 +23,7 @@ use crate::setting::Setting;
 use epochs::{first_epoch, next_epoch};
 use guests::{Interval, show_guests, show_none, tell_guests};
 use opening::Form;
-use retirement::without_released;
+use retirement::retire_released;
 use serve_hub::limits::{MOST_ENTRIES, MOST_SEATS};
 use std::alloc::Global;
 use std::marker::Brand;
@@ -79,7 +79,7 @@ fn go_on<R: SentSource, W: SentSink, D: LentDoor<R, W>, G: LentGate, K: LentCloc
             return Ok(());
         }
         show_guests(door, &interval.ended, &interval.guests);
-        let left = without_released::<R, W, D>(setting.alloc, interval);
+        let left = retire_released::<R, W, D>(setting.alloc, interval);
         let blank = Blank::new(MOST_SEATS);
         interval = next_epoch::<Brand, R, W, D, G, K, T>(setting, blank, left, door)?;
     }

@@ -17,8 +17,8 @@ fn step<G: Gate + Sync, T: Threads>(rt: &T, worker: u32, lease: &mut Lease, gate
 {
     gate.before_band(worker, lease.stream(), lease.number());
     let samples = lease.spec().chain().geometry().bytes();
-    if gate.in_halves(samples) {
-        let _ = lease.step_halves(rt, &|half| gate.in_half(worker, half));
+    if gate.allows_halves(samples) {
+        let _ = lease.step_halves(rt, &|half| gate.before_half(worker, half));
     } else {
         let _ = lease.step();
     }

@@ -39,7 +39,7 @@ impl Book {
     {
         let newcomer = match Newcomer::new(alloc, spec) {
             Ok(newcomer) => newcomer,
-            Err((_, spec)) => return Err((self.refusal_without(&spec), spec)),
+            Err((_, spec)) => return Err((self.refusal_without_memory(&spec), spec)),
         };
         match self.admit_newcomer(newcomer) {
             Ok(s) => Ok(s),
@@ -48,7 +48,7 @@ impl Book {
     }
 
     /// What a stream is refused for whose memory was refused.
-    pub(crate) fn refusal_without(&self, spec: &StreamSpec) -> Refusal
+    pub(crate) fn refusal_without_memory(&self, spec: &StreamSpec) -> Refusal
         ensures { RefusesAdmission self.now spec.now result }
     {
         match self.admit_refusal(spec) {

@@ -35,9 +35,9 @@ impl<L: Epoch> Hub<L> {
         ensures few { IfOk result (λ seat. seat.number < MOST_STREAMS) }
         ensures refused { IfErr result (IsAdmitRefused spec) }
     {
-        let (newcomer, rest, list) = match made_outside(alloc, self.limit, spec) {
+        let (newcomer, rest, list) = match make_newcomer(alloc, self.limit, spec) {
             Ok(made) => made,
-            Err(spec) => return Err(self.without_memory(rt, spec)),
+            Err(spec) => return Err(self.refuse_without_memory(rt, spec)),
         };
         let mut shared = self.shared.lock(rt);
         let answer = shared.admit(newcomer, rest, list);
@@ -49,18 +49,18 @@ impl<L: Epoch> Hub<L> {
     }
 
     /// What a stream is refused for whose memory, or whose seat's, was refused.
-    fn without_memory(&self, rt: &impl Wait, spec: StreamSpec) -> AdmitRefused
+    fn refuse_without_memory(&self, rt: &impl Wait, spec: StreamSpec) -> AdmitRefused
         ensures { IsAdmitRefused spec result }
     {
         let shared = self.shared.lock(rt);
-        let refusal = shared.book.refusal_without(&spec);
+        let refusal = shared.book.refusal_without_memory(&spec);
         AdmitRefused { refusal, spec }
     }
 }
 
 /// Makes a stream, and what its seat needs for so many calls. The spec comes back where no stream may have
 /// it, or where memory is refused.
-fn made_outside(alloc: Global, limit: usize, spec: StreamSpec) -> Result<Made, StreamSpec>
+fn make_newcomer(alloc: Global, limit: usize, spec: StreamSpec) -> Result<Made, StreamSpec>
     ensures newcomer { IfOk result (λ made. made.0 ≡ spec) }
     ensures rest { IfOk result (λ made. made.1 ≡ opened_rest made.1.number spec) }
     ensures list { IfOk result (λ made. made.2.items ≡ []) }

@@ -30,7 +30,7 @@ impl<L: Epoch> StreamSeat<L> {
         }
         let Shared { book, total, .. } = shared;
         match book.close(self.number) {
-            Err(refusal) => Err(self.told_close(refusal)),
+            Err(refusal) => Err(self.judge_close(refusal)),
             Ok(()) => {
                 self.calls.count(book, total);
                 self.is_closed = true;
@@ -51,7 +51,7 @@ impl<L: Epoch> StreamSeat<L> {
         let Shared { book, total, .. } = shared;
         let pair = match book.collect(self.number) {
             Ok(pair) => pair,
-            Err(refusal) => return Err(self.told_collect(refusal)),
+            Err(refusal) => return Err(self.judge_collect(refusal)),
         };
         self.calls.count(book, total);
         Ok(pair)
@@ -118,7 +118,7 @@ impl<L: Epoch> StreamSeat<L> {
         }
     }
 
-    fn told_close(&self, refusal: Refusal) -> Refusal
+    fn judge_close(&self, refusal: Refusal) -> Refusal
         requires book { IsOfBook refusal }
         requires reserved { refusal ≢ HistoryFull }
         ensures told { IsCloseTold self.now result }
@@ -131,7 +131,7 @@ impl<L: Epoch> StreamSeat<L> {
         }
     }
 
-    fn told_collect(&self, refusal: Refusal) -> Refusal
+    fn judge_collect(&self, refusal: Refusal) -> Refusal
         requires book { IsOfBook refusal }
         ensures { IsCollectTold self.now result }
     {

@@ -124,7 +124,7 @@ impl<L: Epoch> StreamSeat<L> {
         let Shared { book, total, .. } = shared;
         let number = match book.offer_job(self.number, at, job) {
             Ok(number) => number,
-            Err((refusal, job)) => return Err((self.told_offer(at, &frame, refusal), Some(job))),
+            Err((refusal, job)) => return Err((self.judge_offer(at, &frame, refusal), Some(job))),
         };
         self.calls.count(book, total);
         self.moments = Some(Moments::with(self.moments, at));
@@ -163,7 +163,7 @@ impl<L: Epoch> StreamSeat<L> {
     {
         match self.refused_by(shared, at, frame) {
             Some(refusal) => refusal,
-            None => self.told_offer(at, frame, Refusal::Core(Core::NoMemory)),
+            None => self.judge_offer(at, frame, Refusal::Core(Core::NoMemory)),
         }
     }
 
@@ -178,13 +178,13 @@ impl<L: Epoch> StreamSeat<L> {
             return Some(Refusal::Torn(came));
         }
         match shared.book.offer_refusal(self.number, at, frame) {
-            Some(refusal) => Some(self.told_offer(at, frame, refusal)),
+            Some(refusal) => Some(self.judge_offer(at, frame, refusal)),
             None => None,
         }
     }
 
     /// A refusal of a frame as the seat is told it.
-    fn told_offer(&self, at: u64, frame: &Frame, refusal: Refusal) -> Refusal
+    fn judge_offer(&self, at: u64, frame: &Frame, refusal: Refusal) -> Refusal
         requires book { IsOfBook refusal }
         ensures told { IsOfferTold self.now at frame.now.geometry result }
         ensures place { result ≢ Torn NoPlace }

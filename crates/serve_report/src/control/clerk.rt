@@ -91,7 +91,7 @@ where
 
     /// Does what the line of this number asks for, or tells what is wrong with it.
     pub fn take(&mut self, number: u64, line: &[u8]) -> Bidding {
-        match self.take_right(line) {
+        match self.follow_line(line) {
             Ok(bidding) => bidding,
             Err(fault) => {
                 self.refuse(number, fault);
@@ -106,7 +106,7 @@ where
     }
 
     /// Does what a line asks for.
-    fn take_right(&mut self, line: &[u8]) -> Result<Bidding, LineFault> {
+    fn follow_line(&mut self, line: &[u8]) -> Result<Bidding, LineFault> {
         match parse_line(line, self.is_input)? {
             Ask::Nothing => Ok(Bidding::Done),
             Ask::Serve(word) => self.take_stream(word),
@@ -131,11 +131,11 @@ where
     /// before.
     fn close(&self, name: &str) -> Result<Bidding, LineFault> {
         let mut table = self.lobby.table.lock(self.rt);
-        let Some(entry) = table.named_mut(name) else {
+        let Some(entry) = table.entry_named_mut(name) else {
             return Err(LineFault::NoStream);
         };
         let is_new = entry.order.close();
-        entry.let_go(self.files);
+        entry.hold_open(self.files);
         if !is_new {
             return Err(LineFault::AlreadyClosed);
         }
@@ -154,7 +154,7 @@ where
         }
         match check_stream(self.alloc, word) {
             Ok(asked) => Ok(self.enter(asked, input, output, usize::MAX)),
-            Err(LineFault::NoMemory) => Ok(self.stop(word.name, AdmitFault::NoMemory)),
+            Err(LineFault::NoMemory) => Ok(self.refuse_stream(word.name, AdmitFault::NoMemory)),
             Err(fault) => Err(fault),
         }
     }
@@ -171,10 +171,10 @@ where
         let number = self.asked;
         self.asked = self.asked.saturating_add(1);
         let Some((order, theirs)) = order_of(self.alloc, number, word) else {
-            return self.stop(word.name, AdmitFault::NoMemory);
+            return self.refuse_stream(word.name, AdmitFault::NoMemory);
         };
         if !self.lobby.table.lock(self.rt).enter(theirs, input, output) {
-            return self.stop(word.name, AdmitFault::TooManyStreams);
+            return self.refuse_stream(word.name, AdmitFault::TooManyStreams);
         }
         Bidding::Open(Errand {
             order,
@@ -187,7 +187,7 @@ where
     }
 
     /// Tells that a stream isn't taken.
-    fn stop(&self, name: &str, fault: AdmitFault) -> Bidding {
+    fn refuse_stream(&self, name: &str, fault: AdmitFault) -> Bidding {
         let mut voice = self.lobby.voice.lock(self.rt);
         voice.say_stopped(name, StreamStop::Admit(fault));
         Bidding::Done

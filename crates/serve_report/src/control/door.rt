@@ -95,7 +95,7 @@ where
     }
 
     /// The next one that waits, under its ticket.
-    fn next_ready(&mut self) -> Option<Request<R, W>>
+    fn take_ready(&mut self) -> Option<Request<R, W>>
         ensures input { IfSome result (λ r. IsInput r.spec (r.reader, r.writer)) }
         ensures given { IfSome result (λ r. self.new.tickets ≡ self.old.tickets ++ r.ticket ∷ []) }
         ensures none { IfNone result (self.new.tickets ≡ self.old.tickets) }
@@ -105,7 +105,7 @@ where
             return None;
         }
         let ticket = self.tickets.give()?;
-        let Some(ready) = table.next_ready(ticket) else {
+        let Some(ready) = table.serve_next(ticket) else {
             self.tickets.take(ticket);
             return None;
         };
@@ -193,11 +193,12 @@ where
 
     fn wait(&self) -> bool {
         let table = self.lobby.table.lock(self.rt);
-        let table = self
-            .lobby
-            .changed
-            .wait_while(self.rt, table, |table| !table.calls() && table.may_call());
-        table.calls()
+        let table = self.lobby.changed.wait_while(
+            self.rt,
+            table,
+            |table| !table.has_request() && table.may_call(),
+        );
+        table.has_request()
     }
 
     fn is_there(&self, patience: u64) -> bool {
@@ -206,9 +207,9 @@ where
             self.rt,
             table,
             Duration::from_millis(patience),
-            |table| !table.calls(),
+            |table| !table.has_request(),
         );
-        table.calls()
+        table.has_request()
     }
 }
 
@@ -231,7 +232,7 @@ where
 
     fn next(&mut self) -> Option<Request<R, W>> {
         self.say_admitted();
-        let request = self.next_ready()?;
+        let request = self.take_ready()?;
         self.last = Some(request.ticket);
         Some(request)
     }
@@ -271,7 +272,7 @@ where
         let mut voice = self.lobby.voice.lock(self.rt);
         let mut table = self.lobby.table.lock(self.rt);
         for entry in &table.entries {
-            if entry.is_before() {
+            if entry.is_unserved() {
                 voice.say(&Said::Opening(&entry.order.name));
             }
         }

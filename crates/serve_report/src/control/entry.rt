@@ -61,7 +61,7 @@ impl<R: Source + Drop, W: Sink + Drop, S: Drop> Entry<R, W, S> {
     }
 
     /// Whether it isn't served yet.
-    pub fn is_before(&self) -> bool {
+    pub fn is_unserved(&self) -> bool {
         !matches!(self.stage, Stage::Served(_))
     }
 
@@ -126,13 +126,13 @@ impl<R: Source + Drop, W: Sink + Drop, S: Drop> Entry<R, W, S> {
     }
 
     /// Nothing is held open for it any more.
-    pub fn leave(&mut self) {
+    pub fn drop_held(&mut self) {
         self.held = None;
     }
 
     /// Holds a FIFO open that is being opened for it, so that its opener comes back. One that is held stays
     /// so. Another file that has taken its name isn't held.
-    pub fn let_go<F: Files<Slow = S>>(&mut self, files: &F)
+    pub fn hold_open<F: Files<Slow = S>>(&mut self, files: &F)
     where
         S: 'static,
     {

@@ -4,7 +4,7 @@ ghost use Rattle.std.specs.Option.{option_map};
 ghost use Rattle.cbs_account.specs.Balance.{IsBandwidth};
 ghost use Rattle.filters.specs.declared.limits.TheConstants.{MOST_OPS};
 ghost use Rattle.serve_script.specs.ScriptText.{is_silent};
-ghost use Rattle.serve_report.specs.Control.{IsWrongBy, ask_told, closed_in, fault_word, line_asks};
+ghost use Rattle.serve_report.specs.Control.{IsWrongBy, ask_told, name_to_close, fault_word, line_asks};
 ghost use Rattle.serve_report.specs.Control.{text_asks};
 ghost use Rattle.serve_words.specs.ServeChecks.{IsSaid};
 ghost use Rattle.serve_words.specs.StreamWords.{stream_told};
@@ -99,7 +99,7 @@ pub fn parse_line(line: &[u8], is_taken: bool) -> Result<Ask<'_>, LineFault>
     let Ok(text) = str::from_utf8(line) else {
         return Err(LineFault::BadLine);
     };
-    match asked_by(text, is_taken) {
+    match ask_of(text, is_taken) {
         Some(ask) => Ok(ask),
         None => Err(LineFault::BadLine),
     }
@@ -116,7 +116,7 @@ fn is_silent(line: &[u8]) -> bool
 }
 
 /// What a text asks for, if it does.
-fn asked_by(text: &str, is_taken: bool) -> Option<Ask<'_>>
+fn ask_of(text: &str, is_taken: bool) -> Option<Ask<'_>>
     ensures { option_map ask_told result ≡ text_asks is_taken text.now }
 {
     if text == "state" {
@@ -125,7 +125,7 @@ fn asked_by(text: &str, is_taken: bool) -> Option<Ask<'_>>
     if text == "end" {
         return Some(Ask::End);
     }
-    if let Some(name) = closed_in(text) {
+    if let Some(name) = name_to_close(text) {
         return Some(Ask::Close(name));
     }
     let word = parse_word_beside(text, is_taken)?;
@@ -133,8 +133,8 @@ fn asked_by(text: &str, is_taken: bool) -> Option<Ask<'_>>
 }
 
 /// The name in a line that closes a stream, if it is one.
-fn closed_in(text: &str) -> Option<&str>
-    ensures { option_map (λ name. name.now) result ≡ closed_in text.now }
+fn name_to_close(text: &str) -> Option<&str>
+    ensures { option_map (λ name. name.now) result ≡ name_to_close text.now }
 {
     let (first, name) = text.split_once(' ')?;
     if first == "close" && is_name(name.as_bytes()) {

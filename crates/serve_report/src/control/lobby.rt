@@ -56,7 +56,7 @@ impl<'o, R: Source + Drop, W: Sink + Drop, S: Drop, O: Write, E: Write> Lobby<'o
         let mut voice = self.voice.lock(rt);
         let table = self.table.lock(rt);
         for entry in &table.entries {
-            if entry.is_before() {
+            if entry.is_unserved() {
                 voice.say_stopped(&entry.order.name, StreamStop::Closed);
             }
         }
@@ -140,7 +140,7 @@ impl<'o, R: Source + Drop, W: Sink + Drop, S: Drop, O: Write, E: Write> Lobby<'o
 
     /// Nobody can be served.
     pub fn fail<T: Wait>(&self, rt: &T, fault: SessionFault) {
-        self.voice.lock(rt).fault(&RunFault::Session(fault));
+        self.voice.lock(rt).tell_fault(&RunFault::Session(fault));
     }
 
     /// Nobody is served any more. Streams that are being opened come back, and are told as closed.
@@ -160,7 +160,7 @@ impl<'o, R: Source + Drop, W: Sink + Drop, S: Drop, O: Write, E: Write> Lobby<'o
 
     /// Nothing more can be read of the control, and so no stream is asked for any more.
     pub fn fail_reading<T: Wait>(&self, rt: &T) {
-        self.voice.lock(rt).fault(&"control read");
+        self.voice.lock(rt).tell_fault(&"control read");
         self.end(rt);
     }
 

@@ -39,7 +39,7 @@ const INPUT: &str = "-";
 const STANDARD_INPUT: &str = "/dev/stdin";
 
 /// The file from which a control's lines come.
-pub fn lines_of(control: &str) -> &str {
+pub fn lines_file(control: &str) -> &str {
     if control == INPUT {
         STANDARD_INPUT
     } else {
@@ -78,8 +78,8 @@ where
         tell(errors, &"control");
         return 1;
     };
-    let told = begun_some(alloc, &checked.streams, told);
-    let status = serve_told(
+    let told = announce_some(alloc, &checked.streams, told);
+    let status = serve_and_report(
         rt, alloc, control, checked, clock, origin, output, errors, files, told,
     );
     if let Some(watch) = told {
@@ -101,7 +101,7 @@ fn origin_of<R: Read + Drop, F: Files>(
 }
 
 /// Tells a watch which streams begin, and answers it, where some do.
-fn begun_some<'w, V: Watch>(
+fn announce_some<'w, V: Watch>(
     alloc: Global,
     streams: &[Asked<'_>],
     told: Option<&'w V>,
@@ -113,7 +113,7 @@ fn begun_some<'w, V: Watch>(
 }
 
 /// Serves the streams, tells what they came to, and answers the program's status.
-fn serve_told<'o, R, W, E, F, V, T>(
+fn serve_and_report<'o, R, W, E, F, V, T>(
     rt: &T,
     alloc: Global,
     control: &str,
@@ -144,7 +144,7 @@ where
     let lobby = match Lobby::new(alloc, workers, voice) {
         Ok(lobby) => lobby,
         Err(mut voice) => {
-            voice.fault(&RunFault::Session(SessionFault::NoMemory));
+            voice.tell_fault(&RunFault::Session(SessionFault::NoMemory));
             return 1;
         }
     };
@@ -236,7 +236,7 @@ where
     } = checked;
     let journal = journal.max(FEWEST_ENTRIES);
     let is_input = matches!(origin, Origin::Input(_));
-    let lines = lines_of(control);
+    let lines = lines_file(control);
     let own = [(REPORT, files.place(REPORT)), (lines, files.place(lines))];
     let mut clerk = Clerk::new(rt, alloc, files, lobby, is_input, own);
     let Ok(errands) = clerk.enter_all(streams) else {

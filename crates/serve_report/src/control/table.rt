@@ -104,7 +104,7 @@ impl<R: Source + Drop, W: Sink + Drop, S: Drop> Table<R, W, S> {
     }
 
     /// The stream of this name.
-    pub fn named_mut(&mut self, name: &str) -> Option<&mut Entry<R, W, S>> {
+    pub fn entry_named_mut(&mut self, name: &str) -> Option<&mut Entry<R, W, S>> {
         self.entries.iter_mut().find(|entry| entry.is_named(name))
     }
 
@@ -136,7 +136,7 @@ impl<R: Source + Drop, W: Sink + Drop, S: Drop> Table<R, W, S> {
         requires { place < vec_len self.old.entries }
     {
         let mut entry = self.entries.remove(place);
-        entry.leave();
+        entry.drop_held();
         self.still_read.keep(&entry);
         entry
     }
@@ -150,12 +150,12 @@ impl<R: Source + Drop, W: Sink + Drop, S: Drop> Table<R, W, S> {
         self.is_ended = true;
         for entry in &mut self.entries {
             entry.order.close();
-            entry.let_go(files);
+            entry.hold_open(files);
         }
     }
 
     /// What the first stream is served with that waits to be. It is served under this ticket from here on.
-    pub fn next_ready(&mut self, ticket: u64) -> Option<Ready<R, W>> {
+    pub fn serve_next(&mut self, ticket: u64) -> Option<Ready<R, W>> {
         for entry in &mut self.entries {
             if let Some(ready) = entry.serve(ticket) {
                 return Some(ready);
@@ -168,7 +168,7 @@ impl<R: Source + Drop, W: Sink + Drop, S: Drop> Table<R, W, S> {
     pub fn count_served(&self) -> usize {
         let mut count = 0usize;
         for entry in &self.entries {
-            if !entry.is_before() {
+            if !entry.is_unserved() {
                 count = count.saturating_add(1);
             }
         }
@@ -181,12 +181,12 @@ impl<R: Source + Drop, W: Sink + Drop, S: Drop> Table<R, W, S> {
     }
 
     /// Whether a stream waits to be served, or it is asked how they stand.
-    pub fn calls(&self) -> bool {
+    pub fn has_request(&self) -> bool {
         self.asked > 0 || self.has_ready()
     }
 
     /// Whether a stream may yet come that waits to be served.
     pub fn may_call(&self) -> bool {
-        !self.is_ended || self.entries.iter().any(|entry| entry.is_before())
+        !self.is_ended || self.entries.iter().any(|entry| entry.is_unserved())
     }
 }

@@ -59,7 +59,7 @@ impl<'o, W: Write, E: Write> Voice<'o, W, E> {
     }
 
     /// Tells a fault of the run.
-    pub fn fault<D: Display>(&mut self, fault: &D) {
+    pub fn tell_fault<D: Display>(&mut self, fault: &D) {
         self.is_faulty = true;
         tell(self.errors, fault);
     }
@@ -71,7 +71,7 @@ impl<'o, W: Write, E: Write> Voice<'o, W, E> {
         let units = self.units;
         self.say(&Said::Units(units));
         if self.has_failed {
-            self.fault(&"write");
+            self.tell_fault(&"write");
         }
         u8::from(self.is_faulty)
     }

@@ -12,11 +12,11 @@ pub struct PlainGate;
 impl Gate for PlainGate {
     fn before_band(&self, _worker: u32, _stream: u32, _number: u64) {}
 
-    fn in_halves(&self, _samples: usize) -> bool {
+    fn allows_halves(&self, _samples: usize) -> bool {
         false
     }
 
-    fn in_half(&self, _worker: u32, _half: u32) {}
+    fn before_half(&self, _worker: u32, _half: u32) {}
 }
 
 /// A gate that tells a watch of leases. Each band is done by one thread.
@@ -53,11 +53,11 @@ fn places_in(alloc: Global, entrants: &[Entrant<'_>]) -> Result<Vec<usize>, Allo
 impl<'w, V: Watch> Gate for WatchedGate<'w, V> {
     fn before_band(&self, _worker: u32, _stream: u32, _number: u64) {}
 
-    fn in_halves(&self, _samples: usize) -> bool {
+    fn allows_halves(&self, _samples: usize) -> bool {
         false
     }
 
-    fn in_half(&self, _worker: u32, _half: u32) {}
+    fn before_half(&self, _worker: u32, _half: u32) {}
 
     fn epoch_begins(&self) {
         if let Some(watch) = self.watch {

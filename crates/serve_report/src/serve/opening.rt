@@ -138,13 +138,13 @@ where
     ensures { IfOk result (λ tried. AllZip (IsOpening F.open_gives F.create_gives height) streams.entry.items
         (openings_of tried.items)) }
 {
-    let placed = with_places(alloc, streams)?;
+    let placed = place_all(alloc, streams)?;
     let tried = try_all(rt, alloc, placed, height, files, told)?;
     Ok(tried)
 }
 
 /// The streams with their places, which begin at 0.
-fn with_places<'a>(alloc: Global, streams: Vec<Asked<'a>>) -> Result<Vec<Placed<'a>>, AllocError>
+fn place_all<'a>(alloc: Global, streams: Vec<Asked<'a>>) -> Result<Vec<Placed<'a>>, AllocError>
     ensures { IfOk result (λ placed. map (λ placed. placed.asked) placed.items ≡ streams.entry.items) }
 {
     let mut placed = Vec::new(alloc);
@@ -215,7 +215,7 @@ where
 }
 
 /// The streams, by what came of opening them.
-pub fn all_tried<'a, R: Source + Drop, W: Sink + Drop>(
+pub fn gather_opened<'a, R: Source + Drop, W: Sink + Drop>(
     alloc: Global,
     tried: Vec<Tried<'a, R, W>>,
 ) -> Result<Opened<'a, R, W>, AllocError>

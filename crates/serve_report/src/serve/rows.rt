@@ -3,7 +3,7 @@ ghost use Rattle.std.specs.Prelude.{◌≡◌, ◌≤◌, [], OnOk, length, vec_
 ghost use Rattle.std.specs.Io.KnownBytes.{Appends};
 ghost use Rattle.std.specs.List.{list_all};
 ghost use Rattle.std.specs.Option.{option_map};
-ghost use Rattle.serve_report.specs.Entrants.{charged_in, is_whole, is_whole_stop, next_given};
+ghost use Rattle.serve_report.specs.Entrants.{units_in, is_whole, is_whole_stop, next_given};
 ghost use Rattle.serve_report.specs.Entrants.{report_text, row_told, rows_given, rows_text, served_row};
 ghost use Rattle.serve_script.specs.ScriptReport.{line_text};
 ghost use Rattle.serve_report.specs.ServeReport.{row_text};
@@ -87,8 +87,8 @@ fn is_whole(stop: StreamStop) -> bool
 }
 
 /// The units that were done for all streams. A number of 64 bits stays at its last value.
-fn charged_in(rows: &[StreamRow<'_>]) -> u64
-    ensures { result ≡ charged_in rows.now }
+fn units_in(rows: &[StreamRow<'_>]) -> u64
+    ensures { result ≡ units_in rows.now }
 {
     let mut units = 0u64;
     for row in rows {
@@ -102,7 +102,7 @@ pub fn write_report<W: Write>(output: &mut W, rows: &[StreamRow<'_>]) -> io::Res
     ensures { OnOk result (Appends (W.contents output.old) (W.contents output.new) (report_text rows.now)) }
 {
     write_rows(output, rows)?;
-    let units = charged_in(rows);
+    let units = units_in(rows);
     writeln!(output, "units {units}")
 }
 

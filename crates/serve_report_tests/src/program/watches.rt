@@ -166,7 +166,7 @@ impl Watch for Told<'_> {
         }
     }
 
-    fn has_done(&self, stream: usize, _has_failed: bool) {
+    fn ends_doing(&self, stream: usize, _has_failed: bool) {
         if let Some(counted) = self.streams.get(stream) {
             counted.done.fetch_add(1, SeqCst);
         }

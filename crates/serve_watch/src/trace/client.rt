@@ -40,7 +40,11 @@ impl ClientLane {
     }
 
     /// Tells its name.
-    pub fn name<W: Write + Drop, T: Wait + Clock>(&mut self, spool: &Spool<'_, W, T>, name: &str) {
+    pub fn tell_name<W: Write + Drop, T: Wait + Clock>(
+        &mut self,
+        spool: &Spool<'_, W, T>,
+        name: &str,
+    ) {
         let lane = self.number;
         self.add(spool, &StreamName { lane, name });
     }
@@ -64,7 +68,7 @@ impl ClientLane {
     }
 
     /// Whether it has come back from this.
-    pub fn did(&self, doing: Doing) -> bool {
+    pub fn is_doing(&self, doing: Doing) -> bool {
         self.doings.doing() == doing
     }
 

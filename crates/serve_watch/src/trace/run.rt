@@ -65,7 +65,7 @@ impl<'t, W: Write + Drop, V: Watch, T: Wait + Clock> Trace<'t, W, V, T> {
         for worker in 0..workers {
             let lane = self.lane(alloc);
             let mut added = WorkerLane::new(worker, lane);
-            added.name(&self.spool);
+            added.tell_name(&self.spool);
             self.workers.push(Mutex::new(added))?;
         }
         let Some(names) = names else {
@@ -150,7 +150,7 @@ impl<'t, W: Write + Drop, V: Watch, T: Wait + Clock> Watch for Trace<'t, W, V, T
         }
     }
 
-    fn has_done(&self, stream: usize, has_failed: bool) {
+    fn ends_doing(&self, stream: usize, has_failed: bool) {
         if let (Some(lane), Some(now)) = (self.streams.get(stream), self.spool.now()) {
             lane.come_back(self.spool.rt(), has_failed, now);
         }

@@ -61,7 +61,7 @@ impl<'a> StreamLane<'a> {
 
     /// Tells the name of the lane.
     pub fn tell_name<W: Write + Drop, T: Wait + Clock>(&self, spool: &Spool<'_, W, T>) {
-        self.client.lock(spool.rt()).name(spool, self.name);
+        self.client.lock(spool.rt()).tell_name(spool, self.name);
     }
 
     /// Its client begins to do this.
@@ -88,7 +88,7 @@ impl<'a> StreamLane<'a> {
     pub fn come_back<T: Wait>(&self, rt: &T, has_failed: bool, now: u64) {
         let mut client = self.client.lock(rt);
         client.come_back(now);
-        if client.did(Doing::Writing) {
+        if client.is_doing(Doing::Writing) {
             self.is_torn.store(has_failed, Ordering::SeqCst);
         }
     }

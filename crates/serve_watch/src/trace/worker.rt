@@ -34,7 +34,7 @@ impl WorkerLane {
     }
 
     /// Tells its name.
-    pub fn name<W: Write + Drop, T: Wait + Clock>(&mut self, spool: &Spool<'_, W, T>) {
+    pub fn tell_name<W: Write + Drop, T: Wait + Clock>(&mut self, spool: &Spool<'_, W, T>) {
         let name = WorkerName {
             lane: self.lane_number(),
             number: self.worker,

@@ -28,7 +28,7 @@ use std::sync::ledger::Blank;
 use y4m_stream::{Sink, Source};
 
 /// The streams with what is kept of their requests.
-fn with_tickets<R: Source + Drop, W: Sink + Drop>(
+fn fill_guests<R: Source + Drop, W: Sink + Drop>(
     guests: &mut Vec<Option<Guest<R, W>>>,
     tickets: Vec<Ticket>,
     streams: Vec<Stream<R, W>>,
@@ -45,7 +45,7 @@ fn with_tickets<R: Source + Drop, W: Sink + Drop>(
 }
 
 /// Puts the idle seats behind the others. They have no streams.
-fn with_idle<L: Epoch, R: Source + Drop, W: Sink + Drop>(
+fn append_idle<L: Epoch, R: Source + Drop, W: Sink + Drop>(
     seats: &mut Vec<StreamSeat<L>>,
     guests: &mut Vec<Option<Guest<R, W>>>,
     idle: Vec<StreamSeat<L>>,
@@ -111,8 +111,8 @@ fn epoch<
     }
     places.fill(turns);
     let Places { mut seats, streams } = places;
-    with_tickets(&mut guests, tickets, streams);
-    with_idle(&mut seats, &mut guests, idle);
+    fill_guests(&mut guests, tickets, streams);
+    append_idle(&mut seats, &mut guests, idle);
     let Ok(ended) = hub.finish(seats, back) else {
         return Err(SessionFault::Mismatch);
     };

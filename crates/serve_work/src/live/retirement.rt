@@ -14,7 +14,7 @@ use y4m_stream::{Sink, Source};
 
 /// Takes the released streams out, if each of them was told. Their numbers are free then, for others. Where
 /// one wasn't, where no stream would be left, or where memory is refused, all stays as it is.
-pub(super) fn without_released<R: Source + Drop, W: Sink + Drop, D: Door<R, W>>(
+pub(super) fn retire_released<R: Source + Drop, W: Sink + Drop, D: Door<R, W>>(
     alloc: Global,
     interval: Interval<R, W>,
 ) -> Interval<R, W>
@@ -66,7 +66,7 @@ fn marks_and_room<R: Source + Drop, W: Sink + Drop>(
     let Interval { ended, guests, .. } = interval;
     let marks = marks_of(alloc, ended, guests.len())?;
     let kept = Vec::with_capacity(alloc, guests.len()).ok()?;
-    if !are_told(&marks, guests) {
+    if !are_told_but_marked(&marks, guests) {
         return None;
     }
     Some((marks, kept))
@@ -91,19 +91,19 @@ fn marks_of(alloc: Global, ended: &Ended, count: usize) -> Option<Vec<bool>>
 }
 
 /// Whether the stream at this place was told, or the place is marked.
-fn is_told<R: Source, W: Sink>(mark: bool, guest: &Option<Guest<R, W>>) -> bool
+fn is_told_or_marked<R: Source, W: Sink>(mark: bool, guest: &Option<Guest<R, W>>) -> bool
     ensures { IsTrue result → mark ≡ false → guest.now ≡ None }
 {
     mark || guest.is_none()
 }
 
 /// Whether no stream is left at the places that aren't marked.
-fn are_told<R: Source, W: Sink>(marks: &[bool], guests: &[Option<Guest<R, W>>]) -> bool
+fn are_told_but_marked<R: Source, W: Sink>(marks: &[bool], guests: &[Option<Guest<R, W>>]) -> bool
     requires each { length guests.now ≤ length marks.now }
     ensures { IsTrue result → AreToldBut marks.now guests.now }
 {
     for place in 0..guests.len() {
-        if !is_told(marks[place], &guests[place]) {
+        if !is_told_or_marked(marks[place], &guests[place]) {
             return false;
         }
     }

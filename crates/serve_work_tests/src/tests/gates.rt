@@ -48,11 +48,11 @@ impl Gate for Three {
         self.meet();
     }
 
-    fn in_halves(&self, _samples: usize) -> bool {
+    fn allows_halves(&self, _samples: usize) -> bool {
         false
     }
 
-    fn in_half(&self, _worker: u32, _half: u32) {}
+    fn before_half(&self, _worker: u32, _half: u32) {}
 }
 
 /// Three clients meet before their offers, which are all at moment 0.
@@ -72,11 +72,11 @@ struct Halves(Parts);
 impl Gate for Halves {
     fn before_band(&self, _worker: u32, _stream: u32, _number: u64) {}
 
-    fn in_halves(&self, _samples: usize) -> bool {
+    fn allows_halves(&self, _samples: usize) -> bool {
         true
     }
 
-    fn in_half(&self, _worker: u32, half: u32) {
+    fn before_half(&self, _worker: u32, half: u32) {
         if half < 2 {
             self.0.meet(half);
         }
@@ -94,11 +94,11 @@ impl Gate for Two {
         }
     }
 
-    fn in_halves(&self, _samples: usize) -> bool {
+    fn allows_halves(&self, _samples: usize) -> bool {
         false
     }
 
-    fn in_half(&self, _worker: u32, _half: u32) {}
+    fn before_half(&self, _worker: u32, _half: u32) {}
 }
 
 /// Each stream was served whole, its one frame being written so.

@@ -67,11 +67,11 @@ pub(super) struct Open;
 impl Gate for Open {
     fn before_band(&self, _worker: u32, _stream: u32, _number: u64) {}
 
-    fn in_halves(&self, _samples: usize) -> bool {
+    fn allows_halves(&self, _samples: usize) -> bool {
         false
     }
 
-    fn in_half(&self, _worker: u32, _half: u32) {}
+    fn before_half(&self, _worker: u32, _half: u32) {}
 }
 
 /// Always the same moment.

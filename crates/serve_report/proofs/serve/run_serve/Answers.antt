@@ -7,7 +7,7 @@ returns-in-None-clause-well g c = λ well none. record {
   options = c.in-Ok.ensures.options;
   said = c.in-Ok.ensures.ops;
   apart = rw c.deref.ensures.value at c.in_default.ensures;
-  reported = c.serve_told.ensures.well well;
+  reported = c.serve_and_report.ensures.well well;
 }
 
 pub returns-clause-well : goal.returns-clause-well

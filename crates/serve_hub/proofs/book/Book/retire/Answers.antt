@@ -16,23 +16,23 @@ retire-requires-clause-few c =
     c.requires.reached in
     (few_here c.self.inside.desk reached).0
 
-pub opened_over-book-requires-clause-sound : goal.opened_over-book-requires-clause-sound
-opened_over-book-requires-clause-sound c =
+pub book_over-book-requires-clause-sound : goal.book_over-book-requires-clause-sound
+book_over-book-requires-clause-sound c =
     let is_reached = λ (x : ScheduleValue). IsReached measures_any is_any_image (desk_state x) in
     let before = subst (λ (b : BookValue). is_reached b.desk) (sym c.self.view_is) c.requires.reached in
     reached_sound c.retire.new.self (c.retire.ensures.reached before)
 
-pub opened_over-book-requires-clause-capacity : goal.opened_over-book-requires-clause-capacity
-opened_over-book-requires-clause-capacity c =
+pub book_over-book-requires-clause-capacity : goal.book_over-book-requires-clause-capacity
+book_over-book-requires-clause-capacity c =
     subst (λ (b : BookValue). b.limit ≤ vec_capacity c.args.journal) (sym c.self.view_is) c.requires.capacity
 
-pub opened_over-book-requires-clause-fits : goal.opened_over-book-requires-clause-fits
-opened_over-book-requires-clause-fits c =
+pub book_over-book-requires-clause-fits : goal.book_over-book-requires-clause-fits
+book_over-book-requires-clause-fits c =
     let same = ap reserved c.retire.ensures.desk in
     omega (arith, c.self.invariant.is_book.fits, reserved_kept c.self.inside.desk, same)
 
-pub opened_over-book-requires-clause-taken : goal.opened_over-book-requires-clause-taken
-opened_over-book-requires-clause-taken c =
+pub book_over-book-requires-clause-taken : goal.book_over-book-requires-clause-taken
+book_over-book-requires-clause-taken c =
     let a = c.self.inside in
     let same = ap reserved c.retire.ensures.desk in
     omega (
@@ -45,7 +45,7 @@ opened_over-book-requires-clause-taken c =
       same,
     )
 
-pub opened_over-book-requires-clause-units : goal.opened_over-book-requires-clause-units
-opened_over-book-requires-clause-units c =
+pub book_over-book-requires-clause-units : goal.book_over-book-requires-clause-units
+book_over-book-requires-clause-units c =
     let same = ap (λ (x : ScheduleValue). length x.workers) c.retire.ensures.desk in
     omega (arith, c.self.invariant.is_book.workers, c.self.inside.units.ok.0, same)

@@ -28,8 +28,8 @@ fill-requires g c =
       held = (ran.0, ran.1);
     }
 
-pub with_tickets-requires : goal.with_tickets-requires
-with_tickets-requires g c =
+pub fill_guests-requires : goal.fill_guests-requires
+fill_guests-requires g c =
     let seated = c.admit_all.ensures.seated.2 in
     let ran = c.run_threads-turns.ensures.run seated.helds seated.turns in
     record {
@@ -48,8 +48,8 @@ with_tickets-requires g c =
       );
     }
 
-pub with_idle-requires : goal.with_idle-requires
-with_idle-requires g c =
+pub append_idle-requires : goal.append_idle-requires
+append_idle-requires g c =
     let seated = c.admit_all.ensures.seated.2 in
     let ran = c.run_threads-turns.ensures.run seated.helds seated.turns in
     let turns : vec_len c.run_threads-turns.result.0 ≡ length ran.0 =
@@ -74,8 +74,8 @@ with_idle-requires g c =
         c.run_threads-turns.ensures.count,
         c.fill.new.self.streams.ok.0,
         seated.few,
-        c.with_tickets.ensures.few,
-        c.with_tickets.ensures.same_room,
+        c.fill_guests.ensures.few,
+        c.fill_guests.ensures.same_room,
         seated.places.guests,
       );
     }
@@ -90,7 +90,7 @@ returns-clause-guests g c =
     let ran = c.run_threads-turns.ensures.run seated.helds seated.turns in
     let ended = c.in-Ok.ended in
     let idle : List StreamSeatValue = c.admit_all.new.hall.idle.items in
-    let own = c.with_idle.ensures.seats ∙ ap (λ (seats : List StreamSeatValue). seats ++ idle) (c.fill.ensures.seats ran.0 ran.1) in
+    let own = c.append_idle.ensures.seats ∙ ap (λ (seats : List StreamSeatValue). seats ++ idle) (c.fill.ensures.seats ran.0 ran.1) in
     let calls = subst (AreStreamCalls (reverse ended.book.past)) own c.in-Ok.ensures.end.agree.of_streams in
     let reached = subst (ClocksReached ended.book) own c.in-Ok.ensures.end.agree.clock_reached in
     let of_limit = c.in-Ok.ensures.end.agree.limit ∙ c.requires.limit in
@@ -100,13 +100,13 @@ returns-clause-guests g c =
     let had = all_had limit times g.L.Epoch.opening ended.book c.in-Ok.ensures.end.is_book c.in-Ok.ensures.end.history.same of_limit
     c.in-Ok.ensures.end.agree.free spent gives c.requires.times ws seated.helds ran.0 idle seated.each ran.2 calls reached in
     let streams = c.fill.new.self.streams.items in
-    let guests = c.with_idle.ensures.guests
-    ∙ ap (λ (gs : List (Option (Guest _ _))). gs ++ nobody idle) (c.with_tickets.ensures.guests
+    let guests = c.append_idle.ensures.guests
+    ∙ ap (λ (gs : List (Option (Guest _ _))). gs ++ nobody idle) (c.fill_guests.ensures.guests
     ∙ ap (λ (tickets : List Ticket). guests_of tickets streams) seated.tickets) in
     let rests = c.in-Ok.ensures.end.left ∙ ap (map left_by) own in
     let asked = subst (λ (gs : List (Option (Guest _ _))). AreAsAsked ended.book.desk
     (map left_by (map (λ (held : HeldValue). held.seat) ran.0 ++ idle)) gs) guests
-    (subst (λ (rests : List StreamRest). AreAsAsked ended.book.desk rests c.with_idle.new.guests.items) rests
+    (subst (λ (rests : List StreamRest). AreAsAsked ended.book.desk rests c.append_idle.new.guests.items) rests
     (c.are_as_asked.ensures c.if-not-are_as_asked.false)) in (
       ws,
       c.admit_all.ensures.seated.1,

@@ -1,6 +1,6 @@
 use Rattle.std.proofs.Common.{◌≡◌, ◌++◌, map}
 use Rattle.std.specs.Vec.Iter.{into_iter_items}
-use Rattle.serve_report.proofs.serve.opening.with_places.Given as goal
+use Rattle.serve_report.proofs.serve.opening.place_all.Given as goal
 
 -- those that have places, and then those that are left, are all
 abbrev pub invariant-loop-asked : goal.invariant-loop-asked

@@ -1,5 +1,5 @@
 use Rattle.serve_report.proofs.Inputs.{entry_moved, inputs_more}
-use Rattle.serve_report.proofs.serve.opening.all_tried.Goals as goal
+use Rattle.serve_report.proofs.serve.opening.gather_opened.Goals as goal
 
 pub loop-stream-preserved-in-Continue-1 : goal.loop-stream-preserved-in-Continue-1
 loop-stream-preserved-in-Continue-1 g c =

@@ -1,6 +1,6 @@
 use Rattle.std.proofs.Common.{subst}
 use Rattle.serve_report.specs.Entrants.{Reports}
-use Rattle.serve_report.proofs.serve.serve_told.Goals as goal
+use Rattle.serve_report.proofs.serve.serve_and_report.Goals as goal
 
 pub returns-in-Ok-true-clause-well : goal.returns-in-Ok-true-clause-well
 returns-in-Ok-true-clause-well g c =

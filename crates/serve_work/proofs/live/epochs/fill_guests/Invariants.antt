@@ -3,7 +3,7 @@ use Rattle.std.specs.Iterator.Adapters.{zip_first, zip_second}
 use Rattle.std.specs.Vec.{vec_capacity, vec_len}
 use Rattle.std.specs.Vec.Iter.{into_iter_items, into_iter_len}
 use Rattle.serve_work.specs.LiveInside.{guests_of}
-use Rattle.serve_work.proofs.live.epochs.with_tickets.Given as goal
+use Rattle.serve_work.proofs.live.epochs.fill_guests.Given as goal
 
 -- the streams so far and those that are left are all
 abbrev pub invariant-loop-ticket : goal.invariant-loop-ticket

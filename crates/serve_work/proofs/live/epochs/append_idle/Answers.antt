@@ -1,7 +1,7 @@
 use Rattle.std.proofs.Common.{◌≡◌, ap, arith, length}
 use Rattle.std.specs.Vec.Iter.{into_iter_items}
 use Rattle.serve_work.proofs.Seating.{all_moved, idle_made, idle_more, moved_more}
-use Rattle.serve_work.proofs.live.epochs.with_idle.Goals as goal
+use Rattle.serve_work.proofs.live.epochs.append_idle.Goals as goal
 
 pub loop-seat-preserved : goal.loop-seat-preserved
 loop-seat-preserved g c =

@@ -1,7 +1,7 @@
 use Rattle.std.proofs.Common.{◌∙◌, ap, arith, length}
 use Rattle.serve_work.proofs.Seating.{guests_made, guests_more}
 use Rattle.serve_work.proofs.SessionTurns.{one_empty}
-use Rattle.serve_work.proofs.live.epochs.with_tickets.Goals as goal
+use Rattle.serve_work.proofs.live.epochs.fill_guests.Goals as goal
 
 pub loop-ticket-preserved : goal.loop-ticket-preserved
 loop-ticket-preserved g c =

@@ -1,6 +1,6 @@
 use Rattle.std.proofs.Common.{ℕ, ◌≡◌, length, replicate, refl, ◌∙◌, ap, arith}
 use Rattle.serve_hub.proofs.Opened.{kept_over}
-use Rattle.serve_hub.proofs.book.opened_over.Goals as goal
+use Rattle.serve_hub.proofs.book.book_over.Goals as goal
 
 pub invariant_of-result : goal.invariant_of-result
 invariant_of-result c =

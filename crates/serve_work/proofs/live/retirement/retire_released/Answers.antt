@@ -5,7 +5,7 @@ use Rattle.serve_hub.specs.Seats.{StreamRest}
 use Rattle.serve_work.specs.declared.live.guests.Guest.{Guest}
 use Rattle.serve_work.specs.LiveInside.{AreGuests, AreToldBut, at_marks}
 use Rattle.serve_work.proofs.Retiring.{guests_retired, marked_first, told_first}
-use Rattle.serve_work.proofs.live.retirement.without_released.Goals as goal
+use Rattle.serve_work.proofs.live.retirement.retire_released.Goals as goal
 
 pub returns-in-Ok-retire : goal.returns-in-Ok-retire
 returns-in-Ok-retire g c =
@@ -22,7 +22,7 @@ returns-in-Ok-retire g c =
     told_first f ended.streams guests
     (subst (λ (these : List Bool). AreToldBut these guests) (c.deref.ensures.value ∙ marks)
     (subst (λ (gs : List (Option (Guest _ _))). AreToldBut c.deref.result.now gs) c.deref-2.ensures.value
-    (c.are_told.ensures c.if-not-are_told.false))) in
+    (c.are_told_but_marked.ensures c.if-not-are_told_but_marked.false))) in
     record {
       guests = λ ws at.
           let there = guests_retired

@@ -1,7 +1,7 @@
 use Rattle.std.specs.Vec.Iter.{into_iter_items}
 use Rattle.serve_work.specs.Sessions.{AreInputs}
 use Rattle.serve_report.proofs.Inputs.{Moves}
-use Rattle.serve_report.proofs.serve.opening.all_tried.Given as goal
+use Rattle.serve_report.proofs.serve.opening.gather_opened.Given as goal
 
 -- each stream that was opened has an input, and the streams come over in order
 abbrev pub invariant-loop-stream : goal.invariant-loop-stream

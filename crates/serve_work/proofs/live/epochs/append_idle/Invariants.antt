@@ -2,7 +2,7 @@ use Rattle.std.proofs.Common.{◌≡◌, ◌+◌, ◌≤◌, ◌++◌, length}
 use Rattle.std.specs.Vec.{vec_capacity, vec_len}
 use Rattle.std.specs.Vec.Iter.{into_iter_items, into_iter_len}
 use Rattle.serve_work.specs.LiveInside.{nobody}
-use Rattle.serve_work.proofs.live.epochs.with_idle.Given as goal
+use Rattle.serve_work.proofs.live.epochs.append_idle.Given as goal
 
 -- the seats that are there, and those that are left
 abbrev pub invariant-loop-seat : goal.invariant-loop-seat

@@ -1,7 +1,7 @@
 use Rattle.std.proofs.Common.{refl, sym, ◌∙◌}
 use Rattle.std.proofs.lemmas.List.{nil_from_length}
 use Rattle.serve_report.proofs.Openings.{moved_all, moved_more}
-use Rattle.serve_report.proofs.serve.opening.with_places.Goals as goal
+use Rattle.serve_report.proofs.serve.opening.place_all.Goals as goal
 
 pub loop-asked-preserved : goal.loop-asked-preserved
 loop-asked-preserved c =

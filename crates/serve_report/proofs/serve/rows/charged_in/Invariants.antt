@@ -1,6 +1,0 @@
-use Rattle.std.proofs.Common.{◌≡◌, take}
-use Rattle.serve_report.specs.Entrants.{charged_in}
-use Rattle.serve_report.proofs.serve.rows.charged_in.Given as goal
-
-abbrev pub invariant-loop-row : goal.invariant-loop-row
-invariant-loop-row l = l.units ≡ charged_in (take l.row-index l.rows)
