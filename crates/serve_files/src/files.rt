@@ -81,7 +81,7 @@ pub trait Files {
     }
 
     /// Opens the file of this name for reading, which doesn't wait for anything. A FIFO is opened for writing
-    /// too: as long as it is held so, it has no end, and nobody waits who opens its other one.
+    /// too: as long as it is held so, it has no end, and nobody waits who opens its other end.
     fn hold(&self, name: &str) -> io::Result<Self::Slow>;
 }
 

@@ -53,7 +53,7 @@ impl<R: Read, S: Read + Drop, T: Wait + Clock + Drop> Inflow<R, S, T> {
     }
 }
 
-/// Looks out at an inlet that may wait. Nothing is read of it yet.
+/// The inflow of an inlet, by a looker of its own where a read may wait.
 pub fn inflow_of<R, S, T>(rt: &T, alloc: Global, inlet: Inlet<R, S>) -> Inflow<R, S, T>
 where
     R: Read,

@@ -197,7 +197,8 @@ pub struct Looker<R: Read + Drop, T: Wait + Drop> {
 }
 
 impl<R: Read + Drop, T: Wait + Drop> Looker<R, T> {
-    /// None where there is no thread or no memory. Others than the client may be told whether it reads.
+    /// Starts a looker. None where there is no thread or no memory. Others than the client may be told
+    /// whether it reads.
     pub fn start(rt: &T, alloc: Global, reading: Option<Reading>) -> Option<Looker<R, T>>
     where
         R: Send + 'static,
@@ -218,7 +219,7 @@ impl<R: Read + Drop, T: Wait + Drop> Looker<R, T> {
         Some(Looker { lookout })
     }
 
-    /// Nothing is read yet. Where there is no memory the reader comes back.
+    /// Gives the looker its reader. Nothing is read yet. Where there is no memory the reader comes back.
     pub fn look_out(self, alloc: Global, reader: R) -> Result<Lookout<R, T>, R> {
         let ahead = Ahead::new(alloc, reader)?;
         let Self { lookout } = self;

@@ -82,7 +82,7 @@ impl<W: Write, S: Write + Drop, T: Wait + Clock + Drop> Outflow<W, S, T> {
     }
 }
 
-/// Writes to an outlet, by a carrier of its own where it may wait. Nothing is written yet.
+/// The outflow of an outlet, by a carrier of its own where a write may wait.
 pub fn outflow_of<W, S, T>(rt: &T, alloc: Global, outlet: Outlet<W, S>) -> Outflow<W, S, T>
 where
     W: Write,

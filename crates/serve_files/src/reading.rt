@@ -11,7 +11,7 @@ pub struct Reading {
 }
 
 impl Reading {
-    /// It isn't.
+    /// A flag that says the reader isn't being read.
     pub fn new(alloc: Global) -> Result<Reading, AllocError> {
         let flag = Arc::new(alloc, AtomicBool::new(false))?;
         Ok(Reading { flag })

@@ -206,7 +206,7 @@ pub struct Carrier<W: Write + Drop, T: Wait + Drop> {
 }
 
 impl<W: Write + Drop, T: Wait + Drop> Carrier<W, T> {
-    /// None where there is no thread or no memory.
+    /// Starts a carrier. None where there is no thread or no memory.
     pub fn start(rt: &T, alloc: Global) -> Option<Carrier<W, T>>
     where
         W: Send + 'static,
@@ -227,7 +227,7 @@ impl<W: Write + Drop, T: Wait + Drop> Carrier<W, T> {
         Some(Carrier { relay, room })
     }
 
-    /// Nothing is written yet.
+    /// Gives the carrier its writer. Nothing is written yet.
     pub fn carry(self, writer: W) -> Relay<W, T> {
         let Self { relay, room } = self;
         *relay.post.state.lock(&relay.rt) = State::Resting(Load::new(writer, room));

@@ -161,7 +161,7 @@ struct LineProgress {
 }
 
 impl LineProgress {
-    /// At the start.
+    /// The progress at the start.
     fn new() -> LineProgress
         ensures { result ≡ record { frames = 0; bytes = 0; shown = None } }
     {
@@ -172,7 +172,7 @@ impl LineProgress {
         }
     }
 
-    /// It with so many images and bytes more. A number of 64 bits stays at its last value.
+    /// The progress with so many images and bytes more. A number of 64 bits stays at its last value.
     fn with(self, frames: u64, bytes: u64) -> LineProgress
         ensures frames { result.frames ≡ min (self.frames + frames) (2 ^ 64 - 1) }
         ensures bytes { result.bytes ≡ min (self.bytes + bytes) (2 ^ 64 - 1) }
@@ -193,7 +193,7 @@ impl LineProgress {
         has_passed(BETWEEN_LINES, self.shown, time)
     }
 
-    /// It where its line is shown at this time.
+    /// The progress once its line is shown at this time.
     fn mark_shown(self, time: u64) -> LineProgress
         ensures { result ≡ record self { shown = Some time } }
     {

@@ -40,7 +40,7 @@ pub trait Watch {
     /// The client of a stream is about to do this.
     fn begins_doing(&self, _stream: usize, _doing: Doing) {}
 
-    /// It has come back from that, and whether it failed.
+    /// The client of a stream has come back from what it did, and whether that failed.
     fn ends_doing(&self, _stream: usize, _has_failed: bool) {}
 
     /// An epoch of the run begins.
@@ -54,8 +54,8 @@ pub trait Watch {
     /// A worker has a lease.
     fn lease_begins(&self, _worker: u32) {}
 
-    /// It has settled it, having done this for a stream, whose deadline and the moment of the clock were told
-    /// then.
+    /// A worker has settled its lease, having done this for a stream, whose deadline and the moment of the
+    /// clock were told then.
     fn lease_ends(
         &self,
         _worker: u32,
@@ -86,7 +86,7 @@ pub(crate) fn tell_begin<V: Watch>(watch: Option<&V>, stream: usize, doing: Doin
     }
 }
 
-/// Tells it that the client has come back from that.
+/// Tells a watch, where there is one, that a client has come back from what it did, and whether that failed.
 pub(crate) fn tell_done<V: Watch>(watch: Option<&V>, stream: usize, has_failed: bool) {
     if let Some(watch) = watch {
         watch.ends_doing(stream, has_failed);

@@ -20,8 +20,8 @@ const MOST_FILES: usize = 65;
 /// Where the caller closed a standard descriptor, its number is kept from the files of streams, which would
 /// else take it, so that a report would land in one of them. What is read from or written to it still fails.
 ///
-/// One file isn't made twice, by whatever names: two streams would write over each other, or over the trace.
-/// It is seen before the file is emptied.
+/// `create` makes no file twice, by whatever names: two streams would write over each other, or over the
+/// trace. It is seen before the file is emptied.
 #[derive(Drop)]
 pub struct HostFiles<'a> {
     rt: &'a HostRuntime,
@@ -50,7 +50,7 @@ impl<'a> HostFiles<'a> {
         Ok(Output { file, is_kept })
     }
 
-    /// Refuses a file that was made before.
+    /// Notes a file as made, or refuses one that was made before.
     fn note_made(&self, file: &File) -> io::Result<()> {
         let Place::File(id) = place_of(&file.metadata()?) else {
             return Ok(());

@@ -17,7 +17,7 @@ pub struct Terminals<'a> {
 }
 
 impl<'a> Terminals<'a> {
-    /// At the start of a run.
+    /// The terminals at the start of a run.
     pub fn new(rt: &'a HostRuntime) -> Terminals<'a> {
         let start = if rt.stderr().is_terminal() {
             Instant::now(rt).ok()

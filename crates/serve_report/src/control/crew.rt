@@ -13,7 +13,7 @@ pub struct Wants {
     pub order: Arc<Order, Global>,
     /// Whether a read of its input may wait.
     pub looker: bool,
-    /// Whether a write to its output may.
+    /// Whether a write to its output may wait.
     pub carrier: bool,
 }
 

@@ -142,7 +142,7 @@ struct Course {
 }
 
 impl Course {
-    /// By what is answered. The stream's files are let go.
+    /// What a stream came to, by its answer. The stream's files are let go.
     fn of<R: Source + Drop, W: Sink + Drop>(answer: Answer<R, W>) -> Course {
         match answer {
             Answer::Ended(served) => Course {

@@ -37,7 +37,7 @@ pub struct Entry<R: Source, W: Sink, S: Drop> {
 }
 
 impl<R: Source + Drop, W: Sink + Drop, S: Drop> Entry<R, W, S> {
-    /// It is being opened.
+    /// A stream whose input is being opened.
     pub fn new(order: Arc<Order, Global>, input: Place, output: Place) -> Entry<R, W, S> {
         Entry {
             order,
@@ -90,20 +90,20 @@ impl<R: Source + Drop, W: Sink + Drop, S: Drop> Entry<R, W, S> {
         self.input
     }
 
-    /// Its input was opened, and stands there. Its header is read next.
+    /// Notes where its input stands, which was opened. Its header is read next.
     pub fn set_input(&mut self, input: Place) {
         self.input = input;
         self.held = None;
         self.stage = Stage::Header;
     }
 
-    /// A share of the workers is kept for it, and its output is made next.
+    /// Notes that a share of the workers is kept for it. Its output is made next.
     pub fn note_share(&mut self) {
         self.has_share = true;
         self.stage = Stage::Output;
     }
 
-    /// Its output was made, and stands there.
+    /// Notes where its output stands, which was made.
     pub fn set_output(&mut self, output: Place) {
         self.output = output;
     }
@@ -114,7 +114,7 @@ impl<R: Source + Drop, W: Sink + Drop, S: Drop> Entry<R, W, S> {
         self.stage = Stage::Ready(ready);
     }
 
-    /// What it is served with, where it waits to be. It is served under this ticket from here on.
+    /// Notes that it is served under this ticket, where it waits to be, and answers what it is served with.
     pub fn serve(&mut self, ticket: u64) -> Option<Ready<R, W>> {
         match mem::replace(&mut self.stage, Stage::Served(ticket)) {
             Stage::Ready(ready) => Some(ready),
@@ -125,7 +125,7 @@ impl<R: Source + Drop, W: Sink + Drop, S: Drop> Entry<R, W, S> {
         }
     }
 
-    /// Nothing is held open for it any more.
+    /// Lets go what is held open for it.
     pub fn drop_held(&mut self) {
         self.held = None;
     }

@@ -17,7 +17,7 @@ pub struct Errand {
     pub may_wait: bool,
     /// Whether its files are opened at once, since none is a FIFO.
     pub is_prompt: bool,
-    /// Whether a write to its output may.
+    /// Whether a write to its output may wait.
     pub output_may_wait: bool,
 }
 

@@ -29,7 +29,7 @@ pub struct Lobby<'o, R: Source, W: Sink, S: Drop, O: Write, E: Write> {
 }
 
 impl<'o, R: Source + Drop, W: Sink + Drop, S: Drop, O: Write, E: Write> Lobby<'o, R, W, S, O, E> {
-    /// Nobody is there yet. Where there is no memory for it the voice comes back.
+    /// A lobby where nobody is yet. Where there is no memory for it the voice comes back.
     pub fn new(
         alloc: Global,
         workers: u64,
@@ -63,7 +63,7 @@ impl<'o, R: Source + Drop, W: Sink + Drop, S: Drop, O: Write, E: Write> Lobby<'o
         voice.end()
     }
 
-    /// Tells that a stream stopped before it was served.
+    /// Takes a stream out that stopped before it was served, and tells why it did.
     pub fn tell_stop<T: Wait>(&self, rt: &T, order: &Order, stop: StreamStop) {
         let mut voice = self.voice.lock(rt);
         let entry = self.table.lock(rt).take(order.number);
@@ -72,7 +72,8 @@ impl<'o, R: Source + Drop, W: Sink + Drop, S: Drop, O: Write, E: Write> Lobby<'o
         drop(entry);
     }
 
-    /// A stream's input was opened, and stands there. Answers whether no other stream loses by it.
+    /// Notes where a stream's input stands, which was opened, unless another stream would lose by it. Answers
+    /// whether none would.
     pub fn set_input<T: Wait>(&self, rt: &T, order: &Order, place: Place) -> bool {
         let mut table = self.table.lock(rt);
         let input = FileUse {
@@ -110,7 +111,8 @@ impl<'o, R: Source + Drop, W: Sink + Drop, S: Drop, O: Write, E: Write> Lobby<'o
         }
     }
 
-    /// A stream's output was made, and stands there. Answers whether no other stream lost by it.
+    /// Notes where a stream's output stands, which was made, unless another stream loses by it. Answers
+    /// whether none does.
     pub fn set_output<T: Wait>(&self, rt: &T, order: &Order, place: Place) -> bool {
         let mut table = self.table.lock(rt);
         let output = FileUse {
@@ -127,7 +129,7 @@ impl<'o, R: Source + Drop, W: Sink + Drop, S: Drop, O: Write, E: Write> Lobby<'o
         true
     }
 
-    /// There is no thread to open the stream of this number with.
+    /// Takes the stream of this number out and tells it stopped, since there is no thread to open it with.
     pub fn refuse<T: Wait>(&self, rt: &T, number: u64) {
         let mut voice = self.voice.lock(rt);
         let entry = self.table.lock(rt).take(number);
@@ -138,12 +140,13 @@ impl<'o, R: Source + Drop, W: Sink + Drop, S: Drop, O: Write, E: Write> Lobby<'o
         }
     }
 
-    /// Nobody can be served.
+    /// Tells why nobody can be served.
     pub fn fail<T: Wait>(&self, rt: &T, fault: SessionFault) {
         self.voice.lock(rt).tell_fault(&RunFault::Session(fault));
     }
 
-    /// Nobody is served any more. Streams that are being opened come back, and are told as closed.
+    /// Closes the streams, since nobody is served any more. Those that are being opened come back, and are
+    /// told as closed.
     pub fn give_up<T: Wait, F: Files<Slow = S>>(&self, rt: &T, files: &F)
     where
         S: 'static,
@@ -152,13 +155,13 @@ impl<'o, R: Source + Drop, W: Sink + Drop, S: Drop, O: Write, E: Write> Lobby<'o
         self.changed.notify_all();
     }
 
-    /// No stream is asked for any more.
+    /// Notes that no stream is asked for any more.
     pub fn end<T: Wait>(&self, rt: &T) {
         self.table.lock(rt).is_ended = true;
         self.changed.notify_all();
     }
 
-    /// Nothing more can be read of the control, and so no stream is asked for any more.
+    /// Tells that nothing more can be read of the control, and notes that so no stream is asked for any more.
     pub fn fail_reading<T: Wait>(&self, rt: &T) {
         self.voice.lock(rt).tell_fault(&"control read");
         self.end(rt);

@@ -36,7 +36,7 @@ pub type Inflows<'w, F, V, T> = WatchedSource<
     V,
 >;
 
-/// What they are written to.
+/// What the images of a run's streams are written to.
 pub type Outflows<'w, F, V, T> = WatchedSink<
     'w,
     OverOutflow<<F as Files>::Writer, <F as Files>::SlowWriter, T>,

@@ -195,7 +195,7 @@ where
     );
 }
 
-/// Serves the streams, each of which is opened so.
+/// Serves the streams, each of which is opened by the openers.
 fn serve_by<'r, 'o, I, R, W, S, O, E, F, T, L, P, G>(
     rt: &'r T,
     alloc: Global,

@@ -120,7 +120,7 @@ fn use_of<'a, F: Files>(files: &F, name: &'a str, is_written: bool) -> FileUse<'
     }
 }
 
-/// The first that clashes with one before it.
+/// The first file that clashes with one before it.
 fn first_clash<'a>(uses: &[FileUse<'a>]) -> Option<FileUse<'a>>
     ensures { MatchOption result (AllPairs IsApart uses.now) (IsFirstClash uses.now) }
 {
@@ -132,7 +132,7 @@ fn first_clash<'a>(uses: &[FileUse<'a>]) -> Option<FileUse<'a>>
     None
 }
 
-/// Whether it clashes with one of those before it.
+/// Whether the file clashes with one of those before it.
 fn has_clash(before: &[FileUse<'_>], found: &FileUse<'_>) -> bool
     ensures { IsTrue result ↔ Any (λ one. Clash one found.now) before.now }
 {

@@ -28,7 +28,7 @@ pub struct WatchedGate<'w, V: Watch> {
 }
 
 impl<'w, V: Watch> WatchedGate<'w, V> {
-    /// For a session of those that take part.
+    /// A gate for a session of those that take part.
     pub fn new(
         alloc: Global,
         entrants: &[Entrant<'_>],

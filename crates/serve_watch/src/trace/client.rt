@@ -67,7 +67,7 @@ impl ClientLane {
         self.doings.come_back(now);
     }
 
-    /// Whether it has come back from this.
+    /// Whether this is what it does.
     pub fn is_doing(&self, doing: Doing) -> bool {
         self.doings.doing() == doing
     }

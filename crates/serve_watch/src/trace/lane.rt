@@ -62,7 +62,7 @@ impl Lane {
         &self.text
     }
 
-    /// They were written.
+    /// Drops the records, which were written.
     pub fn clear(&mut self)
         ensures { self.new ≡ [] }
     {

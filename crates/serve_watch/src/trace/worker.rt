@@ -19,7 +19,7 @@ pub struct WorkerLane {
 }
 
 impl WorkerLane {
-    /// That of this worker.
+    /// The lane of this worker.
     pub fn new(worker: u64, lane: Option<Lane>) -> WorkerLane {
         WorkerLane {
             worker,
