@@ -140,7 +140,7 @@ fn copy_front(room: &mut [u8], buf: &[u8]) -> usize
     ensures within { result ≤ length room.old }
     ensures front { take result room.new ≡ take (length room.old) buf.now }
 {
-    let n = buf.len().min(room.len());
-    room[..n].copy_from_slice(&buf[..n]);
-    n
+    let count = buf.len().min(room.len());
+    room[..count].copy_from_slice(&buf[..count]);
+    count
 }

@@ -132,10 +132,10 @@ fn look_out<R: Read + Drop, T: Wait>(rt: &T, post: &Post<R>) {
         drop(state);
         ahead.look(wanted);
         let mut state = post.state.lock(rt);
-        let is_told = state.settle(ahead);
+        let is_to_tell = state.settle(ahead);
         post.tell(false);
         drop(state);
-        if is_told {
+        if is_to_tell {
             post.changed.notify_all();
         }
     }
@@ -211,8 +211,8 @@ impl<R: Read + Drop, T: Wait + Drop> Looker<R, T> {
             reading,
         };
         let post = Arc::new(alloc, post).ok()?;
-        let theirs = Arc::try_clone(&post).ok()?;
-        if thread::spawn(&rt, move || look_out(&rt, &theirs)).is_err() {
+        let looker_post = Arc::try_clone(&post).ok()?;
+        if thread::spawn(&rt, move || look_out(&rt, &looker_post)).is_err() {
             return None;
         }
         let lookout = Lookout { rt, post };

@@ -219,8 +219,8 @@ impl<W: Write + Drop, T: Wait + Drop> Carrier<W, T> {
             changed: Condvar::new(),
         };
         let post = Arc::new(alloc, post).ok()?;
-        let theirs = Arc::try_clone(&post).ok()?;
-        if thread::spawn(&rt, move || carry_on(&rt, &theirs)).is_err() {
+        let carrier_post = Arc::try_clone(&post).ok()?;
+        if thread::spawn(&rt, move || carry_on(&rt, &carrier_post)).is_err() {
             return None;
         }
         let relay = Relay { rt, post };

@@ -71,7 +71,7 @@ impl Stock {
     pub fn widen(&mut self, room: usize)
         ensures held { self.new.held ≡ self.old.held }
         ensures room { self.old.room ≤ self.new.room }
-        ensures small { self.old.room < self.new.room → self.new.room ≡ room }
+        ensures as_asked { self.old.room < self.new.room → self.new.room ≡ room }
     {
         if room <= self.bytes.len() {
             return;
@@ -87,24 +87,24 @@ impl Stock {
 
     /// Reads once, behind what is held, up to so many bytes in all.
     pub fn fill<R: Read>(&mut self, reader: &mut R, most: usize) -> io::Result<usize>
-        requires some { length self.old.held < most }
+        requires more_wanted { length self.old.held < most }
         requires within { most ≤ self.old.room }
         ensures bytes { FillsFrom (R.remaining reader.old) (R.remaining reader.new) result self.old.held
             self.new.held }
         ensures most { length self.new.held ≤ most }
         ensures room { self.new.room ≡ self.old.room }
     {
-        let n = match fill_behind(reader, &mut self.bytes, self.from, self.to, most) {
-            Ok(n) => n,
+        let count = match fill_behind(reader, &mut self.bytes, self.from, self.to, most) {
+            Ok(count) => count,
             Err(error) => {
                 self.to -= self.from;
                 self.from = 0;
                 return Err(error);
             }
         };
-        self.to = self.to - self.from + n;
+        self.to = self.to - self.from + count;
         self.from = 0;
-        Ok(n)
+        Ok(count)
     }
 
     /// Moves as many bytes as both have from the front into `out`.
@@ -114,10 +114,10 @@ impl Stock {
         ensures left { self.new ≡ record self.old { held = drop result self.old.held } }
     {
         let held = &self.bytes[self.from..self.to];
-        let n = held.len().min(out.len());
-        out[..n].copy_from_slice(&held[..n]);
-        self.from += n;
-        n
+        let count = held.len().min(out.len());
+        out[..count].copy_from_slice(&held[..count]);
+        self.from += count;
+        count
     }
 }
 
@@ -139,11 +139,11 @@ fn fill_behind<R: Read>(
 ) -> io::Result<usize>
     requires order { from ≤ to }
     requires within { to ≤ length bytes.old }
-    requires some { to - from < most }
+    requires more_wanted { to - from < most }
     requires most { most ≤ length bytes.old }
     ensures bytes { FillsSlice (R.remaining reader.old) (R.remaining reader.new) result
         (drop from (take to bytes.old)) bytes.new }
-    ensures most { IfOk result (λ n. to - from + n ≤ most) }
+    ensures most { IfOk result (λ count. to - from + count ≤ most) }
 {
     move_to_front(bytes, from, to);
     reader.read(&mut bytes[to - from..most])
