@@ -35,17 +35,17 @@ name_to_close line =
     if bytes_eq (first_word line) (codes "close") then option_and_then name_of (behind_word line) else None
 
 -- what a text asks for, if it does; where standard input is taken, no stream is read from it
-abbrev pub text_asks : (is_taken : Bool) → List ℕ → Option Asking
-text_asks is_taken text =
+abbrev pub text_asks : (is_input_taken : Bool) → List ℕ → Option Asking
+text_asks is_input_taken text =
     if bytes_eq text (codes "state") then Some State
     else if bytes_eq text (codes "end") then Some End
     else option_map_or (λ name. Some (Close name)) (name_to_close text)
-    (option_map Serve (stream_beside is_taken text))
+    (option_map Serve (stream_beside is_input_taken text))
 
 -- the same of a line, whose bytes may be no text
-abbrev pub line_asks : (is_taken : Bool) → List ℕ → Option Asking
-line_asks is_taken line =
-    if is_silent line then Some Nothing else if is_utf8 line then text_asks is_taken line else None
+abbrev pub line_asks : (is_input_taken : Bool) → List ℕ → Option Asking
+line_asks is_input_taken line =
+    if is_silent line then Some Nothing else if is_utf8 line then text_asks is_input_taken line else None
 
 -- what is wrong with the operations of a stream, or else with its bandwidth
 abbrev pub IsWrongBy : StreamAsked → LineFault → Type 0

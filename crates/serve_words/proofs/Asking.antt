@@ -25,26 +25,26 @@ named_from name streams i asked same less is e =
     ap (λ rest. is_named name (all_told rest)) (left_from streams i asked less is)
     ∙ ap (λ found. found || is_named name (all_told (drop (i + 1) streams))) e
 
-module _ (is_taken : Bool) (before : List StreamAsked) (words : List (Bor (List ℕ))) (i : ℕ) (d : Bor (List ℕ))
+module _ (is_input_taken : Bool) (before : List StreamAsked) (words : List (Bor (List ℕ))) (i : ℕ) (d : Bor (List ℕ))
     (less : i < length words) where
   later : StreamAsked → Result (List StreamAsked) Fault
-  later stream = words_given is_taken (before ++ stream ∷ []) (words_asked (drop (i + 1) words))
+  later stream = words_given is_input_taken (before ++ stream ∷ []) (words_asked (drop (i + 1) words))
 
-  first_word : words_given is_taken before (words_asked (drop i words))
-      ≡ then_given later (word_given is_taken before (get_or words i d).now)
+  first_word : words_given is_input_taken before (words_asked (drop i words))
+      ≡ then_given later (word_given is_input_taken before (get_or words i d).now)
   unfolding later
-  first_word = ap (λ rest. words_given is_taken before (words_asked rest)) (left_at words i d less)
+  first_word = ap (λ rest. words_given is_input_taken before (words_asked rest)) (left_at words i d less)
 
   -- one word further
-  pub one_word : (stream : StreamAsked) → word_given is_taken before (get_or words i d).now ≡ Ok stream
-      → words_given is_taken before (words_asked (drop i words))
-      ≡ words_given is_taken (before ++ stream ∷ []) (words_asked (drop (i + 1) words))
+  pub one_word : (stream : StreamAsked) → word_given is_input_taken before (get_or words i d).now ≡ Ok stream
+      → words_given is_input_taken before (words_asked (drop i words))
+      ≡ words_given is_input_taken (before ++ stream ∷ []) (words_asked (drop (i + 1) words))
   unfolding later
   one_word stream given = first_word ∙ ap (then_given later) given
 
   -- a word's fault ends it
-  pub faulty_word : (fault : Fault) → word_given is_taken before (get_or words i d).now ≡ Err fault
-      → words_given is_taken before (words_asked (drop i words)) ≡ Err fault
+  pub faulty_word : (fault : Fault) → word_given is_input_taken before (get_or words i d).now ≡ Err fault
+      → words_given is_input_taken before (words_asked (drop i words)) ≡ Err fault
   faulty_word fault given = first_word ∙ ap (then_given later) given
 
 -- a stream more

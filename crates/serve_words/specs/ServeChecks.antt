@@ -88,11 +88,11 @@ stream_given before stream =
     else then_given (λ ops. Ok stream) (ops_given stream.name (ops_of stream.operations))
 
 -- no stream is read from standard input where that is taken
-module _ (is_taken : Bool) where
+module _ (is_input_taken : Bool) where
   -- the same of a word, whose form comes first
   abbrev pub word_given : List StreamAsked → List ℕ → Result StreamAsked Fault
   word_given before word =
-      option_map_or (stream_given before) (stream_beside is_taken word) (Err (BadStream word))
+      option_map_or (stream_given before) (stream_beside is_input_taken word) (Err (BadStream word))
 
   -- the streams of words behind those before them, or the first fault
   abbrev pub words_given : List StreamAsked → List (List ℕ) → Result (List StreamAsked) Fault

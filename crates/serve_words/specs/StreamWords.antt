@@ -53,9 +53,10 @@ abbrev pub reads_input : StreamAsked → Bool
 reads_input stream = bytes_eq stream.input (codes "/dev/stdin")
 
 -- the same, where something else may have taken standard input: no stream is read from it then
-abbrev pub stream_beside : (is_taken : Bool) → List ℕ → Option StreamAsked
-stream_beside is_taken word =
-    option_and_then (λ stream. if is_taken && reads_input stream then None else Some stream) (stream_of word)
+abbrev pub stream_beside : (is_input_taken : Bool) → List ℕ → Option StreamAsked
+stream_beside is_input_taken word =
+    option_and_then (λ stream. if is_input_taken && reads_input stream then None else Some stream)
+    (stream_of word)
 
 abbrev pub stream_told : StreamWord → StreamAsked
 stream_told word = record {

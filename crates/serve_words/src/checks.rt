@@ -60,7 +60,7 @@ pub enum WordFault<'a> {
 impl WordFault<'_> {
     /// The program's status after it.
     pub fn status(self) -> u8
-        ensures fault { 1 ≤ result }
+        ensures least { 1 ≤ result }
         ensures most { result ≤ 2 }
     {
         match self {
@@ -111,8 +111,8 @@ pub fn check<'a>(alloc: Global, words: &ServeWords<'a>) -> Result<Checked<'a>, W
     if words.streams.len() > MOST_STREAMS {
         return Err(WordFault::TooManyStreams);
     }
-    let is_taken = words.takes_input();
-    let streams = all_streams(alloc, &words.streams, is_taken)?;
+    let is_input_taken = words.takes_input();
+    let streams = all_streams(alloc, &words.streams, is_input_taken)?;
     let workers = u64::from(words.workers);
     admit_all(workers, &streams)?;
     Ok(Checked {
@@ -128,17 +128,17 @@ pub fn check<'a>(alloc: Global, words: &ServeWords<'a>) -> Result<Checked<'a>, W
 fn all_streams<'a>(
     alloc: Global,
     words: &[&'a str],
-    is_taken: bool,
+    is_input_taken: bool,
 ) -> Result<Vec<Asked<'a>>, WordFault<'a>>
     ensures streams { IfOk result (λ streams.
-        words_given is_taken [] (words_asked words.now) ≡ Ok (all_told streams.items)) }
+        words_given is_input_taken [] (words_asked words.now) ≡ Ok (all_told streams.items)) }
     ensures ops { IfOk result (λ streams. AreSaid streams.items) }
     ensures fault { IfErr result
-        (λ fault. MayTell fault (λ told. words_given is_taken [] (words_asked words.now) ≡ Err told)) }
+        (λ fault. MayTell fault (λ told. words_given is_input_taken [] (words_asked words.now) ≡ Err told)) }
 {
     let mut streams = Vec::new(alloc);
     for word in words {
-        let asked = next_stream(alloc, &streams, word, is_taken)?;
+        let asked = next_stream(alloc, &streams, word, is_input_taken)?;
         streams.push(asked)?;
     }
     Ok(streams)
@@ -149,15 +149,15 @@ fn next_stream<'a>(
     alloc: Global,
     before: &[Asked<'a>],
     text: &'a str,
-    is_taken: bool,
+    is_input_taken: bool,
 ) -> Result<Asked<'a>, WordFault<'a>>
     ensures stream { IfOk result
-        (λ asked. word_given is_taken (all_told before.now) text.now ≡ Ok (asked_told asked)) }
+        (λ asked. word_given is_input_taken (all_told before.now) text.now ≡ Ok (asked_told asked)) }
     ensures ops { IfOk result IsSaid }
-    ensures fault { IfErr result
-        (λ fault. MayTell fault (λ told. word_given is_taken (all_told before.now) text.now ≡ Err told)) }
+    ensures fault { IfErr result (λ fault. MayTell fault
+        (λ told. word_given is_input_taken (all_told before.now) text.now ≡ Err told)) }
 {
-    let Some(word) = parse_word_beside(text, is_taken) else {
+    let Some(word) = parse_word_beside(text, is_input_taken) else {
         return Err(WordFault::BadStream(text));
     };
     if has_name(before, word.name) {
@@ -170,7 +170,7 @@ fn next_stream<'a>(
 /// The operations of a stream.
 fn stream_ops<'a>(alloc: Global, word: StreamWord<'a>) -> Result<Vec<Op>, WordFault<'a>>
     ensures ops { IfOk result (λ ops. ops_of word.entry.operations.now ≡ Some ops.items) }
-    ensures good { IfOk result
+    ensures given { IfOk result
         (λ ops. ops_given word.entry.name.now (ops_of word.entry.operations.now) ≡ Ok ops.items) }
     ensures fault { IfErr result (λ fault.
         MayTell fault (λ told. ops_given word.entry.name.now (ops_of word.entry.operations.now) ≡ Err told)) }

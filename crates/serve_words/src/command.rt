@@ -18,7 +18,7 @@ use std::alloc::{AllocError, Global};
 fn number_option<'a>(
     alloc: Global,
     name: &'a str,
-    value: &'a str,
+    value_name: &'a str,
     parser: ValueParser<'a>,
 ) -> Arg<'a>
     ensures { IsArgument (line.valued name.entry.now parser.entry) result }
@@ -26,7 +26,7 @@ fn number_option<'a>(
     Arg::new(alloc, name)
         .long(name)
         .action(ArgAction::Set)
-        .value_name(value)
+        .value_name(value_name)
         .value_parser(parser)
 }
 

@@ -56,11 +56,11 @@ fn parse_stream_word(word: &str) -> Option<StreamWord<'_>>
 }
 
 /// A word of a stream where standard input may be taken by something else: no stream is read from it then.
-pub fn parse_word_beside(word: &str, is_taken: bool) -> Option<StreamWord<'_>>
-    ensures { option_map stream_told result ≡ stream_beside is_taken word.now }
+pub fn parse_word_beside(word: &str, is_input_taken: bool) -> Option<StreamWord<'_>>
+    ensures { option_map stream_told result ≡ stream_beside is_input_taken word.now }
 {
     let word = parse_stream_word(word)?;
-    if is_taken && word.input == INPUT {
+    if is_input_taken && word.input == INPUT {
         return None;
     }
     Some(word)

@@ -89,9 +89,9 @@ impl fmt::Display for LineFault {
 
 /// What a line asks for, by its form alone; a fault is `BadLine`. Where the control is standard input, that
 /// is taken: no stream is read from it.
-pub fn parse_line(line: &[u8], is_taken: bool) -> Result<Ask<'_>, LineFault>
-    ensures { MatchResult result (λ ask. line_asks is_taken line.now ≡ Some (ask_told ask))
-        (λ fault. (fault ≡ LineFault.BadLine) × (line_asks is_taken line.now ≡ None)) }
+pub fn parse_line(line: &[u8], is_input_taken: bool) -> Result<Ask<'_>, LineFault>
+    ensures { MatchResult result (λ ask. line_asks is_input_taken line.now ≡ Some (ask_told ask))
+        (λ fault. (fault ≡ LineFault.BadLine) × (line_asks is_input_taken line.now ≡ None)) }
 {
     if is_silent(line) {
         return Ok(Ask::Nothing);
@@ -99,7 +99,7 @@ pub fn parse_line(line: &[u8], is_taken: bool) -> Result<Ask<'_>, LineFault>
     let Ok(text) = str::from_utf8(line) else {
         return Err(LineFault::BadLine);
     };
-    match ask_of(text, is_taken) {
+    match ask_of(text, is_input_taken) {
         Some(ask) => Ok(ask),
         None => Err(LineFault::BadLine),
     }
@@ -116,8 +116,8 @@ fn is_silent(line: &[u8]) -> bool
 }
 
 /// What a text asks for, if it does.
-fn ask_of(text: &str, is_taken: bool) -> Option<Ask<'_>>
-    ensures { option_map ask_told result ≡ text_asks is_taken text.now }
+fn ask_of(text: &str, is_input_taken: bool) -> Option<Ask<'_>>
+    ensures { option_map ask_told result ≡ text_asks is_input_taken text.now }
 {
     if text == "state" {
         return Some(Ask::State);
@@ -128,7 +128,7 @@ fn ask_of(text: &str, is_taken: bool) -> Option<Ask<'_>>
     if let Some(name) = name_to_close(text) {
         return Some(Ask::Close(name));
     }
-    let word = parse_word_beside(text, is_taken)?;
+    let word = parse_word_beside(text, is_input_taken)?;
     Some(Ask::Serve(word))
 }
 

@@ -4,8 +4,8 @@ use serve_report::control::line::{Ask, check_stream, parse_line};
 use std::alloc::Global;
 
 /// What a line asks for: a word for its kind, and the name that it has, if it has one.
-fn asked(line: &[u8], is_taken: bool) -> (&str, &str) {
-    match parse_line(line, is_taken) {
+fn asked(line: &[u8], is_input_taken: bool) -> (&str, &str) {
+    match parse_line(line, is_input_taken) {
         Ok(Ask::Nothing) => ("nothing", ""),
         Ok(Ask::Serve(word)) => ("serve", word.name),
         Ok(Ask::Close(name)) => ("close", name),

@@ -7,7 +7,7 @@ pub loop-word-preserved : goal.loop-word-preserved
 loop-word-preserved c =
     let before = c.loop-word.streams.items in
     let asked = c.in_ok-asked.asked in
-    let given = one_word c.args.is_taken (all_told before) c.args.words.now c.loop-word.word-index _ c.loop-word-test.true
+    let given = one_word c.args.is_input_taken (all_told before) c.args.words.now c.loop-word.word-index _ c.loop-word-test.true
     (asked_told asked) (rw c.deref.ensures.value at c.in_ok-asked.ensures.stream) in
     record {
       given = rw (c.in_ok-push.ensures.items, told_more before asked) (c.loop-word.invariant.given ∙ given);
