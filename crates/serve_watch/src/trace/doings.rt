@@ -46,7 +46,7 @@ impl Doings {
     /// before, and then it waited. What is begun again goes on.
     pub fn begin(&mut self, doing: Doing, now: u64) -> Option<(Stretch, Stretch)>
         ensures doing { self.new.doing ≡ doing }
-        ensures on { IfNone result ((self.old.doing ≡ doing) × (self.new.since ≡ self.old.since)) }
+        ensures goes_on { IfNone result ((self.old.doing ≡ doing) × (self.new.since ≡ self.old.since)) }
         ensures before { IfSome result (λ parts.
             (parts.0.doing ≡ self.old.doing) × (parts.0.begin ≡ self.old.since)) }
         ensures between { IfSome result (λ parts.

@@ -22,7 +22,7 @@ use std::time::Clock;
 #[derive(Drop)]
 pub struct Trace<'t, W: Write, V: Watch, T: Wait + Clock> {
     spool: Spool<'t, W, T>,
-    told: Option<&'t V>,
+    inner: Option<&'t V>,
     workers: Vec<Mutex<WorkerLane>>,
     streams: Vec<StreamLane<'t>>,
     epochs: AtomicU64,
@@ -39,11 +39,11 @@ impl<'t, W: Write + Drop, V: Watch, T: Wait + Clock> Trace<'t, W, V, T> {
         output: Option<W>,
         workers: u64,
         names: Option<Vec<&'t str>>,
-        told: Option<&'t V>,
+        inner: Option<&'t V>,
     ) -> Trace<'t, W, V, T> {
         let mut trace = Trace {
             spool: Spool::new(rt, output),
-            told,
+            inner,
             workers: Vec::new(alloc),
             streams: Vec::new(alloc),
             epochs: AtomicU64::new(0),
@@ -115,8 +115,8 @@ impl<'t, W: Write + Drop, V: Watch, T: Wait + Clock> Trace<'t, W, V, T> {
 impl<'t, W: Write + Drop, V: Watch, T: Wait + Clock> Watch for Trace<'t, W, V, T> {
     fn begins(&self, names: &[&str]) {
         self.has_begun.store(true, Ordering::SeqCst);
-        if let Some(told) = self.told {
-            told.begins(names);
+        if let Some(inner) = self.inner {
+            inner.begins(names);
         }
     }
 
@@ -124,8 +124,8 @@ impl<'t, W: Write + Drop, V: Watch, T: Wait + Clock> Watch for Trace<'t, W, V, T
         if let (Some(lane), Some(now)) = (self.streams.get(stream), self.spool.now()) {
             lane.frame_read(&self.spool, now);
         }
-        if let Some(told) = self.told {
-            told.frame_read(stream);
+        if let Some(inner) = self.inner {
+            inner.frame_read(stream);
         }
     }
 
@@ -133,14 +133,14 @@ impl<'t, W: Write + Drop, V: Watch, T: Wait + Clock> Watch for Trace<'t, W, V, T
         if let (Some(lane), Some(now)) = (self.streams.get(stream), self.spool.now()) {
             lane.image_written(&self.spool, now);
         }
-        if let Some(told) = self.told {
-            told.image_written(stream, bytes);
+        if let Some(inner) = self.inner {
+            inner.image_written(stream, bytes);
         }
     }
 
     fn ends(&self) {
-        if let Some(told) = self.told {
-            told.ends();
+        if let Some(inner) = self.inner {
+            inner.ends();
         }
     }
 

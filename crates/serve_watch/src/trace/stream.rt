@@ -73,12 +73,12 @@ impl<'a> StreamLane<'a> {
     ) {
         let mut client = self.client.lock(spool.rt());
         client.begin(spool, doing, now);
-        let (goes_on, count) = if doing == Doing::Reading {
+        let (is_counted, count) = if doing == Doing::Reading {
             (client.ask(), &self.accepted)
         } else {
             (client.put(), &self.collected)
         };
-        if goes_on {
+        if is_counted {
             count.fetch_add(1, Ordering::SeqCst);
             client.tell_frames(spool, self.frames(now));
         }
