@@ -229,12 +229,13 @@ fn filter_by<T: Threads, R: Source + Drop + Send, W: Sink + Drop>(
       before = W.contents output;
       after = W.contents result.0;
     }) }
-    ensures alone { threads ≡ 1 → (left : Option (List ℕ)) × IsFiltered result.1 ops.items height (record {
-      input = R.remaining input;
-      left = left;
-      before = W.contents output;
-      after = W.contents result.0;
-    }) }
+    ensures one_thread { threads ≡ 1 → (left : Option (List ℕ))
+        × IsFiltered result.1 ops.items height (record {
+          input = R.remaining input;
+          left = left;
+          before = W.contents output;
+          after = W.contents result.0;
+        }) }
 {
     if threads == 1 {
         filter_stream(alloc, input, output, ops, height)
@@ -266,7 +267,7 @@ fn filter_lent<'w, T, R, W, V, L>(
     output: LentWriter<'w, W>,
     ops: Vec<Op>,
     height: BandHeight,
-    told: Option<&V>,
+    watch: Option<&V>,
 ) -> (LentWriter<'w, W>, Result<u64, FilterFault>)
 where
     T: Threads,
@@ -284,8 +285,8 @@ where
     }) }
 {
     let output: NamedWriter<'w, W, L> = NamedWriter::new(output);
-    let input = WatchedSource::new(OverRead::new(input), ALONE, told);
-    let output = WatchedSink::new(OverWrite::new(output), ALONE, told);
+    let input = WatchedSource::new(OverRead::new(input), ALONE, watch);
+    let output = WatchedSink::new(OverWrite::new(output), ALONE, watch);
     let (output, filtered) = filter_by(rt, alloc, threads, input, output, ops, height);
     (output.into_inner().into_inner().into_lent(), filtered)
 }
@@ -299,7 +300,7 @@ fn filter_into<T: Threads, R: Read + Drop + Send, W: Write, V: Watch + Sync>(
     output: &mut W,
     ops: Vec<Op>,
     height: BandHeight,
-    told: Option<&V>,
+    watch: Option<&V>,
 ) -> Result<u64, FilterFault>
     ensures { (left : Option (List ℕ)) × IsFilteredAhead result ops.items height (record {
       input = R.remaining input;
@@ -310,7 +311,7 @@ fn filter_into<T: Threads, R: Read + Drop + Send, W: Write, V: Watch + Sync>(
 {
     let output = LentWriter::new(output);
     let (_, filtered) = filter_lent::<T, R, W, V, Brand>(
-        rt, alloc, threads, input, output, ops, height, told,
+        rt, alloc, threads, input, output, ops, height, watch,
     );
     filtered
 }
@@ -342,9 +343,9 @@ fn run_filter<T: Threads, R: Read + Drop + Send, W: Write, E: Write, V: Watch + 
     if !asked.is_quiet && watch.input_is_terminal() {
         tell(errors, &AWAITED);
     }
-    let told = watch_of_frames(watch, asked.is_quiet);
-    let filtered = filter_into(rt, alloc, asked.threads, input, output, ops, height, told);
-    if told.is_some() {
+    let watch = watch_of_frames(watch, asked.is_quiet);
+    let filtered = filter_into(rt, alloc, asked.threads, input, output, ops, height, watch);
+    if let Some(watch) = watch {
         watch.ends();
     }
     status_of(errors, filtered)

@@ -119,7 +119,7 @@ where
     if let Err(fault) = tell_apart(alloc, files, &checked.streams) {
         return refuse(errors, fault);
     }
-    let told = watch_of_frames(watch, words.is_quiet);
+    let watch = watch_of_frames(watch, words.is_quiet);
     let clock = RunClock::new(rt, words.microseconds());
     if let Some(control) = words.control {
         if words.trace.is_some() {
@@ -130,17 +130,17 @@ where
             return refuse(errors, clash);
         }
         return run_control(
-            rt, alloc, control, checked, &clock, input, output, errors, files, told,
+            rt, alloc, control, checked, &clock, input, output, errors, files, watch,
         );
     }
     match words.trace {
-        None => serve_and_report(rt, alloc, checked, output, errors, files, told, &clock),
+        None => serve_and_report(rt, alloc, checked, output, errors, files, watch, &clock),
         Some(file) => {
             if let Err(clash) = tell_trace_apart(alloc, files, file, &checked.streams) {
                 return refuse(errors, clash);
             }
             serve_traced(
-                rt, alloc, file, checked, output, errors, files, told, &clock,
+                rt, alloc, file, checked, output, errors, files, watch, &clock,
             )
         }
     }
@@ -154,7 +154,7 @@ fn serve_and_report<W, E, F, V, K, T>(
     output: &mut W,
     errors: &mut E,
     files: &F,
-    told: Option<&V>,
+    watch: Option<&V>,
     clock: &K,
 ) -> u8
 where
@@ -174,7 +174,7 @@ where
         → Reports F.open_gives F.create_gives (K.gives clock.now) checked.entry (W.contents output.old)
         (W.contents output.new) true }
 {
-    match serve(rt, alloc, checked, output, files, told, clock) {
+    match serve(rt, alloc, checked, output, files, watch, clock) {
         Ok(true) => 0,
         Ok(false) => 1,
         Err(fault) => {
@@ -194,7 +194,7 @@ fn serve_traced<'t, W, E, F, V, K, T>(
     output: &mut W,
     errors: &mut E,
     files: &F,
-    told: Option<&'t V>,
+    watch: Option<&'t V>,
     clock: &K,
 ) -> u8
 where
@@ -217,7 +217,7 @@ where
     let names = names_of(alloc, &checked.streams);
     let workers = checked.workers;
     let file = trace_file(files, file);
-    let trace = Trace::start(rt, alloc, file, workers, names, told);
+    let trace = Trace::start(rt, alloc, file, workers, names, watch);
     let status = serve_and_report(
         rt,
         alloc,
@@ -242,7 +242,7 @@ fn trace_file<F: Files>(files: &F, name: &str) -> Option<Outlet<F::Writer, F::Sl
 
 /// Tells what is wrong with the words, and answers the program's status.
 pub fn refuse<E: Write>(errors: &mut E, fault: WordFault<'_>) -> u8
-    ensures fault { 1 ≤ result }
+    ensures least { 1 ≤ result }
     ensures most { result ≤ 2 }
 {
     tell(errors, &fault);
@@ -257,7 +257,7 @@ fn serve<W, F, V, K, T>(
     checked: Checked<'_>,
     output: &mut W,
     files: &F,
-    told: Option<&V>,
+    watch: Option<&V>,
     clock: &K,
 ) -> Result<bool, RunFault>
 where
@@ -275,9 +275,9 @@ where
         (Reports F.open_gives F.create_gives (K.gives clock.now) checked.entry (W.contents output.old)
         (W.contents output.new)) }
 {
-    let told = announce_streams(alloc, &checked.streams, told);
-    let rows = serve_files(rt, alloc, checked, files, told, clock);
-    if let Some(watch) = told {
+    let watch = announce_streams(alloc, &checked.streams, watch);
+    let rows = serve_files(rt, alloc, checked, files, watch, clock);
+    if let Some(watch) = watch {
         watch.ends();
     }
     let rows = rows?;
@@ -290,9 +290,9 @@ where
 pub fn announce_streams<'w, V: Watch>(
     alloc: Global,
     streams: &[Asked<'_>],
-    told: Option<&'w V>,
+    watch: Option<&'w V>,
 ) -> Option<&'w V> {
-    let watch = told?;
+    let watch = watch?;
     let names = names_of(alloc, streams)?;
     watch.begins(&names);
     Some(watch)
@@ -313,7 +313,7 @@ fn serve_files<'a, F, V, K, T>(
     alloc: Global,
     checked: Checked<'a>,
     files: &F,
-    told: Option<&V>,
+    watch: Option<&V>,
     clock: &K,
 ) -> Result<Vec<StreamRow<'a>>, RunFault>
 where
@@ -335,8 +335,8 @@ where
         height,
         streams,
     } = checked;
-    let tried = open_all(rt, alloc, streams, height, files, told)?;
-    let rows = serve_tried(rt, alloc, workers, quantum, journal, tried, told, clock)?;
+    let tried = open_all(rt, alloc, streams, height, files, watch)?;
+    let rows = serve_tried(rt, alloc, workers, quantum, journal, tried, watch, clock)?;
     Ok(rows)
 }
 
@@ -348,7 +348,7 @@ fn serve_tried<'a, R, W, V, K, T>(
     quantum: u64,
     journal: usize,
     tried: Vec<Tried<'a, R, W>>,
-    told: Option<&V>,
+    watch: Option<&V>,
     clock: &K,
 ) -> Result<Vec<StreamRow<'a>>, RunFault>
 where
@@ -367,7 +367,7 @@ where
     } = gather_opened(alloc, tried)?;
     // No memory is taken after the session, so that one that ended is reported.
     let rows = Vec::with_capacity(alloc, entrants.len())?;
-    let gate = WatchedGate::new(alloc, entrants.as_slice(), told)?;
+    let gate = WatchedGate::new(alloc, entrants.as_slice(), watch)?;
     let left = serve_opened(
         rt, alloc, workers, quantum, journal, specs, inputs, &gate, clock,
     )?;

@@ -170,10 +170,15 @@ where
         let Asked { word, ops } = asked;
         let number = self.asked;
         self.asked = self.asked.saturating_add(1);
-        let Some((order, theirs)) = order_of(self.alloc, number, word) else {
+        let Some((order, table_order)) = order_of(self.alloc, number, word) else {
             return self.refuse_stream(word.name, AdmitFault::NoMemory);
         };
-        if !self.lobby.table.lock(self.rt).enter(theirs, input, output) {
+        if !self
+            .lobby
+            .table
+            .lock(self.rt)
+            .enter(table_order, input, output)
+        {
             return self.refuse_stream(word.name, AdmitFault::TooManyStreams);
         }
         Bidding::Open(Errand {
@@ -213,14 +218,14 @@ where
     }
 
     /// Whether the file is that of the report or of the control.
-    fn is_own(&self, found: &FileUse<'_>) -> bool {
+    fn is_own(&self, file: &FileUse<'_>) -> bool {
         for (name, place) in &self.own {
             let own = FileUse {
                 name,
                 place: *place,
                 is_written: true,
             };
-            if own.clashes_with(found) {
+            if own.clashes_with(file) {
                 return true;
             }
         }
@@ -259,6 +264,6 @@ fn order_of(
 ) -> Option<(Arc<Order, Global>, Arc<Order, Global>)> {
     let order = Order::new(alloc, number, word).ok()?;
     let order = Arc::new(alloc, order).ok()?;
-    let theirs = Arc::try_clone(&order).ok()?;
-    Some((order, theirs))
+    let table_order = Arc::try_clone(&order).ok()?;
+    Some((order, table_order))
 }

@@ -71,7 +71,7 @@ impl<R: Source + Drop, W: Sink + Drop, S: Drop> Entry<R, W, S> {
     }
 
     /// Whether one of the two would lose by it, the stream or who uses the file so.
-    pub fn clashes_with(&self, found: &FileUse<'_>) -> bool {
+    pub fn clashes_with(&self, file: &FileUse<'_>) -> bool {
         let input = FileUse {
             name: &self.order.input,
             place: self.input,
@@ -82,7 +82,7 @@ impl<R: Source + Drop, W: Sink + Drop, S: Drop> Entry<R, W, S> {
             place: self.output,
             is_written: true,
         };
-        input.clashes_with(found) || output.clashes_with(found)
+        input.clashes_with(file) || output.clashes_with(file)
     }
 
     /// What stands behind the name of its input.

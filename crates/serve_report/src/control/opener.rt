@@ -62,7 +62,7 @@ pub fn open_errand<'w, 'o, F, V, T, O, E>(
     files: &F,
     lobby: &Shared<'w, 'o, F, V, T, O, E>,
     crew: &Crew<F::Slow, F::SlowWriter, T>,
-    told: Option<&'w V>,
+    watch: Option<&'w V>,
     errand: Errand,
 )
 where
@@ -84,7 +84,7 @@ where
         ops,
     };
     let ready = open_files(
-        rt, alloc, height, files, lobby, &order, asked, helpers, stream, told,
+        rt, alloc, height, files, lobby, &order, asked, helpers, stream, watch,
     );
     match ready {
         Ok(ready) => lobby.make_ready(rt, &order, ready),
@@ -111,7 +111,7 @@ fn open_files<'w, 'o, F, V, T, O, E>(
     asked: Asked<'_>,
     helpers: Helpers<F::Slow, F::SlowWriter, T>,
     stream: usize,
-    told: Option<&'w V>,
+    watch: Option<&'w V>,
 ) -> Result<Ready<Inflows<'w, F, V, T>, Outflows<'w, F, V, T>>, StreamStop>
 where
     F: Files,
@@ -124,20 +124,20 @@ where
     let Asked { word, ops } = asked;
     let Helpers { looker, carrier } = helpers;
     let reader = open_input(
-        rt, alloc, files, lobby, order, word.input, looker, stream, told,
+        rt, alloc, files, lobby, order, word.input, looker, stream, watch,
     )?;
     let geometry = Geometry::of(reader.header());
-    let job = match job_of(alloc, ops, geometry, height) {
-        Ok(job) => job,
+    let job_spec = match job_of(alloc, ops, geometry, height) {
+        Ok(job_spec) => job_spec,
         Err(error) => return Err(StreamStop::Ops(error)),
     };
     lobby.admit(rt, order)?;
-    let sink = open_output(files, order, word.output, carrier, stream, told)?;
+    let sink = open_output(files, order, word.output, carrier, stream, watch)?;
     let place = files.place(word.output);
     if !lobby.set_output(rt, order, place) {
         return Err(StreamStop::Create);
     }
-    let spec = spec_of(word.q, word.t, geometry, job);
+    let spec = spec_of(word.q, word.t, geometry, job_spec);
     let input = (reader, sink);
     Ok(Ready { spec, input })
 }
@@ -152,7 +152,7 @@ fn open_input<'w, 'o, F, V, T, O, E>(
     name: &str,
     looker: Option<Looker<F::Slow, T>>,
     stream: usize,
-    told: Option<&'w V>,
+    watch: Option<&'w V>,
 ) -> Result<StreamReader<Inflows<'w, F, V, T>>, StreamStop>
 where
     F: Files,
@@ -173,7 +173,7 @@ where
         return Err(StreamStop::Open);
     }
     let inflow = inflow_by(alloc, inlet, looker);
-    match open_reader(rt, alloc, order, inflow, stream, told) {
+    match open_reader(rt, alloc, order, inflow, stream, watch) {
         Ok(reader) => Ok(reader),
         Err(fault) => Err(StreamStop::Read(fault)),
     }
@@ -186,7 +186,7 @@ fn open_reader<'w, R, S, V, T>(
     order: &Arc<Order, Global>,
     inflow: Inflow<R, S, T>,
     stream: usize,
-    told: Option<&'w V>,
+    watch: Option<&'w V>,
 ) -> Result<StreamReader<WatchedSource<'w, Closable<R, S, T>, V>>, ReadFault>
 where
     R: Read + Drop,
@@ -195,12 +195,12 @@ where
     T: Wait + Clock + Drop,
     ensures { IfOk result (IsOpened (inflow_remaining R.remaining S.remaining inflow) 0) }
 {
-    let Ok(theirs) = Arc::try_clone(order) else {
+    let Ok(source_order) = Arc::try_clone(order) else {
         return Err(ReadFault::NoMemory);
     };
-    let over = Closable::new(inflow, theirs);
-    await_input(rt, &over);
-    let source = WatchedSource::new(over, stream, told);
+    let inner_source = Closable::new(inflow, source_order);
+    await_input(rt, &inner_source);
+    let source = WatchedSource::new(inner_source, stream, watch);
     let reader = StreamReader::open(alloc, source)?;
     Ok(reader)
 }
@@ -213,7 +213,7 @@ fn open_output<'w, F, V, T>(
     name: &str,
     carrier: Option<Carrier<F::SlowWriter, T>>,
     stream: usize,
-    told: Option<&'w V>,
+    watch: Option<&'w V>,
 ) -> Result<Outflows<'w, F, V, T>, StreamStop>
 where
     F: Files,
@@ -232,8 +232,8 @@ where
     if order.is_closed() {
         return Err(StreamStop::Closed);
     }
-    let over = OverOutflow::new(outflow_by(outlet, carrier));
-    Ok(WatchedSink::new(over, stream, told))
+    let inner_sink = OverOutflow::new(outflow_by(outlet, carrier));
+    Ok(WatchedSink::new(inner_sink, stream, watch))
 }
 
 /// Waits until a source has its header line, the end or a fault, or is closed.

@@ -58,7 +58,7 @@ pub fn run_control<R, W, E, F, V, T>(
     output: &mut W,
     errors: &mut E,
     files: &F,
-    told: Option<&V>,
+    watch: Option<&V>,
 ) -> u8
 where
     R: Read + Drop + Send,
@@ -78,11 +78,11 @@ where
         tell(errors, &"control");
         return 1;
     };
-    let told = announce_some(alloc, &checked.streams, told);
+    let watch = announce_some(alloc, &checked.streams, watch);
     let status = serve_and_report(
-        rt, alloc, control, checked, clock, origin, output, errors, files, told,
+        rt, alloc, control, checked, clock, origin, output, errors, files, watch,
     );
-    if let Some(watch) = told {
+    if let Some(watch) = watch {
         watch.ends();
     }
     status
@@ -104,12 +104,12 @@ fn origin_of<R: Read + Drop, F: Files>(
 fn announce_some<'w, V: Watch>(
     alloc: Global,
     streams: &[Asked<'_>],
-    told: Option<&'w V>,
+    watch: Option<&'w V>,
 ) -> Option<&'w V> {
     if streams.is_empty() {
         return None;
     }
-    announce_streams(alloc, streams, told)
+    announce_streams(alloc, streams, watch)
 }
 
 /// Serves the streams, tells what they came to, and answers the program's status.
@@ -123,7 +123,7 @@ fn serve_and_report<'o, R, W, E, F, V, T>(
     output: &'o mut W,
     errors: &'o mut E,
     files: &F,
-    told: Option<&V>,
+    watch: Option<&V>,
 ) -> u8
 where
     R: Read + Drop + Send,
@@ -149,7 +149,7 @@ where
         }
     };
     serve_asked(
-        rt, alloc, control, checked, clock, origin, &lobby, files, told,
+        rt, alloc, control, checked, clock, origin, &lobby, files, watch,
     );
     lobby.close(rt)
 }
@@ -164,7 +164,7 @@ fn serve_asked<'r, 'w, 'o, R, W, E, F, V, T>(
     origin: Origin<R, F::Slow>,
     lobby: &'r Shared<'w, 'o, F, V, T, W, E>,
     files: &'r F,
-    told: Option<&'w V>,
+    watch: Option<&'w V>,
 )
 where
     R: Read + Drop + Send,
@@ -183,7 +183,7 @@ where
     let crew = Crew::new(alloc);
     let crew = &crew;
     let prepares = move |wants: Wants| crew.start(rt, alloc, &wants);
-    let opens = move |errand| open_errand(rt, alloc, height, files, lobby, crew, told, errand);
+    let opens = move |errand| open_errand(rt, alloc, height, files, lobby, crew, watch, errand);
     let gives_up = move || lobby.give_up(rt, files);
     let openers = Openers {
         prepares,

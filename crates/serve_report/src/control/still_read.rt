@@ -45,14 +45,14 @@ impl StillRead {
     }
 
     /// Whether the file is one of these FIFOs.
-    pub fn has_clash(&self, found: &FileUse<'_>) -> bool {
+    pub fn has_clash(&self, file: &FileUse<'_>) -> bool {
         for left in &self.inputs {
             let input = FileUse {
                 name: "",
                 place: left.input,
                 is_written: false,
             };
-            if left.reading.is_on() && input.clashes_with(found) {
+            if left.reading.is_on() && input.clashes_with(file) {
                 return true;
             }
         }

@@ -53,13 +53,13 @@ impl<R: Source + Drop, W: Sink + Drop, S: Drop> Table<R, W, S> {
 
     /// Whether a stream other than that of this number uses the file in such a way that one of the two would
     /// lose by it.
-    pub fn has_clash(&self, number: Option<u64>, found: &FileUse<'_>) -> bool {
+    pub fn has_clash(&self, except: Option<u64>, file: &FileUse<'_>) -> bool {
         for entry in &self.entries {
-            if number != Some(entry.order.number) && entry.clashes_with(found) {
+            if except != Some(entry.order.number) && entry.clashes_with(file) {
                 return true;
             }
         }
-        self.still_read.has_clash(found)
+        self.still_read.has_clash(file)
     }
 
     /// Takes one more stream, which is being opened. False where there are as many as can be. Where nobody is

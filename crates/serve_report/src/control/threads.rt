@@ -49,7 +49,7 @@ pub fn serve_beside<R, W, S, O, E, T, B, L, P, G>(
     lobby: &Lobby<'_, R, W, S, O, E>,
     clock: &RunClock<'_, T>,
     bids: B,
-    first: &Mutex<Option<Vec<Errand>>>,
+    first_errands: &Mutex<Option<Vec<Errand>>>,
     openers: &Openers<L, P, G>,
     is_over: &AtomicBool,
 )
@@ -86,11 +86,11 @@ where
             let listening = scope.spawn(
                 move ||
                     requires { L.IsAlwaysCallable prepares.now × P.IsAlwaysCallable opens.now }
-                { listen(rt, alloc, lobby, bids, first, prepares, opens) },
+                { listen(rt, alloc, lobby, bids, first_errands, prepares, opens) },
             );
             let is_heard = listening.is_ok();
             if !is_heard {
-                open_prompt(rt, lobby, first, opens);
+                open_prompt(rt, lobby, first_errands, opens);
                 lobby.end(rt);
             }
             let served = serve_lobby(rt, alloc, form, lobby, clock);
@@ -170,7 +170,7 @@ where
 fn open_prompt<R, W, S, O, E, T, P>(
     rt: &T,
     lobby: &Lobby<'_, R, W, S, O, E>,
-    first: &Mutex<Option<Vec<Errand>>>,
+    first_errands: &Mutex<Option<Vec<Errand>>>,
     opens: &P,
 )
 where
@@ -183,7 +183,7 @@ where
     P: Fn(Errand),
     requires { P.IsAlwaysCallable opens.now }
 {
-    let Some(errands) = first.lock(rt).take() else {
+    let Some(errands) = first_errands.lock(rt).take() else {
         return;
     };
     for errand in errands {
@@ -211,7 +211,7 @@ fn listen<R, W, S, O, E, T, B, L, P>(
     alloc: Global,
     lobby: &Lobby<'_, R, W, S, O, E>,
     bids: B,
-    first: &Mutex<Option<Vec<Errand>>>,
+    first_errands: &Mutex<Option<Vec<Errand>>>,
     prepares: &L,
     opens: &P,
 )
@@ -229,7 +229,11 @@ where
     requires opens { P.IsAlwaysCallable opens.now }
 {
     let mut bids = bids;
-    let mut errands = first.lock(rt).take().unwrap_or(Vec::new(alloc)).into_iter();
+    let mut errands = first_errands
+        .lock(rt)
+        .take()
+        .unwrap_or(Vec::new(alloc))
+        .into_iter();
     thread::scope(
         thread::scope_env(),
         rt,

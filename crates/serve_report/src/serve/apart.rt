@@ -51,7 +51,7 @@ pub fn tell_apart<'a, F: Files>(
     };
     match first_clash(&uses) {
         None => Ok(()),
-        Some(found) => Err(WordFault::RepeatedFile(found.name)),
+        Some(file) => Err(WordFault::RepeatedFile(file.name)),
     }
 }
 
@@ -124,17 +124,17 @@ fn use_of<'a, F: Files>(files: &F, name: &'a str, is_written: bool) -> FileUse<'
 fn first_clash<'a>(uses: &[FileUse<'a>]) -> Option<FileUse<'a>>
     ensures { MatchOption result (AllPairs IsApart uses.now) (IsFirstClash uses.now) }
 {
-    for (i, found) in uses.iter().enumerate() {
-        if has_clash(&uses[..i], found) {
-            return Some(*found);
+    for (i, file) in uses.iter().enumerate() {
+        if has_clash(&uses[..i], file) {
+            return Some(*file);
         }
     }
     None
 }
 
 /// Whether the file clashes with one of those before it.
-fn has_clash(before: &[FileUse<'_>], found: &FileUse<'_>) -> bool
-    ensures { IsTrue result ↔ Any (λ one. Clash one found.now) before.now }
+fn has_clash(before: &[FileUse<'_>], file: &FileUse<'_>) -> bool
+    ensures { IsTrue result ↔ Any (λ one. Clash one file.now) before.now }
 {
-    before.iter().any(|one| one.clashes_with(found))
+    before.iter().any(|one| one.clashes_with(file))
 }

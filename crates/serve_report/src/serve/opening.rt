@@ -125,7 +125,7 @@ pub fn open_all<'a, 'w, F, V, T>(
     streams: Vec<Asked<'a>>,
     height: BandHeight,
     files: &F,
-    told: Option<&'w V>,
+    watch: Option<&'w V>,
 ) -> Result<Vec<Tried<'a, Inflows<'w, F, V, T>, Outflows<'w, F, V, T>>>, AllocError>
 where
     F: Files + Sync,
@@ -139,7 +139,7 @@ where
         (openings_of tried.items)) }
 {
     let placed = place_all(alloc, streams)?;
-    let tried = try_all(rt, alloc, placed, height, files, told)?;
+    let tried = try_all(rt, alloc, placed, height, files, watch)?;
     Ok(tried)
 }
 
@@ -162,7 +162,7 @@ fn try_all<'a, 'w, F, V, T>(
     placed: Vec<Placed<'a>>,
     height: BandHeight,
     files: &F,
-    told: Option<&'w V>,
+    watch: Option<&'w V>,
 ) -> Result<Vec<Tried<'a, Inflows<'w, F, V, T>, Outflows<'w, F, V, T>>>, AllocError>
 where
     F: Files + Sync,
@@ -179,7 +179,7 @@ where
 {
     let open = move |placed|
         ensures { IsOpening F.open_gives F.create_gives height placed.entry.asked (opening_of result) }
-    { try_stream(rt, alloc, placed, height, files, told) };
+    { try_stream(rt, alloc, placed, height, files, watch) };
     let tried = thread::map_vec(rt, placed, &open)?;
     Ok(tried)
 }
@@ -191,7 +191,7 @@ fn try_stream<'a, 'w, F, V, T>(
     placed: Placed<'a>,
     height: BandHeight,
     files: &F,
-    told: Option<&'w V>,
+    watch: Option<&'w V>,
 ) -> Tried<'a, Inflows<'w, F, V, T>, Outflows<'w, F, V, T>>
 where
     F: Files,
@@ -205,7 +205,7 @@ where
     let Placed { stream, asked } = placed;
     let name = asked.word.name;
     let mut files = StreamFiles::new(files);
-    let ready = open_stream(rt, alloc, asked, height, &mut files, stream, told);
+    let ready = open_stream(rt, alloc, asked, height, &mut files, stream, watch);
     Tried {
         name,
         opened: files.opened,
@@ -250,7 +250,7 @@ fn open_stream<'w, F, V, T>(
     height: BandHeight,
     files: &mut StreamFiles<'_, F>,
     stream: usize,
-    told: Option<&'w V>,
+    watch: Option<&'w V>,
 ) -> Result<Ready<Inflows<'w, F, V, T>, Outflows<'w, F, V, T>>, StreamStop>
 where
     F: Files,
@@ -270,22 +270,22 @@ where
         Ok(inlet) => inlet,
         Err(_) => return Err(StreamStop::Open),
     };
-    let reader = match open_reader(rt, alloc, inlet, stream, told) {
+    let reader = match open_reader(rt, alloc, inlet, stream, watch) {
         Ok(reader) => reader,
         Err(fault) => return Err(StreamStop::Read(fault)),
     };
     let geometry = Geometry::of(reader.header());
-    let spec = match job_of(alloc, asked.ops, geometry, height) {
-        Ok(spec) => spec,
+    let job_spec = match job_of(alloc, asked.ops, geometry, height) {
+        Ok(job_spec) => job_spec,
         Err(error) => return Err(StreamStop::Ops(error)),
     };
     let outlet = match files.create(word.output) {
         Ok(outlet) => outlet,
         Err(_) => return Err(StreamStop::Create),
     };
-    let spec = spec_of(word.q, word.t, geometry, spec);
-    let over = OverOutflow::new(outflow_of(rt, alloc, outlet));
-    let sink = WatchedSink::new(over, stream, told);
+    let spec = spec_of(word.q, word.t, geometry, job_spec);
+    let inner_sink = OverOutflow::new(outflow_of(rt, alloc, outlet));
+    let sink = WatchedSink::new(inner_sink, stream, watch);
     let input = (reader, sink);
     Ok(Ready { spec, input })
 }
@@ -296,7 +296,7 @@ fn open_reader<'w, R, S, V, T>(
     alloc: Global,
     inlet: Inlet<R, S>,
     stream: usize,
-    told: Option<&'w V>,
+    watch: Option<&'w V>,
 ) -> Result<StreamReader<WatchedSource<'w, OverInflow<R, S, T>, V>>, ReadFault>
 where
     R: Read + Drop,
@@ -306,19 +306,19 @@ where
     ensures reader { IfOk result (IsOpened (inlet_remaining R.remaining inlet) 0) }
     ensures fault { IfErr result (HasNoHeader (inlet_remaining R.remaining inlet)) }
 {
-    let over = OverInflow::new(inflow_of(rt, alloc, inlet));
-    let source = WatchedSource::new(over, stream, told);
+    let inner_source = OverInflow::new(inflow_of(rt, alloc, inlet));
+    let source = WatchedSource::new(inner_source, stream, watch);
     let reader = StreamReader::open(alloc, source)?;
     Ok(reader)
 }
 
 /// What a stream of this share is served with.
-pub fn spec_of(q: u64, t: u64, geometry: Geometry, spec: Arc<JobSpec>) -> StreamSpec
+pub fn spec_of(q: u64, t: u64, geometry: Geometry, job_spec: Arc<JobSpec>) -> StreamSpec
     ensures share { (result.maximum ≡ q) × (result.period ≡ t) }
     ensures places { (result.queue ≡ 4) × (result.outbox ≡ 4) × (result.frames ≡ MOST_FRAMES) }
-    ensures chain { (result.geometry ≡ geometry) × (result.chain ≡ arc_value spec) }
+    ensures chain { (result.geometry ≡ geometry) × (result.chain ≡ arc_value job_spec) }
 {
-    StreamSpec::new(geometry, spec, q, t, QUEUE, OUTBOX, MOST_FRAMES)
+    StreamSpec::new(geometry, job_spec, q, t, QUEUE, OUTBOX, MOST_FRAMES)
 }
 
 /// What is done to each frame of this geometry.

@@ -305,10 +305,10 @@ fn the_file_of_a_trace_stands_once(rt: HostRuntime) {
 
 #[test]
 fn a_trace_that_is_told_of_no_run_is_not_whole(rt: HostRuntime) {
-    let told: Option<&Unwatched> = None;
+    let inner: Option<&Unwatched> = None;
     let file = Some(io::sink());
     let names = Some(Vec::new(rt.alloc()));
-    let trace = Trace::start(&rt, rt.alloc(), file, 1, names, told);
+    let trace = Trace::start(&rt, rt.alloc(), file, 1, names, inner);
     same_at(&rt, trace.end(), false, "nothing began");
     trace.begins(&[]);
     same_at(&rt, trace.end(), true, "was memory refused?");
