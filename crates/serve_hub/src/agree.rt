@@ -134,7 +134,8 @@ pub(crate) fn clocks_agree<L: Epoch>(
     true
 }
 
-/// Whether it had, for a single stream.
+/// Whether the clock had reached the moment of the first frame of a stream's seat wherever the journal has an
+/// accepted frame of the stream. It was at `opened_at` when the book was opened.
 fn clock_agrees(journal: &[Entry], opened_at: u64, number: u32, moments: Option<Moments>) -> bool
     ensures { (specs : List StreamSpec) (opening : State Blank) → opening.clock ≡ opened_at → IsTrue result
         → ClockReached number moments specs opening (reverse journal.now) }

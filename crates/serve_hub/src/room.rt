@@ -108,7 +108,7 @@ impl<L: Epoch> Room<L> {
     }
 }
 
-/// A seat over what each stream's last one left.
+/// Fills the seats: one over what each stream's last one left.
 fn fill_seats<L: Epoch>(
     seats: &mut Vec<StreamSeat<L>>,
     calls: Vec<Calls<L>>,

@@ -90,7 +90,8 @@ pub(crate) fn stop_after_flush(stop: Stop, flush: Result<(), WriteFault>) -> Sto
     }
 }
 
-/// Where nothing was written, or not all of the header line: the stream is closed, and nothing is offered.
+/// The end of a client that wrote nothing, or not all of the header line: the stream is closed, and nothing
+/// is offered.
 fn end_unopened<L: Epoch, R: Source + Drop, W: Sink, K, T: Wait>(
     post: Post<'_, L, K, T>,
     mut seat: StreamSeat<L>,

@@ -61,7 +61,7 @@ fn collect_early<L: Epoch, T: Wait>(
     }
 }
 
-/// Collects such an image and writes it, where there is one.
+/// Collects an image that is there or comes soon, and writes it, where there is one.
 fn deliver_early<L: Epoch, W: Sink, T: Wait>(
     rt: &T,
     hub: &Hub<L>,

@@ -38,8 +38,8 @@ pub trait Gate {
     /// Worker `worker` has a lease.
     fn lease_begins(&self, _worker: u32) {}
 
-    /// It has settled it, having done this. The hub then told the stream's deadline and the moment of its
-    /// clock.
+    /// Worker `worker` has settled its lease, having done this. The hub then told the stream's deadline and
+    /// the moment of its clock.
     fn lease_ends(&self, _worker: u32, _stint: Stint, _deadline: Option<(u64, u64)>) {}
 }
 

@@ -52,7 +52,7 @@ impl<R: Source + Drop, W: Sink> ClientRest<R, W> {
         }
     }
 
-    /// How many of these the stream's seat has no more.
+    /// How many of the accepted frames the stream's seat has no more.
     pub fn collected(&self) -> u64
         ensures { result ≡ collected_in self.now }
     {

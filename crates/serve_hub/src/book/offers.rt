@@ -61,8 +61,8 @@ impl Book {
         }
     }
 
-    /// What [`Book::offer_job`] would refuse. Where the job couldn't be made for want of memory, it tells the
-    /// refusal that comes before that.
+    /// What [`Book::offer_job`] would refuse a job for, if it would. Where the job couldn't be made for want
+    /// of memory, it tells the refusal that comes before that.
     pub fn offer_job_refusal(&self, s: u32, at: u64) -> Option<Refusal>
         ensures { IsJobAnswer self.now s at result }
     {

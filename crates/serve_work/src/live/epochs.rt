@@ -27,7 +27,7 @@ use std::alloc::Global;
 use std::sync::ledger::Blank;
 use y4m_stream::{Sink, Source};
 
-/// The streams with what is kept of their requests.
+/// Fills the guests: the streams with what is kept of their requests.
 fn fill_guests<R: Source + Drop, W: Sink + Drop>(
     guests: &mut Vec<Option<Guest<R, W>>>,
     tickets: Vec<Ticket>,

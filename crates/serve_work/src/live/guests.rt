@@ -55,7 +55,7 @@ pub(super) fn are_as_asked<R: Source, W: Sink>(
     true
 }
 
-/// Whether the stream at this place is, if there is one.
+/// Whether the stream at this place, if there is one, is served with what its request asked for.
 fn is_as_asked<R: Source, W: Sink>(ended: &Ended, place: usize, guest: &Option<Guest<R, W>>) -> bool
     ensures { IsTrue result → IsAsAsked ended.now.book.desk ended.now.streams place guest.now }
 {

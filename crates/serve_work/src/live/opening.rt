@@ -139,7 +139,7 @@ impl<L: Epoch, R: Source + Drop, W: Sink + Drop> Hall<L, R, W> {
         })
     }
 
-    /// One stream more, with its seat.
+    /// Seats one stream more.
     pub(super) fn seat(&mut self, seat: StreamSeat<L>, ticket: Ticket, stream: Stream<R, W>)
         requires places { HasPlaces self.old }
         requires few { vec_len self.old.room.turns + vec_len self.old.idle < MOST_STREAMS }
@@ -151,7 +151,7 @@ impl<L: Epoch, R: Source + Drop, W: Sink + Drop> Hall<L, R, W> {
         self.tickets.push_reserved(ticket);
     }
 
-    /// A seat with its stream, or an idle one.
+    /// Seats the stream of a seat, or puts a seat without one to the idle ones.
     fn seat_one(&mut self, seat: StreamSeat<L>, guest: Option<Guest<R, W>>)
         requires places { HasPlaces self.old }
         requires few { vec_len self.old.room.turns + vec_len self.old.idle < MOST_STREAMS }
@@ -175,7 +175,7 @@ impl<L: Epoch, R: Source + Drop, W: Sink + Drop> Hall<L, R, W> {
         }
     }
 
-    /// The streams with their seats of this epoch. A seat without one is idle.
+    /// Seats the streams in their seats of this epoch. A seat without one is idle.
     pub(super) fn seat_all(&mut self, seats: Vec<StreamSeat<L>>, guests: Vec<Option<Guest<R, W>>>)
         requires places { HasPlaces self.old }
         requires empty { (self.old.room.turns.items ≡ []) × (self.old.tickets.items ≡ [])

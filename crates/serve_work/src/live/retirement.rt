@@ -110,7 +110,7 @@ fn are_told_but_marked<R: Source, W: Sink>(marks: &[bool], guests: &[Option<Gues
     true
 }
 
-/// Puts this one to the others, if it is marked.
+/// Puts this guest to the others, if it is marked.
 fn keep_one<R: Source + Drop, W: Sink + Drop>(
     kept: &mut Vec<Option<Guest<R, W>>>,
     mark: bool,
@@ -126,7 +126,7 @@ fn keep_one<R: Source + Drop, W: Sink + Drop>(
     }
 }
 
-/// Keeps those at the marked places.
+/// Keeps the guests at the marked places.
 fn keep_marked<R: Source + Drop, W: Sink + Drop>(
     kept: &mut Vec<Option<Guest<R, W>>>,
     marks: Vec<bool>,
