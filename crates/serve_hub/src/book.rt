@@ -268,7 +268,7 @@ fn book_over(
 /// The bands that an entry tells of worker `w`.
 fn bands_in(w: u32, entry: &Entry) -> u64
     ensures value { result ≡ act_bands w entry.now.seat entry.now.act }
-    ensures few { result < 2 ^ 32 }
+    ensures fits_u32 { result < 2 ^ 32 }
 {
     match (entry.seat, entry.act) {
         (Seat::Worker(worker), Act::Settled(bands, _)) if worker == w => bands as u64,

@@ -121,8 +121,8 @@ impl Ended {
             ≡ length (staying self.now.book.desk) }
     {
         let desk = self.book.desk();
-        let staying = desk.new_number(self.streams.len() as u32);
-        staying >= 1 && count_staying(desk, &self.streams) == staying as usize
+        let staying_count = desk.new_number(self.streams.len() as u32);
+        staying_count >= 1 && count_staying(desk, &self.streams) == staying_count as usize
     }
 
     /// What is left without the released streams, with this journal, which is empty.

@@ -86,8 +86,8 @@ impl<L: Epoch> Room<L> {
         requires calls { self.calls.items ≡ replicate (vec_len rests) (no_calls limit) }
         requires seats { self.seats.items ≡ [] }
         requires seats_room { vec_len rests ≤ vec_capacity self.seats }
-        requires left { self.rests.items ≡ [] }
-        requires left_room { MOST_STREAMS ≤ vec_capacity self.rests }
+        requires no_rests { self.rests.items ≡ [] }
+        requires rests_room { MOST_STREAMS ≤ vec_capacity self.rests }
         requires enough { L.parts ≡ MOST_SEATS }
         ensures hub { result.0 ≡ hub_of (vec_len rests) workers limit }
         ensures streams { result.1.items ≡ map (seat_over limit) rests.items }
@@ -99,11 +99,11 @@ impl<L: Epoch> Room<L> {
             calls,
             mut seats,
             workers: work_seats,
-            rests: room,
+            rests: empty_rests,
         } = self;
         let streams = rests.len();
         fill_seats(&mut seats, calls, rests, limit);
-        let shared = Shared::new(book, limit, total, spare, streams, workers, room);
+        let shared = Shared::new(book, limit, total, spare, streams, workers, empty_rests);
         (Hub::of(shared, streams, workers, limit), seats, work_seats)
     }
 }
@@ -144,20 +144,20 @@ fn next_calls<L: Epoch>(lists: &mut Vec<Calls<L>>, limit: usize) -> Calls<L>
 /// Cuts a part for the calls of each stream's seat.
 fn lists_of_calls<L: Epoch>(
     alloc: Global,
-    rest: &mut Share<L>,
+    spare: &mut Share<L>,
     streams: usize,
     limit: usize,
 ) -> Result<Vec<Calls<L>>, AllocError>
-    requires parts { streams ≤ rest.old.parts }
-    requires amount { rest.old.amount ≡ 0 }
+    requires parts { streams ≤ spare.old.parts }
+    requires amount { spare.old.amount ≡ 0 }
     requires few { streams ≤ MOST_STREAMS }
     ensures calls { IfOk result (λ calls. calls.items ≡ replicate streams (no_calls limit)) }
-    ensures parts { OnOk result (rest.new.parts + streams ≡ rest.old.parts) }
-    ensures amount { rest.new.amount ≡ 0 }
+    ensures parts { OnOk result (spare.new.parts + streams ≡ spare.old.parts) }
+    ensures amount { spare.new.amount ≡ 0 }
 {
     let mut lists = Vec::with_capacity(alloc, streams)?;
     for n in 0..streams {
-        let share = rest.split_off(1, 0);
+        let share = spare.split_off(1, 0);
         lists.push(Calls::new(alloc, limit, share)?)?;
     }
     Ok(lists)
@@ -166,21 +166,21 @@ fn lists_of_calls<L: Epoch>(
 /// Cuts a part for the seat of each worker.
 fn work_seats<L: Epoch>(
     alloc: Global,
-    rest: &mut Share<L>,
+    spare: &mut Share<L>,
     workers: usize,
     limit: usize,
 ) -> Result<Vec<WorkSeat<L>>, AllocError>
-    requires parts { workers ≤ rest.old.parts }
-    requires amount { rest.old.amount ≡ 0 }
+    requires parts { workers ≤ spare.old.parts }
+    requires amount { spare.old.amount ≡ 0 }
     requires few { workers ≤ MOST_WORKERS }
     ensures seats { IfOk result (λ seats.
         seats.items ≡ map (opened_worker limit) (range_with_len 0 workers)) }
-    ensures parts { OnOk result (rest.new.parts + workers ≡ rest.old.parts) }
-    ensures amount { rest.new.amount ≡ 0 }
+    ensures parts { OnOk result (spare.new.parts + workers ≡ spare.old.parts) }
+    ensures amount { spare.new.amount ≡ 0 }
 {
     let mut seats = Vec::with_capacity(alloc, workers)?;
     for w in 0..workers {
-        let share = rest.split_off(1, 0);
+        let share = spare.split_off(1, 0);
         seats.push(WorkSeat::new(alloc, w as u32, limit, share)?)?;
     }
     Ok(seats)

@@ -111,7 +111,7 @@ impl<L: Epoch> Shared<L> {
         ensures entry { IfOk result (λ seat.
             Appends (Stream seat.number) Admitted self.old.book self.new.book) }
         ensures behind { IfOk result (λ seat. length L.opening.streams ≤ seat.number) }
-        ensures few { IfOk result (λ seat. seat.number < MOST_STREAMS) }
+        ensures number_in_range { IfOk result (λ seat. seat.number < MOST_STREAMS) }
         ensures refused { IfErr result (IsAdmitRefused newcomer) }
     {
         if self.book.desk().streams() != self.streams || list.capacity() < self.limit {
@@ -260,7 +260,7 @@ impl<L: Epoch> Shared<L> {
 fn merge_streams<L: Epoch>(all: &mut Share<L>, rests: &mut Vec<SeatRest>, seats: Vec<StreamSeat<L>>)
     requires none { rests.old.items ≡ [] }
     requires room { vec_len seats ≤ vec_capacity rests.old }
-    requires few { All (λ s. collected_by s ≤ MOST_FRAMES) seats.items }
+    requires collected_in_range { All (λ s. collected_by s ≤ MOST_FRAMES) seats.items }
     ensures parts { all.new.parts ≡ all.old.parts + vec_len seats }
     ensures amount { all.new.amount ≡ all.old.amount + sum_by (λ s. length s.calls.list) seats.items }
     ensures left { rests.new.items ≡ map left_by seats.items }

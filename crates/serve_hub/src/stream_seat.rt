@@ -288,7 +288,7 @@ impl<L: Epoch> StreamSeat<L> {
         ensures limit { IfNone result (self.now.calls.limit ≡ shared.now.book.limit) }
         ensures chain { IfNone result (HasStream shared.now.book.desk self.now.number (λ stream.
             stream.state.spec.chain ≡ self.now.chain)) }
-        ensures place { result ≢ Some NoPlace }
+        ensures never_no_place { result ≢ Some NoPlace }
         ensures offer { (at : ℕ) (geometry : Geometry)
             → IfSome result (λ came. IsOfferTold self.now at geometry (Torn came)) }
         ensures close { IfSome result (λ came. IsCloseTold self.now (Torn came)) }

@@ -32,7 +32,7 @@ impl<L: Epoch> Hub<L> {
     ) -> Result<StreamSeat<L>, AdmitRefused>
         ensures seat { IfOk result (Admits spec) }
         ensures behind { IfOk result (λ seat. length L.opening.streams ≤ seat.number) }
-        ensures few { IfOk result (λ seat. seat.number < MOST_STREAMS) }
+        ensures number_in_range { IfOk result (λ seat. seat.number < MOST_STREAMS) }
         ensures refused { IfErr result (IsAdmitRefused spec) }
     {
         let (newcomer, rest, list) = match make_newcomer(alloc, self.limit, spec) {

@@ -119,7 +119,7 @@ impl<L: Epoch> StreamSeat<L> {
             (GetsOther (value_of (arc_value frame)) e.0 self.old self.new)
             (λ back. (back ≡ job) × (self.new ≡ self.old)
             × IsOfferTold self.old at (arc_value frame).geometry e.0)) }
-        ensures place { IfErr result (λ e. e.0 ≢ Torn NoPlace) }
+        ensures never_no_place { IfErr result (λ e. e.0 ≢ Torn NoPlace) }
     {
         let Shared { book, total, .. } = shared;
         let number = match book.offer_job(self.number, at, job) {
@@ -159,7 +159,7 @@ impl<L: Epoch> StreamSeat<L> {
     /// What a frame is refused for whose job wasn't made: where the book would accept it, for want of memory.
     pub(crate) fn refusal(&self, shared: &Shared<L>, at: u64, frame: &Frame) -> Refusal
         ensures told { IsOfferTold self.now at frame.now.geometry result }
-        ensures place { result ≢ Torn NoPlace }
+        ensures never_no_place { result ≢ Torn NoPlace }
     {
         match self.refused_by(shared, at, frame) {
             Some(refusal) => refusal,
@@ -170,7 +170,7 @@ impl<L: Epoch> StreamSeat<L> {
     /// What a frame is refused for, want of memory aside, if it is.
     fn refused_by(&self, shared: &Shared<L>, at: u64, frame: &Frame) -> Option<Refusal>
         ensures told { IfSome result (IsOfferTold self.now at frame.now.geometry) }
-        ensures place { result ≢ Some (Torn NoPlace) }
+        ensures never_no_place { result ≢ Some (Torn NoPlace) }
         ensures accepts { IfNone result (IsOfferAnswer shared.now.book self.now.number at frame.now.geometry
             None) }
     {
@@ -187,7 +187,7 @@ impl<L: Epoch> StreamSeat<L> {
     fn judge_offer(&self, at: u64, frame: &Frame, refusal: Refusal) -> Refusal
         requires book { IsOfBook refusal }
         ensures told { IsOfferTold self.now at frame.now.geometry result }
-        ensures place { result ≢ Torn NoPlace }
+        ensures never_no_place { result ≢ Torn NoPlace }
     {
         match refusal {
             Refusal::HistoryFull => refusal,

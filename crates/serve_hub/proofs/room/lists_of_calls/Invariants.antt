@@ -4,5 +4,5 @@ use Rattle.serve_hub.proofs.room.lists_of_calls.Given as goal
 
 abbrev pub invariant-loop-n : goal.invariant-loop-n
 invariant-loop-n g l =
-    (l.rest.parts + l.n ≡ l.initial.rest.parts) × (l.rest.amount ≡ 0)
+    (l.spare.parts + l.n ≡ l.initial.spare.parts) × (l.spare.amount ≡ 0)
     × (l.lists.items ≡ replicate l.n (no_calls l.limit))

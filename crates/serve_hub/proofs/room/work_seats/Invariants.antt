@@ -5,5 +5,5 @@ use Rattle.serve_hub.proofs.room.work_seats.Given as goal
 
 abbrev pub invariant-loop-w : goal.invariant-loop-w
 invariant-loop-w g l =
-    (l.rest.parts + l.w ≡ l.initial.rest.parts) × (l.rest.amount ≡ 0)
+    (l.spare.parts + l.w ≡ l.initial.spare.parts) × (l.spare.amount ≡ 0)
     × (l.seats.items ≡ map (opened_worker l.limit) (range_with_len 0 l.w))

@@ -35,5 +35,5 @@ loop-seat-preserved g c =
           ∙ inv.rests;
       left = omega (arith, inv.left, ap length steps.0, steps.1);
       room = omega (arith, inv.room, steps.1, c.push_reserved.ensures.len, c.push_reserved.ensures.capacity);
-      few = All-behind (λ s. collected_by s ≤ MOST_FRAMES) _ left seat steps.0 inv.few;
+      collected_in_range = All-behind (λ s. collected_by s ≤ MOST_FRAMES) _ left seat steps.0 inv.collected_in_range;
     }

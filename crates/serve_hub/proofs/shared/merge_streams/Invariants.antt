@@ -13,5 +13,5 @@ invariant-loop-seat g l = record {
   rests : l.rests.items ++ map left_by (into_iter_items l.seat-iterator) ≡ map left_by l.fn.seats.items;
   left : length (into_iter_items l.seat-iterator) ≡ into_iter_len l.seat-iterator;
   room : vec_len l.rests + into_iter_len l.seat-iterator ≤ vec_capacity l.rests;
-  few : All (λ s. collected_by s ≤ MOST_FRAMES) (into_iter_items l.seat-iterator);
+  collected_in_range : All (λ s. collected_by s ≤ MOST_FRAMES) (into_iter_items l.seat-iterator);
 }

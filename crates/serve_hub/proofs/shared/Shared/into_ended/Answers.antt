@@ -6,8 +6,8 @@ use Rattle.serve_hub.specs.Seats.{SharedValue, left_by}
 use Rattle.serve_hub.proofs.Histories.{few_collected, few_here, reached_now}
 use Rattle.serve_hub.proofs.shared.Shared.into_ended.Goals as goal
 
-pub merge_streams-requires-clause-few : goal.merge_streams-requires-clause-few
-merge_streams-requires-clause-few g c =
+pub merge_streams-requires-clause-collected_in_range : goal.merge_streams-requires-clause-collected_in_range
+merge_streams-requires-clause-collected_in_range g c =
     few_collected c.args.self.book c.args.streams.items c.requires.is_book c.requires.agree.kept
 
 -- there is room for what the seats of all 64 streams leave
