@@ -80,7 +80,7 @@ impl Buffers {
 
     /// The memory of the frame that was kept last, if one is kept.
     pub(crate) fn take_source(&mut self) -> Option<Arc<Frame>>
-        ensures kept { (chain : ChainValue) → AreBuffersFor chain self.old → AreBuffersFor chain self.new }
+        ensures sized { (chain : ChainValue) → AreBuffersFor chain self.old → AreBuffersFor chain self.new }
         ensures size { (chain : ChainValue) → AreBuffersFor chain self.old
             → IfSome result (λ f. (arc_value f).geometry ≡ chain.geometry) }
         ensures taken { self.old.sources.items ≡ self.new.sources.items ++ option_to_list result }
@@ -92,7 +92,7 @@ impl Buffers {
 
     /// The memory of the image that was kept last, if one is kept.
     pub(crate) fn take_image(&mut self) -> Option<Frame>
-        ensures kept { (chain : ChainValue) → AreBuffersFor chain self.old → AreBuffersFor chain self.new }
+        ensures sized { (chain : ChainValue) → AreBuffersFor chain self.old → AreBuffersFor chain self.new }
         ensures size { (chain : ChainValue) → AreBuffersFor chain self.old → IfSome result (IsImageOf chain) }
         ensures taken { self.old.images.items ≡ self.new.images.items ++ option_to_list result }
         ensures none { IfNone result (self.old.images.items ≡ []) }

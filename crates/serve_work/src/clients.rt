@@ -321,12 +321,12 @@ pub fn client<L: Epoch, R: Source + Drop, W: Sink, K: Clock, T: Wait>(
     for _ in rt.forever() {
         match go_on(post, seat, rest) {
             ClientTurn::Ended(end) => return ClientTurn::Ended(end),
-            ClientTurn::Paused(same, later, left) => {
-                if left.is_full() {
-                    return ClientTurn::Paused(same, later, left);
+            ClientTurn::Paused(next_seat, next_rest, room_left) => {
+                if room_left.is_full() {
+                    return ClientTurn::Paused(next_seat, next_rest, room_left);
                 }
-                seat = same;
-                rest = later;
+                seat = next_seat;
+                rest = next_rest;
             }
         }
     }

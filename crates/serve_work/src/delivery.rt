@@ -35,7 +35,7 @@ pub(crate) fn deliver<L: Epoch, W: Sink, T: Wait>(
     ensures left { IfErr result (IsLeft seat.old.chain writer.new) }
     ensures tally { Tallies seat.old seat.new writer.old
         (counted_with (image_at image_in result) writer.new) }
-    ensures kept { GivesUp seat.old seat.new }
+    ensures stays { GivesUp seat.old seat.new }
 {
     match hub.collect(rt, seat) {
         Ok(pair) => finish(rt, hub, writer, pair),
@@ -49,12 +49,12 @@ fn collect_early<L: Epoch, T: Wait>(
     rt: &T,
     hub: &Hub<L>,
     seat: &mut StreamSeat<L>,
-    ahead: bool,
+    reads_ahead: bool,
 ) -> Result<Collected, CollectRefused>
     ensures given { IfOk result (λ pair. Gives pair seat.old seat.new) }
     ensures refused { IfErr result (λ e. IsCollectRefused e seat.old seat.new) }
 {
-    if ahead && seat.kept() < most_ahead(seat) {
+    if reads_ahead && seat.kept() < most_ahead(seat) {
         hub.try_collect(rt, seat)
     } else {
         hub.collect_soon(rt, seat)
@@ -67,7 +67,7 @@ fn deliver_early<L: Epoch, W: Sink, T: Wait>(
     hub: &Hub<L>,
     seat: &mut StreamSeat<L>,
     writer: &mut StreamWriter<W>,
-    ahead: bool,
+    reads_ahead: bool,
 ) -> Result<Option<Collected>, Halt>
     requires can { CanDrain seat.old writer.old }
     requires open { seat.old.is_closed ≡ false }
@@ -77,9 +77,9 @@ fn deliver_early<L: Epoch, W: Sink, T: Wait>(
     ensures left { IfErr result (IsLeft seat.old.chain writer.new) }
     ensures tally { Tallies seat.old seat.new writer.old
         (counted_with (image_at image_in result) writer.new) }
-    ensures kept { GivesUp seat.old seat.new }
+    ensures stays { GivesUp seat.old seat.new }
 {
-    match collect_early(rt, hub, seat, ahead) {
+    match collect_early(rt, hub, seat, reads_ahead) {
         Ok(pair) => match finish(rt, hub, writer, pair) {
             Ok(pair) => Ok(Some(pair)),
             Err(halt) => Err(halt),
@@ -97,7 +97,7 @@ impl<L: Epoch, R: Source, W: Sink> Pipeline<L, R, W> {
         &mut self,
         rt: &T,
         hub: &Hub<L>,
-        ahead: bool,
+        reads_ahead: bool,
     ) -> Result<(), Halt>
         requires can { CanDrain self.old.seat self.old.writer }
         requires open { self.old.seat.is_closed ≡ false }
@@ -107,12 +107,12 @@ impl<L: Epoch, R: Source, W: Sink> Pipeline<L, R, W> {
         ensures left { IfErr result (IsLeft self.old.seat.chain self.new.writer) }
         ensures tally { Tallies self.old.seat self.new.seat self.old.writer
             (counted_with (image_at image_in result) self.new.writer) }
-        ensures kept { GivesUp self.old.seat self.new.seat }
+        ensures stays { GivesUp self.old.seat self.new.seat }
         ensures buffers { AreBuffersFor self.old.seat.chain self.new.buffers }
         ensures reader { self.new.reader ≡ self.old.reader }
     {
         for _ in 0..self.seat.kept() {
-            match deliver_early(rt, hub, &mut self.seat, &mut self.writer, ahead) {
+            match deliver_early(rt, hub, &mut self.seat, &mut self.writer, reads_ahead) {
                 Ok(Some(pair)) => self.buffers.keep(pair),
                 Ok(None) => return Ok(()),
                 Err(halt) => return Err(halt),
@@ -135,7 +135,7 @@ pub(crate) fn drain<L: Epoch, W: Sink, T: Wait>(
     ensures own { IsOfCollection result }
     ensures left { IsLeft seat.old.chain writer.new result }
     ensures tally { Tallies seat.old seat.new writer.old (counted_with (image_in result) writer.new) }
-    ensures kept { GivesUp seat.old seat.new }
+    ensures stays { GivesUp seat.old seat.new }
 {
     for _ in rt.forever() {
         match deliver(rt, hub, seat, writer) {
@@ -151,7 +151,7 @@ pub(crate) fn drain<L: Epoch, W: Sink, T: Wait>(
 pub(crate) fn discard<L: Epoch, T: Wait>(rt: &T, hub: &Hub<L>, seat: &mut StreamSeat<L>) -> bool
     ensures none { IsFalse result → seat.new.kept ≡ [] }
     ensures tally { TalliesSeat seat.old seat.new }
-    ensures kept { GivesUp seat.old seat.new }
+    ensures stays { GivesUp seat.old seat.new }
 {
     for _ in rt.forever() {
         match hub.collect(rt, seat) {

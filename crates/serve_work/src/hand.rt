@@ -26,7 +26,7 @@ fn write_on<L: Epoch, W: Sink, T: Wait>(
     requires { CanPutOn writer.old pair.now }
     ensures more { (before : WriterState) → IsWithin before writer.old (frame_text_of pair.now.image)
         → PutsMore before writer.new (frame_text_of pair.now.image) result }
-    ensures left { CountsMore writer.old writer.new (frame_text_of pair.now.image) result }
+    ensures counts { CountsMore writer.old writer.new (frame_text_of pair.now.image) result }
 {
     for _ in rt.forever() {
         if writer.put_on(&pair.image, Some(PATIENCE))? {

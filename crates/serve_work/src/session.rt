@@ -147,10 +147,10 @@ pub fn serve_session<
         gate,
         clock,
     };
-    let opened = match begin::<Brand, R, W, G, K, T>(setting, blank, setup, inputs, limit) {
-        Ok(opened) => opened,
+    let interval = match begin::<Brand, R, W, G, K, T>(setting, blank, setup, inputs, limit) {
+        Ok(interval) => interval,
         Err(unended) => return Err(unended.fault()),
     };
-    let ended = go_on(setting, opened)?;
-    Ok(report(ended))
+    let interval = go_on(setting, interval)?;
+    Ok(report(interval))
 }

@@ -206,7 +206,7 @@ pub(super) fn first_epoch<
             let (mut opening, seat) = made;
             opening.hall.seat(seat, ticket, Stream::new(reader, writer));
             match epoch(setting, opening, door) {
-                Ok(now) => Ok(Some(now)),
+                Ok(interval) => Ok(Some(interval)),
                 Err(fault) => Err(fault),
             }
         }

@@ -192,17 +192,17 @@ fn standing_at(ended: &Ended, place: usize) -> Standing
     let Some(number) = ended.number(place) else {
         unreachable!()
     };
-    let Some(tally) = ended.counts(number) else {
+    let Some(counts) = ended.counts(number) else {
         unreachable!()
     };
     let Some((budget, deadline)) = ended.account(number) else {
         unreachable!()
     };
     Standing {
-        accepted: tally.accepted,
-        finished: tally.finished,
-        collected: tally.collected,
-        charged: tally.charged,
+        accepted: counts.accepted,
+        finished: counts.finished,
+        collected: counts.collected,
+        charged: counts.charged,
         budget,
         deadline,
     }
@@ -215,7 +215,7 @@ fn take_at<R: Source, W: Sink>(
 ) -> Option<Guest<R, W>>
     requires within { place < vec_len guests.old }
     ensures taken { slice_get guests.old.items place ≡ Some result }
-    ensures rest { guests.new.items ≡ slice_set guests.old.items place None }
+    ensures emptied { guests.new.items ≡ slice_set guests.old.items place None }
     ensures len { vec_len guests.new ≡ vec_len guests.old }
 {
     guests[place].take()

@@ -143,7 +143,7 @@ impl<L: Epoch, R: Source + Drop, W: Sink + Drop> Hall<L, R, W> {
     pub(super) fn seat(&mut self, seat: StreamSeat<L>, ticket: Ticket, stream: Stream<R, W>)
         requires places { HasPlaces self.old }
         requires few { vec_len self.old.room.turns + vec_len self.old.idle < MOST_STREAMS }
-        requires many { vec_len self.old.tickets ≤ vec_len self.old.room.turns }
+        requires tickets_fit { vec_len self.old.tickets ≤ vec_len self.old.room.turns }
         requires ready { IsReady (held_at seat stream) }
         ensures { TakesSeat ticket (held_at seat stream) self.old self.new }
     {
@@ -155,16 +155,16 @@ impl<L: Epoch, R: Source + Drop, W: Sink + Drop> Hall<L, R, W> {
     fn seat_one(&mut self, seat: StreamSeat<L>, guest: Option<Guest<R, W>>)
         requires places { HasPlaces self.old }
         requires few { vec_len self.old.room.turns + vec_len self.old.idle < MOST_STREAMS }
-        requires many { vec_len self.old.tickets ≤ vec_len self.old.room.turns }
+        requires tickets_fit { vec_len self.old.tickets ≤ vec_len self.old.room.turns }
         requires ready { AllByRecursion IsReady (helds_of (seat ∷ []) (guest ∷ [])) }
         ensures places { HasPlaces self.new }
         ensures turns { self.new.room.turns.items ≡ self.old.room.turns.items
             ++ map Some (helds_of (seat ∷ []) (guest ∷ [])) }
         ensures tickets { self.new.tickets.items ≡ self.old.tickets.items
             ++ tickets_of (seat ∷ []) (guest ∷ []) }
-        ensures few { vec_len self.new.room.turns + vec_len self.new.idle
+        ensures one_more { vec_len self.new.room.turns + vec_len self.new.idle
             ≤ vec_len self.old.room.turns + vec_len self.old.idle + 1 }
-        ensures many { vec_len self.new.tickets ≤ vec_len self.new.room.turns }
+        ensures tickets_fit { vec_len self.new.tickets ≤ vec_len self.new.room.turns }
     {
         match guest {
             Some(guest) => {

@@ -118,7 +118,7 @@ fn keep_one<R: Source + Drop, W: Sink + Drop>(
 )
     requires room { vec_len kept.old + 1 ≤ vec_capacity kept.old }
     ensures kept { kept.new.items ≡ kept.old.items ++ at_marks (mark ∷ []) (guest ∷ []) }
-    ensures few { vec_len kept.new ≤ vec_len kept.old + 1 }
+    ensures one_more { vec_len kept.new ≤ vec_len kept.old + 1 }
     ensures same_room { vec_capacity kept.new ≡ vec_capacity kept.old }
 {
     if mark {

@@ -66,7 +66,7 @@ fn epoch<L: Epoch + Send + Sync, R: SentSource, W: SentSink, G: LentGate, K: Len
     opening: Opening<L, R, W>,
     is_first: bool,
 ) -> Result<Interval<R, W>, Unended<R, W>>
-    requires at { MayBegin L.opening opening }
+    requires can_begin { MayBegin L.opening opening }
     ensures later { IfOk result (Continues (K.gives setting.entry.clock.now) is_first L.opening opening) }
     ensures unended { IfErr result (IsUnended is_first
         (held_with opening.opened.1.items opening.streams.items)) }
@@ -133,11 +133,12 @@ pub(super) fn begin<
     requires inputs { AreInputs setup.streams inputs.items }
     ensures between { IfOk result (IsLater (K.gives setting.entry.clock.now)
         (beginning_of W.contents W.failures setup limit inputs.items) (λ journal. journal ≡ []) []) }
-    ensures stops { IfOk result (λ now. AreAllowed (K.gives setting.entry.clock.now) now.streams.items) }
+    ensures stops { IfOk result (λ interval.
+        AreAllowed (K.gives setting.entry.clock.now) interval.streams.items) }
     ensures limit { OnOk result (IsLimit (length setup.streams) limit) }
     ensures bad_limit { IfErr result (λ e.
         (fault_of e ≡ SessionFault.BadLimit) ↔ ¬ IsLimit (length setup.streams) limit) }
-    ensures unread { IfErr result (GivesBack W.contents W.failures inputs.items) }
+    ensures back { IfErr result (GivesBack W.contents W.failures inputs.items) }
 {
     let opening = open_first::<L, R, W>(setting.alloc, blank, setup, inputs, limit)?;
     epoch(setting, opening, true)
@@ -150,7 +151,7 @@ fn run_next<L: Epoch + Send + Sync, R: SentSource, W: SentSink, G: LentGate, K: 
     interval: Interval<R, W>,
 ) -> Result<Interval<R, W>, SessionFault>
     requires blank { CanName blank.name blank.parts interval.ended.book.desk L.name L.parts L.opening }
-    requires at { IsBetweenEpochs interval }
+    requires between { IsBetweenEpochs interval }
     ensures later { IfOk result (GoesLater (K.gives setting.entry.clock.now) true interval) }
     ensures fault { IfErr result (λ e. e ≡ SessionFault.Mismatch) }
 {
@@ -168,7 +169,7 @@ pub(super) fn go_on<R: SentSource, W: SentSink, G: LentGate, K: LentClock, T: Ho
     setting: Setting<'_, G, K, T>,
     interval: Interval<R, W>,
 ) -> Result<Interval<R, W>, SessionFault>
-    requires at { IsBetweenEpochs interval }
+    requires between { IsBetweenEpochs interval }
     ensures later { IfOk result (GoesLater (K.gives setting.entry.clock.now) interval.waits interval) }
     ensures fault { IfErr result (λ e. e ≡ SessionFault.Mismatch) }
 {

@@ -31,7 +31,7 @@ pub(super) struct Interval<R: Source, W: Sink> {
 pub(super) fn report<R: Source + Drop, W: Sink + Drop>(
     interval: Interval<R, W>,
 ) -> Vec<Served<R, W>>
-    requires at { IsBetweenEpochs interval }
+    requires between { IsBetweenEpochs interval }
     ensures served { (b : Beginning) (journal : List Entry) → IsBetween b journal interval
         → AllZip (IsServedBy interval.waits journal interval.ended.book.desk) b.starts result.items }
     ensures stops { BringNoEnd interval.streams.items result.items }
@@ -63,8 +63,8 @@ fn tell<R: Source + Drop, W: Sink + Drop>(
 
 /// Tells what each stream was charged.
 fn charge<R: Source, W: Sink>(ended: &Ended, served: &mut Vec<Served<R, W>>)
-    requires few { vec_len served.old < 2 ^ 32 }
-    requires kept { (n : ℕ) → n < vec_len served.old → HasStream ended.now.book.desk n (λ _. ⊤) }
+    requires fits_u32 { vec_len served.old < 2 ^ 32 }
+    requires in_desk { (n : ℕ) → n < vec_len served.old → HasStream ended.now.book.desk n (λ _. ⊤) }
     ensures outcomes { outcomes_of served.new.items ≡ outcomes_of served.old.items }
     ensures told { AreTold ended.now.book.desk (vec_len served.new) served.new.items }
 {

@@ -67,7 +67,7 @@ pub(super) fn open_first<L: Epoch, R: Source + Drop, W: Sink + Drop>(
 ) -> Result<Opening<L, R, W>, Unended<R, W>>
     requires blank { CanName blank.name blank.parts (opened_schedule setup) L.name L.parts L.opening }
     requires inputs { AreInputs setup.streams inputs.items }
-    ensures at { IfOk result (CanBegin
+    ensures can_begin { IfOk result (CanBegin
         (beginning_of W.contents W.failures setup limit inputs.items) [] L.opening) }
     ensures unread { IfOk result (λ opening.
         opening.streams.items ≡ map (unread W.contents W.failures) inputs.items) }
@@ -99,7 +99,7 @@ pub(super) fn open_next<L: Epoch, R: Source + Drop, W: Sink + Drop>(
     interval: Interval<R, W>,
 ) -> Result<Opening<L, R, W>, Interval<R, W>>
     requires blank { CanName blank.name blank.parts interval.ended.book.desk L.name L.parts L.opening }
-    ensures at { (b : Beginning) (journal : List Entry) → IsBetween b journal interval
+    ensures can_begin { (b : Beginning) (journal : List Entry) → IsBetween b journal interval
         → IfOk result (CanBegin b journal L.opening) }
     ensures back { (b : Beginning) (journal : List Entry) → IsBetween b journal interval
         → IfErr result (IsBetween b journal) }

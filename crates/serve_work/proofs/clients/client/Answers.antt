@@ -21,7 +21,7 @@ loop-preserved g c =
     let is = inv.is_rest in
     let after = c.in-Paused.ensures.turn is.0 is.1 is.2 in
     record {
-      header = header_stays is.0 is.1 is.1 c.loop.seat c.in-Paused.same c.loop.rest c.in-Paused.later is.2 after inv.header;
+      header = header_stays is.0 is.1 is.1 c.loop.seat c.in-Paused.next_seat c.loop.rest c.in-Paused.next_rest is.2 after inv.header;
       is_rest = (is.0, is.1, after);
       stands = λ start past at. c.in-Paused.ensures.turn start past (inv.stands start past at);
       moments = KeepsMoments-trans (g.K.Clock.gives c.args.clock.now) _ _ _ inv.moments c.in-Paused.ensures.moments;

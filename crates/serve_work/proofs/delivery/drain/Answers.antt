@@ -27,7 +27,7 @@ loop-preserved g c =
     let so_far = c.loop.invariant in
     record {
       moved = Moves-trans _ _ _ _ _ _ [] [] so_far.moved c.in-Ok.ensures.answer;
-      up = GivesUp-trans c.args.seat.now c.loop.seat c.deliver.new.seat so_far.up c.deliver.ensures.kept;
+      up = GivesUp-trans c.args.seat.now c.loop.seat c.deliver.new.seat so_far.up c.deliver.ensures.stays;
       tally = Tallies-trans _ _ _ _ _ _ so_far.moved.seat_stays.torn so_far.tally c.in-Ok.ensures.tally;
     }
 
@@ -36,7 +36,7 @@ loop-preserved-in-Ok g c =
     let so_far = c.loop.invariant in
     record {
       moved = Moves-trans _ _ _ _ _ _ [] [] so_far.moved c.in-Ok.ensures.answer;
-      up = GivesUp-trans c.args.seat.now c.loop.seat c.deliver.new.seat so_far.up c.deliver.ensures.kept;
+      up = GivesUp-trans c.args.seat.now c.loop.seat c.deliver.new.seat so_far.up c.deliver.ensures.stays;
       tally = Tallies-trans _ _ _ _ _ _ so_far.moved.seat_stays.torn so_far.tally c.in-Ok.ensures.tally;
     }
 
@@ -50,5 +50,5 @@ pub returns-in-Err-clause-tally : goal.returns-in-Err-clause-tally
 returns-in-Err-clause-tally g c =
     Tallies-trans _ _ _ _ _ _ c.loop.invariant.moved.seat_stays.torn c.loop.invariant.tally c.in-Err.ensures.tally
 
-pub returns-in-Err-clause-kept : goal.returns-in-Err-clause-kept
-returns-in-Err-clause-kept g c = GivesUp-trans c.args.seat.now c.loop.seat c.deliver.new.seat c.loop.invariant.up c.deliver.ensures.kept
+pub returns-in-Err-clause-stays : goal.returns-in-Err-clause-stays
+returns-in-Err-clause-stays g c = GivesUp-trans c.args.seat.now c.loop.seat c.deliver.new.seat c.loop.invariant.up c.deliver.ensures.stays

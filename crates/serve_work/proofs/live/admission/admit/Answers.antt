@@ -28,8 +28,8 @@ returns-then-len-ge-MOST_STREAMS g c =
       );
     }
 
-pub seat-requires-clause-many : goal.seat-requires-clause-many
-seat-requires-clause-many g c =
+pub seat-requires-clause-tickets_fit : goal.seat-requires-clause-tickets_fit
+seat-requires-clause-tickets_fit g c =
     let hall = c.args.hall.now in
     let at = c.requires.seated in
     omega (

@@ -48,7 +48,7 @@ seat-requires g c =
     record {
       places = c.in-Some.ensures.places;
       few = omega (arith, ap length empty.0, ap length empty.2, hall.room.turns.ok.0, hall.idle.ok.0);
-      many = omega (arith, ap length empty.1, hall.tickets.ok.0);
+      tickets_fit = omega (arith, ap length empty.1, hall.tickets.ok.0);
       ready = subst (λ (v : StreamValue). IsReadyAt v seat) (sym is)
           (may_go g.D.Door.limit g.D.Door.times g.L.Epoch.opening request rest seat b);
     }

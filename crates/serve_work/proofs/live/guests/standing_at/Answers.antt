@@ -14,7 +14,7 @@ returns c = λ rest here.
     let is : Some c.in-Some.number ≡ Some rest.number =
     sym c.in-Some.is ∙ c.number.ensures ∙ ap (λ (o : Option StreamRest). option_map number o) here in
     let same : c.in-Some.number ≡ rest.number = cc in
-    let counts = c.in-Some-counts.tally in
+    let counts = c.in-Some-counts.counts in
     subst (λ (n : ℕ). HasStream desk n (IsStandingOf (standing_with counts c.in-Some-account.budget c.in-Some-account.deadline))) same
     (shown_as (slice_get desk.streams c.in-Some.number) counts c.in-Some-account.budget c.in-Some-account.deadline
     (sym c.in-Some-counts.is ∙ c.counts.ensures) (sym c.in-Some-account.is ∙ c.account.ensures))

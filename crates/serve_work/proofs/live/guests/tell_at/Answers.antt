@@ -35,7 +35,8 @@ returns-in-Some-clause-guests g c =
     (sym (ap (λ (t : Ticket). t.number) at.is.0)) in (
       at.before ++ at.after,
       told,
-      subst (λ (gs : List (Option (Guest _ _))). AreGuests g.D.Door.limit g.D.Door.times c.args.ended.now (at.before ++ at.after) gs) (sym c.take_at.ensures.rest)
+      subst (λ (gs : List (Option (Guest _ _))). AreGuests g.D.Door.limit g.D.Door.times c.args.ended.now (at.before ++ at.after) gs)
+          (sym c.take_at.ensures.emptied)
           (with_guests g.D.Door.limit
           g.D.Door.times c.args.ended.now
           a.0 (at.before ++ at.after) guests _ a.2 at.others),
@@ -50,7 +51,8 @@ returns-in-None-clause-guests g c =
     (c.take_at.ensures.taken ∙ ap Some c.in-None.is) in (
       a.0,
       a.1,
-      subst (λ (gs : List (Option (Guest _ _))). AreGuests g.D.Door.limit g.D.Door.times c.args.ended.now a.0 gs) (sym c.take_at.ensures.rest)
+      subst (λ (gs : List (Option (Guest _ _))). AreGuests g.D.Door.limit g.D.Door.times c.args.ended.now a.0 gs)
+          (sym c.take_at.ensures.emptied)
           (with_guests g.D.Door.limit
           g.D.Door.times c.args.ended.now
           a.0 a.0 guests _ a.2 others),

@@ -17,7 +17,7 @@ loop-mark-preserved g c =
       kept = marked_more _ _ _ _ _ _ _ _ _ steps.0.0 steps.1.0 inv.kept c.keep_one.ensures.kept;
       marks_left = omega (arith, inv.marks_left, ap length steps.0.0, steps.0.1);
       guests_left = omega (arith, inv.guests_left, ap length steps.1.0, steps.1.1);
-      room = omega (arith, inv.room, steps.1.1, c.keep_one.ensures.few, c.keep_one.ensures.same_room);
+      room = omega (arith, inv.room, steps.1.1, c.keep_one.ensures.one_more, c.keep_one.ensures.same_room);
     }
 
 pub returns : goal.returns

@@ -45,7 +45,7 @@ returns-in-Accepted-clause-kept g c =
       moments = KeepsMoments-trans gives _ _ _ kept.moments
           (offers_at gives c.moment.result _ _ c.moment.ensures c.offer_once.ensures.moment);
       stop = tt;
-      memory = c.take_image.ensures.kept _ kept.memory;
+      memory = c.take_image.ensures.sized _ kept.memory;
       frame = tt;
       header = kept.header;
     }
@@ -59,7 +59,7 @@ returns-in-Stopped-clause-kept g c =
       moments = KeepsMoments-trans gives _ _ _ kept.moments
           (offers_at gives c.moment.result _ _ c.moment.ensures c.offer_once.ensures.moment);
       stop = offered_allowed gives c.in-Stopped.stop c.moment.result _ _ _ c.moment.ensures c.in-Stopped.ensures.answer;
-      memory = c.take_image.ensures.kept _ kept.memory;
+      memory = c.take_image.ensures.sized _ kept.memory;
       frame = tt;
       header = kept.header;
     }
@@ -70,7 +70,7 @@ returns-in-JournalFull-clause-kept g c =
     let so_far = c.loop.invariant in
     let kept = so_far.kept in
     let seat = c.args.self.now.seat in
-    let taken : AreBuffersFor seat.chain c.take_image.new.self = c.take_image.ensures.kept _ kept.memory in
+    let taken : AreBuffersFor seat.chain c.take_image.new.self = c.take_image.ensures.sized _ kept.memory in
     let there : IfSome c.in-JournalFull.back.memory (IsImageOf seat.chain) = rw (stays_chain seat c.loop.self.seat so_far.moved.seat_stays) at
     c.in-JournalFull.ensures.answer.1 in
     record {
@@ -111,7 +111,7 @@ returns-in-Err-clause-answer g c =
     rw c.of.ensures (collection_halted c.in-Err.halt c.in-QueueFull.back.frame (arc_value c.args.frame) seat at c.deliver.new.seat
     c.args.self.now.writer c.loop.self.writer c.deliver.new.writer
     (c.in-QueueFull.ensures.answer.0 ∙ so_far.frame) moved up c.in-Err.ensures.own c.in-Err.ensures.drained
-    c.requires.can.accounted.is_open c.in-Err.ensures.answer c.deliver.ensures.kept)
+    c.requires.can.accounted.is_open c.in-Err.ensures.answer c.deliver.ensures.stays)
 
 pub returns-in-Err-clause-kept : goal.returns-in-Err-clause-kept
 returns-in-Err-clause-kept g c =
@@ -125,7 +125,7 @@ returns-in-Err-clause-kept g c =
     let all = Tallies-trans seat at c.deliver.new.seat writer c.loop.self.writer counted moved.seat_stays.torn
     (Tallies-still seat c.loop.self.seat at writer c.loop.self.writer so_far.kept.tally
     (offered_tally _ _ _ _ _ c.offer_once.ensures.answer)) c.in-Err.ensures.tally in
-    let taken : AreBuffersFor seat.chain c.take_image.new.self = c.take_image.ensures.kept _ so_far.kept.memory in
+    let taken : AreBuffersFor seat.chain c.take_image.new.self = c.take_image.ensures.sized _ so_far.kept.memory in
     let there : IfSome c.in-QueueFull.back.memory (IsImageOf seat.chain) = rw (stays_chain seat c.loop.self.seat so_far.moved.seat_stays) at
     c.in-QueueFull.ensures.answer.1 in
     rw c.of.ensures (record {
@@ -133,7 +133,7 @@ returns-in-Err-clause-kept g c =
       moments = KeepsMoments-trans gives seat at c.deliver.new.seat
           (KeepsMoments-trans gives seat c.loop.self.seat at so_far.kept.moments
           (offers_at gives c.moment.result c.loop.self.seat at c.moment.ensures c.offer_once.ensures.moment))
-          (none_given gives at c.deliver.new.seat c.deliver.ensures.tally.seat c.deliver.ensures.kept);
+          (none_given gives at c.deliver.new.seat c.deliver.ensures.tally.seat c.deliver.ensures.stays);
       stop = collection_allowed gives c.in-Err.halt c.in-QueueFull.back.frame c.in-Err.ensures.own;
       memory = c.keep_image-in-QueueFull.ensures.sized seat.chain taken there;
       frame = halted_sized c.in-Err.halt c.in-QueueFull.back.frame (arc_value c.args.frame) seat at c.deliver.new.seat
@@ -152,13 +152,13 @@ loop-preserved g c =
     let moved = Moves-at seat c.loop.self.seat at writer c.loop.self.writer c.in-QueueFull.ensures.answer.2 so_far.moved in
     let up = GivesUp-at seat c.loop.self.seat at c.in-QueueFull.ensures.answer.2 so_far.up in
     let chain : at.chain ≡ seat.chain = stays_chain seat at moved.seat_stays in
-    let taken : AreBuffersFor seat.chain c.take_image.new.self = c.take_image.ensures.kept _ so_far.kept.memory in
+    let taken : AreBuffersFor seat.chain c.take_image.new.self = c.take_image.ensures.sized _ so_far.kept.memory in
     let there : IfSome c.in-QueueFull.back.memory (IsImageOf seat.chain) = rw (stays_chain seat c.loop.self.seat so_far.moved.seat_stays) at
     c.in-QueueFull.ensures.answer.1 in
     let kept = c.keep_image-in-QueueFull.ensures.sized seat.chain taken there in
     record {
       moved = Moves-trans seat at c.deliver.new.seat writer c.loop.self.writer c.deliver.new.writer [] [] moved c.in-Ok.ensures.answer;
-      up = GivesUp-trans seat at c.deliver.new.seat up c.deliver.ensures.kept;
+      up = GivesUp-trans seat at c.deliver.new.seat up c.deliver.ensures.stays;
       frame = c.in-QueueFull.ensures.answer.0 ∙ so_far.frame;
       kept = record {
         tally = Tallies-trans seat at c.deliver.new.seat writer c.loop.self.writer c.deliver.new.writer moved.seat_stays.torn
@@ -167,7 +167,7 @@ loop-preserved g c =
         moments = KeepsMoments-trans gives seat at c.deliver.new.seat
             (KeepsMoments-trans gives seat c.loop.self.seat at so_far.kept.moments
             (offers_at gives c.moment.result c.loop.self.seat at c.moment.ensures c.offer_once.ensures.moment))
-            (none_given gives at c.deliver.new.seat c.deliver.ensures.tally.seat c.deliver.ensures.kept);
+            (none_given gives at c.deliver.new.seat c.deliver.ensures.tally.seat c.deliver.ensures.stays);
         stop = tt;
         memory = c.keep.ensures.sized seat.chain kept (rw chain at c.in-Ok.ensures.pair.source) (rw chain at c.in-Ok.ensures.pair.image);
         frame = tt;

@@ -54,7 +54,7 @@ loop-preserved g c =
     let pair : IsPairOf c.loop.self.seat.chain next.pair = rw next.field-0-is at next.ensures.pair in
     record {
       moved = Moves-trans _ _ _ _ _ _ [] [] so_far.moved next.ensures.answer;
-      up = GivesUp-trans c.args.self.now.seat c.loop.self.seat c.deliver_early.new.seat so_far.up c.deliver_early.ensures.kept;
+      up = GivesUp-trans c.args.self.now.seat c.loop.self.seat c.deliver_early.new.seat so_far.up c.deliver_early.ensures.stays;
       tally = Tallies-trans _ _ _ _ _ _ so_far.moved.seat_stays.torn so_far.tally next.ensures.tally;
       buffers = c.keep.ensures.sized c.args.self.now.seat.chain so_far.buffers (rw chain at pair.source) (rw chain at pair.image);
       reader = so_far.reader;

@@ -12,11 +12,11 @@ returns-then-discard g c =
       answer = λ past o is counted before. (
         before.0,
         Serves-later past c.args.stop o.reader old.reader o.seat old.seat c.discard.new.seat o.writer old.writer before.0 on.tally
-            (ap (λ (s : StreamSeatValue). s.accepted) on.kept) before.1,
+            (ap (λ (s : StreamSeatValue). s.accepted) on.stays) before.1,
       );
       tally = Tallies-seat _ _ _ _ on.tally refl;
       silent = λ is. (refl, refl);
-      moments = none_given _ _ _ on.tally on.kept;
+      moments = none_given _ _ _ on.tally on.stays;
       stop = λ was. was;
       memory = tt;
       header = refl;
@@ -29,10 +29,10 @@ returns-else-discard g c =
     record {
       answer = λ past o is counted before.
           Serves-later past c.args.stop o.reader old.reader o.seat old.seat c.discard.new.seat o.writer old.writer before.0 on.tally
-          (ap (λ (s : StreamSeatValue). s.accepted) on.kept) before.1;
+          (ap (λ (s : StreamSeatValue). s.accepted) on.stays) before.1;
       tally = Tallies-seat _ _ _ _ on.tally refl;
       silent = λ is. (refl, refl);
-      moments = none_given _ _ _ on.tally on.kept;
+      moments = none_given _ _ _ on.tally on.stays;
       stop = λ was. was;
       memory = tt;
       header = refl;

@@ -19,7 +19,7 @@ returns-in-Full g c =
       );
       tally = c.in-Full.ensures.tally;
       silent = λ is. absurd is;
-      moments = none_given _ _ _ c.drain.ensures.tally.seat c.drain.ensures.kept;
+      moments = none_given _ _ _ c.drain.ensures.tally.seat c.drain.ensures.stays;
       stop = λ was. was;
       memory = left_can image old.seat.chain c.drain.new.writer c.in-Full.ensures.left;
       header = refl;
@@ -32,7 +32,7 @@ returns-then-is_spoilt g c =
     let last = c.in-Stopped.last in
     let on = c.in-Stopped.ensures in
     let left = c.discard_left.ensures in
-    let accepted = ap (λ (s : StreamSeatValue). s.accepted) c.drain.ensures.kept in
+    let accepted = ap (λ (s : StreamSeatValue). s.accepted) c.drain.ensures.stays in
     record {
       answer = λ past o is counted at.
           left.answer past o is (counted_later past _ _ on.tally.seat counted) (
@@ -44,7 +44,7 @@ returns-then-is_spoilt g c =
           );
       tally = tally_silent _ _ _ _ _ _ _ on.tally left.tally.seat (left.silent tt);
       silent = λ is. absurd is;
-      moments = KeepsMoments-trans _ _ _ _ (none_given gives _ _ on.tally.seat c.drain.ensures.kept) left.moments;
+      moments = KeepsMoments-trans _ _ _ _ (none_given gives _ _ on.tally.seat c.drain.ensures.stays) left.moments;
       stop = λ was. left.stop
           (kept_allowed gives (Some c.args.stop) (Some c.or-told.result)
           (drained_stop c.args.stop last c.or-told.result on.own c.or-told.ensures) was);
@@ -61,11 +61,11 @@ returns-else-is_spoilt g c =
       answer = λ past o is counted at.
           Serves-drained past o.reader old.reader o.seat o.writer is.fresh.kept is.writing c.args.stop last c.or-told.result
           old.seat c.drain.new.seat old.writer c.drain.new.writer at.0 at.1 on.answer on.own
-          (λ e. on.drained (ap Stopped e)) (ap (λ (s : StreamSeatValue). s.accepted) c.drain.ensures.kept) on.tally.seat
+          (λ e. on.drained (ap Stopped e)) (ap (λ (s : StreamSeatValue). s.accepted) c.drain.ensures.stays) on.tally.seat
           c.or-told.ensures;
       tally = on.tally;
       silent = λ is. absurd is;
-      moments = none_given _ _ _ on.tally.seat c.drain.ensures.kept;
+      moments = none_given _ _ _ on.tally.seat c.drain.ensures.stays;
       stop = kept_allowed _ (Some c.args.stop) (Some c.or-told.result)
           (drained_stop c.args.stop last c.or-told.result on.own c.or-told.ensures);
       memory = tt;

@@ -38,7 +38,7 @@ returns-in-Err-clause-answer g c = λ past counted.
     let same = c.deliver_ready.ensures.reader in
     let none = Passes-same old.reader at.reader old.seat old.seat old.writer old.writer same (Moves-none _ _ _ _ refl refl) in
     rw c.without_frame.ensures (fed_broken old.reader at.reader old.seat old.seat old.writer old.writer [] none past c.in-Err.halt
-    at.seat at.writer (ap (λ (r : ReaderState). r.phase) same ∙ c.requires.can.is_open) c.in-Err.ensures.own c.deliver_ready.ensures.kept
+    at.seat at.writer (ap (λ (r : ReaderState). r.phase) same ∙ c.requires.can.is_open) c.in-Err.ensures.own c.deliver_ready.ensures.stays
     c.in-Err.ensures.answer)
 
 pub returns-in-Err-clause-kept : goal.returns-in-Err-clause-kept
@@ -47,7 +47,7 @@ returns-in-Err-clause-kept g c =
     let halt = c.in-Err.halt in
     rw c.without_frame.ensures (record {
       tally = rw (fed_image_before halt) c.in-Err.ensures.tally;
-      moments = none_given gives _ _ c.deliver_ready.ensures.tally.seat c.deliver_ready.ensures.kept;
+      moments = none_given gives _ _ c.deliver_ready.ensures.tally.seat c.deliver_ready.ensures.stays;
       stop = delivery_allowed gives halt c.in-Err.ensures.own;
       memory = c.deliver_ready.ensures.buffers;
       frame = sized_before halt _ _ _ _ c.in-Err.ensures.answer c.in-Err.ensures.left c.requires.can.offer.size;
@@ -80,13 +80,13 @@ pub returns-in-Silent-clause-kept : goal.returns-in-Silent-clause-kept
 returns-in-Silent-clause-kept g c =
     let on = c.deliver_ready.ensures in
     HasFed-delivered c.args.self.now c.deliver_ready.new.self (g.K.Clock.gives c.args.post.clock.now) None c.in-Ok.ensures.tally
-    on.kept on.buffers (ap (λ (r : ReaderState). r.header) on.reader) refl tt tt
+    on.stays on.buffers (ap (λ (r : ReaderState). r.header) on.reader) refl tt tt
 
 pub returns-in-JournalFull-clause-kept : goal.returns-in-JournalFull-clause-kept
 returns-in-JournalFull-clause-kept g c =
     let on = c.deliver_ready.ensures in
     HasFed-delivered c.args.self.now c.deliver_ready.new.self (g.K.Clock.gives c.args.post.clock.now) (Some (feds.Paused None None))
-    c.in-Ok.ensures.tally on.kept on.buffers (ap (λ (r : ReaderState). r.header) on.reader) refl tt
+    c.in-Ok.ensures.tally on.stays on.buffers (ap (λ (r : ReaderState). r.header) on.reader) refl tt
     (tt, sized_still _ _ _ _ c.in-Ok.ensures.answer c.requires.can.offer.size, tt)
 
 pub read_into-requires : goal.read_into-requires
@@ -113,8 +113,8 @@ returns-in-Ok-None-clause-kept g c =
     let at = c.deliver_ready.new.self in
     HasFed-delivered c.args.self.now
     (record { seat = at.seat; reader = c.read_into.new.reader; writer = at.writer; buffers = c.take_source-memory.new.self })
-    (g.K.Clock.gives c.args.post.clock.now) (Some (feds.Stopped Whole)) c.in-Ok.ensures.tally on.kept
-    (c.take_source-memory.ensures.kept _ on.buffers)
+    (g.K.Clock.gives c.args.post.clock.now) (Some (feds.Stopped Whole)) c.in-Ok.ensures.tally on.stays
+    (c.take_source-memory.ensures.sized _ on.buffers)
     (c.read_into.ensures.header ∙ ap (λ (r : ReaderState). r.header) on.reader) refl tt tt
 
 pub returns-in-Err-read_into-clause-answer : goal.returns-in-Err-read_into-clause-answer
@@ -133,7 +133,7 @@ returns-in-Err-read_into-clause-kept g c =
     let stop = c.in-Err-read_into.stop in
     HasFed-delivered c.args.self.now
     (record { seat = at.seat; reader = c.read_into.new.reader; writer = at.writer; buffers = c.take_source-memory.new.self })
-    gives (Some (feds.Stopped stop)) c.in-Ok.ensures.tally on.kept (c.take_source-memory.ensures.kept _ on.buffers)
+    gives (Some (feds.Stopped stop)) c.in-Ok.ensures.tally on.stays (c.take_source-memory.ensures.sized _ on.buffers)
     (c.read_into.ensures.header ∙ ap (λ (r : ReaderState). r.header) on.reader) refl
     (unread_allowed gives stop _ _ c.in-Err-read_into.ensures.fault) tt
 
@@ -152,7 +152,7 @@ accept-requires g c =
     record {
       can = CanOffer-later c.args.self.now
           (record { seat = at.seat; reader = c.read_into.new.reader; writer = at.writer; buffers = c.take_source-memory.new.self }) [] moved
-          (c.take_source-memory.ensures.kept _ on.buffers) c.requires.can.offer;
+          (c.take_source-memory.ensures.sized _ on.buffers) c.requires.can.offer;
       frame = one_size c.deliver_ready.new.self.reader.header _ _ sized header ∙ sym (ap (λ (h : ChainValue). h.geometry) chain);
     }
 
@@ -192,5 +192,5 @@ returns-in-Ok-Some-clause-kept g c =
     gives (result_err c.accept.result) c.accept.new.self c.in-Ok.ensures.answer.seat_stays
     (HasFed-delivered c.args.self.now
     (record { seat = at.seat; reader = c.read_into.new.reader; writer = at.writer; buffers = c.take_source-memory.new.self })
-    gives None c.in-Ok.ensures.tally on.kept (c.take_source-memory.ensures.kept _ on.buffers)
+    gives None c.in-Ok.ensures.tally on.stays (c.take_source-memory.ensures.sized _ on.buffers)
     (c.read_into.ensures.header ∙ ap (λ (r : ReaderState). r.header) on.reader) refl tt tt) c.accept.ensures.kept

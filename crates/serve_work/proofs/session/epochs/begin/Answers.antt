@@ -7,17 +7,17 @@ use Rattle.serve_work.proofs.SessionStops.{begin_allowed}
 use Rattle.serve_work.proofs.SessionTurns.{all_oks, all_unended, same_length, still_unread, unended_limit, zip_length}
 use Rattle.serve_work.proofs.session.epochs.begin.Goals as goal
 
-pub epoch-requires-clause-at : goal.epoch-requires-clause-at
-epoch-requires-clause-at g c κs within = (
+pub epoch-requires-clause-can_begin : goal.epoch-requires-clause-can_begin
+epoch-requires-clause-can_begin g c κs within = (
   beginning_of g.W.Sink.contents g.W.Sink.failures c.args.setup c.args.limit c.args.inputs.items,
   [],
-  c.in_ok-opening.ensures.at,
+  c.in_ok-opening.ensures.can_begin,
 )
 
 pub returns-clause-between : goal.returns-clause-between
 returns-clause-between g c =
     let b = beginning_of g.W.Sink.contents g.W.Sink.failures c.args.setup c.args.limit c.args.inputs.items in
-    all_oks _ _ c.epoch.result (λ now later. later.between b [] c.in_ok-opening.ensures.at) c.epoch.ensures.later
+    all_oks _ _ c.epoch.result (λ now later. later.between b [] c.in_ok-opening.ensures.can_begin) c.epoch.ensures.later
 
 pub returns-clause-limit : goal.returns-clause-limit
 returns-clause-limit g c = on_ok c.epoch.result _ c.in_ok-opening.ensures.limit
@@ -29,8 +29,8 @@ returns-clause-bad_limit g c =
       λ not. absurd (not c.in_ok-opening.ensures.limit),
     )) c.epoch.ensures.unended
 
-pub returns-clause-unread : goal.returns-clause-unread
-returns-clause-unread g c =
+pub returns-clause-back : goal.returns-clause-back
+returns-clause-back g c =
     let sink = g.W.Sink in
     let b = beginning_of sink.contents sink.failures c.args.setup c.args.limit c.args.inputs.items in
     let seats = c.in_ok-opening.opening.opened.1.items in
@@ -38,7 +38,7 @@ returns-clause-unread g c =
     let inputs = c.args.inputs.items in
     let all : length (held_with seats streams) ≡ length streams = omega (
       arith,
-      zip_length (BeginsAgain []) b.starts (held_with seats streams) c.in_ok-opening.ensures.at.stand,
+      zip_length (BeginsAgain []) b.starts (held_with seats streams) c.in_ok-opening.ensures.can_begin.stand,
       all_starts sink.contents sink.failures c.args.limit 0 c.args.setup.streams inputs c.requires.inputs,
       zip_length IsInput c.args.setup.streams inputs c.requires.inputs,
       ap length c.in_ok-opening.ensures.unread,

@@ -15,9 +15,10 @@ pub pair_with_seats-turns-requires : goal.pair_with_seats-turns-requires
 pair_with_seats-turns-requires g c =
     let helds = held_with c.args.opening.opened.1.items c.args.opening.streams.items in
     record {
-      none = c.requires.at.2.room.no_turns;
-      room = c.requires.at.2.room.turns;
-      ready = all_ready c.requires.at.1 c.requires.at.0.starts helds c.requires.at.2.stand c.requires.at.2.begun.sized;
+      none = c.requires.can_begin.2.room.no_turns;
+      room = c.requires.can_begin.2.room.turns;
+      ready = all_ready c.requires.can_begin.1 c.requires.can_begin.0.starts helds c.requires.can_begin.2.stand
+          c.requires.can_begin.2.begun.sized;
     }
 
 pub fill-requires-2 : goal.fill-requires-2
@@ -37,10 +38,10 @@ fill-requires-2 g c =
     ) in
     record {
       places = record {
-        no_seats = c.requires.at.2.room.places.no_seats;
-        seats = omega (arith, few, c.requires.at.2.room.places.seats);
-        no_streams = c.requires.at.2.room.places.no_streams;
-        streams = omega (arith, few, c.requires.at.2.room.places.streams);
+        no_seats = c.requires.can_begin.2.room.places.no_seats;
+        seats = omega (arith, few, c.requires.can_begin.2.room.places.seats);
+        no_streams = c.requires.can_begin.2.room.places.no_streams;
+        streams = omega (arith, few, c.requires.can_begin.2.room.places.streams);
       };
       held = (ran.0, ran.1);
     }
@@ -61,10 +62,10 @@ fill-requires g c =
     ) in
     record {
       places = record {
-        no_seats = c.requires.at.2.room.places.no_seats;
-        seats = omega (arith, few, c.requires.at.2.room.places.seats);
-        no_streams = c.requires.at.2.room.places.no_streams;
-        streams = omega (arith, few, c.requires.at.2.room.places.streams);
+        no_seats = c.requires.can_begin.2.room.places.no_seats;
+        seats = omega (arith, few, c.requires.can_begin.2.room.places.seats);
+        no_streams = c.requires.can_begin.2.room.places.no_streams;
+        streams = omega (arith, few, c.requires.can_begin.2.room.places.streams);
       };
       held = (helds, c.in-Err.ensures.back ∙ c.pair_with_seats-turns.ensures);
     }

@@ -12,10 +12,10 @@ loop-init g c = record {
   stops = λ allowed. allowed;
 }
 
-pub run_next-requires-clause-at : goal.run_next-requires-clause-at
-run_next-requires-clause-at g c κs within =
-    let l = c.loop.invariant.between c.requires.at.0 c.requires.at.1 c.requires.at.2 in
-    (c.requires.at.0, l.more ++ c.requires.at.1, l.between)
+pub run_next-requires-clause-between : goal.run_next-requires-clause-between
+run_next-requires-clause-between g c κs within =
+    let l = c.loop.invariant.between c.requires.between.0 c.requires.between.1 c.requires.between.2 in
+    (c.requires.between.0, l.more ++ c.requires.between.1, l.between)
 
 pub loop-preserved : goal.loop-preserved
 loop-preserved g c =

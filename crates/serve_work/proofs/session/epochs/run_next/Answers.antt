@@ -5,13 +5,13 @@ use Rattle.serve_work.proofs.Journals.{behind_full}
 use Rattle.serve_work.proofs.SessionTurns.{later_mismatch}
 use Rattle.serve_work.proofs.session.epochs.run_next.Goals as goal
 
-pub epoch-requires-clause-at : goal.epoch-requires-clause-at
-epoch-requires-clause-at g c κs within =
-    (c.requires.at.0, c.requires.at.1, c.in-Ok.ensures.at c.requires.at.0 c.requires.at.1 c.requires.at.2)
+pub epoch-requires-clause-can_begin : goal.epoch-requires-clause-can_begin
+epoch-requires-clause-can_begin g c κs within =
+    (c.requires.between.0, c.requires.between.1, c.in-Ok.ensures.can_begin c.requires.between.0 c.requires.between.1 c.requires.between.2)
 
 pub returns-in-Ok-epoch-clause-later : goal.returns-in-Ok-epoch-clause-later
 returns-in-Ok-epoch-clause-later g c = record {
-  between = λ b journal at. c.in-Ok-epoch.ensures.later.between b journal (c.in-Ok.ensures.at b journal at);
+  between = λ b journal at. c.in-Ok-epoch.ensures.later.between b journal (c.in-Ok.ensures.can_begin b journal at);
   stops = λ allowed. c.in-Ok-epoch.ensures.later.stops (rw c.in-Ok.ensures.streams allowed);
 }
 

@@ -4,19 +4,19 @@ use Rattle.serve_work.proofs.Telling.{as_many, few_told, served_told, streams_to
 use Rattle.serve_work.proofs.session.interval.report.Goals as goal
 
 pub tell-requires-clause-none : goal.tell-requires-clause-none
-tell-requires-clause-none g c = c.requires.at.2.untold
+tell-requires-clause-none g c = c.requires.between.2.untold
 
 pub tell-requires-clause-room : goal.tell-requires-clause-room
 tell-requires-clause-room g c =
-    omega (arith, as_many _ _ c.args.interval c.requires.at.2, c.requires.at.2.places, c.args.interval.streams.ok.0)
+    omega (arith, as_many _ _ c.args.interval c.requires.between.2, c.requires.between.2.places, c.args.interval.streams.ok.0)
 
-pub charge-requires-clause-few : goal.charge-requires-clause-few
-charge-requires-clause-few g c =
-    omega (arith, few_told _ _ c.args.interval c.requires.at.2 c.tell.new.served.items c.tell.ensures, c.tell.new.served.ok.0)
+pub charge-requires-clause-fits_u32 : goal.charge-requires-clause-fits_u32
+charge-requires-clause-fits_u32 g c =
+    omega (arith, few_told _ _ c.args.interval c.requires.between.2 c.tell.new.served.items c.tell.ensures, c.tell.new.served.ok.0)
 
-pub charge-requires-clause-kept : goal.charge-requires-clause-kept
-charge-requires-clause-kept g c n less =
-    streams_told _ _ c.args.interval c.requires.at.2 c.tell.new.served.items c.tell.ensures n
+pub charge-requires-clause-in_desk : goal.charge-requires-clause-in_desk
+charge-requires-clause-in_desk g c n less =
+    streams_told _ _ c.args.interval c.requires.between.2 c.tell.new.served.items c.tell.ensures n
     (omega (arith, less, c.tell.new.served.ok.0))
 
 pub returns-clause-served : goal.returns-clause-served

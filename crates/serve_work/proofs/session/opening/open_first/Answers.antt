@@ -10,8 +10,8 @@ use Rattle.serve_work.proofs.session.opening.open_first.Goals as goal
 pub streams_of-requires : goal.streams_of-requires
 streams_of-requires g c = record { unread = are_unread c.args.setup.streams c.args.inputs.items c.requires.inputs }
 
-pub returns-in-Ok-streams_of-clause-at : goal.returns-in-Ok-streams_of-clause-at
-returns-in-Ok-streams_of-clause-at g c =
+pub returns-in-Ok-streams_of-clause-can_begin : goal.returns-in-Ok-streams_of-clause-can_begin
+returns-in-Ok-streams_of-clause-can_begin g c =
     let contents = g.W.Sink.contents in
     let failures = g.W.Sink.failures in
     let specs = c.args.setup.streams in

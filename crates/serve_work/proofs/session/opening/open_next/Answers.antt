@@ -13,8 +13,8 @@ returns-in_default-clause-back g c = λ b journal at. still_between b journal c.
 pub returns-in-Err-clause-back : goal.returns-in-Err-clause-back
 returns-in-Err-clause-back g c = λ b journal at. still_between b journal c.args.interval _ c.in-Err.ensures.back refl refl refl at
 
-pub returns-in-Ok-reopen-clause-at : goal.returns-in-Ok-reopen-clause-at
-returns-in-Ok-reopen-clause-at g c = λ b journal at.
+pub returns-in-Ok-reopen-clause-can_begin : goal.returns-in-Ok-reopen-clause-can_begin
+returns-in-Ok-reopen-clause-can_begin g c = λ b journal at.
     let limit = c.limit-limit.result in
     record {
       begun = at.begun;

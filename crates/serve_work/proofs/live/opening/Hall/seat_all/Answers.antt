@@ -10,7 +10,7 @@ seat_one-requires g c =
     record {
       places = inv.places;
       few = omega (arith, inv.few, steps.0.1, c.requires.few);
-      many = inv.many;
+      tickets_fit = inv.tickets_fit;
       ready = (ready_split _ _ _ _ _ _ steps.0.0 steps.1.0 inv.ready).0;
     }
 
@@ -25,8 +25,8 @@ loop-seat-preserved g c =
       ready = (ready_split _ _ _ _ _ _ steps.0.0 steps.1.0 inv.ready).1;
       seats_left = omega (arith, inv.seats_left, ap length steps.0.0, steps.0.1);
       guests_left = omega (arith, inv.guests_left, ap length steps.1.0, steps.1.1);
-      few = omega (arith, inv.few, steps.0.1, c.seat_one.ensures.few);
-      many = c.seat_one.ensures.many;
+      few = omega (arith, inv.few, steps.0.1, c.seat_one.ensures.one_more);
+      tickets_fit = c.seat_one.ensures.tickets_fit;
     }
 
 pub returns : goal.returns

@@ -21,5 +21,5 @@ invariant-loop-seat g l =
       seats_left : length seats ≡ into_iter_len (zip_first l.seat-iterator);
       guests_left : length guests ≡ into_iter_len (zip_second l.seat-iterator);
       few : vec_len l.self.room.turns + vec_len l.self.idle + into_iter_len (zip_first l.seat-iterator) ≤ vec_len l.fn.seats;
-      many : vec_len l.self.tickets ≤ vec_len l.self.room.turns;
+      tickets_fit : vec_len l.self.tickets ≤ vec_len l.self.room.turns;
     }
