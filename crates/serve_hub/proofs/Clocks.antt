@@ -1,8 +1,8 @@
 -- The clock along a journal.
 use Rattle.std.proofs.Common.{ℕ, zero, suc, ◌+◌, ◌≡◌, ◌≤◌, ◌<◌, List, [], ◌∷◌, ◌++◌, Option, Some, None}
-use Rattle.std.proofs.Common.{IfSome, IsSomeAnd, length, reverse, slice_get, slice_index_or, take, refl, sym, ◌∙◌, ap}
+use Rattle.std.proofs.Common.{IfSome, IsSomeAnd, drop, length, reverse, slice_get, slice_index_or, take, refl, sym, ◌∙◌, ap}
 use Rattle.std.proofs.Common.{subst, arith}
-use Rattle.std.proofs.lemmas.List.{reverse-append, take_more}
+use Rattle.std.proofs.lemmas.List.{reverse-append, take-append-drop, take_more}
 use Rattle.serve_core.specs.AtOnce.{bands}
 use Rattle.serve_core.specs.Bare.{Blank}
 use Rattle.serve_core.specs.Desk.{settlement}
@@ -86,3 +86,30 @@ reached_more s moments specs opening journal i d clock after less at stands here
     subst (λ (j : List Entry). (after ≡ clock_in specs opening j) × ClockReached s moments specs opening j)
     (sym (taken_more journal i d less))
     (same, (at.1, λ is. subst (λ (c : ℕ). IsSomeAnd moments (λ m. m.first ≤ c)) same (here is)))
+
+-- what the clock had reached by a journal, it had by its first entries
+reached_before : (s : ℕ) (moments : Option Moments) (specs : List StreamSpec) (opening : State Blank) (later past : List Entry)
+    → ClockReached s moments specs opening (later ++ past) → ClockReached s moments specs opening past
+reached_before s moments specs opening [] past reached = reached
+reached_before s moments specs opening (e ∷ later) past reached =
+    reached_before s moments specs opening later past reached.0
+
+-- so it had reached what it should at an entry
+pub reached_at : (s : ℕ) (moments : Option Moments) (specs : List StreamSpec) (opening : State Blank) (journal : List Entry)
+    (i : ℕ) (d : Entry) (clock after : ℕ) → i < length journal → clock ≡ clock_in specs opening (reverse (take i journal))
+    → let e = slice_index_or journal i d in after ≡ clock_after clock e.seat e.act
+    → ClockReached s moments specs opening (reverse journal) → IsOfferOf s e.seat e.act
+    → IsSomeAnd moments (λ m. m.first ≤ after)
+reached_at s moments specs opening journal i d clock after less at stands reached offer =
+    let e = slice_index_or journal i d in
+    let past = reverse (take i journal) in
+    let later = reverse (drop (i + 1) journal) in
+    let split : reverse journal ≡ later ++ (e ∷ past) =
+    ap reverse (sym (take-append-drop (i + 1) journal))
+    ∙ reverse-append (take (i + 1) journal) (drop (i + 1) journal)
+    ∙ ap (λ (xs : List Entry). later ++ xs) (taken_more journal i d less) in
+    let here = reached_before s moments specs opening later (e ∷ past)
+    (subst (ClockReached s moments specs opening) split reached) in
+    let same : after ≡ clock_in specs opening (e ∷ past) =
+    stands ∙ ap (λ (c : ℕ). clock_after c e.seat e.act) at ∙ sym (clock_step specs opening past e) in
+    subst (λ (c : ℕ). IsSomeAnd moments (λ m. m.first ≤ c)) (sym same) (here.1 offer)

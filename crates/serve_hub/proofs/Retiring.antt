@@ -27,7 +27,7 @@ pub filter_at : {X : Type 0} (test : X → Bool) (xs : List X) (s : ℕ) (x : X)
     → test x ≡ true
 filter_at test xs s x e = all_at (λ y. test y ≡ true) (filter test xs) s x (filter_passes test xs) e
 
-filter_in : {X : Type 0} (test : X → Bool) (x : X) (xs : List X) → test x ≡ true
+pub filter_in : {X : Type 0} (test : X → Bool) (x : X) (xs : List X) → test x ≡ true
     → filter test (x ∷ xs) ≡ x ∷ filter test xs
 filter_in test x xs e = rw e refl
 

@@ -1,10 +1,12 @@
 -- The specs of the streams, which stay, and to which an admission adds one.
-use Rattle.std.proofs.Common.{ℕ, zero, suc, ◌≡◌, ◌<◌, List, [], ◌∷◌, ◌++◌, map, length, Option, slice_get}
+use Rattle.std.proofs.Common.{ℕ, zero, suc, ◌≡◌, ◌<◌, List, [], ◌∷◌, ◌++◌, map, length, Option, Some, None, slice_get}
 use Rattle.std.proofs.Common.{refl, sym, ◌∙◌, ap, subst, arith, append_assoc, length-append}
-use Rattle.std.proofs.lemmas.List.{map_push}
+use Rattle.std.specs.Bool.{⊤}
+use Rattle.std.proofs.lemmas.List.{length-map, map_push}
+use Rattle.serve_core.specs.AtOnce.{bands}
 use Rattle.serve_core.specs.Bare.{Blank}
 use Rattle.serve_core.specs.Counts.{Deed, deed}
-use Rattle.serve_core.specs.Desk.{LeadsDesk, bare_frames, desk_state}
+use Rattle.serve_core.specs.Desk.{LeadsDesk, bare_frames, desk_state, settlement}
 use Rattle.serve_core.specs.Events.{Admit, Admitted, Event, Reply, Start, Then, Transcript, joined, with_admitted}
 use Rattle.serve_core.specs.Leads.{state_from}
 use Rattle.serve_core.specs.Schedule.{ScheduleValue, stream_by}
@@ -17,8 +19,8 @@ use Rattle.serve_hub.specs.declared.entry.Act.TheVariants as acts
 use Rattle.serve_hub.specs.declared.entry.Entry.{Entry}
 use Rattle.serve_hub.specs.declared.entry.Seat.{Seat}
 use Rattle.serve_hub.specs.declared.entry.Seat.TheVariants as seats
-use Rattle.serve_hub.specs.Books.{specs_of}
-use Rattle.serve_hub.specs.Journal.{AreEntries, IsEntry, admission_of, events_of, transcript_of}
+use Rattle.serve_hub.specs.Books.{Appends, BookValue, specs_of}
+use Rattle.serve_hub.specs.Journal.{AreEntries, IsEntry, admission_of, events_of, number_of, transcript_of}
 
 abbrev specs_in : State Blank → List StreamSpec
 specs_in m = map (λ x. x.spec) m.streams
@@ -79,6 +81,44 @@ specs_led x y p led =
     ∙ ap specs_in (sym led.1)
     ∙ specs_from (desk_state x) p
     ∙ ap (λ (specs : List StreamSpec). specs ++ added p) (specs_seen x.streams)
+
+-- an act that admits no stream
+abbrev pub AdmitsNone : Act → Type 0
+AdmitsNone acts.Admitted = ⊥
+AdmitsNone act = ⊤
+
+none_banded : (w k : ℕ) → added (bands w k) ≡ []
+none_banded w zero = refl
+none_banded w (suc k) = none_banded w k
+
+none_settled : (w k : ℕ) (number : Option ℕ) → added (settlement w k number) ≡ []
+none_settled w k None = none_banded w k
+none_settled w k (Some number) = none_banded w k
+
+none_added : (specs : List StreamSpec) (m : State Blank) (seat : Seat) (act : Act) → AdmitsNone act
+    → added (events_of specs m seat act) ≡ []
+none_added specs m (seats.Stream s) (acts.Offered None number) is = refl
+none_added specs m (seats.Stream s) (acts.Offered (Some moment) number) is = refl
+none_added specs m (seats.Stream s) acts.Admitted is = absurd is
+none_added specs m (seats.Stream s) act is = refl
+none_added specs m (seats.Worker w) (acts.Settled k is_finished) is =
+    none_settled w k (number_of is_finished (held_at m.workers w))
+none_added specs m (seats.Worker w) act is = refl
+
+-- then there are as many streams as before
+pub same_count : (seat : Seat) (act : Act) (old new : BookValue) → Appends seat act old new → AdmitsNone act
+    → length new.desk.streams ≡ length old.desk.streams
+same_count seat act old new is none =
+    let p = events_of (specs_of new.desk) (desk_state old.desk) seat act in
+    let spec = λ (stream : KeptStream). stream.state.spec in
+    omega (
+      arith,
+      ap length (specs_led old.desk new.desk p is.events),
+      length-append (specs_of old.desk) (added p),
+      ap length (none_added (specs_of new.desk) (desk_state old.desk) seat act none),
+      length-map old.desk.streams spec,
+      length-map new.desk.streams spec,
+    )
 
 get_first : (xs ys : List StreamSpec) (s : ℕ) → s < length xs → slice_get (xs ++ ys) s ≡ slice_get xs s
 get_first [] ys s l = absurd (omega (arith, l))

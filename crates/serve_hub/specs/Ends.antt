@@ -1,6 +1,6 @@
 -- What is left of a hub whose seats are all back.
 use Rattle.std.specs.Prelude.{ℕ, ◌+◌, ◌*◌, ◌≡◌, ◌≢◌, ◌≤◌, ◌<◌, ◌⊎◌, ◌==◌, Bool, true, false, List, [], ◌∷◌}
-use Rattle.std.specs.Prelude.{⊤, All, filter, length, map, reverse, sum_by, IsSomeAnd, Option, Some}
+use Rattle.std.specs.Prelude.{⊤, All, filter, length, map, reverse, sum_by, IsSomeAnd, Option, Some, None}
 use Rattle.std.specs.List.{Any}
 use Rattle.serve_core.specs.Bare.{Blank, measures_any, is_any_image}
 use Rattle.serve_core.specs.Desk.{desk_state}
@@ -94,17 +94,6 @@ HasLeaseOut seat = begins_with_lease (reverse seat.calls.list) ≡ true
 abbrev pub NoLeaseOut : List WorkSeatValue → Type 0
 NoLeaseOut workers = All (λ s. ¬ HasLeaseOut s) workers
 
--- the first that is wrong with the seats of so many streams and workers, if anything is: a seat is missing, a
--- lease is out, or else what they tell differs from the book
-abbrev pub IsFault : Option Fault → (all_streams all_workers : ℕ) → List StreamSeatValue → List WorkSeatValue
-    → Type 0
-IsFault (Some faults.SeatMissing) all_streams all_workers streams workers =
-    IsMissing all_streams all_workers streams workers
-IsFault (Some faults.LeaseOut) all_streams all_workers streams workers =
-    AreThere all_streams all_workers streams workers × ¬ NoLeaseOut workers
-IsFault fault all_streams all_workers streams workers =
-    AreThere all_streams all_workers streams workers × NoLeaseOut workers
-
 -- a book opened from this desk, of so many workers, which a legal transcript of a setup led to
 pub record IsOpening (opening of_book : ScheduleValue) (workers : ℕ) : Type 0 where
   pub same : of_book ≡ opening
@@ -144,13 +133,14 @@ pub record IsStreamOf (seat : StreamSeatValue) (stream : KeptStream) : Type 0 wh
 abbrev pub AreStreamsOf : ScheduleValue → List StreamSeatValue → Type 0
 AreStreamsOf desk seats = All (λ s. HasStream desk s.number (IsStreamOf s)) seats
 
--- a book with a journal of at most so many entries agrees with its seats, one for each of so many streams
--- and workers: each seat's list is its entries of the journal, in order; the streams are as their seats tell,
--- and no worker holds a lease
+-- a book of so many streams and workers, with a journal of at most so many entries, agrees with its seats,
+-- one for each: each seat's list is its entries of the journal, in order; the streams are as their seats
+-- tell, and no worker holds a lease
 pub record Agree (all_streams all_workers most : ℕ) (b : BookValue) (streams : List StreamSeatValue)
     (workers : List WorkSeatValue) : Type 0 where
   pub limit : b.limit ≡ most
   pub all : length b.desk.streams ≡ all_streams
+  pub desk_workers : length b.desk.workers ≡ all_workers
   pub there : AreThere all_streams all_workers streams workers
   pub each_stream : HaveStreams all_streams streams
   pub each_worker : HaveWorkers all_workers workers
@@ -159,6 +149,20 @@ pub record Agree (all_streams all_workers most : ℕ) (b : BookValue) (streams :
   pub kept : AreStreamsOf b.desk streams
   pub clock_reached : ClocksReached b streams
   pub free : AreFree b.desk.workers
+
+-- the first that is wrong with the seats, if anything is: one is missing, a lease is out, or else they don't
+-- agree with the book
+abbrev pub IsFault : Option Fault → (all_streams all_workers most : ℕ) → BookValue → List StreamSeatValue
+    → List WorkSeatValue → Type 0
+IsFault (Some faults.SeatMissing) all_streams all_workers most b streams workers =
+    IsMissing all_streams all_workers streams workers
+IsFault (Some faults.LeaseOut) all_streams all_workers most b streams workers =
+    AreThere all_streams all_workers streams workers × ¬ NoLeaseOut workers
+IsFault (Some faults.Differs) all_streams all_workers most b streams workers =
+    AreThere all_streams all_workers streams workers × NoLeaseOut workers
+    × ¬ Agree all_streams all_workers most b streams workers
+IsFault None all_streams all_workers most b streams workers =
+    NoLeaseOut workers × Agree all_streams all_workers most b streams workers
 
 -- a stream was charged at least what its collected frames cost, and at most what its accepted ones do
 pub record IsCharged (stream : KeptStream) : Type 0 where
@@ -186,4 +190,5 @@ pub record IsUnended (opening : ScheduleValue) (was : HubValue) (streams : List 
   pub is_book : IsBook unlocked.book
   pub opened : unlocked.book.opening ≡ opening
   pub more : length opening.streams ≤ length unlocked.book.desk.streams
-  pub fits_not : IsFault (Some fault) (length unlocked.book.desk.streams) was.workers streams workers
+  pub fits_not : IsFault (Some fault) (length unlocked.book.desk.streams) was.workers was.limit unlocked.book
+      streams workers

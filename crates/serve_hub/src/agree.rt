@@ -27,7 +27,7 @@ fn is_same_seat(a: Seat, b: Seat) -> bool
 
 /// Whether the calls are what the journal has of the seat, in order.
 fn agrees(journal: &[Entry], seat: Seat, calls: &[Act]) -> bool
-    ensures { IsTrue result → acts_of seat journal.now ≡ calls.now }
+    ensures { IsTrue result ↔ (acts_of seat journal.now ≡ calls.now) }
 {
     let mut next = 0;
     for entry in journal {
@@ -42,7 +42,7 @@ fn agrees(journal: &[Entry], seat: Seat, calls: &[Act]) -> bool
 }
 
 pub(crate) fn streams_agree<L: Epoch>(journal: &[Entry], seats: &Vec<StreamSeat<L>>) -> bool
-    ensures { IsTrue result → AreStreamCalls journal.now seats.now.items }
+    ensures { IsTrue result ↔ AreStreamCalls journal.now seats.now.items }
 {
     for seat in seats {
         if !agrees(journal, Seat::Stream(seat.number()), seat.calls()) {
@@ -53,7 +53,7 @@ pub(crate) fn streams_agree<L: Epoch>(journal: &[Entry], seats: &Vec<StreamSeat<
 }
 
 pub(crate) fn workers_agree<L: Epoch>(journal: &[Entry], seats: &Vec<WorkSeat<L>>) -> bool
-    ensures { IsTrue result → AreWorkCalls journal.now seats.now.items }
+    ensures { IsTrue result ↔ AreWorkCalls journal.now seats.now.items }
 {
     for seat in seats {
         if !agrees(journal, Seat::Worker(seat.worker()), seat.calls()) {
@@ -65,7 +65,7 @@ pub(crate) fn workers_agree<L: Epoch>(journal: &[Entry], seats: &Vec<WorkSeat<L>
 
 /// Whether each of so many streams has its seat.
 pub(crate) fn have_streams<L: Epoch>(count: usize, seats: &Vec<StreamSeat<L>>) -> bool
-    ensures { IsTrue result → HaveStreams count seats.now.items }
+    ensures { IsTrue result ↔ HaveStreams count seats.now.items }
 {
     for number in 0..count {
         if !has_stream(seats, number) {
@@ -76,7 +76,7 @@ pub(crate) fn have_streams<L: Epoch>(count: usize, seats: &Vec<StreamSeat<L>>) -
 }
 
 fn has_stream<L: Epoch>(seats: &Vec<StreamSeat<L>>, number: usize) -> bool
-    ensures { IsTrue result → Any (λ s. s.number ≡ number) seats.now.items }
+    ensures { IsTrue result ↔ Any (λ s. s.number ≡ number) seats.now.items }
 {
     for seat in seats {
         if seat.number() as usize == number {
@@ -88,7 +88,7 @@ fn has_stream<L: Epoch>(seats: &Vec<StreamSeat<L>>, number: usize) -> bool
 
 /// Whether each of so many workers has its seat.
 pub(crate) fn have_workers<L: Epoch>(count: usize, seats: &Vec<WorkSeat<L>>) -> bool
-    ensures { IsTrue result → HaveWorkers count seats.now.items }
+    ensures { IsTrue result ↔ HaveWorkers count seats.now.items }
 {
     for number in 0..count {
         if !has_worker(seats, number) {
@@ -99,14 +99,14 @@ pub(crate) fn have_workers<L: Epoch>(count: usize, seats: &Vec<WorkSeat<L>>) -> 
 }
 
 fn has_worker<L: Epoch>(seats: &Vec<WorkSeat<L>>, number: usize) -> bool
-    ensures { IsTrue result → Any (λ s. s.number ≡ number) seats.now.items }
+    ensures { IsTrue result ↔ Any (λ s. s.number ≡ number) seats.now.items }
 {
     seats.iter().any(|seat| seat.worker() as usize == number)
 }
 
 /// Whether each seat's stream is in the book as the seat tells of it.
 pub(crate) fn have_their_streams<L: Epoch>(book: &Book, seats: &Vec<StreamSeat<L>>) -> bool
-    ensures { IsTrue result → AreStreamsOf book.now.desk seats.now.items }
+    ensures { IsTrue result ↔ AreStreamsOf book.now.desk seats.now.items }
 {
     for seat in seats {
         if !seat.has_its_stream(book) {
@@ -124,7 +124,7 @@ pub(crate) fn clocks_agree<L: Epoch>(
     seats: &Vec<StreamSeat<L>>,
 ) -> bool
     requires { opened_at ≡ book.now.opening.clock }
-    ensures { IsTrue result → ClocksReached book.now seats.now.items }
+    ensures { IsTrue result ↔ ClocksReached book.now seats.now.items }
 {
     for seat in seats {
         if !clock_agrees(book.journal(), opened_at, seat.number(), seat.moments()) {
@@ -137,8 +137,8 @@ pub(crate) fn clocks_agree<L: Epoch>(
 /// Whether the clock had reached the moment of the first frame of a stream's seat wherever the journal has an
 /// accepted frame of the stream. It was at `opened_at` when the book was opened.
 fn clock_agrees(journal: &[Entry], opened_at: u64, number: u32, moments: Option<Moments>) -> bool
-    ensures { (specs : List StreamSpec) (opening : State Blank) → opening.clock ≡ opened_at → IsTrue result
-        → ClockReached number moments specs opening (reverse journal.now) }
+    ensures { (specs : List StreamSpec) (opening : State Blank) → opening.clock ≡ opened_at
+        → (IsTrue result ↔ ClockReached number moments specs opening (reverse journal.now)) }
 {
     let mut clock = opened_at;
     for entry in journal {
@@ -172,7 +172,7 @@ fn is_offer_of(number: u32, entry: &Entry) -> bool
 
 /// Whether the clock has reached the first moment, where there is one.
 fn is_first_reached(moments: Option<Moments>, clock: u64) -> bool
-    ensures { IsTrue result → IsSomeAnd moments (λ m. m.first ≤ clock) }
+    ensures { IsTrue result ↔ IsSomeAnd moments (λ m. m.first ≤ clock) }
 {
     moments.is_some_and(|moments| moments.first <= clock)
 }

@@ -202,7 +202,7 @@ impl Book {
 
     /// Whether no worker holds a lease.
     pub(crate) fn is_free(&self) -> bool
-        ensures { IsTrue result → AreFree self.now.desk.workers }
+        ensures { IsTrue result ↔ AreFree self.now.desk.workers }
     {
         let Ok(workers) = u32::try_from(self.units.len()) else {
             return false;

@@ -274,8 +274,8 @@ pub enum Fault {
     /// A worker holds a lease.
     LeaseOut,
     /// What a seat keeps of its calls, or of its stream, isn't what the book has, or a frame of it was
-    /// accepted before the clock had come to the moment of the seat's first; or the book has another limit
-    /// than the hub.
+    /// accepted before the clock had come to the moment of the seat's first; or the book has another limit,
+    /// or another number of workers, than the hub.
     Differs,
 }
 

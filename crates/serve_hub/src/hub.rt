@@ -1,11 +1,11 @@
 //! A book that threads share.
-ghost use Rattle.std.specs.Prelude.{◌≡◌, ◌≤◌, ◌↔◌, All, IfErr, IfNone, IfOk, IsErrOf, IsFalse, IsTrue};
+ghost use Rattle.std.specs.Prelude.{◌≡◌, ◌≤◌, ◌↔◌, All, IfErr, IfOk, IsErrOf, IsFalse, IsTrue};
 ghost use Rattle.std.specs.Prelude.{length, map, vec_len};
 ghost use Rattle.std.specs.List.{range_with_len};
 ghost use Rattle.serve_core.specs.Schedule.{opened_schedule};
 ghost use Rattle.serve_core.specs.Setup.{IsWithinLimits};
 ghost use Rattle.serve_hub.specs.Books.{IsLimit};
-ghost use Rattle.serve_hub.specs.Ends.{Agree, IsEndOf, IsFault, IsUnended, NoLeaseOut};
+ghost use Rattle.serve_hub.specs.Ends.{IsEndOf, IsFault, IsUnended, NoLeaseOut};
 ghost use Rattle.serve_hub.specs.Seats.{hub_of, opened_rests, opened_streams, opened_worker};
 
 mod admissions;
@@ -220,9 +220,7 @@ fn fault<L: Epoch>(
     streams: &Vec<StreamSeat<L>>,
     workers: &Vec<WorkSeat<L>>,
 ) -> Option<Fault>
-    ensures fault { IsFault result counts.0 counts.1 streams.now.items workers.now.items }
-    ensures agree { IfNone result (Agree shared.now.streams shared.now.workers limit shared.now.book
-        streams.now.items workers.now.items) }
+    ensures { IsFault result counts.0 counts.1 limit shared.now.book streams.now.items workers.now.items }
 {
     let (stream_count, worker_count) = counts;
     if streams.len() != stream_count || workers.len() != worker_count {

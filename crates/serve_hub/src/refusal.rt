@@ -20,8 +20,7 @@ pub enum Came {
     Chain(ChainPart),
     /// The book would accept a frame for which the seat has no place.
     NoPlace,
-    /// An admission found other streams in the book than those that have a seat, or another limit than it was
-    /// made for.
+    /// An admission found another limit than it was made for.
     Other,
 }
 

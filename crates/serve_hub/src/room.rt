@@ -83,6 +83,7 @@ impl<L: Epoch> Room<L> {
         requires amount { self.spare.amount ≡ 0 }
         requires opening { IsOpening L.opening book.opening workers }
         requires unmoved { book.desk ≡ book.opening }
+        requires all { vec_len rests ≡ length book.desk.streams }
         requires calls { self.calls.items ≡ replicate (vec_len rests) (no_calls limit) }
         requires seats { self.seats.items ≡ [] }
         requires seats_room { vec_len rests ≤ vec_capacity self.seats }

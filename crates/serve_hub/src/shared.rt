@@ -33,8 +33,8 @@ use std::marker::Model;
 use std::sync::ledger::{Book as Total, Share};
 
 /// The book, its limit and the clock at its opening, the total of the ledger that counts its entries, and
-/// the parts that have no seat, of so many streams and workers. There is room for what the seats of the
-/// streams leave.
+/// the parts that have no seat, of so many streams and workers. Each stream of the book has a seat, and there
+/// is room for what the seats of the streams leave.
 #[derive(Drop)]
 pub(crate) struct Shared<L: Epoch> {
     pub(crate) book: Book,
@@ -62,7 +62,7 @@ impl<L: Epoch> Model for Shared<L> {
         × (a.spare.parts + a.streams + a.workers ≡ L.parts) × (a.spare.amount ≡ 0)
         × IsOpening L.opening a.book.opening a.workers
         × (a.rests.items ≡ []) × (MOST_STREAMS ≤ vec_capacity a.rests) × (L.parts ≡ MOST_SEATS)
-        × (a.opened_at ≡ L.opening.clock) };
+        × (a.opened_at ≡ L.opening.clock) × (a.streams ≡ length a.book.desk.streams) };
 }
 
 impl<L: Epoch> Shared<L> {
@@ -81,6 +81,7 @@ impl<L: Epoch> Shared<L> {
         requires amount { spare.amount ≡ 0 }
         requires opened { IsOpening L.opening book.opening workers }
         requires unmoved { book.desk ≡ book.opening }
+        requires all { streams ≡ length book.desk.streams }
         requires none { rests.items ≡ [] }
         requires room { MOST_STREAMS ≤ vec_capacity rests }
         requires enough { L.parts ≡ MOST_SEATS }
@@ -114,7 +115,7 @@ impl<L: Epoch> Shared<L> {
         ensures number_in_range { IfOk result (λ seat. seat.number < MOST_STREAMS) }
         ensures refused { IfErr result (IsAdmitRefused newcomer) }
     {
-        if self.book.desk().streams() != self.streams || list.capacity() < self.limit {
+        if list.capacity() < self.limit {
             return Err(AdmitRefused {
                 refusal: Refusal::Torn(Came::Other),
                 spec: newcomer.into_spec(),
@@ -138,6 +139,7 @@ impl<L: Epoch> Shared<L> {
     /// How many streams there are, those that were admitted too.
     pub(crate) fn all_streams(&self) -> usize
         ensures count { result ≡ length self.now.book.desk.streams }
+        ensures seats { result ≡ self.now.streams }
         ensures more { length L.opening.streams ≤ result }
         ensures book { IsBook self.now.book }
         ensures opened { IsOpening L.opening self.now.book.opening self.now.workers }
@@ -216,14 +218,13 @@ impl<L: Epoch> Shared<L> {
         streams: &Vec<StreamSeat<L>>,
         workers: &Vec<WorkSeat<L>>,
     ) -> bool
-        ensures { IsTrue result → Agree self.now.streams self.now.workers limit self.now.book
-            streams.now.items workers.now.items }
+        ensures { IsTrue result ↔ Agree (length streams.now.items) (length workers.now.items) limit
+            self.now.book streams.now.items workers.now.items }
     {
         let journal = self.book.journal();
         self.limit == limit
             && streams.len() == self.streams
             && workers.len() == self.workers
-            && self.book.desk().streams() == self.streams
             && streams_agree(journal, streams)
             && workers_agree(journal, workers)
             && have_streams(self.streams, streams)

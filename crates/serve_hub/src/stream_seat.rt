@@ -1,5 +1,5 @@
 //! The seat of a stream.
-ghost use Rattle.std.specs.Prelude.{ℕ, ◌≡◌, ◌≢◌, ◌+◌, ◌≤◌, length, slice_get, IfNone, IfSome, IsSomeAnd};
+ghost use Rattle.std.specs.Prelude.{ℕ, ◌≡◌, ◌≢◌, ◌+◌, ◌≤◌, ◌↔◌, length, slice_get, IfNone, IfSome, IsSomeAnd};
 ghost use Rattle.std.specs.Prelude.{IsTrue, Some};
 ghost use Rattle.y4m_header.specs.declared.limits.TheConstants.{MOST_FRAMES};
 ghost use Rattle.frame_view.specs.declared.geometry.Geometry.{Geometry};
@@ -270,7 +270,7 @@ impl<L: Epoch> StreamSeat<L> {
     /// Whether the book has its stream, with its chain, and as many frames accepted and collected as the seat
     /// tells.
     pub(crate) fn has_its_stream(&self, book: &Book) -> bool
-        ensures { IsTrue result → HasStream book.now.desk self.now.number (IsStreamOf self.now) }
+        ensures { IsTrue result ↔ HasStream book.now.desk self.now.number (IsStreamOf self.now) }
     {
         let desk = book.desk();
         let (Some(spec), Some(counts)) = (desk.spec(self.number), desk.counts(self.number)) else {

@@ -1,5 +1,5 @@
 //! Streams that are admitted while the book is open.
-ghost use Rattle.std.specs.Prelude.{◌≡◌, None, Some, IfErr, IfOk, OnOk, length};
+ghost use Rattle.std.specs.Prelude.{◌≡◌, ◌≤◌, None, Some, IfErr, IfOk, OnOk, length};
 ghost use Rattle.serve_core.specs.Schedule.{with_stream};
 ghost use Rattle.serve_hub.specs.declared.entry.Act.TheVariants.{Admitted};
 ghost use Rattle.serve_hub.specs.declared.entry.Seat.TheVariants.{Stream};
@@ -61,6 +61,7 @@ impl Book {
     /// back.
     pub fn admit_newcomer(&mut self, newcomer: Newcomer) -> Result<u32, (Refusal, Newcomer)>
         ensures entry { IfOk result (λ s. Appends (Stream s) Admitted self.old self.new) }
+        ensures behind { IfOk result (λ s. length self.old.opening.streams ≤ s) }
         ensures stream { IfOk result (λ s. (s ≡ length self.old.desk.streams)
             × (self.new.desk ≡ with_stream newcomer self.old.desk)) }
         ensures answer { OnOk result (IsAdmitAnswer self.old newcomer None) }

@@ -1,4 +1,4 @@
-use Rattle.std.proofs.Common.{◌≤◌, ◌+◌, ◌++◌, ◌∷◌, [], inl, sym, ◌∙◌, ap, subst, refl, arith}
+use Rattle.std.proofs.Common.{◌≤◌, ◌+◌, ◌++◌, ◌∷◌, [], inl, length, sym, ◌∙◌, ap, subst, refl, arith}
 use Rattle.std.proofs.lemmas.List.{length-reverse}
 use Rattle.serve_core.specs.Schedule as schedules
 use Rattle.serve_core.specs.Setup.{StreamSpec}
@@ -12,6 +12,7 @@ use Rattle.serve_hub.specs.Books.{BookValue, room, taken}
 use Rattle.serve_hub.proofs.Admitting.{refused_so}
 use Rattle.serve_hub.proofs.Entered.{IsEntered, admit_entered}
 use Rattle.serve_hub.proofs.Inside.{has_left, IsPushed, appends, kept, no_more}
+use Rattle.serve_hub.proofs.Opened.{more_streams}
 use Rattle.serve_hub.proofs.Refusing.{is_full}
 use Rattle.serve_hub.proofs.book.Book.admit_newcomer.Goals as goal
 
@@ -63,6 +64,11 @@ pub returns-in-Ok-clause-entry : goal.returns-in-Ok-clause-entry
 returns-in-Ok-clause-entry c =
     appends c.self.inside (opened_to c) c.args.self.now (Stream c.in-Ok.s) Admitted 2 c.self.view_is (pushed c)
     (entered c) refl
+
+pub returns-in-Ok-clause-behind : goal.returns-in-Ok-clause-behind
+returns-in-Ok-clause-behind c =
+    subst (λ (b : BookValue). length b.opening.streams ≤ c.in-Ok.s) c.self.view_is
+    (omega (arith, more_streams (book c.self.inside) c.self.invariant.is_book, c.in-Ok.ensures.stream))
 
 pub returns-then-room-lt2-clause-refused : goal.returns-then-room-lt2-clause-refused
 returns-then-room-lt2-clause-refused c =

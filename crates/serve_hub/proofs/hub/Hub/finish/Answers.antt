@@ -10,31 +10,28 @@ use Rattle.serve_hub.proofs.hub.Hub.finish.Goals as goal
 
 pub into_ended-requires-clause-agree : goal.into_ended-requires-clause-agree
 into_ended-requires-clause-agree g c =
-    let agree = c.in_default.ensures.agree in
-    agree_at _ _ _ _ _ _ _ _ _ _ refl refl (sym agree.limit) refl agree
+    let agree = c.in_default.ensures.1 in
+    let opened = c.all_streams.ensures.opened in
+    let workers = sym agree.desk_workers
+    ∙ same_workers _ c.all_streams.ensures.book
+    ∙ ap (λ (x : ScheduleValue). length x.workers) opened.same
+    ∙ opened.each_worker in
+    agree_at _ _ _ _ _ _ _ _ _ _ c.all_streams.ensures.seats workers (sym agree.limit) refl agree
 
 pub returns-clause-end : goal.returns-clause-end
 returns-clause-end g c =
-    let told = c.in_default.ensures in
-    let b = c.into_inner-shared.result.book in
+    let agree = c.in_default.ensures.1 in
     let is = c.all_streams.ensures.book in
-    let opened = c.all_streams.ensures.opened in
     let same = sym c.into_ended.ensures.book in
-    let count : c.into_inner-shared.result.streams ≡ length c.into_ended.result.book.desk.streams =
-    sym told.agree.all ∙ ap (λ (x : BookValue). length x.desk.streams) same in
-    let workers : c.into_inner-shared.result.workers ≡ c.args.self.workers =
-    sym told.agree.there.1 ∙ told.fault.0.1 ∙ ap (λ (h : HubValue). h.workers) c.self.view_is in
+    let count = c.all_streams.ensures.count ∙ ap (λ (x : BookValue). length x.desk.streams) same in
+    let workers = ap (λ (h : HubValue). h.workers) c.self.view_is in
     record {
-      agree = agree_at _ _ _ _ _ _ _ _ _ _ count workers (ap (λ (h : HubValue). h.limit) c.self.view_is) same told.agree;
+      agree = agree_at _ _ _ _ _ _ _ _ _ _ count workers (ap (λ (h : HubValue). h.limit) c.self.view_is) same agree;
       once = c.into_ended.ensures.counted;
-      settled = told.fault.1;
+      settled = c.in_default.ensures.0;
       is_book = subst IsBook same is;
-      history = subst (λ (x : BookValue). IsHistory g.L.Epoch.opening x) same (history _ _ _ is opened);
-      all_workers = ap (λ (x : BookValue). length x.desk.workers) c.into_ended.ensures.book
-          ∙ same_workers b is
-          ∙ ap (λ (x : ScheduleValue). length x.workers) opened.same
-          ∙ opened.each_worker
-          ∙ workers;
+      history = subst (λ (x : BookValue). IsHistory g.L.Epoch.opening x) same (history _ _ _ is c.all_streams.ensures.opened);
+      all_workers = ap (λ (x : BookValue). length x.desk.workers) c.into_ended.ensures.book ∙ agree.desk_workers ∙ workers;
       charges = charged_between _ (subst IsBook same is);
       left = c.into_ended.ensures.left;
     }
@@ -47,7 +44,8 @@ returns-in-Some-clause-refused g c =
       opened = ap (λ (x : BookValue). x.opening) c.of.ensures.book ∙ c.all_streams.ensures.opened.same;
       more = subst (λ (x : BookValue). length g.L.Epoch.opening.streams ≤ length x.desk.streams) same
           (subst (λ (n : ℕ). length g.L.Epoch.opening.streams ≤ n) c.all_streams.ensures.count c.all_streams.ensures.more);
-      fits_not = fault_at (Some c.in-Some.fault) _ _ _ _ c.args.streams.items c.args.workers.items
+      fits_not = fault_at (Some c.in-Some.fault) _ _ _ _ _ _ _ _ c.args.streams.items c.args.workers.items
           (c.all_streams.ensures.count ∙ ap (λ (x : BookValue). length x.desk.streams) same)
-          (ap (λ (h : HubValue). h.workers) c.self.view_is) c.in-Some.ensures.fault;
+          (ap (λ (h : HubValue). h.workers) c.self.view_is) (ap (λ (h : HubValue). h.limit) c.self.view_is) same
+          c.in-Some.ensures;
     }

@@ -8,10 +8,8 @@ pub split_off-requires-clause-has_parts : goal.split_off-requires-clause-has_par
 split_off-requires-clause-has_parts g c =
     let a = c.self.inside in
     let is = c.self.invariant in
-    let streams : length c.desk.result.now.streams ≡ length a.book.desk.streams =
-    ap (λ (x : ScheduleValue). length x.streams) c.desk.ensures.desk in
     let few : a.streams < MOST_STREAMS =
-    omega (arith, c.if-streams-self.false, c.streams.ensures, streams, c.in-Ok.ensures.answer.0.few) in
+    omega (arith, is.9, c.in-Ok.ensures.answer.0.few) in
     part_left _ a.book.opening a.streams a.workers a.spare.parts _ is.4 few is.2 is.7
 
 pub returns-in-Err-clause-refused : goal.returns-in-Err-clause-refused
