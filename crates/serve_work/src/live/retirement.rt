@@ -65,7 +65,9 @@ fn marks_and_room<R: Source + Drop, W: Sink + Drop>(
 {
     let Interval { ended, guests, .. } = interval;
     let marks = marks_of(alloc, ended, guests.len())?;
-    let kept = Vec::with_capacity(alloc, guests.len()).ok()?;
+    let Ok(kept) = Vec::with_capacity(alloc, guests.len()) else {
+        return None;
+    };
     if !are_told_but_marked(&marks, guests) {
         return None;
     }

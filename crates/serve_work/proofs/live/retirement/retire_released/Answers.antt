@@ -1,4 +1,4 @@
-use Rattle.std.proofs.Common.{ℕ, ◌≡◌, ◌∙◌, Bool, List, Option, ap, arith, length, map, subst, sym, take}
+use Rattle.std.proofs.Common.{◌≡◌, ◌∙◌, Bool, List, Option, ap, map, subst, sym}
 use Rattle.serve_core.specs.Retired.{stays}
 use Rattle.serve_hub.specs.Ends.{EndedValue}
 use Rattle.serve_hub.specs.Seats.{StreamRest}
@@ -7,28 +7,24 @@ use Rattle.serve_work.specs.LiveInside.{AreGuests, AreToldBut, at_marks}
 use Rattle.serve_work.proofs.Retiring.{guests_retired, marked_first, told_first}
 use Rattle.serve_work.proofs.live.retirement.retire_released.Goals as goal
 
-pub returns-in-Ok-retire : goal.returns-in-Ok-retire
-returns-in-Ok-retire g c =
+pub returns-in-Ok : goal.returns-in-Ok
+returns-in-Ok g c =
     let ended = c.args.interval.ended in
     let guests = c.args.interval.guests.items in
     let f = λ (rest : StreamRest). stays ended.book.desk rest.number in
-    let count : c.len.result ≡ length guests = omega (arith, c.len.ensures, c.args.interval.guests.ok.0) in
-    let marks = c.in-Some.ensures.marks ∙ ap (λ (n : ℕ). map f (take n ended.streams)) count in
+    let marks = c.in-Some.ensures.marks in
     let kept : c.keep_marked.new.kept.items ≡ at_marks (map f ended.streams) guests =
     c.keep_marked.ensures
     ∙ ap (λ (these : List Bool). at_marks these guests) marks
     ∙ marked_first f ended.streams guests in
     let told : AreToldBut (map f ended.streams) guests =
-    told_first f ended.streams guests
-    (subst (λ (these : List Bool). AreToldBut these guests) (c.deref.ensures.value ∙ marks)
-    (subst (λ (gs : List (Option (Guest _ _))). AreToldBut c.deref.result.now gs) c.deref-2.ensures.value
-    (c.are_told_but_marked.ensures c.if-not-are_told_but_marked.false))) in
+    told_first f ended.streams guests (subst (λ (these : List Bool). AreToldBut these guests) marks c.in-Some.ensures.told) in
     record {
       guests = λ ws at.
           let there = guests_retired
           g.D.Door.limit g.D.Door.times ended ws
           guests at told in
-          subst (λ (gs : List (Option (Guest _ _))). AreGuests g.D.Door.limit g.D.Door.times c.in-Ok-retire.retired.ended ws gs) (sym kept)
+          subst (λ (gs : List (Option (Guest _ _))). AreGuests g.D.Door.limit g.D.Door.times c.in-Ok.retired.ended ws gs) (sym kept)
           (subst (λ (e : EndedValue). AreGuests g.D.Door.limit g.D.Door.times e ws (at_marks (map f ended.streams) guests))
-          (sym c.in-Ok-retire.ensures.ended) there);
+          (sym c.in-Ok.ensures.ended) there);
     }

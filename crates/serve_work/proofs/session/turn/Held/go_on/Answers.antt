@@ -65,11 +65,11 @@ returns-in-Ended g c =
       λ start past at.
           let was : IsRestOf start past inside.seat c.in-Waiting.rest =
           subst (λ s. StandsAt s start past inside.seat) waits (subst (Stands start past) (sym c.self.view_is) at) in
-          rw (c.new-in-Ended.ensures, c.over-in-Ended.ensures) (rw (c.part-seat.ensures.seat, c.part-seat.ensures.outcome)
+          rw (c.new-in-Ended.ensures, c.of_served-in-Ended.ensures) (rw (c.part-seat.ensures.seat, c.part-seat.ensures.outcome)
           (c.in-Ended.ensures.turn start past (rw c.in-Waiting.rest-is was))),
       rw c.new-in-Ended.ensures (rw c.part-seat.ensures.seat (subst (λ (held : HeldValue).
           KeepsMoments (g.K.Clock.gives c.args.clock.now) held.seat c.in-Ended.end.seat) c.self.view_is c.in-Ended.ensures.moments)),
-      λ allowed. rw (c.new-in-Ended.ensures, c.over-in-Ended.ensures) (subst (AllowsStop (g.K.Clock.gives c.args.clock.now))
+      λ allowed. rw (c.new-in-Ended.ensures, c.of_served-in-Ended.ensures) (subst (AllowsStop (g.K.Clock.gives c.args.clock.now))
           (sym (ap (λ (o : ClientOutcome). o.stop) c.part-seat.ensures.outcome))
           (c.in-Ended.ensures.stop (rw c.in-Waiting.rest-is (stop_inside (g.K.Clock.gives c.args.clock.now) inside.seat inside.stream _
           c.args.self waits c.self.view_is allowed)))),
