@@ -42,11 +42,12 @@ use std::sync::{Condvar, Mutex, Wait};
 /// journal.
 ///
 /// Each accepted call wakes those whom it may help. One that may make a stream ready wakes a worker: a frame
-/// that is accepted where no other of its stream is unfinished, and a collection and a settlement that leave
-/// their stream a frame that isn't finished. Where another frame is before it, a worker was woken for that
-/// one, or has it, or the outbox is full. A frame that is finished wakes the client of its stream. All
-/// workers wake at a close, at an admission and where nothing is left to lease, and all who wait where the
-/// journal is full or the epoch is being ended.
+/// that is accepted where no other of its stream is unfinished, a settlement that leaves its stream a frame
+/// that isn't finished, and a collection from a full outbox where there is such a frame. By other offers and
+/// collections no stream becomes ready: a worker was woken for its first unfinished frame, or has it, or the
+/// outbox is full, or there is none. A frame that is finished wakes the client of its stream. All workers
+/// wake at a close, at an admission and where nothing is left to lease, and all who wait where the journal is
+/// full or the epoch is being ended.
 #[derive(Drop)]
 pub struct Hub<L: Epoch> {
     shared: Mutex<Shared<L>>,

@@ -1,9 +1,10 @@
 //! What stands under the lock of a hub.
-ghost use Rattle.std.specs.Prelude.{◌≡◌, ◌+◌, ◌<◌, ◌≤◌, ◌↔◌, ◌⊎◌, [], All, IfErr, IfNone, IfOk, IfSome};
+ghost use Rattle.std.specs.Prelude.{◌≡◌, ◌+◌, ◌-◌, ◌<◌, ◌≤◌, ◌↔◌, ◌⊎◌, [], All, IfErr, IfNone, IfOk, IfSome};
 ghost use Rattle.std.specs.Prelude.{IsFalse, IsTrue, length, map, sum_by, vec_len};
 ghost use Rattle.std.specs.Vec.{vec_capacity};
 ghost use Rattle.y4m_header.specs.declared.limits.TheConstants.{MOST_FRAMES};
 ghost use Rattle.serve_core.specs.declared.refusal.Refusal.TheVariants.{Drained, Empty};
+ghost use Rattle.serve_core.specs.Schedule.{HasStream};
 ghost use Rattle.serve_core.specs.Streams.{IsOver};
 ghost use Rattle.serve_hub.specs.declared.refusal.Refusal.TheVariants.{Core, HistoryFull};
 ghost use Rattle.serve_hub.specs.declared.entry.Act.TheVariants.{Admitted};
@@ -207,6 +208,21 @@ impl<L: Epoch> Shared<L> {
             .desk()
             .counts(stream)
             .is_some_and(|counts| counts.finished < counts.accepted)
+    }
+
+    /// Whether a stream has a frame that isn't finished, and as many images that wait to be collected as its
+    /// outbox holds. Then none of its frames is out, and the next collection makes it ready.
+    pub(crate) fn waits_for_room(&self, stream: u32) -> bool
+        ensures { IsTrue result ↔ HasStream self.now.book.desk stream (λ stream.
+            (stream.state.finished < stream.state.accepted)
+            × (stream.state.spec.outbox ≤ stream.state.finished - stream.state.collected)) }
+    {
+        let desk = self.book.desk();
+        let (Some(counts), Some(spec)) = (desk.counts(stream), desk.stream_spec(stream)) else {
+            return false;
+        };
+        counts.finished < counts.accepted
+            && counts.finished.saturating_sub(counts.collected) >= spec.outbox()
     }
 
     /// Whether the book has this limit, the seats are all there, their lists are the journal's, what they

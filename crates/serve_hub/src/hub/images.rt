@@ -43,8 +43,9 @@ impl<L: Epoch> Hub<L> {
         ensures refused { IfErr result (λ e. IsCollectRefused e seat.old seat.new) }
     {
         let mut shared = self.shared.lock(rt);
+        let was_blocked = shared.waits_for_room(seat.number());
         let answer = seat.collect(&mut shared);
-        let may_be_ready = answer.is_ok() && shared.has_work(seat.number());
+        let may_be_ready = answer.is_ok() && was_blocked;
         let is_full = shared.is_full();
         drop(shared);
         self.wake(may_be_ready, is_full);
@@ -100,10 +101,11 @@ impl<L: Epoch> Hub<L> {
     {
         let mut shared = self.shared.lock(rt);
         for _ in rt.forever() {
+            let was_blocked = shared.waits_for_room(seat.number());
             match seat.collect(&mut shared) {
                 Err(Refusal::Core(CoreRefusal::Empty)) => {}
                 answer => {
-                    let may_be_ready = answer.is_ok() && shared.has_work(seat.number());
+                    let may_be_ready = answer.is_ok() && was_blocked;
                     let is_full = shared.is_full();
                     drop(shared);
                     self.wake(may_be_ready, is_full);
