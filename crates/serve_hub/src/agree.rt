@@ -41,8 +41,8 @@ fn agrees(journal: &[Entry], seat: Seat, calls: &[Act]) -> bool
     next == calls.len()
 }
 
-pub(crate) fn streams_agree<L: Epoch>(journal: &[Entry], seats: &Vec<StreamSeat<L>>) -> bool
-    ensures { IsTrue result ↔ AreStreamCalls journal.now seats.now.items }
+pub(crate) fn streams_agree<L: Epoch>(journal: &[Entry], seats: &[StreamSeat<L>]) -> bool
+    ensures { IsTrue result ↔ AreStreamCalls journal.now seats.now }
 {
     for seat in seats {
         if !agrees(journal, Seat::Stream(seat.number()), seat.calls()) {
@@ -52,8 +52,8 @@ pub(crate) fn streams_agree<L: Epoch>(journal: &[Entry], seats: &Vec<StreamSeat<
     true
 }
 
-pub(crate) fn workers_agree<L: Epoch>(journal: &[Entry], seats: &Vec<WorkSeat<L>>) -> bool
-    ensures { IsTrue result ↔ AreWorkCalls journal.now seats.now.items }
+pub(crate) fn workers_agree<L: Epoch>(journal: &[Entry], seats: &[WorkSeat<L>]) -> bool
+    ensures { IsTrue result ↔ AreWorkCalls journal.now seats.now }
 {
     for seat in seats {
         if !agrees(journal, Seat::Worker(seat.worker()), seat.calls()) {
@@ -64,8 +64,8 @@ pub(crate) fn workers_agree<L: Epoch>(journal: &[Entry], seats: &Vec<WorkSeat<L>
 }
 
 /// Whether each of so many streams has its seat.
-pub(crate) fn have_streams<L: Epoch>(count: usize, seats: &Vec<StreamSeat<L>>) -> bool
-    ensures { IsTrue result ↔ HaveStreams count seats.now.items }
+pub(crate) fn have_streams<L: Epoch>(count: usize, seats: &[StreamSeat<L>]) -> bool
+    ensures { IsTrue result ↔ HaveStreams count seats.now }
 {
     for number in 0..count {
         if !has_stream(seats, number) {
@@ -75,8 +75,8 @@ pub(crate) fn have_streams<L: Epoch>(count: usize, seats: &Vec<StreamSeat<L>>) -
     true
 }
 
-fn has_stream<L: Epoch>(seats: &Vec<StreamSeat<L>>, number: usize) -> bool
-    ensures { IsTrue result ↔ Any (λ s. s.number ≡ number) seats.now.items }
+fn has_stream<L: Epoch>(seats: &[StreamSeat<L>], number: usize) -> bool
+    ensures { IsTrue result ↔ Any (λ s. s.number ≡ number) seats.now }
 {
     for seat in seats {
         if seat.number() as usize == number {
@@ -87,8 +87,8 @@ fn has_stream<L: Epoch>(seats: &Vec<StreamSeat<L>>, number: usize) -> bool
 }
 
 /// Whether each of so many workers has its seat.
-pub(crate) fn have_workers<L: Epoch>(count: usize, seats: &Vec<WorkSeat<L>>) -> bool
-    ensures { IsTrue result ↔ HaveWorkers count seats.now.items }
+pub(crate) fn have_workers<L: Epoch>(count: usize, seats: &[WorkSeat<L>]) -> bool
+    ensures { IsTrue result ↔ HaveWorkers count seats.now }
 {
     for number in 0..count {
         if !has_worker(seats, number) {
@@ -98,15 +98,15 @@ pub(crate) fn have_workers<L: Epoch>(count: usize, seats: &Vec<WorkSeat<L>>) -> 
     true
 }
 
-fn has_worker<L: Epoch>(seats: &Vec<WorkSeat<L>>, number: usize) -> bool
-    ensures { IsTrue result ↔ Any (λ s. s.number ≡ number) seats.now.items }
+fn has_worker<L: Epoch>(seats: &[WorkSeat<L>], number: usize) -> bool
+    ensures { IsTrue result ↔ Any (λ s. s.number ≡ number) seats.now }
 {
     seats.iter().any(|seat| seat.worker() as usize == number)
 }
 
 /// Whether each seat's stream is in the book as the seat tells of it.
-pub(crate) fn have_their_streams<L: Epoch>(book: &Book, seats: &Vec<StreamSeat<L>>) -> bool
-    ensures { IsTrue result ↔ AreStreamsOf book.now.desk seats.now.items }
+pub(crate) fn have_their_streams<L: Epoch>(book: &Book, seats: &[StreamSeat<L>]) -> bool
+    ensures { IsTrue result ↔ AreStreamsOf book.now.desk seats.now }
 {
     for seat in seats {
         if !seat.has_its_stream(book) {
@@ -118,13 +118,9 @@ pub(crate) fn have_their_streams<L: Epoch>(book: &Book, seats: &Vec<StreamSeat<L
 
 /// Whether the clock had reached the moment of each seat's first frame wherever the journal has an accepted
 /// frame of the seat. It was at `opened_at` when the book was opened.
-pub(crate) fn clocks_agree<L: Epoch>(
-    book: &Book,
-    opened_at: u64,
-    seats: &Vec<StreamSeat<L>>,
-) -> bool
+pub(crate) fn clocks_agree<L: Epoch>(book: &Book, opened_at: u64, seats: &[StreamSeat<L>]) -> bool
     requires { opened_at ≡ book.now.opening.clock }
-    ensures { IsTrue result ↔ ClocksReached book.now seats.now.items }
+    ensures { IsTrue result ↔ ClocksReached book.now seats.now }
 {
     for seat in seats {
         if !clock_agrees(book.journal(), opened_at, seat.number(), seat.moments()) {

@@ -218,10 +218,10 @@ fn fault<L: Epoch>(
     shared: &Shared<L>,
     counts: (usize, usize),
     limit: usize,
-    streams: &Vec<StreamSeat<L>>,
-    workers: &Vec<WorkSeat<L>>,
+    streams: &[StreamSeat<L>],
+    workers: &[WorkSeat<L>],
 ) -> Option<Fault>
-    ensures { IsFault result counts.0 counts.1 limit shared.now.book streams.now.items workers.now.items }
+    ensures { IsFault result counts.0 counts.1 limit shared.now.book streams.now workers.now }
 {
     let (stream_count, worker_count) = counts;
     if streams.len() != stream_count || workers.len() != worker_count {
@@ -237,9 +237,9 @@ fn fault<L: Epoch>(
 }
 
 /// Whether a worker's latest call is a lease.
-fn any_lease_out<L: Epoch>(seats: &Vec<WorkSeat<L>>) -> bool
-    ensures out { IsTrue result → ¬ NoLeaseOut seats.now.items }
-    ensures settled { IsFalse result → NoLeaseOut seats.now.items }
+fn any_lease_out<L: Epoch>(seats: &[WorkSeat<L>]) -> bool
+    ensures out { IsTrue result → ¬ NoLeaseOut seats.now }
+    ensures settled { IsFalse result → NoLeaseOut seats.now }
 {
     seats.iter().any(|seat| seat.has_lease())
 }

@@ -231,11 +231,11 @@ impl<L: Epoch> Shared<L> {
     pub(crate) fn agrees(
         &self,
         limit: usize,
-        streams: &Vec<StreamSeat<L>>,
-        workers: &Vec<WorkSeat<L>>,
+        streams: &[StreamSeat<L>],
+        workers: &[WorkSeat<L>],
     ) -> bool
-        ensures { IsTrue result ↔ Agree (length streams.now.items) (length workers.now.items) limit
-            self.now.book streams.now.items workers.now.items }
+        ensures { IsTrue result ↔ Agree (length streams.now) (length workers.now) limit self.now.book
+            streams.now workers.now }
     {
         let journal = self.book.journal();
         self.limit == limit

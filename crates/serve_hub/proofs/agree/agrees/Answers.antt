@@ -1,4 +1,4 @@
-use Rattle.std.proofs.Common.{◌≡◌, ◌∙◌, sym, slice_index_or, arith, rules}
+use Rattle.std.proofs.Common.{◌∙◌, sym, arith, rules}
 use Rattle.serve_hub.proofs.Agreeing.{next_call}
 use Rattle.serve_hub.proofs.agree.agrees.Goals.{then-next-calls-via-then-next-calls, then-next-calls-via-else-next-calls+then-ne}
 use Rattle.serve_hub.proofs.agree.agrees.Goals as goal

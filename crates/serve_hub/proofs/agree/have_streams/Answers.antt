@@ -6,5 +6,5 @@ use Rattle.serve_hub.proofs.agree.have_streams.Goals as goal
 
 pub loop-number-preserved : goal.loop-number-preserved
 loop-number-preserved g c =
-    one_more_number (λ (n : ℕ). Any (λ (s : StreamSeatValue). s.number ≡ n) c.args.seats.now.items) c.loop-number.number
+    one_more_number (λ (n : ℕ). Any (λ (s : StreamSeatValue). s.number ≡ n) c.args.seats.now) c.loop-number.number
     c.loop-number.invariant (c.if-not-has_stream.ensures.0 refl)

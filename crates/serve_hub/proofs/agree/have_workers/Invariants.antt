@@ -2,4 +2,4 @@ use Rattle.serve_hub.specs.Ends.{HaveWorkers}
 use Rattle.serve_hub.proofs.agree.have_workers.Given as goal
 
 abbrev pub invariant-loop-number : goal.invariant-loop-number
-invariant-loop-number g l = HaveWorkers l.number l.seats.items
+invariant-loop-number g l = HaveWorkers l.number l.seats

@@ -10,7 +10,7 @@ use Rattle.serve_hub.proofs.hub.Hub.finish.Goals as goal
 
 pub into_ended-requires-clause-agree : goal.into_ended-requires-clause-agree
 into_ended-requires-clause-agree g c =
-    let agree = c.in_default.ensures.1 in
+    let agree = rw (c.deref.ensures.value, c.deref-2.ensures.value) at c.in_default.ensures.1 in
     let opened = c.all_streams.ensures.opened in
     let workers = sym agree.desk_workers
     ∙ same_workers _ c.all_streams.ensures.book
@@ -20,7 +20,7 @@ into_ended-requires-clause-agree g c =
 
 pub returns-clause-end : goal.returns-clause-end
 returns-clause-end g c =
-    let agree = c.in_default.ensures.1 in
+    let agree = rw (c.deref.ensures.value, c.deref-2.ensures.value) at c.in_default.ensures.1 in
     let is = c.all_streams.ensures.book in
     let same = sym c.into_ended.ensures.book in
     let count = c.all_streams.ensures.count ∙ ap (λ (x : BookValue). length x.desk.streams) same in
@@ -28,7 +28,7 @@ returns-clause-end g c =
     record {
       agree = agree_at _ _ _ _ _ _ _ _ _ _ count workers (ap (λ (h : HubValue). h.limit) c.self.view_is) same agree;
       once = c.into_ended.ensures.counted;
-      settled = c.in_default.ensures.0;
+      settled = rw c.deref-2.ensures.value at c.in_default.ensures.0;
       is_book = subst IsBook same is;
       history = subst (λ (x : BookValue). IsHistory g.L.Epoch.opening x) same (history _ _ _ is c.all_streams.ensures.opened);
       all_workers = ap (λ (x : BookValue). length x.desk.workers) c.into_ended.ensures.book ∙ agree.desk_workers ∙ workers;
@@ -47,5 +47,5 @@ returns-in-Some-clause-refused g c =
       fits_not = fault_at (Some c.in-Some.fault) _ _ _ _ _ _ _ _ c.args.streams.items c.args.workers.items
           (c.all_streams.ensures.count ∙ ap (λ (x : BookValue). length x.desk.streams) same)
           (ap (λ (h : HubValue). h.workers) c.self.view_is) (ap (λ (h : HubValue). h.limit) c.self.view_is) same
-          c.in-Some.ensures;
+          (rw (c.deref.ensures.value, c.deref-2.ensures.value) at c.in-Some.ensures);
     }

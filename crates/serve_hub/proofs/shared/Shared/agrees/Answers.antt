@@ -8,8 +8,8 @@ use Rattle.serve_hub.specs.Ends.{IsOpening}
 use Rattle.serve_hub.specs.Seats.{SharedValue}
 use Rattle.serve_hub.proofs.Agreeing.{streams_by, workers_by}
 use Rattle.serve_hub.proofs.Opened.{same_workers}
-use Rattle.serve_hub.proofs.shared.Shared.agrees.Goals.{then-self-limit, else-self-limit, then-len-self, else-len-self}
-use Rattle.serve_hub.proofs.shared.Shared.agrees.Goals.{then-len-self-2, else-len-self-2, then-streams_agree, else-streams_agree}
+use Rattle.serve_hub.proofs.shared.Shared.agrees.Goals.{then-self-limit, else-self-limit, then-streams-self, else-streams-self}
+use Rattle.serve_hub.proofs.shared.Shared.agrees.Goals.{then-workers-self, else-workers-self, then-streams_agree, else-streams_agree}
 use Rattle.serve_hub.proofs.shared.Shared.agrees.Goals.{then-workers_agree, else-workers_agree, then-have_streams, else-have_streams}
 use Rattle.serve_hub.proofs.shared.Shared.agrees.Goals.{then-have_workers, else-have_workers}
 use Rattle.serve_hub.proofs.shared.Shared.agrees.Goals.{else-have_their_streams, then-have_their_streams}
@@ -26,8 +26,8 @@ pub returns-else-clocks_agree : goal.returns-else-clocks_agree
 returns-else-clocks_agree g c = (
   λ yes. absurd (cc),
   λ agree.
-      let streams = c.args.streams.now.items in
-      let workers = c.args.workers.now.items in
+      let streams = c.args.streams.now in
+      let workers = c.args.workers.now in
       let journal = c.journal-journal.result.now in
       let past = c.journal-journal.ensures.past ∙ ap (λ (v : SharedValue). v.book.past) c.self.view_is in
       let oldest : reverse c.args.self.now.book.past ≡ journal =
@@ -41,14 +41,14 @@ returns-else-clocks_agree g c = (
         | then-self-limit w ↦ search (rules, all)
         | else-self-limit w ↦ search (rules, agree.limit)
       ] in
-      let counts : IsTrue c.if-len-self.value = elim c.if-len-self.branch [
-        | then-len-self w ↦ search (rules, each)
-        | else-len-self w ↦ absurd (cc)
+      let counts : IsTrue c.if-streams-self.value = elim c.if-streams-self.branch [
+        | then-streams-self w ↦ search (rules, each)
+        | else-streams-self w ↦ absurd (cc)
       ] in
-      let offered : IsTrue c.if-len-self-2.value = elim c.if-len-self-2.branch [
-        | then-len-self-2 w ↦ w.value-is ∙ w.streams_agree.ensures.1
+      let offered : IsTrue c.if-workers-self.value = elim c.if-workers-self.branch [
+        | then-workers-self w ↦ w.value-is ∙ w.streams_agree.ensures.1
             (subst (λ (xs : List Entry). AreStreamCalls xs streams) oldest agree.of_streams)
-        | else-len-self-2 w ↦ absurd (cc)
+        | else-workers-self w ↦ absurd (cc)
       ] in
       let worked : IsTrue c.if-streams_agree.value = elim c.if-streams_agree.branch [
         | then-streams_agree w ↦ w.value-is ∙ w.workers_agree.ensures.1
@@ -82,24 +82,24 @@ returns-then-clocks_agree g c = (
   λ free.
       let journal = c.journal-journal.result.now in
       let past = c.journal-journal.ensures.past ∙ ap (λ (v : SharedValue). v.book.past) c.self.view_is in
-      let each : c.self.inside.workers ≡ length c.args.workers.now.items = search rules in record {
+      let each : c.self.inside.workers ≡ length c.args.workers.now = search rules in record {
         limit = search rules;
         all = search rules;
-        desk_workers = subst (λ (v : SharedValue). length v.book.desk.workers ≡ length c.args.workers.now.items) c.self.view_is
+        desk_workers = subst (λ (v : SharedValue). length v.book.desk.workers ≡ length c.args.workers.now) c.self.view_is
             (opened_workers g.L.Epoch.opening c.self.inside.book c.self.inside.workers c.journal-journal.ensures.book
             c.self.invariant.4 ∙ each);
         there = search rules;
         each_stream = search rules;
         each_worker = search rules;
         of_streams =
-            let calls : AreStreamCalls journal c.args.streams.now.items = search rules in
-            streams_by journal c.args.self.now.book.past c.args.streams.now.items past calls;
+            let calls : AreStreamCalls journal c.args.streams.now = search rules in
+            streams_by journal c.args.self.now.book.past c.args.streams.now past calls;
         of_workers =
-            let calls : AreWorkCalls journal c.args.workers.now.items = search rules in
-            workers_by journal c.args.self.now.book.past c.args.workers.now.items past calls;
+            let calls : AreWorkCalls journal c.args.workers.now = search rules in
+            workers_by journal c.args.self.now.book.past c.args.workers.now past calls;
         kept = search rules;
         clock_reached = elim c.if-have_their_streams.branch [
-          | then-have_their_streams w ↦ subst (λ (v : SharedValue). ClocksReached v.book c.args.streams.now.items) c.self.view_is
+          | then-have_their_streams w ↦ subst (λ (v : SharedValue). ClocksReached v.book c.args.streams.now) c.self.view_is
               (w.clocks_agree.ensures.0 (sym w.value-is ∙ c.if-clocks_agree.true))
           | else-have_their_streams w ↦ (let no = sym w.value-is ∙ c.if-clocks_agree.true in absurd (cc))
         ];
