@@ -175,10 +175,8 @@ impl<L: Epoch> Hub<L> {
     pub fn deadline(&self, rt: &impl Wait, stream: u32) -> Option<(u64, u64)> {
         let shared = self.shared.lock(rt);
         let desk = shared.book.desk();
-        match desk.account(stream) {
-            Some((_, deadline)) => Some((deadline, desk.clock())),
-            None => None,
-        }
+        let (_, deadline) = desk.account(stream)?;
+        Some((deadline, desk.clock()))
     }
 
     /// Ends the epoch: from now on an offer, a collection, a lease and an admission are answered

@@ -300,9 +300,6 @@ impl<L: Epoch> StreamSeat<L> {
         if self.calls.limit != shared.limit {
             return Some(Came::Limit(shared.limit));
         }
-        match other_part(spec, &self.spec) {
-            Some(part) => Some(Came::Chain(part)),
-            None => None,
-        }
+        other_part(spec, &self.spec).map(Came::Chain)
     }
 }
