@@ -24,6 +24,7 @@ use crate::rest::SeatRest;
 use crate::shared::Shared;
 use frame_view::Frame;
 use lease::{JobSpec, is_same_spec};
+pub(crate) use offers::Entrant;
 use std::collections::VecDeque;
 use std::marker::Model;
 use std::sync::Arc;

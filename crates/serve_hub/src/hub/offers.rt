@@ -10,13 +10,13 @@ use crate::epoch::Epoch;
 use crate::offer::Offer;
 use crate::refusal::Refusal;
 use crate::refused::OfferRefused;
-use crate::stream_seat::StreamSeat;
+use crate::stream_seat::{Entrant, StreamSeat};
 use cbs_account::limits::LAST_MOMENT;
 use frame_view::Frame;
 use lease::Job;
 use serve_core::Refusal as CoreRefusal;
 use std::alloc::Global;
-use std::sync::{Arc, Wait};
+use std::sync::Wait;
 
 impl<L: Epoch> Hub<L> {
     /// The seat's stream is offered a frame at a moment, or now if that is later. It answers the frame's
@@ -46,7 +46,7 @@ impl<L: Epoch> Hub<L> {
                 refusal: self.refusal(rt, seat, at, &frame),
                 offer: Some(Offer { at, frame, memory }),
             }),
-            Ok((job, kept)) => match self.enter(rt, seat, at, job, kept) {
+            Ok(entrant) => match self.enter(rt, seat, at, entrant) {
                 Ok(number) => Ok(number),
                 Err((refusal, None)) => Err(OfferRefused {
                     refusal,
@@ -71,23 +71,23 @@ impl<L: Epoch> Hub<L> {
         rt: &impl Wait,
         seat: &mut StreamSeat<L>,
         at: u64,
-        job: Job,
-        kept: Arc<Frame>,
+        entrant: Entrant,
     ) -> Result<u64, (Refusal, Option<Job>)>
-        requires fresh { IsFresh seat.old.chain job }
-        requires size { (arc_value kept).geometry ≡ seat.old.chain.geometry }
+        requires fresh { IsFresh seat.old.chain entrant.job }
+        requires size { (arc_value entrant.frame).geometry ≡ seat.old.chain.geometry }
         ensures accepted { IfOk result (λ n. (n ≡ seat.old.accepted)
-            × Accepts (value_of (arc_value kept)) n seat.old seat.new) }
+            × Accepts (value_of (arc_value entrant.frame)) n seat.old seat.new) }
         ensures moment { OnOk result (Notes at seat.old seat.new) }
         ensures other_moment { IfErr result (λ e. IfNone e.1 (Notes at seat.old seat.new)) }
         ensures refused { IfErr result (λ e. MatchOption e.1
-            (AcceptsOther (value_of (arc_value kept)) e.0 seat.old seat.new)
-            (λ back. (back ≡ job) × (seat.new ≡ noted e.0 seat.old)
-            × IsOfferTold seat.old at (arc_value kept).geometry e.0)) }
+            (AcceptsOther (value_of (arc_value entrant.frame)) e.0 seat.old seat.new)
+            (λ back. (back ≡ entrant.job) × (seat.new ≡ noted e.0 seat.old)
+            × IsOfferTold seat.old at (arc_value entrant.frame).geometry e.0)) }
     {
+        let Entrant { job, frame } = entrant;
         let mut shared = self.shared.lock(rt);
         let had_work = shared.has_work(seat.number());
-        let answer = seat.offer(&mut shared, at, job, kept);
+        let answer = seat.offer(&mut shared, at, job, frame);
         let is_full = shared.is_full();
         drop(shared);
         self.wake(!had_work && !matches!(answer, Err((_, Some(_)))), is_full);

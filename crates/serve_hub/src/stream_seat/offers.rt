@@ -24,6 +24,13 @@ use serve_core::Refusal as Core;
 use std::alloc::Global;
 use std::sync::Arc;
 
+/// The job of a frame, and the frame for the seat to keep.
+#[derive(Drop)]
+pub(crate) struct Entrant {
+    pub(crate) job: Job,
+    pub(crate) frame: Arc<Frame>,
+}
+
 impl<L: Epoch> StreamSeat<L> {
     /// The job of a frame, over the memory of an image of the seat's chain if one is at hand, and the frame
     /// for the seat to keep. A frame of another size comes back with the memory, and so does one for whose
@@ -33,11 +40,11 @@ impl<L: Epoch> StreamSeat<L> {
         alloc: Global,
         frame: Arc<Frame>,
         memory: Option<Frame>,
-    ) -> Result<(Job, Arc<Frame>), (Arc<Frame>, Option<Frame>)>
+    ) -> Result<Entrant, (Arc<Frame>, Option<Frame>)>
         requires { IfSome memory (IsImageOf self.now.chain) }
-        ensures fresh { IfOk result (λ made. IsFresh self.now.chain made.0) }
-        ensures source { IfOk result (λ made. made.0.source ≡ arc_value frame) }
-        ensures kept { IfOk result (λ made. arc_value made.1 ≡ arc_value frame) }
+        ensures fresh { IfOk result (λ made. IsFresh self.now.chain made.job) }
+        ensures source { IfOk result (λ made. made.job.source ≡ arc_value frame) }
+        ensures kept { IfOk result (λ made. arc_value made.frame ≡ arc_value frame) }
         ensures size { IfOk result (λ made. (arc_value frame).geometry ≡ self.now.chain.geometry) }
         ensures back { IfErr result (λ back. back.0 ≡ frame) }
         ensures memory { IfErr result (λ back. ReturnsMemory self.now.chain memory back.1) }
@@ -47,12 +54,12 @@ impl<L: Epoch> StreamSeat<L> {
         };
         match memory {
             None => match Job::new(alloc, spec, frame) {
-                Ok(job) => Ok((job, kept)),
+                Ok(job) => Ok(Entrant { job, frame: kept }),
                 Err(JobRefused::WrongSize(frame)) => Err((frame, None)),
                 Err(JobRefused::NoMemory(frame)) => Err((frame, None)),
             },
             Some(image) => match Job::over(alloc, spec, frame, image) {
-                Ok(job) => Ok((job, kept)),
+                Ok(job) => Ok(Entrant { job, frame: kept }),
                 Err(OverRefused::WrongSize(frame, image)) => Err((frame, Some(image))),
                 Err(OverRefused::NoMemory(frame, image)) => Err((frame, Some(image))),
             },
