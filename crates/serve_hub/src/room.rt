@@ -104,7 +104,7 @@ impl<L: Epoch> Room<L> {
         } = self;
         let streams = rests.len();
         fill_seats(&mut seats, calls, rests, limit);
-        let shared = Shared::new(book, limit, total, spare, streams, workers, empty_rests);
+        let shared = Shared::new(book, total, spare, empty_rests);
         (Hub::of(shared, streams, workers, limit), seats, work_seats)
     }
 }

@@ -69,33 +69,27 @@ impl<L: Epoch> Model for Shared<L> {
 impl<L: Epoch> Shared<L> {
     pub(crate) fn new(
         book: Book,
-        limit: usize,
         total: Total<L>,
         spare: Share<L>,
-        streams: usize,
-        workers: usize,
         rests: Vec<SeatRest>,
     ) -> Shared<L>
         requires entries { total.total ≡ length book.past }
-        requires limit { limit ≡ book.limit }
-        requires parts { spare.parts + streams + workers ≡ L.parts }
+        requires parts { spare.parts + length book.desk.streams + length book.desk.workers ≡ L.parts }
         requires amount { spare.amount ≡ 0 }
-        requires opened { IsOpening L.opening book.opening workers }
+        requires opened { IsOpening L.opening book.opening (length book.desk.workers) }
         requires unmoved { book.desk ≡ book.opening }
-        requires all { streams ≡ length book.desk.streams }
         requires none { rests.items ≡ [] }
         requires room { MOST_STREAMS ≤ vec_capacity rests }
         requires enough { L.parts ≡ MOST_SEATS }
     {
-        let opened_at = book.desk().clock();
         Shared {
+            limit: book.limit(),
+            opened_at: book.desk().clock(),
+            streams: book.desk().streams(),
+            workers: book.workers(),
             book,
-            limit,
-            opened_at,
             total,
             spare,
-            streams,
-            workers,
             rests,
         }
     }
