@@ -118,11 +118,7 @@ pub(super) fn run_threads<
                     any_works = true;
                 }
             }
-            for _watch in 0..1 {
-                if scope.spawn(move || watch(rt, hub, door)).is_err() {
-                    break;
-                }
-            }
+            let _is_watched = scope.spawn(move || watch(rt, hub, door)).is_ok();
             let turns = run_beside(rt, alloc, hub, turns, clock, any_works);
             (turns, any_works)
         },

@@ -8,6 +8,6 @@ pub spawn-requires-send-F : goal.spawn-requires-send-F
 spawn-requires-send-F g c κs within =
     search (sendable, crosses, hub_sync, slot_sync, c.requires) depth 20
 
-pub spawn-requires-in-loop-watch-send-F : goal.spawn-requires-in-loop-watch-send-F
-spawn-requires-in-loop-watch-send-F g c κs within =
+pub spawn-requires-2-send-F : goal.spawn-requires-2-send-F
+spawn-requires-2-send-F g c κs within =
     search (sendable, crosses, hub_sync, c.requires) depth 20
