@@ -1,12 +1,14 @@
 //! The epochs of a session whose streams come and go.
-ghost use Rattle.std.specs.Prelude.{ℕ, ◌≡◌, ◌+◌, ◌≤◌, ◌++◌, List, [], ◌∷◌, IfErr, IfNone, IfOk};
-ghost use Rattle.std.specs.Prelude.{IfSome, vec_capacity, vec_len};
+ghost use Rattle.std.specs.Prelude.{ℕ, ◌≡◌, ◌+◌, ◌≤◌, ◌++◌, All, List, [], ◌∷◌, IfErr, IfNone, IfOk};
+ghost use Rattle.std.specs.Prelude.{IfSome, OnOk, vec_capacity, vec_len};
 ghost use Rattle.serve_core.specs.Schedule.{opened_schedule};
 ghost use Rattle.serve_core.specs.Setup.{StreamSpec};
+ghost use Rattle.serve_hub.specs.Ends.{IsEndOf};
 ghost use Rattle.serve_work.specs.Intervals.{CanName, HasNoCalls};
 ghost use Rattle.serve_work.specs.Live.{IsSeatFor, Waiting};
-ghost use Rattle.serve_work.specs.LiveInside.{AreGuests, AreSeated, HasPlaces, IsFirst, guests_of};
-ghost use Rattle.serve_work.specs.LiveInside.{IsLiveInterval, nobody};
+ghost use Rattle.serve_work.specs.LiveInside.{AreAsAsked, AreGuests, AreSeated, HasPlaces, IsFirst};
+ghost use Rattle.serve_work.specs.LiveInside.{IsLiveInterval, guests_of, nobody};
+ghost use Rattle.serve_work.specs.Workers.{AreSpent};
 
 use crate::bounds::{Host, LentClock, LentDoor, LentGate, SentSink, SentSource};
 use crate::door::Door;
@@ -22,7 +24,7 @@ use crate::session::turn::Stream;
 use crate::setting::Setting;
 use crate::spent::have_spent;
 use serve_core::{Refusal as Core, Setup};
-use serve_hub::{Epoch, Hub, Refusal, StreamSeat};
+use serve_hub::{Ended, Epoch, Hub, Refusal, StreamSeat, WorkSeat};
 use std::alloc::Global;
 use std::sync::ledger::Blank;
 use y4m_stream::{Sink, Source};
@@ -59,6 +61,31 @@ fn append_idle<L: Epoch, R: Source + Drop, W: Sink + Drop>(
         seats.push_reserved(seat);
         guests.push_reserved(None);
     }
+}
+
+/// The end of an epoch whose workers settled their leases with the whole grants, and whose streams were
+/// served with what their requests asked for.
+fn finish<L: Epoch, R: Source, W: Sink>(
+    hub: Hub<L>,
+    seats: Vec<StreamSeat<L>>,
+    work_seats: Vec<WorkSeat<L>>,
+    guests: &Vec<Option<Guest<R, W>>>,
+) -> Result<Ended, SessionFault>
+    ensures fault { IfErr result (λ e. e ≡ SessionFault.Mismatch) }
+    ensures end { IfOk result (IsEndOf L.opening hub seats.items work_seats.items) }
+    ensures spent { OnOk result (All (λ s. AreSpent s.calls.list) work_seats.items) }
+    ensures asked { IfOk result (λ ended. AreAsAsked ended.book.desk ended.streams guests.now.items) }
+{
+    if !have_spent(&work_seats) {
+        return Err(SessionFault::Mismatch);
+    }
+    let Ok(ended) = hub.finish(seats, work_seats) else {
+        return Err(SessionFault::Mismatch);
+    };
+    if !are_as_asked(&ended, guests) {
+        return Err(SessionFault::Mismatch);
+    }
+    Ok(ended)
 }
 
 /// Admits those who are at the door. Then the streams go on with their seats of this epoch, until it is
@@ -106,19 +133,11 @@ fn epoch<
     fill_slots(&mut slots, work_seats);
     let (turns, goes_on) = run_threads::<L, R, W, D, G, K, T>(setting, &hub, &slots, turns, &*door);
     empty_slots(slots, &mut back);
-    if !have_spent(&back) {
-        return Err(SessionFault::Mismatch);
-    }
     places.fill(turns);
     let Places { mut seats, streams } = places;
     fill_guests(&mut guests, tickets, streams);
     append_idle(&mut seats, &mut guests, idle);
-    let Ok(ended) = hub.finish(seats, back) else {
-        return Err(SessionFault::Mismatch);
-    };
-    if !are_as_asked(&ended, &guests) {
-        return Err(SessionFault::Mismatch);
-    }
+    let ended = finish(hub, seats, back, &guests)?;
     Ok(Interval {
         ended,
         guests,

@@ -88,26 +88,26 @@ returns-clause-guests g c =
     let times = g.D.Door.times in
     let seated = c.admit_all.ensures.seated.2 in
     let ran = c.run_threads-turns.ensures.run seated.helds seated.turns in
-    let ended = c.in-Ok.ended in
+    let ended = c.in_ok-ended.ended in
     let idle : List StreamSeatValue = c.admit_all.new.hall.idle.items in
     let own = c.append_idle.ensures.seats ∙ ap (λ (seats : List StreamSeatValue). seats ++ idle) (c.fill.ensures.seats ran.0 ran.1) in
-    let calls = subst (AreStreamCalls (reverse ended.book.past)) own c.in-Ok.ensures.end.agree.of_streams in
-    let reached = subst (ClocksReached ended.book) own c.in-Ok.ensures.end.agree.clock_reached in
-    let of_limit = c.in-Ok.ensures.end.agree.limit ∙ c.requires.limit in
-    let spent = subst (λ (n : ℕ). HaveSpent n ended.book.past) (sym c.in-Ok.ensures.end.all_workers)
-    (seats_have_spent _ ended.book.past _ c.in-Ok.ensures.end.agree.of_workers c.in-Ok.ensures.end.agree.each_worker
-    (c.have_spent.ensures c.if-not-have_spent.false)) in
-    let had = all_had limit times g.L.Epoch.opening ended.book c.in-Ok.ensures.end.is_book c.in-Ok.ensures.end.history.same of_limit
-    c.in-Ok.ensures.end.agree.free spent gives c.requires.times ws seated.helds ran.0 idle seated.each ran.2 calls reached in
+    let calls = subst (AreStreamCalls (reverse ended.book.past)) own c.in_ok-ended.ensures.end.agree.of_streams in
+    let reached = subst (ClocksReached ended.book) own c.in_ok-ended.ensures.end.agree.clock_reached in
+    let of_limit = c.in_ok-ended.ensures.end.agree.limit ∙ c.requires.limit in
+    let spent = subst (λ (n : ℕ). HaveSpent n ended.book.past) (sym c.in_ok-ended.ensures.end.all_workers)
+    (seats_have_spent _ ended.book.past _ c.in_ok-ended.ensures.end.agree.of_workers c.in_ok-ended.ensures.end.agree.each_worker
+    c.in_ok-ended.ensures.spent) in
+    let had = all_had limit times g.L.Epoch.opening ended.book c.in_ok-ended.ensures.end.is_book c.in_ok-ended.ensures.end.history.same of_limit
+    c.in_ok-ended.ensures.end.agree.free spent gives c.requires.times ws seated.helds ran.0 idle seated.each ran.2 calls reached in
     let streams = c.fill.new.self.streams.items in
     let guests = c.append_idle.ensures.guests
     ∙ ap (λ (gs : List (Option (Guest _ _))). gs ++ nobody idle) (c.fill_guests.ensures.guests
     ∙ ap (λ (tickets : List Ticket). guests_of tickets streams) seated.tickets) in
-    let rests = c.in-Ok.ensures.end.left ∙ ap (map left_by) own in
+    let rests = c.in_ok-ended.ensures.end.left ∙ ap (map left_by) own in
     let asked = subst (λ (gs : List (Option (Guest _ _))). AreAsAsked ended.book.desk
     (map left_by (map (λ (held : HeldValue). held.seat) ran.0 ++ idle)) gs) guests
     (subst (λ (rests : List StreamRest). AreAsAsked ended.book.desk rests c.append_idle.new.guests.items) rests
-    (c.are_as_asked.ensures c.if-not-are_as_asked.false)) in (
+    c.in_ok-ended.ensures.asked) in (
       ws,
       c.admit_all.ensures.seated.1,
       record {
@@ -124,8 +124,8 @@ returns-clause-guests g c =
           c.admit_all.new.hall.idle.ok.0,
           seated.few,
         );
-        kept = subst (AreStreamsOf ended.book.desk) own c.in-Ok.ensures.end.agree.kept;
-        charges = c.in-Ok.ensures.end.charges;
+        kept = subst (AreStreamsOf ended.book.desk) own c.in_ok-ended.ensures.end.agree.kept;
+        charges = c.in_ok-ended.ensures.end.charges;
         of_limit = of_limit;
         each = subst (λ (gs : List (Option (Guest _ _))). AllAt (IsGuestAt limit times ended.book.desk) gs
             (map (λ (held : HeldValue). held.seat) ran.0 ++ idle) ws) (sym guests)
