@@ -9,6 +9,7 @@ ghost use Rattle.serve_work.specs.LiveInside.{IsLiveInterval};
 
 mod admission;
 mod epochs;
+mod form;
 mod guests;
 mod opening;
 mod retirement;
@@ -21,8 +22,8 @@ use crate::request::Request;
 use crate::session::SessionFault;
 use crate::setting::Setting;
 use epochs::{first_epoch, next_epoch};
+use form::Form;
 use guests::{Interval, show_guests, show_none, tell_guests};
-use opening::Form;
 use retirement::retire_released;
 use serve_hub::limits::{MOST_ENTRIES, MOST_SEATS};
 use std::alloc::Global;
@@ -43,7 +44,6 @@ fn serve_from<R: SentSource, W: SentSink, D: LentDoor<R, W>, G: LentGate, K: Len
     request: Request<R, W>,
     door: &mut D,
 ) -> Result<(), SessionFault>
-    requires form { IsForm form.workers form.quantum }
     requires limit { form.limit ≡ D.limit }
     requires times { (at : ℕ) → K.gives setting.clock.now at → D.times at }
     requires waits { D.waits door.old (waiting_of W.contents W.failures request ∷ []) }

@@ -2,12 +2,13 @@
 ghost use Rattle.std.specs.Prelude.{◌≡◌, ◌+◌, ◌<◌, ◌≤◌, ◌++◌, [], ◌∷◌, IfErr, IfNone, IfOk, IfSome, Some};
 ghost use Rattle.std.specs.Prelude.{map, vec_len};
 ghost use Rattle.std.specs.List.{AllByRecursion};
-ghost use Rattle.serve_work.specs.Live.{AllowsRefusal, IsForm, waiting_of};
+ghost use Rattle.serve_work.specs.Live.{AllowsRefusal, waiting_of};
 ghost use Rattle.serve_work.specs.LiveInside as rules;
 ghost use Rattle.serve_work.specs.LiveInside.{HasPlaces, TakesSeat, helds_of, ticket_of, tickets_of};
 ghost use Rattle.serve_work.specs.SessionInside.{IsReady, held_at};
 
 use crate::door::Door;
+use crate::live::form::Form;
 use crate::live::guests::{Guest, Ticket};
 use crate::request::{Answer, Request};
 use crate::session::room::Room;
@@ -17,14 +18,6 @@ use serve_core::{Refusal as Core, Setup, SetupError, StreamSpec};
 use serve_hub::{Epoch, Hub, Refusal, StreamSeat, WorkSeat};
 use std::alloc::{AllocError, Global};
 use y4m_stream::{Sink, Source, StreamReader};
-
-/// How many workers a session has, the most bands of one lease, and the most entries of an epoch's journal.
-#[derive(Clone, Copy)]
-pub(super) struct Form {
-    pub(super) workers: u64,
-    pub(super) quantum: u64,
-    pub(super) limit: usize,
-}
 
 /// The first stream of a hub that isn't open yet.
 #[derive(Drop)]
@@ -46,7 +39,6 @@ fn list_of(alloc: Global, spec: StreamSpec) -> Result<Vec<StreamSpec>, AllocErro
 
 /// A setup of one stream, and its spec once more.
 fn setup_of(alloc: Global, form: Form, spec: StreamSpec) -> Result<(Setup, StreamSpec), Refusal>
-    requires form { IsForm form.workers form.quantum }
     ensures setup { IfOk result (λ made. made.0.streams ≡ spec ∷ []) }
     ensures same { IfOk result (λ made. made.1 ≡ spec) }
     ensures refused { IfErr result (AllowsRefusal spec) }
@@ -81,7 +73,6 @@ pub(super) fn set_up<R: Source + Drop, W: Sink + Drop, D: Door<R, W>>(
     request: Request<R, W>,
     door: &mut D,
 ) -> Option<FirstStream<R, W>>
-    requires form { IsForm form.workers form.quantum }
     requires waits { D.waits door.old (waiting_of W.contents W.failures request ∷ []) }
     ensures stream { IfSome result (λ stream. (stream.setup.streams ≡ request.spec ∷ [])
         × (stream.ticket ≡ ticket_of (waiting_of W.contents W.failures request))
