@@ -10,6 +10,7 @@ use crate::live::guests::Ticket;
 use crate::live::opening::Hall;
 use crate::request::{Answer, Request};
 use crate::session::turn::Stream;
+use crate::setting::Setting;
 use edf_pool::limits::MOST_STREAMS;
 use serve_core::{Refusal as Core, StreamSpec};
 use serve_hub::{Epoch, Hub, Refusal, StreamSeat};
@@ -39,9 +40,8 @@ fn take_seat<L: Epoch, T: Wait>(
 }
 
 /// Admits the stream of a request, or tells why not.
-fn admit<L: Epoch, R: Source + Drop, W: Sink + Drop, D: Door<R, W>, T: Wait>(
-    rt: &T,
-    alloc: Global,
+fn admit<L: Epoch, R: Source + Drop, W: Sink + Drop, D: Door<R, W>, G, K, T: Wait>(
+    setting: Setting<'_, G, K, T>,
     hub: &Hub<L>,
     hall: &mut Hall<L, R, W>,
     request: Request<R, W>,
@@ -65,7 +65,7 @@ fn admit<L: Epoch, R: Source + Drop, W: Sink + Drop, D: Door<R, W>, T: Wait>(
         door.tell(ticket, &mut Some(Answer::Refused(refusal, reader, writer)));
         return;
     }
-    match take_seat(rt, alloc, hub, spec) {
+    match take_seat(setting.rt, setting.alloc, hub, spec) {
         Ok(made) => {
             let (seat, spec) = made;
             let number = ticket;
@@ -78,9 +78,8 @@ fn admit<L: Epoch, R: Source + Drop, W: Sink + Drop, D: Door<R, W>, T: Wait>(
 }
 
 /// Admits the streams of the requests that are there.
-pub(super) fn admit_all<L: Epoch, R: Source + Drop, W: Sink + Drop, D: Door<R, W>, T: Wait>(
-    rt: &T,
-    alloc: Global,
+pub(super) fn admit_all<L: Epoch, R: Source + Drop, W: Sink + Drop, D: Door<R, W>, G, K, T: Wait>(
+    setting: Setting<'_, G, K, T>,
     hub: &Hub<L>,
     hall: &mut Hall<L, R, W>,
     door: &mut D,
@@ -93,7 +92,7 @@ pub(super) fn admit_all<L: Epoch, R: Source + Drop, W: Sink + Drop, D: Door<R, W
     for _ in 0..MOST_STREAMS {
         match door.next() {
             None => return,
-            Some(request) => admit(rt, alloc, hub, hall, request, door),
+            Some(request) => admit(setting, hub, hall, request, door),
         }
     }
 }

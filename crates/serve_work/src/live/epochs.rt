@@ -115,7 +115,7 @@ fn epoch<
         work_seats,
         mut hall,
     } = opening;
-    admit_all(setting.rt, setting.alloc, &hub, &mut hall, door);
+    admit_all(setting, &hub, &mut hall, door);
     let Hall {
         room,
         tickets,

@@ -5,13 +5,13 @@ ghost use Rattle.serve_work.specs.SessionInside.{AllRun, Runs};
 
 use crate::bounds::{Host, LentClock, LentDoor, LentGate, SentSink, SentSource};
 use crate::door::Bell;
+use crate::post::Post;
 use crate::session::room::Slot;
 use crate::session::threads::work_in;
 use crate::session::turn::Turn;
 use crate::setting::Setting;
 use edf_pool::limits::MOST_STREAMS;
 use serve_hub::{Epoch, Hub};
-use std::alloc::Global;
 use std::sync::Wait;
 use std::thread;
 
@@ -34,15 +34,18 @@ fn watch<L: Epoch, B: Bell, T: Wait>(rt: &T, hub: &Hub<L>, door: &B) {
 /// Runs each client that waits, in a thread of its own, or on the one that asked for it where it is refused.
 /// Where one is done it ends the epoch.
 fn run_guests<L: Epoch + Send + Sync, R: SentSource, W: SentSink, K: LentClock, T: Host>(
-    rt: &T,
-    alloc: Global,
-    hub: &Hub<L>,
+    post: Post<'_, L, K, T>,
     turns: &mut [Turn<L, R, W>],
-    clock: &K,
 )
     requires sharing { IsSync T.row × IsSync K.row × IsSync L.row × IsSend L.row }
-    ensures { AllRun (K.gives clock.now) turns.old turns.new }
+    ensures { AllRun (K.gives post.entry.clock.now) turns.old turns.new }
 {
+    let Post {
+        rt,
+        alloc,
+        hub,
+        clock,
+    } = post;
     let serve = move |_: usize, turn: &mut Turn<L, R, W>|
         ensures { Runs (K.gives clock.entry.now) turn.old turn.new }
     {
@@ -56,24 +59,21 @@ fn run_guests<L: Epoch + Send + Sync, R: SentSource, W: SentSink, K: LentClock, 
 
 /// Runs the clients where a worker runs beside them, and ends the epoch when all are done or paused.
 fn run_beside<L: Epoch + Send + Sync, R: SentSource, W: SentSink, K: LentClock, T: Host>(
-    rt: &T,
-    alloc: Global,
-    hub: &Hub<L>,
+    post: Post<'_, L, K, T>,
     turns: Vec<Turn<L, R, W>>,
-    clock: &K,
     any_works: bool,
 ) -> Vec<Turn<L, R, W>>
     requires sharing { IsSync T.row × IsSync K.row × IsSync L.row × IsSend L.row }
     ensures count { vec_len result ≡ vec_len turns }
-    ensures run { AllRun (K.gives clock.now) turns.items result.items }
+    ensures run { AllRun (K.gives post.entry.clock.now) turns.items result.items }
 {
     if !any_works {
-        hub.end_epoch(rt);
+        post.hub.end_epoch(post.rt);
         return turns;
     }
     let mut turns = turns;
-    run_guests(rt, alloc, hub, &mut turns, clock);
-    hub.end_epoch(rt);
+    run_guests(post, &mut turns);
+    post.hub.end_epoch(post.rt);
     turns
 }
 
@@ -119,8 +119,13 @@ pub(super) fn run_threads<
                 }
             }
             let _is_watched = scope.spawn(move || watch(rt, hub, door)).is_ok();
-            let turns = run_beside(rt, alloc, hub, turns, clock, any_works);
-            (turns, any_works)
+            let post = Post {
+                rt,
+                alloc,
+                hub,
+                clock,
+            };
+            (run_beside(post, turns, any_works), any_works)
         },
     )
 }

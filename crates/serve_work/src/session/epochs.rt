@@ -24,7 +24,6 @@ use serve_core::Setup;
 use serve_hub::limits::MOST_SEATS;
 use serve_hub::{Ended, Epoch};
 use std::marker::Brand;
-use std::sync::Mutex;
 use std::sync::ledger::Blank;
 use y4m_stream::{Sink, Source, StreamReader};
 
@@ -82,8 +81,7 @@ fn epoch<L: Epoch + Send + Sync, R: SentSource, W: SentSink, G: LentGate, K: Len
     let workers = work_seats.len();
     let turns = pair_with_seats(turns, seats, opening.streams);
     fill_slots(&mut slots, work_seats);
-    let start = Mutex::new(false);
-    let turns = match run_threads(setting, &hub, &slots, &start, turns, is_first) {
+    let turns = match run_threads(setting, &hub, &slots, turns, is_first) {
         Ok(turns) => turns,
         Err(turns) => {
             places.fill(turns);

@@ -6,26 +6,29 @@ ghost use Rattle.serve_work.specs.SessionInside.{AllRun, Runs};
 use super::room::Slot;
 use super::turn::Turn;
 use crate::bounds::{Host, LentClock, LentGate, SentSink, SentSource};
+use crate::post::Post;
 use crate::setting::Setting;
 use crate::workers::work;
 use edf_pool::limits::MOST_STREAMS;
 use serve_hub::{Epoch, Hub};
-use std::alloc::Global;
 use std::sync::{Mutex, Wait};
 use std::thread;
 use std::thread::Threads;
 
 /// Runs each client that waits, in a thread of its own, or on the one that asked for it where it is refused.
 fn run_clients<L: Epoch + Send + Sync, R: SentSource, W: SentSink, K: LentClock, T: Host>(
-    rt: &T,
-    alloc: Global,
-    hub: &Hub<L>,
+    post: Post<'_, L, K, T>,
     turns: &mut [Turn<L, R, W>],
-    clock: &K,
 )
     requires sharing { IsSync T.row × IsSync K.row × IsSync L.row × IsSend L.row }
-    ensures { AllRun (K.gives clock.now) turns.old turns.new }
+    ensures { AllRun (K.gives post.entry.clock.now) turns.old turns.new }
 {
+    let Post {
+        rt,
+        alloc,
+        hub,
+        clock,
+    } = post;
     let serve = move |_: usize, turn: &mut Turn<L, R, W>|
         ensures { Runs (K.gives clock.entry.now) turn.old turn.new }
     { turn.run(rt, alloc, hub, clock) };
@@ -34,27 +37,24 @@ fn run_clients<L: Epoch + Send + Sync, R: SentSource, W: SentSink, K: LentClock,
 
 /// Runs the clients, where a worker runs beside them.
 fn run_beside<L: Epoch + Send + Sync, R: SentSource, W: SentSink, K: LentClock, T: Host>(
-    rt: &T,
-    alloc: Global,
-    hub: &Hub<L>,
+    post: Post<'_, L, K, T>,
     turns: Vec<Turn<L, R, W>>,
-    clock: &K,
     any_works: bool,
 ) -> Vec<Turn<L, R, W>>
     requires sharing { IsSync T.row × IsSync K.row × IsSync L.row × IsSend L.row }
     ensures count { vec_len result ≡ vec_len turns }
-    ensures run { AllRun (K.gives clock.now) turns.items result.items }
+    ensures run { AllRun (K.gives post.entry.clock.now) turns.items result.items }
 {
     if !any_works {
         return turns;
     }
     let mut turns = turns;
-    run_clients(rt, alloc, hub, &mut turns, clock);
+    run_clients(post, &mut turns);
     turns
 }
 
 /// Whether the workers begin. It is locked until each was asked for.
-pub(super) type Start = Mutex<bool>;
+type Start = Mutex<bool>;
 
 /// A worker takes its seat from its slot, and leaves it there at its end.
 pub(crate) fn work_in<L: Epoch, G: LentGate, T: Threads + Wait>(
@@ -100,7 +100,6 @@ pub(crate) fn run_threads<
     setting: Setting<'_, G, K, T>,
     hub: &Hub<L>,
     slots: &[Slot<L>],
-    start: &Start,
     turns: Vec<Turn<L, R, W>>,
     needs_all: bool,
 ) -> Result<Vec<Turn<L, R, W>>, Vec<Turn<L, R, W>>>
@@ -116,6 +115,8 @@ pub(crate) fn run_threads<
         gate,
         clock,
     } = setting;
+    let start = Mutex::new(false);
+    let start = &start;
     thread::scope(
         thread::scope_env(),
         rt,
@@ -146,7 +147,13 @@ pub(crate) fn run_threads<
             }
             *begins = true;
             drop(begins);
-            Ok(run_beside(rt, alloc, hub, turns, clock, any_works))
+            let post = Post {
+                rt,
+                alloc,
+                hub,
+                clock,
+            };
+            Ok(run_beside(post, turns, any_works))
         },
     )
 }

@@ -10,5 +10,5 @@ for_each_mut-requires-sync-F g c κs within =
     search (sendable, crosses, sync, hub_sync, c.requires) depth 20
 
 pub returns : goal.returns
-returns g c = all_run (g.K.Clock.gives c.args.clock.now) c.args.turns.now c.for_each_mut.new.s c.for_each_mut.auto.s (λ i d less.
+returns g c = all_run (g.K.Clock.gives c.args.post.clock.now) c.args.turns.now c.for_each_mut.new.s c.for_each_mut.auto.s (λ i d less.
     let at = (c.for_each_mut.ensures i d less).1 in rw (sym at.argument_is, sym at.left) at.call)

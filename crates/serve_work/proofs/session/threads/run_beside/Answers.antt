@@ -4,11 +4,11 @@ use Rattle.serve_work.proofs.SessionTurns.{all_run_whole, all_stay}
 use Rattle.serve_work.proofs.session.threads.run_beside.Goals as goal
 
 pub returns-then-not-any_works : goal.returns-then-not-any_works
-returns-then-not-any_works g c = record { count = refl; run = all_stay (g.K.Clock.gives c.args.clock.now) c.args.turns.items }
+returns-then-not-any_works g c = record { count = refl; run = all_stay (g.K.Clock.gives c.args.post.clock.now) c.args.turns.items }
 
 pub returns : goal.returns
 returns g c =
-    let gives = g.K.Clock.gives c.args.clock.now in
+    let gives = g.K.Clock.gives c.args.post.clock.now in
     let turns = c.args.turns in
     record {
       count = refl;
