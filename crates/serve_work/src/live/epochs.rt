@@ -224,10 +224,7 @@ pub(super) fn first_epoch<
         Some(made) => {
             let (mut opening, seat) = made;
             opening.hall.seat(seat, ticket, Stream::new(reader, writer));
-            match epoch(setting, opening, door) {
-                Ok(interval) => Ok(Some(interval)),
-                Err(fault) => Err(fault),
-            }
+            Ok(Some(epoch(setting, opening, door)?))
         }
     }
 }
