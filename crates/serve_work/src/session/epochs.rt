@@ -1,6 +1,6 @@
 //! The epochs of a session, each with a journal of its own.
-ghost use Rattle.std.specs.Prelude.{◌≡◌, ◌<◌, ◌≤◌, ◌↔◌, true, [], IfErr, IfNone, IfOk, IfSome, IsFalse};
-ghost use Rattle.std.specs.Prelude.{IsTrue, OnOk, length};
+ghost use Rattle.std.specs.Prelude.{◌≡◌, ◌<◌, ◌≤◌, ◌↔◌, true, [], IfErr, IfOk, IsFalse, IsTrue};
+ghost use Rattle.std.specs.Prelude.{OnErr, OnOk, length};
 ghost use Rattle.serve_core.specs.Schedule.{opened_schedule};
 ghost use Rattle.serve_hub.specs.Books.{IsLimit, entries_left};
 ghost use Rattle.serve_work.specs.Intervals.{CanName, Continues, GoesLater, IsBetweenEpochs, IsLater};
@@ -41,21 +41,22 @@ fn any_waits<R: Source, W: Sink>(streams: &Vec<Stream<R, W>>) -> bool
 }
 
 /// Whether the session is cut where an epoch ended so. A stream waits for another behind a full journal.
-/// Where no worker started in a later epoch, it has no entry, and none can begin any more. There is no answer
+/// Where no worker started in a later epoch, it has no entry, and none can begin any more. It is a mismatch
 /// where streams wait behind other journals.
-fn is_cut(ended: &Ended, waits: bool, is_first: bool) -> Option<bool>
-    ensures full { IfSome result (λ cut. IsFalse cut → IsTrue waits → entries_left ended.now.book < 2) }
-    ensures empty { IfSome result (λ cut. IsTrue cut → ended.now.book.past ≡ []) }
-    ensures later { IfSome result (λ cut. IsTrue cut → IsFalse is_first) }
-    ensures none { IfNone result (IsTrue waits × (2 ≤ entries_left ended.now.book)) }
+fn is_cut(ended: &Ended, waits: bool, is_first: bool) -> Result<bool, SessionFault>
+    ensures full { IfOk result (λ cut. IsFalse cut → IsTrue waits → entries_left ended.now.book < 2) }
+    ensures empty { IfOk result (λ cut. IsTrue cut → ended.now.book.past ≡ []) }
+    ensures later { IfOk result (λ cut. IsTrue cut → IsFalse is_first) }
+    ensures fault { IfErr result (λ e. e ≡ SessionFault.Mismatch) }
+    ensures waits { OnErr result (IsTrue waits × (2 ≤ entries_left ended.now.book)) }
 {
     if !waits || ended.left() < 2 {
-        return Some(false);
+        return Ok(false);
     }
     if is_first || !ended.journal().is_empty() {
-        return None;
+        return Err(SessionFault::Mismatch);
     }
-    Some(true)
+    Ok(true)
 }
 
 /// The streams go on with their seats of this epoch, until all are over or the journal is full. In the first
@@ -98,7 +99,7 @@ fn epoch<L: Epoch + Send + Sync, R: SentSource, W: SentSink, G: LentGate, K: Len
         return Err(Unended::Mismatch);
     };
     let waits = any_waits(&streams);
-    let Some(is_cut) = is_cut(&ended, waits, is_first) else {
+    let Ok(is_cut) = is_cut(&ended, waits, is_first) else {
         return Err(Unended::Mismatch);
     };
     Ok(Interval {

@@ -106,10 +106,10 @@ returns-clause-later g c =
           record {
             more = ended.book.past;
             epochs =
-                epoch_ends b c.args.is_first c.in-Some.is_cut c.any_waits-waits.result journal ended.book.past ended.book.desk
-                c.in-Some.ensures.empty c.in-Some.ensures.later
+                epoch_ends b c.args.is_first c.in-Ok-is_cut.is_cut c.any_waits-waits.result journal ended.book.past ended.book.desk
+                c.in-Ok-is_cut.ensures.empty c.in-Ok-is_cut.ensures.later
                 (λ goes_on. ends_epoch b.limit _ ended.book c.in-Ok-finish.ensures.end.is_book hub_limit c.in-Ok-finish.ensures.end.agree.free
-                spent (c.in-Some.ensures.full goes_on)) on;
+                spent (c.in-Ok-is_cut.ensures.full goes_on)) on;
             moments = all_timed gives journal ended.book.past b.schedule _ b.starts helds ran.0 at.past.is_journal.leads.1
                 (entries_on b.schedule _ ended.book c.in-Ok-finish.ensures.end.is_book same on.specs) at.stand ran.2 calls
                 (reached_on b.schedule _ ended.book _ same on.specs reached) (held_new seats streams.items at.no_calls);
