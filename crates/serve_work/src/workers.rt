@@ -89,7 +89,9 @@ pub fn work<L: Epoch, G: Gate + Sync, T: Threads + Wait>(
             Ok(lease) => lease,
             Err(refusal) => return (seat, refusal),
         };
-        gate.lease_begins(seat.worker());
+        if gate.follows_leases() {
+            gate.lease_begins(seat.worker());
+        }
         spend(rt, seat.worker(), &mut lease, gate);
         let stint = stint_of(&lease);
         if let Err(refused) = hub.settle(rt, &mut seat, lease) {
