@@ -1,13 +1,15 @@
 -- What a worker adds to its seat's calls.
-use Rattle.std.proofs.Common.{◌≡◌, ℕ, Bool, true, List, [], ◌∷◌, ◌++◌, Option, Some, None, MatchOption, refl}
-use Rattle.std.proofs.Common.{ap, ◌∙◌, append_assoc, inl, inr}
+use Rattle.std.proofs.Common.{◌≡◌, ◌≢◌, ℕ, Bool, true, List, [], ◌∷◌, ◌++◌, Option, Some, None, MatchOption, refl}
+use Rattle.std.proofs.Common.{ap, ◌∙◌, append_assoc, inl, inr, subst, sym}
+use Rattle.std.specs.Prelude.{IfSome}
 use Rattle.lease.specs.Lease.{LeaseValue}
+use Rattle.serve_core.specs.declared.refusal.Refusal.TheVariants as cores
 use Rattle.serve_hub.specs.declared.entry.Act.{Act}
 use Rattle.serve_hub.specs.declared.entry.Act.TheVariants.{Admitted, Closed, Collected, Leased, Offered, Settled}
 use Rattle.serve_hub.specs.declared.refusal.Came.TheVariants as came
 use Rattle.serve_hub.specs.declared.refusal.Refusal.{Refusal}
 use Rattle.serve_hub.specs.declared.refusal.Refusal.TheVariants.{Core, HistoryFull, StrayLease, Torn}
-use Rattle.serve_hub.specs.Calls.{FinishesOther}
+use Rattle.serve_hub.specs.Calls.{FinishesOther, IsEndOfLeases, IsSettleRefusal}
 use Rattle.serve_hub.specs.Seats.{WorkSeatValue}
 use Rattle.serve_work.specs.Workers.{AreSpent, Works, adding}
 
@@ -46,20 +48,32 @@ works_on seat s0 s1 s2 added stream number grant bands finished spent p q r e = 
       ∙ adding_more added (Leased stream number grant ∷ Settled bands finished ∷ []) seat,
 )
 
--- a lease that isn't settled
-pub works_last : (seat s0 s1 s2 : WorkSeatValue) (added : List Act) (stream number grant : ℕ)
-    → AreSpent added → s0 ≡ adding added seat → s1 ≡ adding (Leased stream number grant ∷ []) s0 → s2 ≡ s1
-    → Works seat s2
-works_last seat s0 s1 s2 added stream number grant spent p q r = record {
-  added = added ++ Leased stream number grant ∷ [];
-  seat = r ∙ q ∙ ap (adding (Leased stream number grant ∷ [])) p ∙ adding_more added (Leased stream number grant ∷ []) seat;
-  spent = inr (record { spent = added; stream = stream; number = number; grant = grant; are_spent = spent; last = refl });
+-- no more leases
+pub works_to_end : (seat s0 s1 : WorkSeatValue) (added : List Act) (e : Refusal) → AreSpent added
+    → s0 ≡ adding added seat → s1 ≡ s0 → IsEndOfLeases s0 e → e ≢ Core cores.NoneReady → Works seat s1 e
+works_to_end seat s0 s1 added e spent p q why waited = record {
+  added = added;
+  seat = q ∙ p;
+  ends = inl (spent, subst (λ (s : WorkSeatValue). IsEndOfLeases s e) (sym q) why, waited);
 }
 
--- what is settled after all is settled whole
+-- a lease that isn't settled
+pub works_last : (seat s0 s1 s2 : WorkSeatValue) (added : List Act) (stream number grant : ℕ) (e : Refusal)
+    → AreSpent added → s0 ≡ adding added seat → s1 ≡ adding (Leased stream number grant ∷ []) s0 → s2 ≡ s1
+    → IsSettleRefusal s1 e → Works seat s2 e
+works_last seat s0 s1 s2 added stream number grant e spent p q r why = record {
+  added = added ++ Leased stream number grant ∷ [];
+  seat = r ∙ q ∙ ap (adding (Leased stream number grant ∷ [])) p ∙ adding_more added (Leased stream number grant ∷ []) seat;
+  ends = inr (inl (
+    record { spent = added; stream = stream; number = number; grant = grant; are_spent = spent; last = refl },
+    subst (λ (s : WorkSeatValue). IsSettleRefusal s e) (sym r) why,
+  ));
+}
+
+-- what is settled after all is settled whole, and told as another number
 settled_other : (lease : LeaseValue) (e : Refusal) (old new : WorkSeatValue) → FinishesOther lease e old new
-    → new ≡ adding (Settled lease.used true ∷ []) old
-settled_other lease (Torn (came.Number n)) old new p = p.2
+    → (new ≡ adding (Settled lease.used true ∷ []) old) × ((n : ℕ) × (e ≡ Torn (came.Number n)))
+settled_other lease (Torn (came.Number n)) old new p = (p.2, (n, refl))
 settled_other lease (Torn (came.Refused e)) old new p = absurd p
 settled_other lease (Torn came.Source) old new p = absurd p
 settled_other lease (Torn (came.Limit limit)) old new p = absurd p
@@ -74,10 +88,11 @@ settled_other lease StrayLease old new p = absurd p
 pub works_refused : (seat s0 s1 s2 : WorkSeatValue) (added : List Act) (stream number grant : ℕ) (lease : LeaseValue)
     (e : Refusal) (back : Option LeaseValue) → AreSpent added → s0 ≡ adding added seat
     → s1 ≡ adding (Leased stream number grant ∷ []) s0
-    → MatchOption back (FinishesOther lease e s1 s2) (λ back. (back ≡ lease) × (s2 ≡ s1)) → lease.used ≡ grant
-    → Works seat s2
-works_refused seat s0 s1 s2 added stream number grant lease e None spent p q r used =
-    let more = works_on seat s0 s1 s2 added stream number grant lease.used true spent p q (settled_other lease e s1 s2 r) used in
-    record { added = more.0; seat = more.2; spent = inl more.1 }
-works_refused seat s0 s1 s2 added stream number grant lease e (Some back) spent p q r used =
-    works_last seat s0 s1 s2 added stream number grant spent p q r.1
+    → MatchOption back (FinishesOther lease e s1 s2) (λ back. (back ≡ lease) × (s2 ≡ s1))
+    → IfSome back (λ _. IsSettleRefusal s1 e) → lease.used ≡ grant → Works seat s2 e
+works_refused seat s0 s1 s2 added stream number grant lease e None spent p q r why used =
+    let other = settled_other lease e s1 s2 r in
+    let more = works_on seat s0 s1 s2 added stream number grant lease.used true spent p q other.0 used in
+    record { added = more.0; seat = more.2; ends = inr (inr (more.1, other.1)) }
+works_refused seat s0 s1 s2 added stream number grant lease e (Some back) spent p q r why used =
+    works_last seat s0 s1 s2 added stream number grant e spent p q r.1 why

@@ -1,9 +1,14 @@
 -- What a worker adds to its seat's calls.
-use Rattle.std.specs.Prelude.{ℕ, ◌≡◌, ◌<◌, ◌⊎◌, List, [], ◌∷◌, ◌++◌, ⊤, reverse}
+use Rattle.std.specs.Prelude.{ℕ, ◌≡◌, ◌≢◌, ◌<◌, ◌⊎◌, List, [], ◌∷◌, ◌++◌, ⊤, reverse}
+use Rattle.serve_core.specs.declared.refusal.Refusal.TheVariants as cores
 use Rattle.serve_hub.specs.declared.entry.Act.{Act}
 use Rattle.serve_hub.specs.declared.entry.Act.TheVariants.{Leased, Settled}
 use Rattle.serve_hub.specs.declared.entry.Entry.{Entry}
 use Rattle.serve_hub.specs.declared.entry.Seat.TheVariants.{Worker}
+use Rattle.serve_hub.specs.declared.refusal.Came.TheVariants as came
+use Rattle.serve_hub.specs.declared.refusal.Refusal.{Refusal}
+use Rattle.serve_hub.specs.declared.refusal.Refusal.TheVariants.{Core, Torn}
+use Rattle.serve_hub.specs.Calls.{IsEndOfLeases, IsSettleRefusal}
 use Rattle.serve_hub.specs.Ends.{acts_of}
 use Rattle.serve_hub.specs.Seats.{WorkSeatValue}
 
@@ -30,8 +35,15 @@ pub record HasLast (calls : List Act) : Type 0 where
 abbrev pub adding : List Act → WorkSeatValue → WorkSeatValue
 adding calls seat = record seat { calls = record seat.calls { list = seat.calls.list ++ calls } }
 
--- a worker leased and settled, and all else of its seat stays
-pub record Works (old new : WorkSeatValue) : Type 0 where
+-- why a worker ends behind these calls, with its seat as it is then: it gets no more leases; its last lease
+-- isn't settled and comes back; or that was settled, and finished a frame of another number
+abbrev pub EndsWork : List Act → WorkSeatValue → Refusal → Type 0
+EndsWork calls seat e =
+    (AreSpent calls × IsEndOfLeases seat e × (e ≢ Core cores.NoneReady))
+    ⊎ ((HasLast calls × IsSettleRefusal seat e) ⊎ (AreSpent calls × ((n : ℕ) × (e ≡ Torn (came.Number n)))))
+
+-- a worker leased and settled until this refusal, and all else of its seat stays
+pub record Works (old new : WorkSeatValue) (e : Refusal) : Type 0 where
   pub added : List Act
   pub seat : new ≡ adding added old
-  pub spent : AreSpent added ⊎ HasLast added
+  pub ends : EndsWork added new e

@@ -81,7 +81,7 @@ pub fn work<L: Epoch, G: Gate + Sync, T: Threads + Wait>(
     seat: WorkSeat<L>,
     gate: &G,
 ) -> (WorkSeat<L>, Refusal)
-    ensures { Works seat result.0 }
+    ensures { Works seat result.0 result.1 }
 {
     let mut seat = seat;
     for _ in rt.forever() {
