@@ -104,11 +104,6 @@ impl<R: Read> Ahead<R> {
             Err(error) => self.told = Told::Fault(error),
         }
     }
-
-    /// Gives the reader up, and loses what is held.
-    pub fn into_reader(self) -> R {
-        self.reader
-    }
 }
 
 impl<R: Read> Read for Ahead<R> {
