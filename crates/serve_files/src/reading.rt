@@ -23,10 +23,12 @@ impl Reading {
         Some(Reading { flag })
     }
 
+    /// Whether the flag says that the reader is being read. That may be past once it is answered.
     pub fn is_on(&self) -> bool {
         self.flag.load(Ordering::SeqCst)
     }
 
+    /// Says whether the reader is being read, to all who have the flag.
     pub fn set(&self, is_on: bool) {
         self.flag.store(is_on, Ordering::SeqCst);
     }
