@@ -20,12 +20,13 @@ pub struct Room {
 
 impl Model for Room {
     ghost use Rattle.std.specs.Prelude.{ℕ, ◌≡◌, length};
+    ghost use Rattle.serve_files.specs.declared.load.TheConstants.{MOST};
 
     ghost Value = { ℕ };
 
     ghost view = { λ r. length r.bytes.items };
 
-    ghost invariant = { λ r. length r.bytes.items ≡ 1048576 };
+    ghost invariant = { λ r. length r.bytes.items ≡ MOST };
 }
 
 impl Room {
@@ -58,6 +59,7 @@ pub struct Load<W: Write> {
 impl<W: Write> Model for Load<W> {
     ghost use Rattle.std.specs.Prelude.{◌≡◌, ◌≤◌, length, take};
     ghost use Rattle.serve_files.specs.Relays.{IsBounded, LoadState};
+    ghost use Rattle.serve_files.specs.declared.load.TheConstants.{MOST};
 
     ghost Value = { LoadState };
 
@@ -67,7 +69,7 @@ impl<W: Write> Model for Load<W> {
       answer = l.answer;
     } };
 
-    ghost invariant = { λ l. (l.len ≤ length l.bytes.items) × (length l.bytes.items ≡ 1048576)
+    ghost invariant = { λ l. (l.len ≤ length l.bytes.items) × (length l.bytes.items ≡ MOST)
         × IsBounded (take l.len l.bytes.items) l.answer };
 }
 
@@ -93,7 +95,7 @@ impl<W: Write> Load<W> {
 
     /// Takes a front of these bytes: at most 1 MiB.
     pub fn take(&mut self, buf: &[u8])
-        ensures handed { self.new.handed ≡ take 1048576 buf.now }
+        ensures handed { self.new.handed ≡ take MOST buf.now }
         ensures contents { self.new.contents ≡ self.old.contents }
         ensures answer { self.new.answer ≡ Answer.Awaited }
     {
