@@ -1,7 +1,7 @@
 -- The lines that show how far the streams of a run have come.
 use Rattle.std.specs.Prelude.{ℕ, Bool, true, false, List, ◌∷◌, ◌++◌, codes, decimal, length}
 use Rattle.std.specs.List.{flat_map}
-use Rattle.serve_watch.specs.declared.progress.StreamProgress.{StreamProgress}
+use Rattle.serve_watch.specs.declared.board.StreamProgress.{StreamProgress}
 
 -- `NAME frames in I out O`
 abbrev pub progress_text : StreamProgress → List ℕ

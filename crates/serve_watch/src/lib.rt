@@ -2,10 +2,15 @@
 //! and clients do.
 #![tactic(auto)]
 
-mod progress;
+mod board;
+mod due;
+mod line;
 mod trace;
 mod watch;
+mod watched;
 
-pub use progress::{Board, Line, WatchedSink, WatchedSource};
+pub use board::Board;
+pub use line::Line;
 pub use trace::{Doing, Trace};
 pub use watch::{Unwatched, Watch, watch_of_frames};
+pub use watched::{WatchedSink, WatchedSource};

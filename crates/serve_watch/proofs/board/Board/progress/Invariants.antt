@@ -1,5 +1,5 @@
 use Rattle.std.proofs.Common.{◌≡◌, map, string_bytes, take}
-use Rattle.serve_watch.proofs.progress.Board.progress.Given as goal
+use Rattle.serve_watch.proofs.board.Board.progress.Given as goal
 
 -- the streams so far have the names of the rows so far
 abbrev pub invariant-loop-row : goal.invariant-loop-row

@@ -1,7 +1,7 @@
 use Rattle.std.proofs.Common.{take}
 use Rattle.std.specs.Io.KnownBytes.{Appends}
 use Rattle.serve_watch.specs.Board.{lines_drawn}
-use Rattle.serve_watch.proofs.progress.write_lines.Given as goal
+use Rattle.serve_watch.proofs.board.write_lines.Given as goal
 
 abbrev pub invariant-loop-stream : goal.invariant-loop-stream
 invariant-loop-stream g l =

@@ -3,7 +3,7 @@ use Rattle.std.proofs.KnownBytes.{Appends-trans}
 use Rattle.std.specs.Io.KnownBytes.{Appends}
 use Rattle.serve_watch.specs.Board.{line_drawn}
 use Rattle.serve_watch.proofs.Texts.{text_more}
-use Rattle.serve_watch.proofs.progress.write_lines.Goals as goal
+use Rattle.serve_watch.proofs.board.write_lines.Goals as goal
 
 pub loop-stream-preserved : goal.loop-stream-preserved
 loop-stream-preserved g c =
