@@ -10,8 +10,5 @@ mod spool;
 mod stream;
 mod worker;
 
-pub use doings::{Doings, Stretch};
-pub use file::TraceFile;
-pub use lane::Lane;
-pub use record::{Client, Doing, Frames, Lead, Leads, Leased, StreamName, WorkerName};
+pub use record::Doing;
 pub use run::Trace;
