@@ -94,7 +94,8 @@ impl Line {
         }
     }
 
-    /// So many images more have been written whole, and so many bytes.
+    /// So many images more have been written whole, and so many bytes. They are left out where the line can't
+    /// be had at once, as while another thread has it.
     pub fn add_written(&self, frames: u64, bytes: u64) {
         if let Some(mut progress) = self.progress.try_lock() {
             let before = *progress;
@@ -102,7 +103,7 @@ impl Line {
         }
     }
 
-    /// Draws the line, if it may be drawn at this time.
+    /// Draws the line, if it may be drawn at this time and can be had at once.
     pub fn draw<E: Write>(&self, errors: &mut E, time: u64) {
         let Some(mut progress) = self.progress.try_lock() else {
             return;
@@ -114,7 +115,8 @@ impl Line {
         }
     }
 
-    /// Draws the line a last time, where the time is known, and ends it, where it was drawn before.
+    /// Draws the line a last time, where the time is known, and ends it, where it was drawn before and can be
+    /// had at once.
     pub fn draw_last<E: Write>(&self, errors: &mut E, time: Option<u64>) {
         let Some(progress) = self.progress.try_lock() else {
             return;
