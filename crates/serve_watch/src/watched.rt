@@ -25,6 +25,7 @@ pub struct WatchedSink<'w, S: Sink, V: Watch> {
 }
 
 impl<'w, S: Source, V: Watch> WatchedSource<'w, S, V> {
+    /// Nothing was told yet of this source. Where there is no watch nothing is told.
     pub fn new(source: S, stream: usize, watch: Option<&'w V>) -> WatchedSource<'w, S, V>
         ensures source { result.source ≡ source }
         ensures stream { result.stream ≡ stream }
@@ -38,6 +39,7 @@ impl<'w, S: Source, V: Watch> WatchedSource<'w, S, V> {
 }
 
 impl<'w, S: Sink, V: Watch> WatchedSink<'w, S, V> {
+    /// Nothing was told yet of this sink. Where there is no watch nothing is told.
     pub fn new(sink: S, stream: usize, watch: Option<&'w V>) -> WatchedSink<'w, S, V>
         ensures sink { result.sink ≡ sink }
         ensures stream { result.stream ≡ stream }
