@@ -45,7 +45,7 @@ impl fmt::Display for StreamProgress<'_> {
 /// Whether the lines of streams may be drawn at this time: at least a fifth of a second after they were last
 /// drawn, or after the start.
 fn is_due(drawn: Option<u64>, time: u64) -> bool
-    ensures { IsTrue result ↔ (unwrap_or drawn 0 + 200 ≤ time) }
+    ensures { IsTrue result ↔ (unwrap_or drawn 0 + BETWEEN_DRAWINGS ≤ time) }
 {
     has_passed(BETWEEN_DRAWINGS, drawn, time)
 }

@@ -48,7 +48,7 @@ impl LineProgress {
     /// Whether its line may be shown at this time: at least a tenth of a second after the one before and the
     /// start.
     fn is_due(self, time: u64) -> bool
-        ensures { IsTrue result ↔ (unwrap_or self.shown 0 + 100 ≤ time) }
+        ensures { IsTrue result ↔ (unwrap_or self.shown 0 + BETWEEN_LINES ≤ time) }
     {
         has_passed(BETWEEN_LINES, self.shown, time)
     }
