@@ -235,7 +235,7 @@ Faults of the script, printed as the last line, 'line N: WORD'; status 1:
   BadLine        The line has none of these forms, or not one for its place: of
                  the other kind of script, or on the wrong side of 'start'. Also
                  an arrival of more than 16384 samples that are no frame of
-                 the stream, or where no stream has the name.
+                 a stream with the name.
   BadName        A stream has the name.
   Range          At 'charge': K, or D afterwards, is over its limit.
   BadOp          A part of OPS has none of the forms of an operation.
@@ -394,9 +394,10 @@ there how far it has come, at most five times a second: 'NAME frames in I out O'
 Stops, the ends of these lines:
   whole          All frames were read, and all images written.
   open           IN can't be opened, or is a FIFO that another stream reads. OUT
-                 is not made, at the next two neither.
-  read F         F as for 'filter'. A header that is refused stops before OUT.
-  ops E          E is BadCrop, TooManySteps or NoMemory, as for 'filter'.
+                 is not made.
+  read F         F as for 'filter'. Without a good header OUT is not made.
+  ops E          E is BadCrop, TooManySteps or NoMemory, as for 'filter'. OUT is
+                 not made.
   create         OUT can't be made.
   write N        Writing failed, or nobody reads on; N bytes went out.
   refused TooManyFrames  One more frame follows the last that is read.
@@ -438,7 +439,8 @@ Faults, each one line on standard error behind 'y4mserve: '; status 2:
   BadOp NAME            A part of the stream's OPS is no operation.
   TooManyOps NAME       Its OPS has more than 8 parts.
   repeated file FILE    A FIFO, or a file that is written, stands twice; the
-                        report's file and that of --trace count too.
+                        report's file and those of --control and --trace count
+                        too.
   trace and control     There are --trace and --control.
 Status 1, before any file is opened:
   control               FILE can't be opened.
