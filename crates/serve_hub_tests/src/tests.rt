@@ -55,6 +55,7 @@ struct Served<'a> {
     rows: u32,
     account: (u64, u64),
     queue: u64,
+    outbox: u64,
 }
 
 /// A stream of single samples.
@@ -64,6 +65,7 @@ const PLAIN: Served<'static> = Served {
     rows: 16,
     account: (1, 4),
     queue: 16,
+    outbox: 4,
 };
 
 /// Compares what a call gave with what is wanted. Beside a hub or a book a branch is dear to prove: a call of
@@ -123,7 +125,7 @@ fn stream_spec_of(alloc: Global, served: &Served<'_>) -> Result<StreamSpec, Fail
         q,
         t,
         served.queue,
-        4,
+        served.outbox,
         1 << 24,
     ))
 }

@@ -1,14 +1,17 @@
-//! A worker that gives its frame back and asks for no more, beside one that waits.
+//! A worker that waits, beside one that gives its frame back and asks for no more, or beside a full outbox.
 ghost use Rattle.std.specs.Prelude.{◌≡◌};
 ghost use Rattle.serve_core.specs.Schedule.{opened_schedule};
 ghost use Rattle.std.specs.Thread.{IsSend, IsSync};
 
 use super::leases::{TALL, TALL_FRAME};
 use super::seated::{Seated, seated_after};
-use super::{same, setup_of, stepped};
+use super::steps::{Answer, Call, Step};
+use super::{PLAIN, Served, same, setup_of, stepped};
 use lease::Lease;
-use serve_core::Setup;
-use serve_hub::{Ended, Epoch, Hub, LeaseRefused, Refusal, Settled, StreamSeat, WorkSeat};
+use serve_core::{Collected, Setup};
+use serve_hub::{
+    CollectRefused, Ended, Epoch, Hub, LeaseRefused, Refusal, Settled, StreamSeat, WorkSeat,
+};
 use std::alloc::Global;
 use std::marker::Brand;
 use std::process::Abort;
@@ -21,7 +24,7 @@ use std::thread::Threads;
 use std::time::Duration;
 
 /// For how many milliseconds the first worker keeps its lease, so that the other one waits, and a client
-/// pauses before it looks for its image again.
+/// pauses before it looks for its image again, or before it collects, so that the worker waits.
 const PAUSE: u64 = 5;
 
 /// How often a client looks for its image.
@@ -98,6 +101,108 @@ fn helped<L: Epoch + Send + Sync, R: Threads + Wait + Abort + Clock + Sync>(
             }
         },
     )
+}
+
+/// A stream whose outbox holds one image.
+const NARROW: Served<'static> = Served { outbox: 1, ..PLAIN };
+
+/// Its frames, which are all offered before a worker leases.
+const THREE_FRAMES: &[Step] = &[
+    (Call::Offer(0, 7), Answer::Accepted(0)),
+    (Call::Offer(0, 9), Answer::Accepted(1)),
+    (Call::Offer(0, 11), Answer::Accepted(2)),
+];
+
+/// The worker waits twice, since the outbox is full. A call that waits collects the first image, and one that
+/// doesn't the second one.
+#[test]
+fn a_collection_from_a_full_outbox_wakes_a_worker(rt: HostRuntime) -> Result<(), Fail> {
+    for _ in 0..20 {
+        let setup = setup_of(rt.alloc(), 1, &[NARROW])?;
+        let ended = narrow_end::<Brand, _>(&rt, rt.alloc(), Blank::new(80), setup)?;
+        same(&rt, ended.bands(0), 3);
+    }
+    Ok(())
+}
+
+/// What a hub leaves whose worker finished three frames, while a client collected their images.
+fn narrow_end<L: Epoch + Send + Sync, R: Threads + Wait + Abort + Clock + Sync>(
+    rt: &R,
+    alloc: Global,
+    blank: Blank,
+    setup: Setup,
+) -> Result<Ended, Fail>
+    requires name { blank.name ≡ L.name }
+    requires parts { blank.parts ≡ L.parts }
+    requires enough { blank.parts ≡ 80 }
+    requires opening { opened_schedule setup ≡ L.opening }
+{
+    let Seated {
+        hub,
+        mut streams,
+        mut workers,
+    } = seated_after::<L, R>(rt, alloc, blank, setup, THREE_FRAMES)?;
+    let stream = streams.pop().expect(rt, "a stream");
+    let worker = workers.pop().expect(rt, "a worker");
+    let (stream, worker) = serve_three(rt, &hub, stream, worker);
+    streams.push(stream).expect(rt, "a place");
+    workers.push(worker).expect(rt, "a place");
+    let seated = Seated {
+        hub,
+        streams,
+        workers,
+    };
+    Ok(seated.ended(rt))
+}
+
+/// The worker has a thread of its own.
+fn serve_three<L: Epoch + Send + Sync, R: Threads + Wait + Abort + Clock + Sync>(
+    rt: &R,
+    hub: &Hub<L>,
+    stream: StreamSeat<L>,
+    worker: WorkSeat<L>,
+) -> (StreamSeat<L>, WorkSeat<L>) {
+    thread::scope(
+        thread::scope_env(),
+        rt,
+        |scope|
+            requires { IsSync R.row × IsSync L.row × IsSend L.row }
+        {
+            match scope.spawn(move || work(rt, hub, worker)) {
+                Ok(working) => {
+                    let stream = collect_three(rt, hub, stream);
+                    (stream, working.join(rt))
+                }
+                Err(_) => panic!(rt; "was a thread or its memory refused?"),
+            }
+        },
+    )
+}
+
+/// Collects the images of the three frames, and closes the stream.
+fn collect_three<L: Epoch, R: Wait + Abort + Clock>(
+    rt: &R,
+    hub: &Hub<L>,
+    stream: StreamSeat<L>,
+) -> StreamSeat<L> {
+    let mut stream = stream;
+    pause(rt);
+    let first = sample_of(hub.collect(rt, &mut stream));
+    pause(rt);
+    let second = image_in_time(rt, hub, &mut stream);
+    let third = image_in_time(rt, hub, &mut stream);
+    let _closed = hub.close(rt, &mut stream);
+    let images = [first, second, third];
+    same(rt, images, [Some(255 - 7), Some(255 - 9), Some(255 - 11)]);
+    stream
+}
+
+/// The first sample of the image that was collected.
+fn sample_of(answer: Result<Collected, CollectRefused>) -> Option<u8> {
+    match answer {
+        Ok(pair) => pair.image.data().first().copied(),
+        Err(_) => None,
+    }
 }
 
 /// Leases, does what is granted and settles, until nothing is left.
