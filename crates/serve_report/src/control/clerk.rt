@@ -200,16 +200,8 @@ where
 
     /// Whether a file of a stream is in use by another one, by the run itself or by both ways.
     fn has_clash(&self, word: StreamWord<'_>, input: Place, output: Place) -> bool {
-        let input = FileUse {
-            name: word.input,
-            place: input,
-            is_written: false,
-        };
-        let output = FileUse {
-            name: word.output,
-            place: output,
-            is_written: true,
-        };
+        let input = FileUse::input(word.input, input);
+        let output = FileUse::output(word.output, output);
         if input.clashes_with(&output) || self.is_own(&input) || self.is_own(&output) {
             return true;
         }
@@ -220,12 +212,7 @@ where
     /// Whether the file is that of the report or of the control.
     fn is_own(&self, file: &FileUse<'_>) -> bool {
         for (name, place) in &self.own {
-            let own = FileUse {
-                name,
-                place: *place,
-                is_written: true,
-            };
-            if own.clashes_with(file) {
+            if FileUse::output(name, *place).clashes_with(file) {
                 return true;
             }
         }

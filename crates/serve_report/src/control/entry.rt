@@ -72,16 +72,8 @@ impl<R: Source + Drop, W: Sink + Drop, S: Drop> Entry<R, W, S> {
 
     /// Whether one of the two would lose by it, the stream or who uses the file so.
     pub fn clashes_with(&self, file: &FileUse<'_>) -> bool {
-        let input = FileUse {
-            name: &self.order.input,
-            place: self.input,
-            is_written: false,
-        };
-        let output = FileUse {
-            name: &self.order.output,
-            place: self.output,
-            is_written: true,
-        };
+        let input = FileUse::input(&self.order.input, self.input);
+        let output = FileUse::output(&self.order.output, self.output);
         input.clashes_with(file) || output.clashes_with(file)
     }
 

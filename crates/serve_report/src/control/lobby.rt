@@ -76,11 +76,7 @@ impl<'o, R: Source + Drop, W: Sink + Drop, S: Drop, O: Write, E: Write> Lobby<'o
     /// whether none would.
     pub fn set_input<T: Wait>(&self, rt: &T, order: &Order, place: Place) -> bool {
         let mut table = self.table.lock(rt);
-        let input = FileUse {
-            name: &order.input,
-            place,
-            is_written: false,
-        };
+        let input = FileUse::input(&order.input, place);
         if table.has_clash(Some(order.number), &input) {
             return false;
         }
@@ -115,11 +111,7 @@ impl<'o, R: Source + Drop, W: Sink + Drop, S: Drop, O: Write, E: Write> Lobby<'o
     /// whether none does.
     pub fn set_output<T: Wait>(&self, rt: &T, order: &Order, place: Place) -> bool {
         let mut table = self.table.lock(rt);
-        let output = FileUse {
-            name: &order.output,
-            place,
-            is_written: true,
-        };
+        let output = FileUse::output(&order.output, place);
         if table.has_clash(Some(order.number), &output) {
             return false;
         }

@@ -47,11 +47,7 @@ impl StillRead {
     /// Whether the file is one of these FIFOs.
     pub fn has_clash(&self, file: &FileUse<'_>) -> bool {
         for left in &self.inputs {
-            let input = FileUse {
-                name: "",
-                place: left.input,
-                is_written: false,
-            };
+            let input = FileUse::input("", left.input);
             if left.reading.is_on() && input.clashes_with(file) {
                 return true;
             }

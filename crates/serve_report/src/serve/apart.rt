@@ -1,6 +1,6 @@
 //! Whether the files of a run are told apart.
-ghost use Rattle.std.specs.Prelude.{◌≡◌, ◌↔◌, AllPairs, Any, IfOk, IsTrue, MatchOption, MatchResult};
-ghost use Rattle.std.specs.Prelude.{None, Some};
+ghost use Rattle.std.specs.Prelude.{◌≡◌, ◌↔◌, AllPairs, Any, IfOk, IsFalse, IsTrue, MatchOption};
+ghost use Rattle.std.specs.Prelude.{MatchResult, None, Some};
 ghost use Rattle.serve_report.specs.Apart.{AreUses, Clash, FilesGive, IsApart, IsFirstClash};
 ghost use Rattle.serve_report.specs.Apart.{IsTraceApart};
 ghost use Rattle.serve_words.specs.ServeChecks.{MayTell, all_told};
@@ -21,7 +21,33 @@ pub struct FileUse<'a> {
     pub is_written: bool,
 }
 
-impl FileUse<'_> {
+impl<'a> FileUse<'a> {
+    /// A file that is read.
+    pub fn input(name: &'a str, place: Place) -> FileUse<'a>
+        ensures name { result.name ≡ name.entry }
+        ensures place { result.place ≡ place }
+        ensures read { IsFalse result.is_written }
+    {
+        FileUse {
+            name,
+            place,
+            is_written: false,
+        }
+    }
+
+    /// A file that is written.
+    pub fn output(name: &'a str, place: Place) -> FileUse<'a>
+        ensures name { result.name ≡ name.entry }
+        ensures place { result.place ≡ place }
+        ensures written { IsTrue result.is_written }
+    {
+        FileUse {
+            name,
+            place,
+            is_written: true,
+        }
+    }
+
     /// Whether one of the two would lose what the other reads or writes.
     pub fn clashes_with(&self, other: &FileUse<'_>) -> bool
         ensures { IsTrue result ↔ Clash self.now other.now }

@@ -80,10 +80,7 @@ pub fn are_whole(rows: &[StreamRow<'_>]) -> bool
 fn is_whole(stop: StreamStop) -> bool
     ensures { result ≡ is_whole_stop stop }
 {
-    match stop {
-        StreamStop::Whole => true,
-        _ => false,
-    }
+    matches!(stop, StreamStop::Whole)
 }
 
 /// The units that were done for all streams. A number of 64 bits stays at its last value.
