@@ -5,7 +5,7 @@ use serve_watch::Watch;
 use serve_work::{Gate, Stint};
 use std::alloc::{AllocError, Global};
 
-/// A gate that is told of everything and notes nothing. Each band is done by one thread.
+/// A gate that notes nothing. Each band is done by one thread.
 #[derive(Clone, Copy)]
 pub struct PlainGate;
 

@@ -29,13 +29,13 @@ pub enum AdmitFault {
 pub enum StreamStop {
     /// The input was read to its end, and the images of all its frames were written.
     Whole,
-    /// The input couldn't be opened.
+    /// The input couldn't be opened, or is a FIFO that another stream reads.
     Open,
     /// The input couldn't be read on.
     Read(ReadFault),
     /// The operations make no chain for the input's frames.
     Ops(FilterError),
-    /// The output couldn't be made.
+    /// The output couldn't be made, or is another stream's file.
     Create,
     /// The output couldn't be written on.
     Write(WriteFault),
@@ -43,7 +43,8 @@ pub enum StreamStop {
     Refused(Cause),
     /// What was answered contradicts what was asked.
     Torn,
-    /// It was closed while it was read, and the images of all that was read were written.
+    /// It was closed, and the images of all that was read were written; or the run failed before it was
+    /// served.
     Closed,
     /// It wasn't admitted.
     Admit(AdmitFault),
