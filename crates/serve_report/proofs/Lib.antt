@@ -2,7 +2,7 @@ pub mod Apart
 pub mod Inputs
 pub mod Reporting
 pub mod Openings
-pub mod Filtering
+pub mod Filtered
 pub mod Lines
 pub mod Feeding
 pub mod TakenBack

@@ -12,15 +12,21 @@ pub record AreAsked (words : FilterWords) (ops : List Op) (height : BandHeight) 
   pub operations : ops_of words.operations.now ≡ Some ops
   pub band : height.rows ≡ words.band
 
+-- what is answered where the input is filtered by these operations, however far it was read ahead, and what
+-- was written
+abbrev pub IsFilteredBy : List Op → BandHeight → (input before after : Option (List ℕ))
+    → Result ℕ FilterFault → Type 0
+IsFilteredBy ops height input before after answer = (left : Option (List ℕ))
+    × IsFilteredAhead answer ops height
+    (record { input = input; left = left; before = before; after = after })
+
 -- what is answered where the input is filtered as the words ask, and what was written
 pub record Filters (words : FilterWords) (input before after : Option (List ℕ))
     (answer : Result ℕ FilterFault) : Type 0 where
   pub ops : List Op
   pub height : BandHeight
   pub asked : AreAsked words ops height
-  pub left : Option (List ℕ)
-  pub filtered : IsFilteredAhead answer ops height
-      (record { input = input; left = left; before = before; after = after })
+  pub filtered : IsFilteredBy ops height input before after answer
 
 -- the whole input was filtered
 abbrev pub FiltersAll : FilterWords → (input before after : Option (List ℕ)) → Type 0

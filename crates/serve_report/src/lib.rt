@@ -1,7 +1,9 @@
 //! The program over any readers and writers.
 #![tactic(auto)]
 
+mod bounds;
 pub mod control;
+mod filtering;
 mod lent;
 pub mod program;
 mod serve;

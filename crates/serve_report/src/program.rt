@@ -1,70 +1,23 @@
 //! The program, over any reader and writers.
-ghost use Rattle.std.specs.Prelude.{ℕ, ◌≡◌, ◌≤◌, ◌⊎◌, ◌↔◌, Bool, IfOk, IsOk, List, Ok, Option, Result, true};
-ghost use Rattle.std.specs.Prelude.{map, string_bytes};
+ghost use Rattle.std.specs.Prelude.{◌≡◌, ◌≤◌, ◌↔◌, Bool, Ok, Result, map, string_bytes, true};
 ghost use Rattle.std.specs.Io.KnownBytes.{Appends, Keeps};
-ghost use Rattle.y4m_stream.specs.Filtered.{IsFiltered, IsFilteredAhead};
-ghost use Rattle.serve_report.specs.Filtering.{AreAsked, FiltersAll, FiltersTo};
 ghost use Rattle.serve_report.specs.Runs.{IsDone, Replays, RunsWell};
 
+use crate::filtering::run_filter;
 use crate::lent::{LentWriter, Loan, NamedWriter};
 use crate::serve::run_serve;
 use crate::tell::tell;
-use filters::{FilterError, Op, parse_ops};
-use row_bands::BandHeight;
 use serve_files::Files;
 use serve_script::{ReplayFault, replay};
-use serve_watch::{Unwatched, Watch, WatchedSink, WatchedSource, watch_of_frames};
-use serve_words::{FilterWords, NoRequest, Request, read_words};
+use serve_watch::{Unwatched, Watch};
+use serve_words::{NoRequest, Request, read_words};
 use std::alloc::Global;
-use std::fmt;
 use std::io::{Read, Write};
 use std::marker::Brand;
 use std::sync::Wait;
 use std::thread::Threads;
 use std::time::Clock;
-use y4m_stream::{
-    FilterFault, OverRead, OverWrite, Sink, Source, filter_overlapped, filter_stream,
-};
-
-/// What is said where the input is a terminal.
-const AWAITED: &str =
-    "waiting for a stream (.y4m) on standard input, which is a terminal; for help: y4mserve filter --help";
-
-/// The number of a stream that is alone.
-const ALONE: usize = 0;
-
-/// Why a stream is not read at all.
-#[derive(Clone, Copy)]
-enum WordFault {
-    /// The rows of a band are odd.
-    BadBand,
-    /// The operations, or there was no memory for them.
-    Ops(FilterError),
-    /// The images would be shown as text.
-    Terminal,
-}
-
-impl fmt::Display for WordFault {
-    fn fmt<W: fmt::Write>(&self, f: &mut fmt::Formatter<W>) -> fmt::Result {
-        match *self {
-            WordFault::BadBand => write!(f, "bad band"),
-            WordFault::Ops(error) => write!(f, "{error}"),
-            WordFault::Terminal => write!(f, "output is a terminal"),
-        }
-    }
-}
-
-impl WordFault {
-    fn status(self) -> u8
-        ensures least { 1 ≤ result }
-        ensures most { result ≤ 2 }
-    {
-        match self {
-            WordFault::Ops(FilterError::NoMemory) => 1,
-            _ => 2,
-        }
-    }
-}
+use y4m_stream::{OverRead, OverWrite};
 
 /// Runs the program with these words, which follow its name, and answers its status: 0 where all went well, 1
 /// after a fault of a stream or of the script or for want of memory, 2 for wrong words. A fault is one line
@@ -189,166 +142,6 @@ fn write_help<W: Write, E: Write>(text: &String, output: &mut W, errors: &mut E)
             1
         }
     }
-}
-
-/// What a stream is filtered by, where its images can be written.
-fn check_words<V: Watch>(
-    alloc: Global,
-    asked: FilterWords<'_>,
-    watch: &V,
-) -> Result<(Vec<Op>, BandHeight), WordFault>
-    ensures { IfOk result (λ checked. AreAsked asked.entry checked.0.items checked.1) }
-{
-    let Some(height) = BandHeight::new(asked.band) else {
-        return Err(WordFault::BadBand);
-    };
-    let ops = match parse_ops(alloc, asked.operations.as_bytes()) {
-        Ok(ops) => ops,
-        Err(error) => return Err(WordFault::Ops(error)),
-    };
-    if watch.output_is_terminal() {
-        return Err(WordFault::Terminal);
-    }
-    Ok((ops, height))
-}
-
-/// Filters a stream by as many threads as are asked for, and gives the output back.
-#[tactic(auto, using(crate::proofs::Filtering::filtered_ahead))]
-fn filter_by<T: Threads, R: Source + Drop + Send, W: Sink + Drop>(
-    rt: &T,
-    alloc: Global,
-    threads: u32,
-    input: R,
-    output: W,
-    ops: Vec<Op>,
-    height: BandHeight,
-) -> (W, Result<u64, FilterFault>)
-    ensures filtered { (left : Option (List ℕ)) × IsFilteredAhead result.1 ops.items height (record {
-      input = R.remaining input;
-      left = left;
-      before = W.contents output;
-      after = W.contents result.0;
-    }) }
-    ensures one_thread { threads ≡ 1 → (left : Option (List ℕ))
-        × IsFiltered result.1 ops.items height (record {
-          input = R.remaining input;
-          left = left;
-          before = W.contents output;
-          after = W.contents result.0;
-        }) }
-{
-    if threads == 1 {
-        filter_stream(alloc, input, output, ops, height)
-    } else {
-        filter_overlapped(rt, alloc, input, output, ops, height)
-    }
-}
-
-/// Tells the fault of a stream that was filtered, if there is one, and answers the program's status.
-fn status_of<E: Write>(errors: &mut E, filtered: Result<u64, FilterFault>) -> u8
-    ensures status { result ≤ 1 }
-    ensures well { (result ≡ 0) ↔ IsOk filtered }
-{
-    match filtered {
-        Ok(_) => 0,
-        Err(fault) => {
-            tell(errors, &fault);
-            1
-        }
-    }
-}
-
-/// Filters a stream from a reader to a writer that is lent. A watch is told of its frames and images.
-fn filter_lent<'w, T, R, W, V, L>(
-    rt: &T,
-    alloc: Global,
-    threads: u32,
-    input: R,
-    output: LentWriter<'w, W>,
-    ops: Vec<Op>,
-    height: BandHeight,
-    watch: Option<&V>,
-) -> (LentWriter<'w, W>, Result<u64, FilterFault>)
-where
-    T: Threads,
-    R: Read + Drop + Send,
-    W: Write,
-    V: Watch + Sync,
-    L: Loan,
-    requires name { output.writer.ghost_name ≡ L.name }
-    ensures name { result.0.writer.ghost_name ≡ L.name }
-    ensures filtered { (left : Option (List ℕ)) × IsFilteredAhead result.1 ops.items height (record {
-      input = R.remaining input;
-      left = left;
-      before = W.contents output.entry.writer.now;
-      after = W.contents result.0.writer.now;
-    }) }
-{
-    let output: NamedWriter<'w, W, L> = NamedWriter::new(output);
-    let input = WatchedSource::new(OverRead::new(input), ALONE, watch);
-    let output = WatchedSink::new(OverWrite::new(output), ALONE, watch);
-    let (output, filtered) = filter_by(rt, alloc, threads, input, output, ops, height);
-    (output.into_inner().into_inner().into_lent(), filtered)
-}
-
-/// Filters a stream from a reader to the writer itself. A watch is told of its frames and images.
-fn filter_into<T: Threads, R: Read + Drop + Send, W: Write, V: Watch + Sync>(
-    rt: &T,
-    alloc: Global,
-    threads: u32,
-    input: R,
-    output: &mut W,
-    ops: Vec<Op>,
-    height: BandHeight,
-    watch: Option<&V>,
-) -> Result<u64, FilterFault>
-    ensures { (left : Option (List ℕ)) × IsFilteredAhead result ops.items height (record {
-      input = R.remaining input;
-      left = left;
-      before = W.contents output.old;
-      after = W.contents output.new;
-    }) }
-{
-    let output = LentWriter::new(output);
-    let (_, filtered) = filter_lent::<T, R, W, V, Brand>(
-        rt, alloc, threads, input, output, ops, height, watch,
-    );
-    filtered
-}
-
-/// Filters the input as the words ask.
-fn run_filter<T: Threads, R: Read + Drop + Send, W: Write, E: Write, V: Watch + Sync>(
-    rt: &T,
-    alloc: Global,
-    asked: FilterWords<'_>,
-    input: R,
-    output: &mut W,
-    errors: &mut E,
-    watch: &V,
-) -> u8
-    ensures status { result ≤ 2 }
-    ensures untouched { result ≡ 2 → Keeps (W.contents output.old) (W.contents output.new) }
-    ensures well { result ≡ 0
-        → FiltersAll asked.entry (R.remaining input) (W.contents output.old) (W.contents output.new) }
-    ensures fault { result ≡ 1 → Keeps (W.contents output.old) (W.contents output.new)
-        ⊎ FiltersTo asked.entry (R.remaining input) (W.contents output.old) (W.contents output.new) }
-{
-    let (ops, height) = match check_words(alloc, asked, watch) {
-        Ok(checked) => checked,
-        Err(fault) => {
-            tell(errors, &fault);
-            return fault.status();
-        }
-    };
-    if !asked.is_quiet && watch.input_is_terminal() {
-        tell(errors, &AWAITED);
-    }
-    let watch = watch_of_frames(watch, asked.is_quiet);
-    let filtered = filter_into(rt, alloc, asked.threads, input, output, ops, height, watch);
-    if let Some(watch) = watch {
-        watch.ends();
-    }
-    status_of(errors, filtered)
 }
 
 /// Runs the script of a reader, and writes to a writer that is lent.

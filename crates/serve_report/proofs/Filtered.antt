@@ -6,7 +6,7 @@ use Rattle.y4m_stream.specs.Filtered.{Ends, IsFiltered, IsFilteredAhead, IsLineA
 use Rattle.y4m_stream.specs.Front.{IsFrameAhead}
 use Rattle.y4m_stream.specs.declared.fault.FilterFault.{FilterFault}
 use Rattle.y4m_stream.specs.declared.fault.FilterFault.TheVariants.{Read, Ops, Write, TooManyFrames}
-use Rattle.serve_report.specs.Filtering.{AreAsked, FiltersAll, FiltersTo}
+use Rattle.serve_report.specs.Filtering.{AreAsked, FiltersAll, FiltersTo, IsFilteredBy}
 use Rattle.serve_words.specs.declared.request.FilterWords.{FilterWords}
 
 stops_ahead : (fault : FilterFault) (at : Progress) (ends : Ends) → StopsAt IsLineAhead fault at 0 ends
@@ -20,8 +20,7 @@ stops_ahead TooManyFrames at ends stops = stops
 -- no more was read ahead than a frame and a line, where it was no more than a line
 pub filtered_ahead : (answer : Result ℕ FilterFault) (ops : List Op) (height : BandHeight) (input left before after : Option (List ℕ))
     → IsFiltered answer ops height (record { input = input; left = left; before = before; after = after })
-    → (last : Option (List ℕ)) × IsFilteredAhead answer ops height
-    (record { input = input; left = last; before = before; after = after })
+    → IsFilteredBy ops height input before after answer
 filtered_ahead (Ok count) ops height input left before after is = (left, is)
 filtered_ahead (Err fault) ops height input left before after is = (
   left,
@@ -32,17 +31,12 @@ filtered_ahead (Err fault) ops height input left before after is = (
 )
 
 module _ (words : FilterWords) (ops : List Op) (height : BandHeight) (input before after : Option (List ℕ)) where
-  -- by what the words ask for, up to some place of the source
-  abbrev pub IsFilteredSo : Result ℕ FilterFault → Type 0
-  IsFilteredSo answer = (left : Option (List ℕ)) × IsFilteredAhead answer ops height
-      (record { input = input; left = left; before = before; after = after })
+  pub filters_all : (answer : Result ℕ FilterFault) → AreAsked words ops height
+      → IsFilteredBy ops height input before after answer → IsOk answer → FiltersAll words input before after
+  filters_all (Ok count) asked filtered ok = (count, record { ops = ops; height = height; asked = asked; filtered = filtered })
+  filters_all (Err fault) asked filtered ok = absurd (cc)
 
-  pub filters_all : (answer : Result ℕ FilterFault) → AreAsked words ops height → IsFilteredSo answer → IsOk answer
-      → FiltersAll words input before after
-  filters_all (Ok count) asked so ok = (count, record { ops = ops; height = height; asked = asked; left = so.0; filtered = so.1 })
-  filters_all (Err fault) asked so ok = absurd (cc)
-
-  pub filters_to : (answer : Result ℕ FilterFault) → AreAsked words ops height → IsFilteredSo answer → ¬ IsOk answer
-      → FiltersTo words input before after
-  filters_to (Ok count) asked so fails = absurd (fails refl)
-  filters_to (Err fault) asked so fails = (fault, record { ops = ops; height = height; asked = asked; left = so.0; filtered = so.1 })
+  pub filters_to : (answer : Result ℕ FilterFault) → AreAsked words ops height
+      → IsFilteredBy ops height input before after answer → ¬ IsOk answer → FiltersTo words input before after
+  filters_to (Ok count) asked filtered fails = absurd (fails refl)
+  filters_to (Err fault) asked filtered fails = (fault, record { ops = ops; height = height; asked = asked; filtered = filtered })

@@ -1,6 +1,6 @@
 use Rattle.std.proofs.Common.{arith, inr}
-use Rattle.serve_report.proofs.Filtering.{filters_all, filters_to}
-use Rattle.serve_report.proofs.program.run_filter.Goals as goal
+use Rattle.serve_report.proofs.Filtered.{filters_all, filters_to}
+use Rattle.serve_report.proofs.filtering.run_filter.Goals as goal
 
 pub returns-clause-well : goal.returns-clause-well
 returns-clause-well g c = λ well.
