@@ -22,12 +22,9 @@ use crate::moments::Moments;
 use crate::refusal::{Came, Refusal};
 use crate::rest::SeatRest;
 use crate::shared::Shared;
-use frame_view::Frame;
 use lease::{JobSpec, is_same_spec};
 pub(crate) use offers::Entrant;
-use std::collections::VecDeque;
 use std::marker::Model;
-use std::sync::Arc;
 use std::sync::ledger::{Book as Total, Share};
 
 /// Who offers the frames of one stream of a hub, closes it, and collects its images.
@@ -36,45 +33,18 @@ use std::sync::ledger::{Book as Total, Share};
 /// the hub whose ledger has the name `L`. Contracts see the `StreamSeatValue` of `specs/Seats.antt`.
 #[derive(Drop)]
 pub struct StreamSeat<L: Epoch> {
-    number: u32,
+    // Its `collected` counts the images of the earlier epochs alone, until the seat leaves it.
+    rest: SeatRest,
     calls: Calls<L>,
-    spec: Arc<JobSpec>,
-    queue: u64,
-    frames: u64,
-    accepted: u64,
     moments: Option<Moments>,
-    is_closed: bool,
-    kept: VecDeque<Arc<Frame>>,
-    before: u64,
-    torn: Option<u64>,
 }
 
 impl<L: Epoch> Model for StreamSeat<L> {
-    ghost use Rattle.y4m_header.specs.declared.limits.TheConstants.{MOST_FRAMES};
-    ghost use Rattle.std.specs.Prelude.{◌≤◌};
-    ghost use Rattle.std.specs.Arc.{arc_value};
-    ghost use Rattle.std.specs.VecDeque.{deque_capacity};
-    ghost use Rattle.serve_hub.specs.Seats.{AreSized, StreamSeatValue, kept_in};
+    ghost use Rattle.serve_hub.specs.Seats.{StreamSeatValue, seat_over};
 
     ghost Value = { StreamSeatValue };
 
-    ghost view = { λ a. record {
-      number = a.number;
-      calls = a.calls;
-      chain = arc_value a.spec;
-      queue = a.queue;
-      frames = a.frames;
-      accepted = a.accepted;
-      moments = a.moments;
-      is_closed = a.is_closed;
-      kept = kept_in a.kept.items;
-      places = deque_capacity a.kept;
-      before = a.before;
-      torn = a.torn;
-    } };
-
-    ghost invariant = { λ a. AreSized (arc_value a.spec).geometry (kept_in a.kept.items)
-        × (a.frames ≤ MOST_FRAMES) × (a.before ≤ MOST_FRAMES) };
+    ghost view = { λ a. record (seat_over a.calls.limit a.rest) { calls = a.calls; moments = a.moments } };
 }
 
 impl<L: Epoch> StreamSeat<L> {
@@ -83,29 +53,10 @@ impl<L: Epoch> StreamSeat<L> {
         requires { calls ≡ no_calls calls.limit }
         ensures { result ≡ seat_over calls.limit rest }
     {
-        let SeatRest {
-            number,
-            spec,
-            queue,
-            frames,
-            accepted,
-            collected,
-            is_closed,
-            kept,
-            torn,
-        } = rest;
         StreamSeat {
-            number,
+            rest,
             calls,
-            spec,
-            queue,
-            frames,
-            accepted,
             moments: None,
-            is_closed,
-            kept,
-            before: collected,
-            torn,
         }
     }
 
@@ -138,29 +89,11 @@ impl<L: Epoch> StreamSeat<L> {
     {
         let collected = self.collected();
         let StreamSeat {
-            number,
+            mut rest,
             calls,
-            spec,
-            queue,
-            frames,
-            accepted,
-            is_closed,
-            kept,
-            torn,
-            before: _,
-            moments: _,
+            ..
         } = self;
-        let rest = SeatRest {
-            number,
-            spec,
-            queue,
-            frames,
-            accepted,
-            collected,
-            is_closed,
-            kept,
-            torn,
-        };
+        rest.collected = collected;
         (calls.into_share(), rest)
     }
 
@@ -168,21 +101,21 @@ impl<L: Epoch> StreamSeat<L> {
     pub fn number(&self) -> u32
         ensures { result ≡ self.now.number }
     {
-        self.number
+        self.rest.number
     }
 
     /// What is done to each of its frames.
     pub fn spec(&self) -> &JobSpec
         ensures { result.now ≡ self.now.chain }
     {
-        &self.spec
+        &self.rest.spec
     }
 
     /// How many frames were accepted.
     pub fn accepted(&self) -> u64
         ensures { result ≡ self.now.accepted }
     {
-        self.accepted
+        self.rest.accepted
     }
 
     /// When the first and the latest frame were offered that were accepted since this seat is there.
@@ -196,14 +129,14 @@ impl<L: Epoch> StreamSeat<L> {
     pub fn before(&self) -> u64
         ensures { result ≡ self.now.before }
     {
-        self.before
+        self.rest.collected
     }
 
     /// How many images of its stream were collected.
     fn collected(&self) -> u64
         ensures { result ≡ collected_by self.now }
     {
-        self.calls.collections() + self.before
+        self.calls.collections() + self.rest.collected
     }
 
     /// How many images of its stream had been collected when its stream's seat was first told `Torn`, in this
@@ -211,7 +144,7 @@ impl<L: Epoch> StreamSeat<L> {
     pub fn torn(&self) -> Option<u64>
         ensures { result ≡ self.now.torn }
     {
-        self.torn
+        self.rest.torn
     }
 
     /// Notes a refusal that is told as Torn, unless one was noted before.
@@ -227,8 +160,8 @@ impl<L: Epoch> StreamSeat<L> {
     fn tear(&mut self, collected: u64)
         ensures { self.new ≡ torn_at collected self.old }
     {
-        if self.torn.is_none() {
-            self.torn = Some(collected);
+        if self.rest.torn.is_none() {
+            self.rest.torn = Some(collected);
         }
     }
 
@@ -236,21 +169,21 @@ impl<L: Epoch> StreamSeat<L> {
     pub fn is_closed(&self) -> bool
         ensures { result ≡ self.now.is_closed }
     {
-        self.is_closed
+        self.rest.is_closed
     }
 
     /// How many frames it keeps: they were accepted and aren't collected.
     pub fn kept(&self) -> usize
         ensures { result ≡ length self.now.kept }
     {
-        self.kept.len()
+        self.rest.kept.len()
     }
 
     /// How many frames it can keep.
     pub fn places(&self) -> usize
         ensures { result ≡ self.now.places }
     {
-        self.kept.capacity()
+        self.rest.kept.capacity()
     }
 
     /// How many frames it may have accepted: at most 16,777,216.
@@ -258,7 +191,7 @@ impl<L: Epoch> StreamSeat<L> {
         ensures value { result ≡ self.now.frames }
         ensures most { result ≤ MOST_FRAMES }
     {
-        self.frames
+        self.rest.frames
     }
 
     /// Its calls that were accepted, the oldest first.
@@ -274,13 +207,16 @@ impl<L: Epoch> StreamSeat<L> {
         ensures { IsTrue result ↔ HasStream book.now.desk self.now.number (IsStreamOf self.now) }
     {
         let desk = book.desk();
-        let (Some(spec), Some(counts)) = (desk.spec(self.number), desk.counts(self.number)) else {
+        let (Some(spec), Some(counts)) = (
+            desk.spec(self.rest.number),
+            desk.counts(self.rest.number),
+        ) else {
             return false;
         };
-        counts.accepted == self.accepted
-            && self.before <= counts.collected
-            && counts.collected - self.before == self.calls.collections()
-            && is_same_spec(spec, &self.spec)
+        counts.accepted == self.rest.accepted
+            && self.rest.collected <= counts.collected
+            && counts.collected - self.rest.collected == self.calls.collections()
+            && is_same_spec(spec, &self.rest.spec)
     }
 
     /// What contradicts the seat whatever it calls, if anything does: the book has no such stream, or another
@@ -295,12 +231,12 @@ impl<L: Epoch> StreamSeat<L> {
         ensures close { IfSome result (λ came. IsCloseTold self.now (Torn came)) }
         ensures collect { IfSome result (λ came. IsCollectTold self.now (Torn came)) }
     {
-        let Some(spec) = shared.book.spec(self.number) else {
+        let Some(spec) = shared.book.spec(self.rest.number) else {
             return Some(Came::Refused(serve_core::Refusal::NoStream));
         };
         if self.calls.limit != shared.limit {
             return Some(Came::Limit(shared.limit));
         }
-        other_part(spec, &self.spec).map(Came::Chain)
+        other_part(spec, &self.rest.spec).map(Came::Chain)
     }
 }

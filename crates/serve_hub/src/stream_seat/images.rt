@@ -29,11 +29,11 @@ impl<L: Epoch> StreamSeat<L> {
             return Err(Refusal::Torn(came));
         }
         let Shared { book, total, .. } = shared;
-        match book.close(self.number) {
+        match book.close(self.rest.number) {
             Err(refusal) => Err(self.judge_close(refusal)),
             Ok(()) => {
                 self.calls.count(book, total);
-                self.is_closed = true;
+                self.rest.is_closed = true;
                 Ok(())
             }
         }
@@ -49,7 +49,7 @@ impl<L: Epoch> StreamSeat<L> {
             return Err(Refusal::Torn(came));
         }
         let Shared { book, total, .. } = shared;
-        let pair = match book.collect(self.number) {
+        let pair = match book.collect(self.rest.number) {
             Ok(pair) => pair,
             Err(refusal) => return Err(self.judge_collect(refusal)),
         };
@@ -92,7 +92,7 @@ impl<L: Epoch> StreamSeat<L> {
         ensures size { IfSome result (λ f. (arc_value f).geometry ≡ self.old.chain.geometry) }
         ensures seat { self.new ≡ gives_up self.old }
     {
-        self.kept.pop_front()
+        self.rest.kept.pop_front()
     }
 
     /// Takes the oldest frame off, and compares it with the pair's source. Where that is another frame, one
@@ -126,7 +126,7 @@ impl<L: Epoch> StreamSeat<L> {
     {
         match refusal {
             Refusal::HistoryFull | Refusal::StrayLease | Refusal::Torn(_) => unreachable!(),
-            Refusal::Core(Core::AlreadyClosed) if self.is_closed => refusal,
+            Refusal::Core(Core::AlreadyClosed) if self.is_closed() => refusal,
             Refusal::Core(core) => Refusal::Torn(Came::Refused(core)),
         }
     }
@@ -138,7 +138,7 @@ impl<L: Epoch> StreamSeat<L> {
         match refusal {
             Refusal::HistoryFull | Refusal::Core(Core::Empty) => refusal,
             Refusal::StrayLease | Refusal::Torn(_) => unreachable!(),
-            Refusal::Core(Core::Drained) if self.is_closed && self.kept.is_empty() => refusal,
+            Refusal::Core(Core::Drained) if self.is_closed() && self.kept() == 0 => refusal,
             Refusal::Core(core) => Refusal::Torn(Came::Refused(core)),
         }
     }

@@ -49,7 +49,7 @@ impl<L: Epoch> StreamSeat<L> {
         ensures back { IfErr result (λ back. back.0 ≡ frame) }
         ensures memory { IfErr result (λ back. ReturnsMemory self.now.chain memory back.1) }
     {
-        let (Ok(spec), Ok(kept)) = (Arc::try_clone(&self.spec), Arc::try_clone(&frame)) else {
+        let (Ok(spec), Ok(kept)) = (Arc::try_clone(&self.rest.spec), Arc::try_clone(&frame)) else {
             return Err((frame, memory));
         };
         match memory {
@@ -129,7 +129,7 @@ impl<L: Epoch> StreamSeat<L> {
         ensures never_no_place { IfErr result (λ e. e.0 ≢ Torn NoPlace) }
     {
         let Shared { book, total, .. } = shared;
-        let number = match book.offer_job(self.number, at, job) {
+        let number = match book.offer_job(self.rest.number, at, job) {
             Ok(number) => number,
             Err((refusal, job)) => return Err((self.judge_offer(at, &frame, refusal), Some(job))),
         };
@@ -146,7 +146,7 @@ impl<L: Epoch> StreamSeat<L> {
     fn has_place(&self) -> bool
         ensures { IsTrue result ↔ HasPlace self.now }
     {
-        self.kept.len() < self.kept.capacity() && self.accepted < self.frames
+        self.rest.kept.len() < self.rest.kept.capacity() && self.rest.accepted < self.rest.frames
     }
 
     /// Keeps a frame that was accepted, and tells the number that it should have.
@@ -157,9 +157,9 @@ impl<L: Epoch> StreamSeat<L> {
         ensures next { result ≡ self.old.accepted }
         ensures seat { self.new ≡ kept_more (value_of (arc_value frame)) self.old }
     {
-        let next = self.accepted;
-        self.kept.push_back_reserved(frame);
-        self.accepted += 1;
+        let next = self.rest.accepted;
+        self.rest.kept.push_back_reserved(frame);
+        self.rest.accepted += 1;
         next
     }
 
@@ -184,7 +184,7 @@ impl<L: Epoch> StreamSeat<L> {
         if let Some(came) = self.contradiction(shared) {
             return Some(Refusal::Torn(came));
         }
-        match shared.book.offer_refusal(self.number, at, frame) {
+        match shared.book.offer_refusal(self.rest.number, at, frame) {
             Some(refusal) => Some(self.judge_offer(at, frame, refusal)),
             None => None,
         }
@@ -213,13 +213,13 @@ impl<L: Epoch> StreamSeat<L> {
     fn allows_offer(&self, at: u64, geometry: Geometry, refusal: Core) -> bool
         ensures { IsTrue result ↔ AllowsOffer self.now at geometry refusal }
     {
-        let is_sized = self.spec.fits(geometry);
+        let is_sized = self.rest.spec.fits(geometry);
         match refusal {
             Core::ClockEnd => at > LAST_MOMENT,
-            Core::Closed => self.is_closed,
+            Core::Closed => self.rest.is_closed,
             Core::WrongSize => !is_sized,
-            Core::TooManyFrames => self.accepted == self.frames,
-            Core::Full => self.kept.len() as u64 >= self.queue,
+            Core::TooManyFrames => self.rest.accepted == self.rest.frames,
+            Core::Full => self.rest.kept.len() as u64 >= self.rest.queue,
             Core::NoMemory => is_sized,
             _ => false,
         }

@@ -1,7 +1,6 @@
 use Rattle.std.proofs.Common.{◌∙◌, sym, ap, subst}
 use Rattle.serve_core.specs.Schedule.{ScheduleValue}
 use Rattle.serve_hub.specs.declared.entry.Act.TheVariants.{Closed}
-use Rattle.serve_hub.specs.declared.entry.Seat.TheVariants.{Stream}
 use Rattle.serve_hub.specs.Books.{BookValue}
 use Rattle.serve_hub.specs.Ends.{IsOpening}
 use Rattle.serve_hub.proofs.Specs.{same_count}
@@ -27,6 +26,6 @@ invariant_of-shared g c =
             is.6,
             is.7,
             is.8,
-            is.9 ∙ sym (same_count (Stream c.self.inside.number) Closed was.book _ w.in-Ok.ensures.entry tt),
+            is.9 ∙ sym (same_count _ Closed was.book _ w.in-Ok.ensures.entry tt),
           ))
     ]

@@ -44,7 +44,7 @@ invariant_of-shared-2 g c =
 
 pub judge_offer-requires : goal.judge_offer-requires
 judge_offer-requires g c =
-    record { book = of_book c.shared.inside.book c.self.inside.number c.args.at c.in-Err.refusal c.in-Err.ensures.refused }
+    record { book = of_book c.shared.inside.book _ c.args.at c.in-Err.refusal c.in-Err.ensures.refused }
 
 pub returns-in-Err-clause-refused : goal.returns-in-Err-clause-refused
 returns-in-Err-clause-refused g c = (

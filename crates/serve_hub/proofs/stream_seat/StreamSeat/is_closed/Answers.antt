@@ -1,6 +1,4 @@
-use Rattle.std.proofs.Common.{ap}
-use Rattle.serve_hub.specs.Seats.{StreamSeatValue}
 use Rattle.serve_hub.proofs.stream_seat.StreamSeat.is_closed.Goals as goal
 
 pub returns : goal.returns
-returns g c = ap (λ (s : StreamSeatValue). s.is_closed) c.self.view_is
+returns g c = rw (← c.self.view_is, ← c.self-inside.view_is)
