@@ -15,14 +15,11 @@ use crate::moments::Moments;
 use crate::stream_seat::StreamSeat;
 use crate::work_seat::WorkSeat;
 
+/// Whether both are one seat.
 fn is_same_seat(a: Seat, b: Seat) -> bool
     ensures { result ≡ rules.is_same_seat a b }
 {
-    match (a, b) {
-        (Seat::Stream(x), Seat::Stream(y)) => x == y,
-        (Seat::Worker(x), Seat::Worker(y)) => x == y,
-        _ => false,
-    }
+    a == b
 }
 
 /// Whether the calls are what the journal has of the seat, in order.
@@ -41,6 +38,7 @@ fn agrees(journal: &[Entry], seat: Seat, calls: &[Act]) -> bool
     next == calls.len()
 }
 
+/// Whether the calls of each stream's seat are what the journal has of it, in order.
 pub(crate) fn streams_agree<L: Epoch>(journal: &[Entry], seats: &[StreamSeat<L>]) -> bool
     ensures { IsTrue result ↔ AreStreamCalls journal.now seats.now }
 {
@@ -52,6 +50,7 @@ pub(crate) fn streams_agree<L: Epoch>(journal: &[Entry], seats: &[StreamSeat<L>]
     true
 }
 
+/// Whether the calls of each worker's seat are what the journal has of it, in order.
 pub(crate) fn workers_agree<L: Epoch>(journal: &[Entry], seats: &[WorkSeat<L>]) -> bool
     ensures { IsTrue result ↔ AreWorkCalls journal.now seats.now }
 {
@@ -64,7 +63,7 @@ pub(crate) fn workers_agree<L: Epoch>(journal: &[Entry], seats: &[WorkSeat<L>]) 
 }
 
 /// Whether each of so many streams has its seat.
-pub(crate) fn have_streams<L: Epoch>(count: usize, seats: &[StreamSeat<L>]) -> bool
+pub(crate) fn all_streams_have_seats<L: Epoch>(count: usize, seats: &[StreamSeat<L>]) -> bool
     ensures { IsTrue result ↔ HaveStreams count seats.now }
 {
     for number in 0..count {
@@ -75,19 +74,15 @@ pub(crate) fn have_streams<L: Epoch>(count: usize, seats: &[StreamSeat<L>]) -> b
     true
 }
 
+/// Whether the stream of this number has its seat.
 fn has_stream<L: Epoch>(seats: &[StreamSeat<L>], number: usize) -> bool
     ensures { IsTrue result ↔ Any (λ s. s.number ≡ number) seats.now }
 {
-    for seat in seats {
-        if seat.number() as usize == number {
-            return true;
-        }
-    }
-    false
+    seats.iter().any(|seat| seat.number() as usize == number)
 }
 
 /// Whether each of so many workers has its seat.
-pub(crate) fn have_workers<L: Epoch>(count: usize, seats: &[WorkSeat<L>]) -> bool
+pub(crate) fn all_workers_have_seats<L: Epoch>(count: usize, seats: &[WorkSeat<L>]) -> bool
     ensures { IsTrue result ↔ HaveWorkers count seats.now }
 {
     for number in 0..count {
@@ -98,6 +93,7 @@ pub(crate) fn have_workers<L: Epoch>(count: usize, seats: &[WorkSeat<L>]) -> boo
     true
 }
 
+/// Whether the worker of this number has its seat.
 fn has_worker<L: Epoch>(seats: &[WorkSeat<L>], number: usize) -> bool
     ensures { IsTrue result ↔ Any (λ s. s.number ≡ number) seats.now }
 {

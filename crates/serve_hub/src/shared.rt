@@ -15,7 +15,8 @@ ghost use Rattle.serve_hub.specs.Ends.{Agree, IsOpening, calls_in};
 ghost use Rattle.serve_hub.specs.Seats.{collected_by, left_by, opened_rest};
 
 use crate::agree::{
-    clocks_agree, have_streams, have_their_streams, have_workers, streams_agree, workers_agree,
+    all_streams_have_seats, all_workers_have_seats, clocks_agree, have_their_streams,
+    streams_agree, workers_agree,
 };
 use crate::book::Book;
 use crate::calls::Calls;
@@ -237,8 +238,8 @@ impl<L: Epoch> Shared<L> {
             && workers.len() == self.workers
             && streams_agree(journal, streams)
             && workers_agree(journal, workers)
-            && have_streams(self.streams, streams)
-            && have_workers(self.workers, workers)
+            && all_streams_have_seats(self.streams, streams)
+            && all_workers_have_seats(self.workers, workers)
             && have_their_streams(&self.book, streams)
             && clocks_agree(&self.book, self.opened_at, streams)
             && self.book.is_free()

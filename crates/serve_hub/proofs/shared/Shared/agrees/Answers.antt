@@ -10,8 +10,8 @@ use Rattle.serve_hub.proofs.Agreeing.{streams_by, workers_by}
 use Rattle.serve_hub.proofs.Opened.{same_workers}
 use Rattle.serve_hub.proofs.shared.Shared.agrees.Goals.{then-self-limit, else-self-limit, then-streams-self, else-streams-self}
 use Rattle.serve_hub.proofs.shared.Shared.agrees.Goals.{then-workers-self, else-workers-self, then-streams_agree, else-streams_agree}
-use Rattle.serve_hub.proofs.shared.Shared.agrees.Goals.{then-workers_agree, else-workers_agree, then-have_streams, else-have_streams}
-use Rattle.serve_hub.proofs.shared.Shared.agrees.Goals.{then-have_workers, else-have_workers}
+use Rattle.serve_hub.proofs.shared.Shared.agrees.Goals.{then-workers_agree, else-workers_agree, then-all_streams_have_seats, else-all_streams_have_seats}
+use Rattle.serve_hub.proofs.shared.Shared.agrees.Goals.{then-all_workers_have_seats, else-all_workers_have_seats}
 use Rattle.serve_hub.proofs.shared.Shared.agrees.Goals.{else-have_their_streams, then-have_their_streams}
 use Rattle.serve_hub.proofs.shared.Shared.agrees.Goals as goal
 
@@ -56,19 +56,19 @@ returns-else-clocks_agree g c = (
         | else-streams_agree w ↦ absurd (cc)
       ] in
       let seated : IsTrue c.if-workers_agree.value = elim c.if-workers_agree.branch [
-        | then-workers_agree w ↦ w.value-is ∙ w.have_streams.ensures.1
+        | then-workers_agree w ↦ w.value-is ∙ w.all_streams_have_seats.ensures.1
             (subst (λ (n : ℕ). HaveStreams n streams) all agree.each_stream)
         | else-workers_agree w ↦ absurd (cc)
       ] in
-      let manned : IsTrue c.if-have_streams.value = elim c.if-have_streams.branch [
-        | then-have_streams w ↦ w.value-is ∙ w.have_workers.ensures.1
+      let manned : IsTrue c.if-all_streams_have_seats.value = elim c.if-all_streams_have_seats.branch [
+        | then-all_streams_have_seats w ↦ w.value-is ∙ w.all_workers_have_seats.ensures.1
             (subst (λ (n : ℕ). HaveWorkers n workers) each agree.each_worker)
-        | else-have_streams w ↦ absurd (cc)
+        | else-all_streams_have_seats w ↦ absurd (cc)
       ] in
-      let kept : IsTrue c.if-have_workers.value = elim c.if-have_workers.branch [
-        | then-have_workers w ↦ w.value-is ∙ w.have_their_streams.ensures.1
+      let kept : IsTrue c.if-all_workers_have_seats.value = elim c.if-all_workers_have_seats.branch [
+        | then-all_workers_have_seats w ↦ w.value-is ∙ w.have_their_streams.ensures.1
             (subst (λ (v : SharedValue). AreStreamsOf v.book.desk streams) (sym c.self.view_is) agree.kept)
-        | else-have_workers w ↦ absurd (cc)
+        | else-all_workers_have_seats w ↦ absurd (cc)
       ] in
       elim c.if-have_their_streams.branch [
         | then-have_their_streams w ↦ w.value-is ∙ w.clocks_agree.ensures.1

@@ -2,7 +2,7 @@ use Rattle.std.proofs.Common.{ℕ, ◌≡◌, refl}
 use Rattle.std.specs.List.{Any}
 use Rattle.serve_hub.specs.Seats.{WorkSeatValue}
 use Rattle.serve_hub.proofs.Seating.{one_more_number}
-use Rattle.serve_hub.proofs.agree.have_workers.Goals as goal
+use Rattle.serve_hub.proofs.agree.all_workers_have_seats.Goals as goal
 
 pub loop-number-preserved : goal.loop-number-preserved
 loop-number-preserved g c =
