@@ -189,23 +189,27 @@ impl<L: Epoch> Hub<L> {
         let mut shared = self.shared.lock(rt);
         shared.book.end_epoch();
         drop(shared);
-        self.wake(false, true);
+        self.wake_all();
     }
 
-    /// Wakes a worker where a stream may be ready, and all who wait where the journal is full.
-    fn wake(&self, may_be_ready: bool, is_full: bool) {
+    /// Wakes all who wait.
+    fn wake_all(&self) {
+        self.for_workers.notify_all();
+        for stream in &self.for_streams {
+            stream.notify_all();
+        }
+    }
+
+    /// Wakes all who wait, where the journal is full.
+    fn wake_if_full(&self, is_full: bool) {
         if is_full {
-            self.for_workers.notify_all();
-            for stream in &self.for_streams {
-                stream.notify_all();
-            }
-        } else if may_be_ready {
-            self.for_workers.notify_one();
+            self.wake_all();
         }
     }
 
     /// Where the client of a stream waits.
     fn for_stream(&self, stream: u32) -> &Condvar {
+        // Each stream's number is below this, but no contract of a seat or a lease says so.
         &self.for_streams[stream as usize % MOST_STREAMS]
     }
 }

@@ -44,7 +44,7 @@ impl<L: Epoch> Hub<L> {
         let is_full = shared.is_full();
         drop(shared);
         self.for_workers.notify_all();
-        self.wake(false, is_full);
+        self.wake_if_full(is_full);
         answer
     }
 

@@ -48,7 +48,11 @@ impl<L: Epoch> Hub<L> {
         let may_be_ready = answer.is_ok() && was_blocked;
         let is_full = shared.is_full();
         drop(shared);
-        self.wake(may_be_ready, is_full);
+        if is_full {
+            self.wake_all();
+        } else if may_be_ready {
+            self.for_workers.notify_one();
+        }
         seat.compare(answer)
     }
 
@@ -108,7 +112,11 @@ impl<L: Epoch> Hub<L> {
                     let may_be_ready = answer.is_ok() && was_blocked;
                     let is_full = shared.is_full();
                     drop(shared);
-                    self.wake(may_be_ready, is_full);
+                    if is_full {
+                        self.wake_all();
+                    } else if may_be_ready {
+                        self.for_workers.notify_one();
+                    }
                     return seat.compare(answer);
                 }
             }

@@ -28,7 +28,7 @@ impl<L: Epoch> Hub<L> {
         let answer = seat.lease(&mut shared);
         let is_full = shared.is_full();
         drop(shared);
-        self.wake(false, is_full);
+        self.wake_if_full(is_full);
         answer
     }
 
@@ -48,7 +48,7 @@ impl<L: Epoch> Hub<L> {
                 answer => {
                     let is_full = shared.is_full();
                     drop(shared);
-                    self.wake(false, is_full);
+                    self.wake_if_full(is_full);
                     return answer;
                 }
             }
@@ -87,7 +87,10 @@ impl<L: Epoch> Hub<L> {
         if is_over {
             self.for_workers.notify_all();
         }
-        self.wake(has_work, is_full);
+        if has_work && !is_full {
+            self.for_workers.notify_one();
+        }
+        self.wake_if_full(is_full);
         answer
     }
 }

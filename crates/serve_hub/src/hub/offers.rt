@@ -90,7 +90,11 @@ impl<L: Epoch> Hub<L> {
         let answer = seat.offer(&mut shared, at, job, frame);
         let is_full = shared.is_full();
         drop(shared);
-        self.wake(!had_work && !matches!(answer, Err((_, Some(_)))), is_full);
+        if is_full {
+            self.wake_all();
+        } else if !had_work && !matches!(answer, Err((_, Some(_)))) {
+            self.for_workers.notify_one();
+        }
         match answer {
             Ok(number) => Ok(number),
             Err(refused) => {
