@@ -22,7 +22,7 @@ pub enum Act {
     Settled(u32, bool),
     /// The image of the frame of this number was given away.
     Collected(u64),
-    /// The stream was admitted while the book was open. It is what the book tells of the stream.
+    /// The stream was admitted while the book was open. Its spec isn't told here: the book's desk has it.
     Admitted,
 }
 

@@ -169,7 +169,8 @@ impl<L: Epoch> Hub<L> {
         RoomLeft::of(&shared)
     }
 
-    /// The deadline of a stream, and the moment of the clock. It waits for the lock alone.
+    /// The deadline of a stream, and the moment of the clock, or `None` where the hub has no such stream. It
+    /// waits for the lock alone.
     ///
     /// No contract can name what is under a lock, so none promises anything of the answer.
     pub fn deadline(&self, rt: &impl Wait, stream: u32) -> Option<(u64, u64)> {

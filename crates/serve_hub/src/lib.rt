@@ -1,7 +1,9 @@
-//! Serving with a journal: what was accepted, entry by entry, over a desk.
+//! A [`Book`] is a desk with the journal of what it accepted, entry by entry. A [`Hub`] is a book under one
+//! lock, which threads share by the seats of its streams and workers.
 //!
-//! `specs/Journal.antt` says which events an entry stands for, `specs/Books.antt` what a [`Book`] keeps, and
-//! `specs/Answers.antt` how it answers.
+//! `specs/Journal.antt` says which events an entry stands for, `specs/Books.antt` what a book keeps, and
+//! `specs/Answers.antt` how it answers. `specs/Seats.antt` says what the seats of a hub keep,
+//! `specs/Calls.antt` how its calls leave them, and `specs/Ends.antt` what is left of it.
 #![tactic(auto)]
 
 mod agree;

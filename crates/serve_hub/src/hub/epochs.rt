@@ -36,6 +36,13 @@ pub struct ReopenRefused {
 impl<L: Epoch> Hub<L> {
     /// The next epoch of a hub that ended, without entries, for at most `limit`. It goes on from the same
     /// desk, with all jobs and images; the seats of the streams keep the frames that their last ones kept.
+    ///
+    /// `blank` must have the name of the ledger `L` and all its parts, one for each seat that a hub may have,
+    /// and `L` the desk that `ended` has.
+    ///
+    /// It is refused as `BadLimit` where the journal of so many streams may not have this limit, and else as
+    /// `NoMemory` where the memory for the seats or the journal is refused. What is left of the last epoch
+    /// comes back then as it was.
     pub fn reopen(
         alloc: Global,
         blank: Blank,
