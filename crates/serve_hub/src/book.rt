@@ -193,6 +193,14 @@ impl Book {
         self.desk.spec(s)
     }
 
+    /// How many streams there are, those that were admitted too.
+    pub(crate) fn streams(&self) -> usize
+        ensures count { result ≡ length self.now.desk.streams }
+        ensures book { IsBook self.now }
+    {
+        self.desk.streams()
+    }
+
     /// How many workers there are.
     pub(crate) fn workers(&self) -> usize
         ensures { result ≡ length self.now.desk.workers }

@@ -31,6 +31,7 @@ impl<L: Epoch> RoomLeft<L> {
     pub(crate) fn of(shared: &Shared<L>) -> RoomLeft<L>
         ensures { result ≡ room shared.now.book }
     {
+        // The call is made for what it recalls, that the book keeps what every book keeps.
         let _recalled = shared.book.journal();
         RoomLeft {
             entries: shared.book.room(),

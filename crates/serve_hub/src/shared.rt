@@ -86,7 +86,7 @@ impl<L: Epoch> Shared<L> {
         Shared {
             limit: book.limit(),
             opened_at: book.desk().clock(),
-            streams: book.desk().streams(),
+            streams: book.streams(),
             workers: book.workers(),
             book,
             total,
@@ -133,6 +133,7 @@ impl<L: Epoch> Shared<L> {
     }
 
     /// How many streams there are, those that were admitted too.
+    #[tactic(auto, using(crate::proofs::Opened::more_streams))]
     pub(crate) fn all_streams(&self) -> usize
         ensures count { result ≡ length self.now.book.desk.streams }
         ensures seats { result ≡ self.now.streams }
@@ -140,9 +141,7 @@ impl<L: Epoch> Shared<L> {
         ensures book { IsBook self.now.book }
         ensures opened { IsOpening L.opening self.now.book.opening self.now.workers }
     {
-        // The call is made for what it recalls, that the book keeps what every book keeps.
-        let _journal = self.book.journal();
-        self.book.desk().streams()
+        self.book.streams()
     }
 
     /// Whether the journal has no place for another lease and its settlement.

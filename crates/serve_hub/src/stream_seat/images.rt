@@ -77,7 +77,7 @@ impl<L: Epoch> StreamSeat<L> {
         };
         if let Refusal::Torn(_) = refusal {
             self.note(refusal);
-            let _oldest = self.give_up();
+            drop(self.give_up());
         }
         Err(CollectRefused {
             refusal,
