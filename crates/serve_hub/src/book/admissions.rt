@@ -51,10 +51,8 @@ impl Book {
     pub(crate) fn refusal_without_memory(&self, spec: &StreamSpec) -> Refusal
         ensures { RefusesAdmission self.now spec.now result }
     {
-        match self.admit_refusal(spec) {
-            Some(refusal) => refusal,
-            None => Refusal::Core(CoreRefusal::NoMemory),
-        }
+        self.admit_refusal(spec)
+            .unwrap_or(Refusal::Core(CoreRefusal::NoMemory))
     }
 
     /// What [`Book::admit`] does, with the stream's memory, which was taken outside. A refused newcomer comes

@@ -84,10 +84,9 @@ impl<L: Epoch> Hub<L> {
             (λ back. (back ≡ entrant.job) × (seat.new ≡ noted e.0 seat.old)
             × IsOfferTold seat.old at (arc_value entrant.frame).geometry e.0)) }
     {
-        let Entrant { job, frame } = entrant;
         let mut shared = self.shared.lock(rt);
         let had_work = shared.has_work(seat.number());
-        let answer = seat.offer(&mut shared, at, job, frame);
+        let answer = seat.offer(&mut shared, at, entrant);
         let is_full = shared.is_full();
         drop(shared);
         if is_full {

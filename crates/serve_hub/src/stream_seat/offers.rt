@@ -55,13 +55,15 @@ impl<L: Epoch> StreamSeat<L> {
         match memory {
             None => match Job::new(alloc, spec, frame) {
                 Ok(job) => Ok(Entrant { job, frame: kept }),
-                Err(JobRefused::WrongSize(frame)) => Err((frame, None)),
-                Err(JobRefused::NoMemory(frame)) => Err((frame, None)),
+                Err(JobRefused::WrongSize(frame) | JobRefused::NoMemory(frame)) => {
+                    Err((frame, None))
+                }
             },
             Some(image) => match Job::over(alloc, spec, frame, image) {
                 Ok(job) => Ok(Entrant { job, frame: kept }),
-                Err(OverRefused::WrongSize(frame, image)) => Err((frame, Some(image))),
-                Err(OverRefused::NoMemory(frame, image)) => Err((frame, Some(image))),
+                Err(OverRefused::WrongSize(frame, image) | OverRefused::NoMemory(frame, image)) => {
+                    Err((frame, Some(image)))
+                }
             },
         }
     }
@@ -73,34 +75,33 @@ impl<L: Epoch> StreamSeat<L> {
         &mut self,
         shared: &mut Shared<L>,
         at: u64,
-        job: Job,
-        frame: Arc<Frame>,
+        entrant: Entrant,
     ) -> Result<u64, (Refusal, Option<Job>)>
-        requires fresh { IsFresh self.old.chain job }
-        requires size { (arc_value frame).geometry ≡ self.old.chain.geometry }
+        requires fresh { IsFresh self.old.chain entrant.job }
+        requires size { (arc_value entrant.frame).geometry ≡ self.old.chain.geometry }
         ensures accepted { IfOk result (λ n. (n ≡ self.old.accepted)
-            × Accepts (value_of (arc_value frame)) n self.old self.new) }
+            × Accepts (value_of (arc_value entrant.frame)) n self.old self.new) }
         ensures moment { OnOk result (NotesFrom shared.old.book.desk.clock at self.old self.new) }
         ensures other_moment { IfErr result (λ e.
             IfNone e.1 (NotesFrom shared.old.book.desk.clock at self.old self.new)) }
         ensures refused { IfErr result (λ e. MatchOption e.1
-            (GetsOther (value_of (arc_value frame)) e.0 self.old self.new)
-            (λ back. (back ≡ job) × (self.new ≡ self.old)
-            × IsOfferTold self.old at (arc_value frame).geometry e.0)) }
+            (GetsOther (value_of (arc_value entrant.frame)) e.0 self.old self.new)
+            (λ back. (back ≡ entrant.job) × (self.new ≡ self.old)
+            × IsOfferTold self.old at (arc_value entrant.frame).geometry e.0)) }
         ensures asked { IfErr result (λ e. e.0 ≡ Torn NoPlace
-            → IsOfferAnswer shared.old.book self.old.number at (arc_value frame).geometry None) }
+            → IsOfferAnswer shared.old.book self.old.number at (arc_value entrant.frame).geometry None) }
     {
         if let Some(came) = self.contradiction(shared) {
-            return Err((Refusal::Torn(came), Some(job)));
+            return Err((Refusal::Torn(came), Some(entrant.job)));
         }
         if !self.has_place() {
-            let refusal = match self.refused_by(shared, at, &frame) {
+            let refusal = match self.refused_by(shared, at, &entrant.frame) {
                 Some(refusal) => refusal,
                 None => Refusal::Torn(Came::NoPlace),
             };
-            return Err((refusal, Some(job)));
+            return Err((refusal, Some(entrant.job)));
         }
-        self.enter(shared, at, job, frame)
+        self.enter(shared, at, entrant)
     }
 
     /// Offers the frame to the book, which has the seat's stream; the seat has a place for the frame.
@@ -108,26 +109,26 @@ impl<L: Epoch> StreamSeat<L> {
         &mut self,
         shared: &mut Shared<L>,
         at: u64,
-        job: Job,
-        frame: Arc<Frame>,
+        entrant: Entrant,
     ) -> Result<u64, (Refusal, Option<Job>)>
-        requires fresh { IsFresh self.old.chain job }
-        requires size { (arc_value frame).geometry ≡ self.old.chain.geometry }
+        requires fresh { IsFresh self.old.chain entrant.job }
+        requires size { (arc_value entrant.frame).geometry ≡ self.old.chain.geometry }
         requires limit { self.old.calls.limit ≡ shared.old.book.limit }
         requires chain { HasStream shared.old.book.desk self.old.number (λ stream.
             stream.state.spec.chain ≡ self.old.chain) }
         requires place { HasPlace self.old }
         ensures accepted { IfOk result (λ n. (n ≡ self.old.accepted)
-            × Accepts (value_of (arc_value frame)) n self.old self.new) }
+            × Accepts (value_of (arc_value entrant.frame)) n self.old self.new) }
         ensures moment { OnOk result (NotesFrom shared.old.book.desk.clock at self.old self.new) }
         ensures other_moment { IfErr result (λ e.
             IfNone e.1 (NotesFrom shared.old.book.desk.clock at self.old self.new)) }
         ensures refused { IfErr result (λ e. MatchOption e.1
-            (GetsOther (value_of (arc_value frame)) e.0 self.old self.new)
-            (λ back. (back ≡ job) × (self.new ≡ self.old)
-            × IsOfferTold self.old at (arc_value frame).geometry e.0)) }
+            (GetsOther (value_of (arc_value entrant.frame)) e.0 self.old self.new)
+            (λ back. (back ≡ entrant.job) × (self.new ≡ self.old)
+            × IsOfferTold self.old at (arc_value entrant.frame).geometry e.0)) }
         ensures never_no_place { IfErr result (λ e. e.0 ≢ Torn NoPlace) }
     {
+        let Entrant { job, frame } = entrant;
         let Shared { book, total, .. } = shared;
         let number = match book.offer_job(self.rest.number, at, job) {
             Ok(number) => number,
@@ -184,10 +185,8 @@ impl<L: Epoch> StreamSeat<L> {
         if let Some(came) = self.contradiction(shared) {
             return Some(Refusal::Torn(came));
         }
-        match shared.book.offer_refusal(self.rest.number, at, frame) {
-            Some(refusal) => Some(self.judge_offer(at, frame, refusal)),
-            None => None,
-        }
+        let refusal = shared.book.offer_refusal(self.rest.number, at, frame);
+        refusal.map(|refusal| self.judge_offer(at, frame, refusal))
     }
 
     /// A refusal of a frame as the seat is told it.
