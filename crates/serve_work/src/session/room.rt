@@ -42,6 +42,7 @@ impl<L: Epoch, R: Source + Drop, W: Sink + Drop> Room<L, R, W> {
 /// Puts each worker's seat into a slot.
 pub(crate) fn fill_slots<L: Epoch>(slots: &mut Vec<Slot<L>>, seats: Vec<WorkSeat<L>>) {
     for seat in seats {
+        // The room has a place for each worker, so no push is refused.
         let _ = slots.push(Mutex::new(Some(seat)));
     }
 }
@@ -50,6 +51,7 @@ pub(crate) fn fill_slots<L: Epoch>(slots: &mut Vec<Slot<L>>, seats: Vec<WorkSeat
 pub(crate) fn empty_slots<L: Epoch>(slots: Vec<Slot<L>>, back: &mut Vec<WorkSeat<L>>) {
     for slot in slots {
         if let Some(seat) = slot.into_inner() {
+            // The room has a place for each worker here too.
             let _ = back.push(seat);
         }
     }
