@@ -43,8 +43,8 @@ pub(crate) fn deliver<L: Epoch, W: Sink, T: Wait>(
     }
 }
 
-/// Collects an image that is there, or also one that comes soon. Where the client reads ahead, it doesn't
-/// wait for the last ones.
+/// Collects an image that is there, or one that comes soon. A client that reads ahead waits for none while it
+/// keeps fewer frames than it may ([`most_ahead`]).
 fn collect_early<L: Epoch, T: Wait>(
     rt: &T,
     hub: &Hub<L>,

@@ -37,8 +37,8 @@ pub trait Door<R: Source, W: Sink>: Bell {
             → waits self.new (ws ++ waiting_of W.contents W.failures r ∷ [])) }
         ensures none { IfNone result ((ws : List Waiting) → waits self.old ws → waits self.new ws) };
 
-    /// Is told what came of a request that waits. It waits no longer. The answer is the door's to take: what
-    /// it leaves in its place is dropped.
+    /// The door is told what came of a request that waits. The request waits no longer. The answer is the
+    /// door's to take: what it leaves in its place is dropped.
     fn tell(&mut self, ticket: u64, answer: &mut Option<Answer<R, W>>)
         requires answer { (before : List Waiting) × (w : Waiting) × (after : List Waiting)
             × waits self.old (before ++ w ∷ after) × (w.ticket ≡ ticket)
@@ -50,8 +50,8 @@ pub trait Door<R: Source, W: Sink>: Bell {
     /// Whether it is to be shown how the streams stand.
     fn asks(&self) -> bool;
 
-    /// Is shown how the stream of a request that waits stands where an epoch ended. The streams that aren't
-    /// over are shown, in the order of their numbers.
+    /// The door is shown how the stream of a request that waits stands where an epoch ended. The streams that
+    /// aren't over are shown, in the order of their numbers.
     fn show(&mut self, ticket: u64, standing: Standing)
         requires standing { (before : List Waiting) × (w : Waiting) × (after : List Waiting)
             × waits self.old (before ++ w ∷ after) × (w.ticket ≡ ticket)

@@ -1,7 +1,8 @@
 //! A session whose streams come and go.
 //!
-//! It goes from epoch to epoch. Where a request is at the door, or a stream is over, the epoch is ended; the
-//! streams that are over are told then, and those that came are admitted before the next one begins.
+//! It goes from epoch to epoch. Where a request is at the door, or a question of how the streams stand, or
+//! where a stream is over, the epoch is ended. Then the streams that are over are told, those that are left
+//! are shown if it was asked, and those that came are admitted before the next epoch begins.
 ghost use Rattle.std.specs.Prelude.{ℕ, ◌≡◌, ◌↔◌, ◌⊎◌, [], ◌∷◌, IfErr, IfOk, IsErrOf};
 ghost use Rattle.serve_work.specs.Live.{IsForm, IsLiveLimit, waiting_of};
 ghost use Rattle.serve_work.specs.Sessions.{IsInput};

@@ -15,10 +15,12 @@ use serve_hub::{Epoch, Hub};
 use std::sync::Wait;
 use std::thread;
 
-/// For how many milliseconds it is waited at the door before it is looked whether the epoch ends.
+/// For how many milliseconds the watch waits for a request or a question before it looks whether the epoch
+/// has ended.
 const PATIENCE: u64 = 5;
 
-/// Ends the epoch where a request is at the door. It ends with the epoch.
+/// Ends the epoch where a request is at the door, or a question of how the streams stand
+/// ([`Bell::is_there`]). The watch is over when the epoch is.
 fn watch<L: Epoch, B: Bell, T: Wait>(rt: &T, hub: &Hub<L>, door: &B) {
     for _ in rt.forever() {
         if hub.is_full(rt) {
@@ -78,7 +80,8 @@ fn run_beside<L: Epoch + Send + Sync, R: SentSource, W: SentSink, K: LentClock, 
 }
 
 /// Starts the workers and the watch at the door, runs the clients, and waits until all are back. Where no
-/// worker started, no client runs. Tells whether one did.
+/// worker started, no client runs. Tells whether one did. Where the thread of the watch is refused, requests
+/// and questions wait until the epoch ends by itself.
 pub(super) fn run_threads<
     L: Epoch + Send + Sync,
     R: SentSource,
