@@ -47,7 +47,7 @@ impl<R: Read> Model for Ahead<R> {
 }
 
 impl<R: Read> Ahead<R> {
-    /// Holds nothing yet. Where there is no memory the reader comes back.
+    /// A reader of which nothing is held yet. Where there is no memory it comes back.
     pub fn new(alloc: Global, reader: R) -> Result<Ahead<R>, R>
         ensures ok { IfOk result (λ ahead.
             ahead ≡ record { held = []; room = ROOM; left = R.remaining reader; told = Told.Nothing }) }

@@ -30,6 +30,7 @@ impl Model for Room {
 }
 
 impl Room {
+    /// Room for `MOST` bytes.
     pub fn new(alloc: Global) -> Result<Room, AllocError> {
         let bytes = vec![in alloc; 0u8; MOST]?;
         Ok(Room { bytes })

@@ -133,7 +133,7 @@ impl Model for Board {
 }
 
 impl Board {
-    /// For streams of these names. None of their frames was read yet.
+    /// A board for streams of these names. None of their frames was read yet.
     pub fn new(alloc: Global, names: &[&str]) -> Result<Board, AllocError>
         ensures { IfOk result (λ board. board ≡ map (λ name. name.now) names.now) }
     {

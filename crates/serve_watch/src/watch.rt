@@ -3,8 +3,8 @@
 use crate::trace::Doing;
 use serve_work::Stint;
 
-/// Is asked about the terminals of a run, and told of its frames as they go by. It changes no byte of them.
-/// One that says nothing of its own sees no terminal, and is told nothing.
+/// A watch is asked about the terminals of a run, and told of its frames as they go by. It changes no byte of
+/// them. One that says nothing of its own sees no terminal, and is told nothing.
 ///
 /// Streams are numbered from 0: the one of `filter` is 0, and those of `serve` have the order of their words.
 /// Each stream of `serve` is told of by its client's thread.

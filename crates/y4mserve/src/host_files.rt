@@ -32,6 +32,8 @@ pub struct HostFiles<'a> {
 }
 
 impl<'a> HostFiles<'a> {
+    /// The files of the system, none of them made yet. From now on the number of each standard descriptor is
+    /// taken that the caller closed.
     pub fn new(rt: &'a HostRuntime) -> HostFiles<'a> {
         HostFiles {
             rt,
@@ -127,7 +129,8 @@ fn may_be_full(file: &File) -> bool {
     }
 }
 
-/// Whether a read of the file may wait for what isn't there yet: of a FIFO, a socket or a terminal.
+/// Whether a read of the file may wait for what isn't there yet: of a FIFO, a socket or a character device,
+/// be it a terminal or another.
 fn may_wait(file: &File) -> bool {
     match file.metadata() {
         Ok(metadata) => {

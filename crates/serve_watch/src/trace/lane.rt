@@ -28,7 +28,7 @@ impl Model for Lane {
 }
 
 impl Lane {
-    /// Without records.
+    /// A lane without records.
     pub fn new(alloc: Global) -> Result<Lane, AllocError>
         ensures { IfOk result (λ lane. lane ≡ []) }
     {

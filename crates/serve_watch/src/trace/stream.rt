@@ -34,6 +34,7 @@ impl<'a> StreamLane<'a> {
         }
     }
 
+    /// The name of the stream.
     pub fn name(&self) -> &'a str {
         self.name
     }
