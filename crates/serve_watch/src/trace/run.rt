@@ -20,17 +20,17 @@ use std::time::Clock;
 /// has a lock, which only its worker or its client takes; while it is held that of the file may be taken, and
 /// no other is held then.
 #[derive(Drop)]
-pub struct Trace<'t, W: Write, V: Watch, T: Wait + Clock> {
+pub struct Trace<'t, 'n, 'w, W: Write, V: Watch, T: Wait + Clock> {
     spool: Spool<'t, W, T>,
-    inner: Option<&'t V>,
+    inner: Option<&'w V>,
     workers: Vec<Mutex<WorkerLane>>,
-    streams: Vec<StreamLane<'t>>,
+    streams: Vec<StreamLane<'n>>,
     epochs: AtomicU64,
     /// It was told that the run begins. Else nothing of the run is told to it.
     has_begun: AtomicBool,
 }
 
-impl<'t, W: Write + Drop, V: Watch, T: Wait + Clock> Trace<'t, W, V, T> {
+impl<'t, 'n, 'w, W: Write + Drop, V: Watch, T: Wait + Clock> Trace<'t, 'n, 'w, W, V, T> {
     /// Begins the trace of so many workers and of streams of these names, where there was memory for them, in
     /// a file that was made, or in none.
     pub fn start(
@@ -38,9 +38,9 @@ impl<'t, W: Write + Drop, V: Watch, T: Wait + Clock> Trace<'t, W, V, T> {
         alloc: Global,
         output: Option<W>,
         workers: u64,
-        names: Option<Vec<&'t str>>,
-        inner: Option<&'t V>,
-    ) -> Trace<'t, W, V, T> {
+        names: Option<Vec<&'n str>>,
+        inner: Option<&'w V>,
+    ) -> Trace<'t, 'n, 'w, W, V, T> {
         let mut trace = Trace {
             spool: Spool::new(rt, output),
             inner,
@@ -60,7 +60,7 @@ impl<'t, W: Write + Drop, V: Watch, T: Wait + Clock> Trace<'t, W, V, T> {
         &mut self,
         alloc: Global,
         workers: u64,
-        names: Option<Vec<&'t str>>,
+        names: Option<Vec<&'n str>>,
     ) -> Result<(), AllocError> {
         for worker in 0..workers {
             let lane = self.lane(alloc);
@@ -75,7 +75,7 @@ impl<'t, W: Write + Drop, V: Watch, T: Wait + Clock> Trace<'t, W, V, T> {
         self.add_streams(alloc, names)
     }
 
-    fn add_streams(&mut self, alloc: Global, names: Vec<&'t str>) -> Result<(), AllocError> {
+    fn add_streams(&mut self, alloc: Global, names: Vec<&'n str>) -> Result<(), AllocError> {
         for name in names {
             let lane = self.lane(alloc);
             let number = self.streams.len() as u64 + 1;
@@ -112,7 +112,7 @@ impl<'t, W: Write + Drop, V: Watch, T: Wait + Clock> Trace<'t, W, V, T> {
     }
 }
 
-impl<'t, W: Write + Drop, V: Watch, T: Wait + Clock> Watch for Trace<'t, W, V, T> {
+impl<'t, 'n, 'w, W: Write + Drop, V: Watch, T: Wait + Clock> Watch for Trace<'t, 'n, 'w, W, V, T> {
     fn begins(&self, names: &[&str]) {
         self.has_begun.store(true, Ordering::SeqCst);
         if let Some(inner) = self.inner {
