@@ -21,4 +21,5 @@ mod tickets;
 mod voice;
 
 pub use crate::serve::{AdmitFault, StreamRow, StreamStop};
-pub use run::{lines_file, run_control};
+pub(crate) use listener::{lines_file, lines_of};
+pub(crate) use run::Agenda;

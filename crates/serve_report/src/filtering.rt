@@ -5,11 +5,12 @@ ghost use Rattle.y4m_stream.specs.Filtered.{IsFiltered};
 ghost use Rattle.serve_report.specs.Filtering.{AreAsked, FiltersAll, FiltersTo, IsFilteredBy};
 
 use crate::bounds::{LentWatch, SentReader, SentSource};
+use crate::host::Host;
 use crate::lent::{LentWriter, Loan, NamedWriter};
 use crate::tell::tell;
 use filters::{FilterError, Op, parse_ops};
 use row_bands::BandHeight;
-use serve_watch::{Watch, WatchedSink, WatchedSource, watch_of_frames};
+use serve_watch::{Watch, WatchedSink, WatchedSource};
 use serve_words::FilterWords;
 use std::alloc::Global;
 use std::fmt;
@@ -61,16 +62,16 @@ impl WordFault {
 /// How a stream is filtered: what starts threads, where memory is taken, who is told of its frames, by how
 /// many threads and by which operations, and the rows of a band.
 #[derive(Drop)]
-struct Filtering<'a, V, T> {
-    rt: &'a T,
+struct Filtering<'t, 'w, V, T> {
+    rt: &'t T,
     alloc: Global,
-    watch: Option<&'a V>,
+    watch: Option<&'w V>,
     threads: u32,
     ops: Vec<Op>,
     height: BandHeight,
 }
 
-impl<'a, V: LentWatch, T: Threads> Filtering<'a, V, T> {
+impl<'t, 'w, V: LentWatch, T: Threads> Filtering<'t, 'w, V, T> {
     /// Filters a stream by as many threads as are asked for, and gives the output back.
     #[tactic(auto, using(crate::proofs::Filtered::filtered_ahead))]
     fn filter<R: SentSource, W: Sink + Drop>(
@@ -96,17 +97,17 @@ impl<'a, V: LentWatch, T: Threads> Filtering<'a, V, T> {
     }
 
     /// Filters a stream from a reader to a writer that is lent.
-    fn filter_lent<'w, R: SentReader, W: Write, L: Loan>(
+    fn filter_lent<'o, R: SentReader, W: Write, L: Loan>(
         self,
         input: R,
-        output: LentWriter<'w, W>,
-    ) -> (LentWriter<'w, W>, Result<u64, FilterFault>)
+        output: LentWriter<'o, W>,
+    ) -> (LentWriter<'o, W>, Result<u64, FilterFault>)
         requires name { output.writer.ghost_name ≡ L.name }
         ensures name { result.0.writer.ghost_name ≡ L.name }
         ensures filtered { IsFilteredBy self.entry.ops.items self.entry.height (R.remaining input)
             (W.contents output.entry.writer.now) (W.contents result.0.writer.now) result.1 }
     {
-        let output: NamedWriter<'w, W, L> = NamedWriter::new(output);
+        let output: NamedWriter<'o, W, L> = NamedWriter::new(output);
         let input = WatchedSource::new(OverRead::new(input), ALONE, self.watch);
         let output = WatchedSink::new(OverWrite::new(output), ALONE, self.watch);
         let (output, filtered) = self.filter(input, output);
@@ -132,7 +133,7 @@ impl<'a, V: LentWatch, T: Threads> Filtering<'a, V, T> {
 fn check_words<V: Watch>(
     alloc: Global,
     asked: FilterWords<'_>,
-    watch: &V,
+    watch: Option<&V>,
 ) -> Result<(Vec<Op>, BandHeight), WordFault>
     ensures { IfOk result (λ checked. AreAsked asked.entry checked.0.items checked.1) }
 {
@@ -143,7 +144,7 @@ fn check_words<V: Watch>(
         Ok(ops) => ops,
         Err(error) => return Err(WordFault::Ops(error)),
     };
-    if watch.output_is_terminal() {
+    if watch.is_some_and(|watch| watch.output_is_terminal()) {
         return Err(WordFault::Terminal);
     }
     Ok((ops, height))
@@ -163,45 +164,45 @@ fn status_of<E: Write>(errors: &mut E, filtered: Result<u64, FilterFault>) -> u8
     }
 }
 
-/// Filters the input as the words ask.
-pub(crate) fn run_filter<R: SentReader, W: Write, E: Write, V: LentWatch, T: Threads>(
-    rt: &T,
-    alloc: Global,
-    asked: FilterWords<'_>,
-    input: R,
-    output: &mut W,
-    errors: &mut E,
-    watch: &V,
-) -> u8
-    ensures status { result ≤ 2 }
-    ensures untouched { result ≡ 2 → Keeps (W.contents output.old) (W.contents output.new) }
-    ensures well { result ≡ 0
-        → FiltersAll asked.entry (R.remaining input) (W.contents output.old) (W.contents output.new) }
-    ensures fault { result ≡ 1 → Keeps (W.contents output.old) (W.contents output.new)
-        ⊎ FiltersTo asked.entry (R.remaining input) (W.contents output.old) (W.contents output.new) }
-{
-    let (ops, height) = match check_words(alloc, asked, watch) {
-        Ok(checked) => checked,
-        Err(fault) => {
-            tell(errors, &fault);
-            return fault.status();
+impl<'t, 'f, 'w, F, V: LentWatch, T: Threads> Host<'t, 'f, 'w, F, V, T> {
+    /// Filters the input as the words ask.
+    pub(crate) fn run_filter<R: SentReader, W: Write, E: Write>(
+        self,
+        asked: FilterWords<'_>,
+        input: R,
+        output: &mut W,
+        errors: &mut E,
+    ) -> u8
+        ensures status { result ≤ 2 }
+        ensures untouched { result ≡ 2 → Keeps (W.contents output.old) (W.contents output.new) }
+        ensures well { result ≡ 0
+            → FiltersAll asked.entry (R.remaining input) (W.contents output.old) (W.contents output.new) }
+        ensures fault { result ≡ 1 → Keeps (W.contents output.old) (W.contents output.new)
+            ⊎ FiltersTo asked.entry (R.remaining input) (W.contents output.old) (W.contents output.new) }
+    {
+        let (ops, height) = match check_words(self.alloc, asked, self.watch) {
+            Ok(checked) => checked,
+            Err(fault) => {
+                tell(errors, &fault);
+                return fault.status();
+            }
+        };
+        if !asked.is_quiet && self.watch.is_some_and(|watch| watch.input_is_terminal()) {
+            tell(errors, &AWAITED);
         }
-    };
-    if !asked.is_quiet && watch.input_is_terminal() {
-        tell(errors, &AWAITED);
+        let watch = self.watch_of_frames(asked.is_quiet);
+        let filtering = Filtering {
+            rt: self.rt,
+            alloc: self.alloc,
+            watch,
+            threads: asked.threads,
+            ops,
+            height,
+        };
+        let filtered = filtering.filter_into(input, output);
+        if let Some(watch) = watch {
+            watch.ends();
+        }
+        status_of(errors, filtered)
     }
-    let watch = watch_of_frames(watch, asked.is_quiet);
-    let filtering = Filtering {
-        rt,
-        alloc,
-        watch,
-        threads: asked.threads,
-        ops,
-        height,
-    };
-    let filtered = filtering.filter_into(input, output);
-    if let Some(watch) = watch {
-        watch.ends();
-    }
-    status_of(errors, filtered)
 }

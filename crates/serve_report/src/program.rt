@@ -3,9 +3,8 @@ ghost use Rattle.std.specs.Prelude.{◌≡◌, ◌≤◌, ◌↔◌, Bool, Ok, R
 ghost use Rattle.std.specs.Io.KnownBytes.{Appends, Keeps};
 ghost use Rattle.serve_report.specs.Runs.{IsDone, Replays, RunsWell};
 
-use crate::filtering::run_filter;
+use crate::host::Host;
 use crate::lent::{LentWriter, Loan, NamedWriter};
-use crate::serve::run_serve;
 use crate::tell::tell;
 use serve_files::Files;
 use serve_script::{ReplayFault, replay};
@@ -47,28 +46,18 @@ where
     ensures well { result ≡ 0 → RunsWell F.place_gives F.open_gives F.create_gives
         (map string_bytes words.now) (R.remaining input) (W.contents output.old) (W.contents output.new) }
 {
-    run_on(rt, alloc, words, input, output, errors, files, &Unwatched)
+    let watch: Option<&Unwatched> = None;
+    let host = Host {
+        rt,
+        alloc,
+        files,
+        watch,
+    };
+    host.run(words, input, output, errors)
 }
 
-/// Runs the program as [`main_on`] does, under a watch.
-///
-/// `filter` asks it for terminals once the words are right and before anything is read. It takes no terminal
-/// as its output, status 2. Where its input is one it says what it waits for. Of `filter` and of `serve` the
-/// watch is told each frame. With `--quiet` neither is done.
-pub fn run_on<R, W, E, F, V, T>(
-    rt: &T,
-    alloc: Global,
-    words: &[String],
-    input: R,
-    output: &mut W,
-    errors: &mut E,
-    files: &F,
-    watch: &V,
-) -> u8
+impl<'t, 'f, 'w, F, V, T> Host<'t, 'f, 'w, F, V, T>
 where
-    R: Read + Drop + Send,
-    W: Write + Send,
-    E: Write + Send,
     F: Files + Sync,
     F::Reader: Send,
     F::Slow: Send + 'static,
@@ -76,56 +65,58 @@ where
     F::SlowWriter: Send + 'static,
     V: Watch + Sync,
     T: Threads + Wait + Clock + Copy + Drop + Send + Sync + 'static,
-    ensures status { result ≤ 2 }
-    ensures untouched { result ≡ 2 → Keeps (W.contents output.old) (W.contents output.new) }
-    ensures well { result ≡ 0 → RunsWell F.place_gives F.open_gives F.create_gives
-        (map string_bytes words.now) (R.remaining input) (W.contents output.old) (W.contents output.new) }
 {
-    match read_words(alloc, words) {
-        Ok(request) => run_request(rt, alloc, request, input, output, errors, files, watch),
-        Err(NoRequest::Help(text)) => write_help(&text, output, errors),
-        Err(NoRequest::Wrong(text)) => {
-            let _ = errors.write_all(text.as_bytes());
-            2
-        }
-        Err(NoRequest::NoMemory) => {
-            tell(errors, &"NoMemory");
-            1
+    /// Runs the program as [`main_on`] does, under the host's watch, if it has one.
+    ///
+    /// `filter` asks it for terminals once the words are right and before anything is read. It takes no
+    /// terminal as its output, status 2. Where its input is one it says what it waits for. Of `filter` and of
+    /// `serve` the watch is told each frame. With `--quiet` neither is done.
+    pub fn run<R, W, E>(self, words: &[String], input: R, output: &mut W, errors: &mut E) -> u8
+    where
+        R: Read + Drop + Send,
+        W: Write + Send,
+        E: Write + Send,
+        ensures status { result ≤ 2 }
+        ensures untouched { result ≡ 2 → Keeps (W.contents output.old) (W.contents output.new) }
+        ensures well { result ≡ 0 → RunsWell F.place_gives F.open_gives F.create_gives
+            (map string_bytes words.now) (R.remaining input) (W.contents output.old) (W.contents output.new) }
+    {
+        match read_words(self.alloc, words) {
+            Ok(request) => self.run_request(request, input, output, errors),
+            Err(NoRequest::Help(text)) => write_help(&text, output, errors),
+            Err(NoRequest::Wrong(text)) => {
+                let _ = errors.write_all(text.as_bytes());
+                2
+            }
+            Err(NoRequest::NoMemory) => {
+                tell(errors, &"NoMemory");
+                1
+            }
         }
     }
-}
 
-/// Does what the words ask for.
-fn run_request<R, W, E, F, V, T>(
-    rt: &T,
-    alloc: Global,
-    request: Request<'_>,
-    input: R,
-    output: &mut W,
-    errors: &mut E,
-    files: &F,
-    watch: &V,
-) -> u8
-where
-    R: Read + Drop + Send,
-    W: Write + Send,
-    E: Write + Send,
-    F: Files + Sync,
-    F::Reader: Send,
-    F::Slow: Send + 'static,
-    F::Writer: Send,
-    F::SlowWriter: Send + 'static,
-    V: Watch + Sync,
-    T: Threads + Wait + Clock + Copy + Drop + Send + Sync + 'static,
-    ensures status { result ≤ 2 }
-    ensures untouched { result ≡ 2 → Keeps (W.contents output.old) (W.contents output.new) }
-    ensures well { result ≡ 0 → IsDone F.place_gives F.open_gives F.create_gives request.entry
-        (R.remaining input) (W.contents output.old) (W.contents output.new) }
-{
-    match request {
-        Request::Filter(asked) => run_filter(rt, alloc, asked, input, output, errors, watch),
-        Request::Replay => run_replay(alloc, input, output, errors),
-        Request::Serve(asked) => run_serve(rt, alloc, asked, input, output, errors, files, watch),
+    /// Does what the words ask for.
+    fn run_request<R, W, E>(
+        self,
+        request: Request<'_>,
+        input: R,
+        output: &mut W,
+        errors: &mut E,
+    ) -> u8
+    where
+        R: Read + Drop + Send,
+        W: Write + Send,
+        E: Write + Send,
+        ensures status { result ≤ 2 }
+        ensures untouched { result ≡ 2 → Keeps (W.contents output.old) (W.contents output.new) }
+        ensures well { result ≡ 0 → IsDone F.place_gives F.open_gives F.create_gives request.entry
+            (R.remaining input) (W.contents output.old) (W.contents output.new) }
+    {
+        match request {
+            Request::Filter(asked) => self.run_filter(asked, input, output, errors),
+            Request::Replay => run_replay(self.alloc, input, output, errors),
+            Request::Serve(asked) => self.run_serve(asked, input, output, errors),
+        }
     }
 }
 

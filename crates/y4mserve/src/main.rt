@@ -7,7 +7,7 @@ mod terminals;
 ghost use Rattle.std.specs.Prelude.{◌≡◌, ◌≤◌};
 
 use host_files::HostFiles;
-use serve_report::run_on;
+use serve_report::Host;
 use std::alloc::AllocError;
 use std::io::{ErrorKind, Lock, Write};
 use std::process::ExitCode;
@@ -35,26 +35,25 @@ fn own_words(rt: &HostRuntime) -> Result<Vec<String>, AllocError> {
 /// status.
 fn run<T: Threads + Wait + Clock + Copy + Drop + Send + Sync + 'static>(
     rt: &T,
-    host: &HostRuntime,
+    system: &HostRuntime,
 ) -> u8
     ensures { result ≤ 2 }
 {
     // `lock` of a standard stream holds no lock here, so that others may call it while this one lives.
-    let mut output = host.stdout().lock();
-    let mut errors = host.stderr().lock();
-    let Ok(words) = own_words(host) else {
+    let mut output = system.stdout().lock();
+    let mut errors = system.stderr().lock();
+    let Ok(words) = own_words(system) else {
         return refuse(&mut errors);
     };
-    run_on(
+    let files = HostFiles::new(system);
+    let terminals = Terminals::new(system);
+    let host = Host {
         rt,
-        host.alloc(),
-        &words,
-        host.stdin().lock(),
-        &mut output,
-        &mut errors,
-        &HostFiles::new(host),
-        &Terminals::new(host),
-    )
+        alloc: system.alloc(),
+        files: &files,
+        watch: Some(&terminals),
+    };
+    host.run(&words, system.stdin().lock(), &mut output, &mut errors)
 }
 
 /// Tells that there was no memory to begin with, and answers the program's status.

@@ -4,6 +4,7 @@ use super::answer::Said;
 use super::errand::{Bidding, Bids, Errand};
 use super::feed::{Feed, Feeding};
 use super::line::{Ask, LineFault, check_stream, parse_line};
+use super::listener::Lines;
 use super::lobby::Lobby;
 use super::order::Order;
 use super::{AdmitFault, StreamStop};
@@ -15,22 +16,25 @@ use std::io::{Read, Write};
 use std::sync::{Arc, Wait};
 use y4m_stream::{Sink, Source};
 
+/// Where the report goes.
+const REPORT: &str = "/dev/stdout";
+
 /// Who takes the lines of a control.
 #[derive(Drop)]
-pub struct Clerk<'r, 'o, F, R: Source, W: Sink, S: Drop, T, O: Write, E: Write> {
-    rt: &'r T,
+pub struct Clerk<'t, 'f, 'l, 'c, 'o, F, R: Source, W: Sink, S: Drop, T, O: Write, E: Write> {
+    rt: &'t T,
     alloc: Global,
-    files: &'r F,
-    lobby: &'r Lobby<'o, R, W, S, O, E>,
+    files: &'f F,
+    lobby: &'l Lobby<'o, R, W, S, O, E>,
     /// Whether the control is standard input.
     is_input: bool,
-    /// Where the report goes, and where the lines come from.
-    own: [(&'r str, Place); 2],
+    /// Where the report goes, and where the lines come from. No stream may have either.
+    own: [FileUse<'c>; 2],
     /// How many streams were asked for.
     asked: u64,
 }
 
-impl<'r, 'o, F, R, W, S, T, O, E> Clerk<'r, 'o, F, R, W, S, T, O, E>
+impl<'t, 'f, 'l, 'c, 'o, F, R, W, S, T, O, E> Clerk<'t, 'f, 'l, 'c, 'o, F, R, W, S, T, O, E>
 where
     F: Files<Slow = S>,
     R: Source + Drop,
@@ -41,21 +45,22 @@ where
     E: Write,
 {
     /// No stream was asked for yet.
-    pub fn new(
-        rt: &'r T,
+    pub fn new<I: Read>(
+        rt: &'t T,
         alloc: Global,
-        files: &'r F,
-        lobby: &'r Lobby<'o, R, W, S, O, E>,
-        is_input: bool,
-        own: [(&'r str, Place); 2],
-    ) -> Clerk<'r, 'o, F, R, W, S, T, O, E> {
+        files: &'f F,
+        lobby: &'l Lobby<'o, R, W, S, O, E>,
+        lines: &Lines<'c, I, S>,
+    ) -> Clerk<'t, 'f, 'l, 'c, 'o, F, R, W, S, T, O, E> {
+        let report = FileUse::output(REPORT, files.place(REPORT));
+        let control = FileUse::output(lines.file, files.place(lines.file));
         Clerk {
             rt,
             alloc,
             files,
             lobby,
-            is_input,
-            own,
+            is_input: lines.is_input(),
+            own: [report, control],
             asked: 0,
         }
     }
@@ -211,8 +216,8 @@ where
 
     /// Whether the file is that of the report or of the control.
     fn is_own(&self, file: &FileUse<'_>) -> bool {
-        for (name, place) in &self.own {
-            if FileUse::output(name, *place).clashes_with(file) {
+        for own in &self.own {
+            if own.clashes_with(file) {
                 return true;
             }
         }
@@ -222,12 +227,27 @@ where
 
 /// A clerk, and the lines that it takes.
 #[derive(Drop)]
-pub struct Desk<'r, 'o, F, R: Source, W: Sink, S: Drop, T, O: Write, E: Write, I: Read> {
-    pub clerk: Clerk<'r, 'o, F, R, W, S, T, O, E>,
+pub struct Desk<
+    't,
+    'f,
+    'l,
+    'c,
+    'o,
+    F,
+    R: Source,
+    W: Sink,
+    S: Drop,
+    T,
+    O: Write,
+    E: Write,
+    I: Read,
+> {
+    pub clerk: Clerk<'t, 'f, 'l, 'c, 'o, F, R, W, S, T, O, E>,
     pub feed: Feed<I>,
 }
 
-impl<'r, 'o, F, R, W, S, T, O, E, I> Bids for Desk<'r, 'o, F, R, W, S, T, O, E, I>
+impl<'t, 'f, 'l, 'c, 'o, F, R, W, S, T, O, E, I> Bids
+    for Desk<'t, 'f, 'l, 'c, 'o, F, R, W, S, T, O, E, I>
 where
     F: Files<Slow = S>,
     R: Source + Drop,

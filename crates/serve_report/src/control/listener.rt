@@ -1,6 +1,6 @@
 //! What the lines of a control are read from.
 
-use serve_files::{Inflow, Inlet, inflow_of};
+use serve_files::{Files, Inflow, Inlet, inflow_of};
 use std::alloc::Global;
 use std::io::{self, Empty, Read};
 use std::sync::Wait;
@@ -12,11 +12,55 @@ use y4m_stream::Wanted;
 /// For how many milliseconds it is waited for bytes before it is looked whether the run is over.
 const PATIENCE: u64 = 50;
 
+/// A control that is standard input.
+const INPUT: &str = "-";
+
+/// The file of standard input.
+const STANDARD_INPUT: &str = "/dev/stdin";
+
 /// A reader, or a file that was opened for lines.
 #[derive(Drop)]
 pub enum Origin<I: Read, S> {
     Input(I),
     File(S),
+}
+
+/// The file from which a control's lines come, and what they are read from.
+#[derive(Drop)]
+pub struct Lines<'c, I: Read, S> {
+    pub file: &'c str,
+    pub origin: Origin<I, S>,
+}
+
+impl<'c, I: Read, S> Lines<'c, I, S> {
+    /// Whether the control is standard input.
+    pub fn is_input(&self) -> bool {
+        matches!(self.origin, Origin::Input(_))
+    }
+}
+
+/// The file from which a control's lines come.
+pub fn lines_file(control: &str) -> &str {
+    if control == INPUT {
+        STANDARD_INPUT
+    } else {
+        control
+    }
+}
+
+/// The lines of a control, whose file is opened. The input is that of the program.
+pub fn lines_of<'c, I: Read + Drop, F: Files>(
+    control: &'c str,
+    input: I,
+    files: &F,
+) -> io::Result<Lines<'c, I, F::Slow>> {
+    let file = lines_file(control);
+    if control == INPUT {
+        let origin = Origin::Input(input);
+        return Ok(Lines { file, origin });
+    }
+    let origin = Origin::File(files.hold(control)?);
+    Ok(Lines { file, origin })
 }
 
 /// Where lines come from.

@@ -11,6 +11,7 @@ use super::crew::{Crew, Helpers};
 use super::errand::Errand;
 use super::lobby::Lobby;
 use super::order::Order;
+use crate::host::Host;
 use crate::serve::{Ready, job_of, spec_of};
 use frame_view::Geometry;
 use row_bands::BandHeight;
@@ -18,7 +19,7 @@ use serve_files::{Carrier, Files, Inflow, Looker, OverOutflow, inflow_by, outflo
 use serve_watch::{Watch, WatchedSink, WatchedSource};
 use serve_words::Asked;
 use std::alloc::Global;
-use std::io::{Read, Write};
+use std::io::Write;
 use std::sync::{Arc, Wait};
 use std::time::Clock;
 use y4m_stream::{ReadFault, Sink, Source, StreamReader, Wanted};
@@ -53,18 +54,27 @@ pub type Shared<'w, 'o, F, V, T, O, E> = Lobby<
     E,
 >;
 
-/// Opens a stream for a lobby: it waits to be served then, or it is told why it doesn't. Its bands have so
-/// many rows, of the crew some read and write where its files may wait, and a watch is told of its frames.
-pub fn open_errand<'w, 'o, F, V, T, O, E>(
-    rt: &T,
-    alloc: Global,
-    height: BandHeight,
-    files: &F,
-    lobby: &Shared<'w, 'o, F, V, T, O, E>,
-    crew: &Crew<F::Slow, F::SlowWriter, T>,
-    watch: Option<&'w V>,
-    errand: Errand,
-)
+/// What opens the streams of a run for a lobby: what the run stands on, the rows of a band, and the crew of
+/// which some read and write for a stream whose files may wait.
+#[derive(Drop)]
+pub struct Opener<'t, 'f, 'w, 'l, 'c, F: Files, V, T: Wait + Drop, L> {
+    pub host: Host<'t, 'f, 'w, F, V, T>,
+    pub height: BandHeight,
+    pub lobby: &'l L,
+    pub crew: &'c Crew<F::Slow, F::SlowWriter, T>,
+}
+
+impl<'t, 'f, 'w, 'l, 'o, 'c, F, V, T, O, E> Opener<
+    't,
+    'f,
+    'w,
+    'l,
+    'c,
+    F,
+    V,
+    T,
+    Shared<'w, 'o, F, V, T, O, E>,
+>
 where
     F: Files,
     V: Watch,
@@ -72,23 +82,131 @@ where
     O: Write,
     E: Write,
 {
-    let Errand {
-        order,
-        ops,
-        stream,
-        ..
-    } = errand;
-    let helpers = crew.take(rt, order.number);
-    let asked = Asked {
-        word: order.word(),
-        ops,
-    };
-    let ready = open_files(
-        rt, alloc, height, files, lobby, &order, asked, helpers, stream, watch,
-    );
-    match ready {
-        Ok(ready) => lobby.make_ready(rt, &order, ready),
-        Err(stop) => lobby.tell_stop(rt, &order, stop_of(&order, stop)),
+    /// Opens a stream: it waits to be served then, or it is told why it doesn't.
+    pub fn open_errand(&self, errand: Errand) {
+        let Errand {
+            order,
+            ops,
+            stream,
+            ..
+        } = errand;
+        let rt = self.host.rt;
+        let helpers = self.crew.take(rt, order.number);
+        let asked = Asked {
+            word: order.word(),
+            ops,
+        };
+        let ready = self.open_files(&order, asked, helpers, stream);
+        match ready {
+            Ok(ready) => self.lobby.make_ready(rt, &order, ready),
+            Err(stop) => self.lobby.tell_stop(rt, &order, stop_of(&order, stop)),
+        }
+    }
+
+    /// Opens the input, reads its header, makes the chain, asks for the share, and makes the output.
+    fn open_files(
+        &self,
+        order: &Arc<Order, Global>,
+        asked: Asked<'_>,
+        helpers: Helpers<F::Slow, F::SlowWriter, T>,
+        stream: usize,
+    ) -> Result<Ready<Inflows<'w, F, V, T>, Outflows<'w, F, V, T>>, StreamStop>
+        ensures { IfOk result (λ ready. IsEntry F.open_gives F.create_gives self.now.height asked.entry
+            (entry_of ready)) }
+    {
+        let Asked { word, ops } = asked;
+        let Helpers { looker, carrier } = helpers;
+        let rt = self.host.rt;
+        let reader = self.open_input(order, word.input, looker, stream)?;
+        let geometry = Geometry::of(reader.header());
+        let job_spec = match job_of(self.host.alloc, ops, geometry, self.height) {
+            Ok(job_spec) => job_spec,
+            Err(error) => return Err(StreamStop::Ops(error)),
+        };
+        self.lobby.admit(rt, order)?;
+        let sink = self.open_output(order, word.output, carrier, stream)?;
+        let place = self.host.files.place(word.output);
+        if !self.lobby.set_output(rt, order, place) {
+            return Err(StreamStop::Create);
+        }
+        let spec = spec_of(word.q, word.t, geometry, job_spec);
+        let input = (reader, sink);
+        Ok(Ready { spec, input })
+    }
+
+    /// Opens the input and reads its header, unless the stream was closed, or another one reads the same
+    /// FIFO.
+    fn open_input(
+        &self,
+        order: &Arc<Order, Global>,
+        name: &str,
+        looker: Option<Looker<F::Slow, T>>,
+        stream: usize,
+    ) -> Result<StreamReader<Inflows<'w, F, V, T>>, StreamStop>
+        ensures { IfOk result (λ reader. (bytes : Option (List ℕ)) × F.open_gives name.now (Some bytes)
+            × IsOpened bytes 0 reader) }
+    {
+        if order.is_closed() {
+            return Err(StreamStop::Closed);
+        }
+        let files = self.host.files;
+        let Ok(inlet) = files.open(name) else {
+            return Err(StreamStop::Open);
+        };
+        if !self.lobby.set_input(self.host.rt, order, files.place(name)) {
+            return Err(StreamStop::Open);
+        }
+        let inflow = inflow_by(self.host.alloc, inlet, looker);
+        match self.open_reader(order, inflow, stream) {
+            Ok(reader) => Ok(reader),
+            Err(fault) => Err(StreamStop::Read(fault)),
+        }
+    }
+
+    /// Reads the header of an input, once something is there or the stream is closed.
+    fn open_reader(
+        &self,
+        order: &Arc<Order, Global>,
+        inflow: Inflow<F::Reader, F::Slow, T>,
+        stream: usize,
+    ) -> Result<StreamReader<Inflows<'w, F, V, T>>, ReadFault>
+        ensures { IfOk result
+            (IsOpened (inflow_remaining F.Reader.remaining F.Slow.remaining inflow) 0) }
+    {
+        let Ok(source_order) = Arc::try_clone(order) else {
+            return Err(ReadFault::NoMemory);
+        };
+        let inner_source = Closable::new(inflow, source_order);
+        await_input(self.host.rt, &inner_source);
+        let source = WatchedSource::new(inner_source, stream, self.host.watch);
+        let reader = StreamReader::open(self.host.alloc, source)?;
+        Ok(reader)
+    }
+
+    /// Makes the output, unless the stream was closed, or is meanwhile: a FIFO is held open then, and may
+    /// have no reader.
+    fn open_output(
+        &self,
+        order: &Order,
+        name: &str,
+        carrier: Option<Carrier<F::SlowWriter, T>>,
+        stream: usize,
+    ) -> Result<Outflows<'w, F, V, T>, StreamStop>
+        ensures output { IfOk result (λ sink.
+            F.create_gives name.now (Some (outflow_contents F.Writer.contents sink.sink.outflow))) }
+        ensures no_failure { IfOk result (λ sink. sink.sink.failures ≡ 0) }
+    {
+        if order.is_closed() {
+            return Err(StreamStop::Closed);
+        }
+        let Ok(outlet) = self.host.files.make(name) else {
+            return Err(StreamStop::Create);
+        };
+        if order.is_closed() {
+            return Err(StreamStop::Closed);
+        }
+        let inner_sink = OverOutflow::new(outflow_by(outlet, carrier));
+        Ok(WatchedSink::new(inner_sink, stream, self.host.watch))
     }
 }
 
@@ -98,142 +216,6 @@ fn stop_of(order: &Order, stop: StreamStop) -> StreamStop {
         return StreamStop::Closed;
     }
     stop
-}
-
-/// Opens the input, reads its header, makes the chain, asks for the share, and makes the output.
-fn open_files<'w, 'o, F, V, T, O, E>(
-    rt: &T,
-    alloc: Global,
-    height: BandHeight,
-    files: &F,
-    lobby: &Shared<'w, 'o, F, V, T, O, E>,
-    order: &Arc<Order, Global>,
-    asked: Asked<'_>,
-    helpers: Helpers<F::Slow, F::SlowWriter, T>,
-    stream: usize,
-    watch: Option<&'w V>,
-) -> Result<Ready<Inflows<'w, F, V, T>, Outflows<'w, F, V, T>>, StreamStop>
-where
-    F: Files,
-    V: Watch,
-    T: Wait + Clock + Drop,
-    O: Write,
-    E: Write,
-    ensures { IfOk result (λ ready. IsEntry F.open_gives F.create_gives height asked.entry (entry_of ready)) }
-{
-    let Asked { word, ops } = asked;
-    let Helpers { looker, carrier } = helpers;
-    let reader = open_input(
-        rt, alloc, files, lobby, order, word.input, looker, stream, watch,
-    )?;
-    let geometry = Geometry::of(reader.header());
-    let job_spec = match job_of(alloc, ops, geometry, height) {
-        Ok(job_spec) => job_spec,
-        Err(error) => return Err(StreamStop::Ops(error)),
-    };
-    lobby.admit(rt, order)?;
-    let sink = open_output(files, order, word.output, carrier, stream, watch)?;
-    let place = files.place(word.output);
-    if !lobby.set_output(rt, order, place) {
-        return Err(StreamStop::Create);
-    }
-    let spec = spec_of(word.q, word.t, geometry, job_spec);
-    let input = (reader, sink);
-    Ok(Ready { spec, input })
-}
-
-/// Opens the input and reads its header, unless the stream was closed, or another one reads the same FIFO.
-fn open_input<'w, 'o, F, V, T, O, E>(
-    rt: &T,
-    alloc: Global,
-    files: &F,
-    lobby: &Shared<'w, 'o, F, V, T, O, E>,
-    order: &Arc<Order, Global>,
-    name: &str,
-    looker: Option<Looker<F::Slow, T>>,
-    stream: usize,
-    watch: Option<&'w V>,
-) -> Result<StreamReader<Inflows<'w, F, V, T>>, StreamStop>
-where
-    F: Files,
-    V: Watch,
-    T: Wait + Clock + Drop,
-    O: Write,
-    E: Write,
-    ensures { IfOk result (λ reader. (bytes : Option (List ℕ)) × F.open_gives name.now (Some bytes)
-        × IsOpened bytes 0 reader) }
-{
-    if order.is_closed() {
-        return Err(StreamStop::Closed);
-    }
-    let Ok(inlet) = files.open(name) else {
-        return Err(StreamStop::Open);
-    };
-    if !lobby.set_input(rt, order, files.place(name)) {
-        return Err(StreamStop::Open);
-    }
-    let inflow = inflow_by(alloc, inlet, looker);
-    match open_reader(rt, alloc, order, inflow, stream, watch) {
-        Ok(reader) => Ok(reader),
-        Err(fault) => Err(StreamStop::Read(fault)),
-    }
-}
-
-/// Reads the header of an input, once something is there or the stream is closed.
-fn open_reader<'w, R, S, V, T>(
-    rt: &T,
-    alloc: Global,
-    order: &Arc<Order, Global>,
-    inflow: Inflow<R, S, T>,
-    stream: usize,
-    watch: Option<&'w V>,
-) -> Result<StreamReader<WatchedSource<'w, Closable<R, S, T>, V>>, ReadFault>
-where
-    R: Read + Drop,
-    S: Read + Drop,
-    V: Watch,
-    T: Wait + Clock + Drop,
-    ensures { IfOk result (IsOpened (inflow_remaining R.remaining S.remaining inflow) 0) }
-{
-    let Ok(source_order) = Arc::try_clone(order) else {
-        return Err(ReadFault::NoMemory);
-    };
-    let inner_source = Closable::new(inflow, source_order);
-    await_input(rt, &inner_source);
-    let source = WatchedSource::new(inner_source, stream, watch);
-    let reader = StreamReader::open(alloc, source)?;
-    Ok(reader)
-}
-
-/// Makes the output, unless the stream was closed, or is meanwhile: a FIFO is held open then, and may have no
-/// reader.
-fn open_output<'w, F, V, T>(
-    files: &F,
-    order: &Order,
-    name: &str,
-    carrier: Option<Carrier<F::SlowWriter, T>>,
-    stream: usize,
-    watch: Option<&'w V>,
-) -> Result<Outflows<'w, F, V, T>, StreamStop>
-where
-    F: Files,
-    V: Watch,
-    T: Wait + Clock + Drop,
-    ensures output { IfOk result (λ sink.
-        F.create_gives name.now (Some (outflow_contents F.Writer.contents sink.sink.outflow))) }
-    ensures no_failure { IfOk result (λ sink. sink.sink.failures ≡ 0) }
-{
-    if order.is_closed() {
-        return Err(StreamStop::Closed);
-    }
-    let Ok(outlet) = files.make(name) else {
-        return Err(StreamStop::Create);
-    };
-    if order.is_closed() {
-        return Err(StreamStop::Closed);
-    }
-    let inner_sink = OverOutflow::new(outflow_by(outlet, carrier));
-    Ok(WatchedSink::new(inner_sink, stream, watch))
 }
 
 /// Waits until a source has its header line, the end or a fault, or is closed.

@@ -16,6 +16,7 @@ ghost use Rattle.serve_report.specs.Openings.{openings_of, specs_in};
 
 use super::ready::{Input, Ready};
 use super::report::StreamStop;
+use crate::host::Host;
 use filters::{Chain, FilterError, Op};
 use frame_view::Geometry;
 use lease::JobSpec;
@@ -116,17 +117,7 @@ impl<'a, R: Source, W: Sink> Opened<'a, R, W> {
     }
 }
 
-/// Opens the streams side by side, each in a thread of its own, or in turn where threads are refused. One
-/// that stops here leaves the others as they are. A watch is told of their frames by their places among all
-/// of them.
-pub fn open_all<'a, 'w, F, V, T>(
-    rt: &T,
-    alloc: Global,
-    streams: Vec<Asked<'a>>,
-    height: BandHeight,
-    files: &F,
-    watch: Option<&'w V>,
-) -> Result<Vec<Tried<'a, Inflows<'w, F, V, T>, Outflows<'w, F, V, T>>>, AllocError>
+impl<'t, 'f, 'w, F, V, T> Host<'t, 'f, 'w, F, V, T>
 where
     F: Files + Sync,
     F::Reader: Send,
@@ -135,12 +126,100 @@ where
     F::SlowWriter: Send + 'static,
     V: Watch + Sync,
     T: Threads + Wait + Clock + Copy + Drop + Send + Sync + 'static,
-    ensures { IfOk result (λ tried. AllZip (IsOpening F.open_gives F.create_gives height) streams.entry.items
-        (openings_of tried.items)) }
 {
-    let placed = place_all(alloc, streams)?;
-    let tried = try_all(rt, alloc, placed, height, files, watch)?;
-    Ok(tried)
+    /// Opens the streams side by side, each in a thread of its own, or in turn where threads are refused. One
+    /// that stops here leaves the others as they are. The watch is told of their frames by their places among
+    /// all of them.
+    pub fn open_all<'a>(
+        self,
+        streams: Vec<Asked<'a>>,
+        height: BandHeight,
+    ) -> Result<Vec<Tried<'a, Inflows<'w, F, V, T>, Outflows<'w, F, V, T>>>, AllocError>
+        ensures { IfOk result (λ tried. AllZip (IsOpening F.open_gives F.create_gives height)
+            streams.entry.items (openings_of tried.items)) }
+    {
+        let placed = place_all(self.alloc, streams)?;
+        let tried = self.try_all(placed, height)?;
+        Ok(tried)
+    }
+
+    /// Opens each stream.
+    fn try_all<'a>(
+        self,
+        placed: Vec<Placed<'a>>,
+        height: BandHeight,
+    ) -> Result<Vec<Tried<'a, Inflows<'w, F, V, T>, Outflows<'w, F, V, T>>>, AllocError>
+        ensures count { IfOk result (λ tried. vec_len tried ≡ vec_len placed.entry) }
+        ensures each { IfOk result (λ tried. (i : ℕ) (job : _) (given : _) → i < length placed.entry.items
+            → IsOpening F.open_gives F.create_gives height (slice_index_or placed.entry.items i job).asked
+            (opening_of (slice_index_or tried.items i given))) }
+    {
+        let open = move |placed|
+            ensures { IsOpening F.open_gives F.create_gives height placed.entry.asked (opening_of result) }
+        { self.try_stream(placed, height) };
+        let tried = thread::map_vec(self.rt, placed, &open)?;
+        Ok(tried)
+    }
+
+    /// Opens a stream.
+    fn try_stream<'a>(
+        self,
+        placed: Placed<'a>,
+        height: BandHeight,
+    ) -> Tried<'a, Inflows<'w, F, V, T>, Outflows<'w, F, V, T>>
+        ensures { IsOpening F.open_gives F.create_gives height placed.entry.asked (opening_of result) }
+    {
+        let Placed { stream, asked } = placed;
+        let name = asked.word.name;
+        let mut files = StreamFiles::new(self.files);
+        let ready = self.open_stream(asked, height, &mut files, stream);
+        Tried {
+            name,
+            opened: files.opened,
+            made: files.made,
+            ready,
+        }
+    }
+
+    /// Opens the input, reads its header, makes the chain, and makes the output.
+    fn open_stream(
+        self,
+        asked: Asked<'_>,
+        height: BandHeight,
+        files: &mut StreamFiles<'_, F>,
+        stream: usize,
+    ) -> Result<Ready<Inflows<'w, F, V, T>, Outflows<'w, F, V, T>>, StreamStop>
+        ensures opened { files.new.opened ≡ one_more files.old.opened }
+        ensures made { files.new.made ≡ made_after result files.old.made }
+        ensures ready { IfOk result (λ ready. IsEntry F.open_gives F.create_gives height asked.entry
+            (entry_of ready)) }
+        ensures stop { IfErr result (HasNoEntry F.open_gives F.create_gives height asked.entry) }
+        ensures stream { IfOk result (λ ready. ready.input.1.stream ≡ stream) }
+    {
+        let word = asked.word;
+        let inlet = match files.open(word.input) {
+            Ok(inlet) => inlet,
+            Err(_) => return Err(StreamStop::Open),
+        };
+        let reader = match open_reader(self.rt, self.alloc, inlet, stream, self.watch) {
+            Ok(reader) => reader,
+            Err(fault) => return Err(StreamStop::Read(fault)),
+        };
+        let geometry = Geometry::of(reader.header());
+        let job_spec = match job_of(self.alloc, asked.ops, geometry, height) {
+            Ok(job_spec) => job_spec,
+            Err(error) => return Err(StreamStop::Ops(error)),
+        };
+        let outlet = match files.create(word.output) {
+            Ok(outlet) => outlet,
+            Err(_) => return Err(StreamStop::Create),
+        };
+        let spec = spec_of(word.q, word.t, geometry, job_spec);
+        let inner_sink = OverOutflow::new(outflow_of(self.rt, self.alloc, outlet));
+        let sink = WatchedSink::new(inner_sink, stream, self.watch);
+        let input = (reader, sink);
+        Ok(Ready { spec, input })
+    }
 }
 
 /// The streams with their places, which begin at 0.
@@ -153,65 +232,6 @@ fn place_all<'a>(alloc: Global, streams: Vec<Asked<'a>>) -> Result<Vec<Placed<'a
         placed.push(Placed { stream, asked })?;
     }
     Ok(placed)
-}
-
-/// Opens each stream.
-fn try_all<'a, 'w, F, V, T>(
-    rt: &T,
-    alloc: Global,
-    placed: Vec<Placed<'a>>,
-    height: BandHeight,
-    files: &F,
-    watch: Option<&'w V>,
-) -> Result<Vec<Tried<'a, Inflows<'w, F, V, T>, Outflows<'w, F, V, T>>>, AllocError>
-where
-    F: Files + Sync,
-    F::Reader: Send,
-    F::Slow: Send + 'static,
-    F::Writer: Send,
-    F::SlowWriter: Send + 'static,
-    V: Watch + Sync,
-    T: Threads + Wait + Clock + Copy + Drop + Send + Sync + 'static,
-    ensures count { IfOk result (λ tried. vec_len tried ≡ vec_len placed.entry) }
-    ensures each { IfOk result (λ tried. (i : ℕ) (job : _) (given : _) → i < length placed.entry.items
-        → IsOpening F.open_gives F.create_gives height (slice_index_or placed.entry.items i job).asked
-        (opening_of (slice_index_or tried.items i given))) }
-{
-    let open = move |placed|
-        ensures { IsOpening F.open_gives F.create_gives height placed.entry.asked (opening_of result) }
-    { try_stream(rt, alloc, placed, height, files, watch) };
-    let tried = thread::map_vec(rt, placed, &open)?;
-    Ok(tried)
-}
-
-/// Opens a stream.
-fn try_stream<'a, 'w, F, V, T>(
-    rt: &T,
-    alloc: Global,
-    placed: Placed<'a>,
-    height: BandHeight,
-    files: &F,
-    watch: Option<&'w V>,
-) -> Tried<'a, Inflows<'w, F, V, T>, Outflows<'w, F, V, T>>
-where
-    F: Files,
-    F::Slow: Send + 'static,
-    F::SlowWriter: Send + 'static,
-    V: Watch,
-    T: Threads + Wait + Clock + Copy + Drop + Send + 'static,
-    ensures { IsOpening F.open_gives F.create_gives height placed.entry.asked
-        (opening_of result) }
-{
-    let Placed { stream, asked } = placed;
-    let name = asked.word.name;
-    let mut files = StreamFiles::new(files);
-    let ready = open_stream(rt, alloc, asked, height, &mut files, stream, watch);
-    Tried {
-        name,
-        opened: files.opened,
-        made: files.made,
-        ready,
-    }
 }
 
 /// The streams, by what came of opening them.
@@ -240,54 +260,6 @@ pub fn gather_opened<'a, R: Source + Drop, W: Sink + Drop>(
         }
     }
     Ok(opened)
-}
-
-/// Opens the input, reads its header, makes the chain, and makes the output.
-fn open_stream<'w, F, V, T>(
-    rt: &T,
-    alloc: Global,
-    asked: Asked<'_>,
-    height: BandHeight,
-    files: &mut StreamFiles<'_, F>,
-    stream: usize,
-    watch: Option<&'w V>,
-) -> Result<Ready<Inflows<'w, F, V, T>, Outflows<'w, F, V, T>>, StreamStop>
-where
-    F: Files,
-    F::Slow: Send + 'static,
-    F::SlowWriter: Send + 'static,
-    V: Watch,
-    T: Threads + Wait + Clock + Copy + Drop + Send + 'static,
-    ensures opened { files.new.opened ≡ one_more files.old.opened }
-    ensures made { files.new.made ≡ made_after result files.old.made }
-    ensures ready { IfOk result (λ ready. IsEntry F.open_gives F.create_gives height asked.entry
-        (entry_of ready)) }
-    ensures stop { IfErr result (HasNoEntry F.open_gives F.create_gives height asked.entry) }
-    ensures stream { IfOk result (λ ready. ready.input.1.stream ≡ stream) }
-{
-    let word = asked.word;
-    let inlet = match files.open(word.input) {
-        Ok(inlet) => inlet,
-        Err(_) => return Err(StreamStop::Open),
-    };
-    let reader = match open_reader(rt, alloc, inlet, stream, watch) {
-        Ok(reader) => reader,
-        Err(fault) => return Err(StreamStop::Read(fault)),
-    };
-    let geometry = Geometry::of(reader.header());
-    let job_spec = match job_of(alloc, asked.ops, geometry, height) {
-        Ok(job_spec) => job_spec,
-        Err(error) => return Err(StreamStop::Ops(error)),
-    };
-    let outlet = match files.create(word.output) {
-        Ok(outlet) => outlet,
-        Err(_) => return Err(StreamStop::Create),
-    };
-    let spec = spec_of(word.q, word.t, geometry, job_spec);
-    let inner_sink = OverOutflow::new(outflow_of(rt, alloc, outlet));
-    let sink = WatchedSink::new(inner_sink, stream, watch);
-    let input = (reader, sink);
-    Ok(Ready { spec, input })
 }
 
 /// Reads the header of an input.

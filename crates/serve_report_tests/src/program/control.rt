@@ -4,8 +4,7 @@ use super::memory::Memory;
 use super::{words_of, written};
 use crate::compare::same_at;
 use serve_files::Files;
-use serve_report::run_on;
-use serve_watch::Unwatched;
+use serve_report::main_on;
 use std::alloc::Global;
 use std::fmt::Display;
 use std::io::Write;
@@ -87,16 +86,7 @@ where
     let mut rest = faults.as_mut_slice();
     let input = Asking::new(rt, answers, talk.turns, talk.step);
     let mut output = Answering { rt, answers };
-    let status = run_on(
-        rt,
-        alloc,
-        &words,
-        input,
-        &mut output,
-        &mut rest,
-        files,
-        &Unwatched,
-    );
+    let status = main_on(rt, alloc, &words, input, &mut output, &mut rest, files);
     let left = rest.len();
     let said = str::from_utf8(written(&faults, left)).ok();
     same_at(

@@ -2,7 +2,7 @@
 use super::memory::{Given, Made, Memory};
 use super::{words_of, written};
 use crate::compare::same_at;
-use serve_report::run_on;
+use serve_report::Host;
 use serve_watch::{Unwatched, Watch};
 use std::alloc::Global;
 use std::process::Abort;
@@ -73,16 +73,13 @@ fn runs_in<
     let words = words_of(alloc, line).expect(rt, line);
     let mut room = report;
     let mut rest = errors;
-    let status = run_on(
+    let host = Host {
         rt,
         alloc,
-        &words,
-        b"".as_slice(),
-        &mut room,
-        &mut rest,
         files,
-        watch,
-    );
+        watch: Some(watch),
+    };
+    let status = host.run(&words, b"".as_slice(), &mut room, &mut rest);
     (status, room.len(), rest.len())
 }
 

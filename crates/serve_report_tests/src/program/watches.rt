@@ -2,7 +2,7 @@
 use super::memory::NoFiles;
 use super::{words_of, written};
 use crate::compare::same_at;
-use serve_report::run_on;
+use serve_report::Host;
 use serve_watch::{Doing, Watch};
 use std::alloc::Global;
 use std::io::Read;
@@ -188,9 +188,13 @@ fn watched<R: Read + Drop + Send>(
     let mut rest = faults.as_mut_slice();
     let mut output = [0; 8192];
     let mut room = output.as_mut_slice();
-    let answer = run_on(
-        rt, alloc, &words, input, &mut room, &mut rest, &NoFiles, watch,
-    );
+    let host = Host {
+        rt,
+        alloc,
+        files: &NoFiles,
+        watch: Some(watch),
+    };
+    let answer = host.run(&words, input, &mut room, &mut rest);
     let left = rest.len();
     let told = str::from_utf8(written(&faults, left)).ok();
     same_at(rt, (told, answer), (Some(said), status), line);

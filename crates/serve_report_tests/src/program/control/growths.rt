@@ -6,8 +6,7 @@ use crate::program::memory::{Made, Memory};
 use crate::program::serving::growths::{A_WHOLE, B_WHOLE, holds_front, is_whole, roomy};
 use crate::program::serving::{A, B, given};
 use crate::program::{words_of, written};
-use serve_report::run_on;
-use serve_watch::Unwatched;
+use serve_report::main_on;
 use std::alloc::Global;
 use std::process::Abort;
 use std::sync::{Arc, Wait};
@@ -52,7 +51,7 @@ fn a_refused_growth_is_told_of_its_stream(rt: HostRuntime) {
     let words = words_of(rt.alloc(), line).expect(&rt, line);
     let (mut room, mut faults) = ([0; 512], [0; 512]);
     let (mut output, mut errors) = (room.as_mut_slice(), faults.as_mut_slice());
-    let status = run_on(
+    let status = main_on(
         &rt,
         rt.alloc(),
         &words,
@@ -60,7 +59,6 @@ fn a_refused_growth_is_told_of_its_stream(rt: HostRuntime) {
         &mut output,
         &mut errors,
         &files,
-        &Unwatched,
     );
     let (left, unsaid) = (output.len(), errors.len());
     let answers = str::from_utf8(written(&room, left)).expect(&rt, "the answers are no text");
@@ -98,16 +96,7 @@ fn ends<'f, R: Abort + Threads + Wait + Clock + Copy + Drop + Send + Sync + 'sta
     let mut errors = faults.as_mut_slice();
     let input = Asking::new(rt, answers, WAITING, usize::MAX);
     let mut output = Answering { rt, answers };
-    let status = run_on(
-        rt,
-        alloc,
-        &words,
-        input,
-        &mut output,
-        &mut errors,
-        &files,
-        &Unwatched,
-    );
+    let status = main_on(rt, alloc, &words, input, &mut output, &mut errors, &files);
     let unsaid = errors.len();
     let said = str::from_utf8(written(&faults, unsaid)).expect(rt, "what is said is no text");
     let is_known = said.is_empty() || SAID.contains(&said);

@@ -1,4 +1,4 @@
 use Rattle.serve_report.proofs.control.threads.serve_lobby.Given as goal
 
 abbrev pub ghosts-serve_door : goal.ghosts-serve_door
-ghosts-serve_door g a = record { limit = a.form.journal }
+ghosts-serve_door g a = record { limit = a.session.form.journal }

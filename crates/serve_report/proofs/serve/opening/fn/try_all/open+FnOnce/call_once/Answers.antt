@@ -1,5 +1,0 @@
-use denote.Param.Send.{sendable}
-use Rattle.serve_report.proofs.serve.opening.fn.try_all.open+FnOnce.call_once.Goals as goal
-
-pub open-requires : goal.open-requires
-open-requires g c = (search (sendable, c.requires) depth 20, search (sendable, c.requires) depth 20)
