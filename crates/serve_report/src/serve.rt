@@ -296,8 +296,8 @@ where
         requires inputs { AreInputs specs.items inputs.items }
         ensures { IfOk result (λ left. Leaves (K.gives self.entry.clock.now) self.entry.form.workers
             self.entry.form.quantum self.entry.form.journal specs.items
-            (starts_of W.contents W.failures (opened_streams self.entry.form.journal 0 specs.items) inputs.items)
-            left.items) }
+            (starts_of W.contents W.failures (opened_streams self.entry.form.journal 0 specs.items)
+            inputs.items) left.items) }
     {
         if specs.is_empty() {
             return Ok(Vec::new(self.alloc));
