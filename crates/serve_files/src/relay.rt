@@ -164,11 +164,7 @@ impl<W: Write + Drop, T: Wait + Drop> Relay<W, T> {
             .post
             .changed
             .wait_timeout_while(&self.rt, state, patience, |state| state.is_busy());
-        match state.answer_to(buf) {
-            None => Ok(None),
-            Some(Ok(n)) => Ok(Some(n)),
-            Some(Err(error)) => Err(error),
-        }
+        state.answer_to(buf).transpose()
     }
 }
 
