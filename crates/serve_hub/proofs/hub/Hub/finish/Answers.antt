@@ -1,4 +1,4 @@
-use Rattle.std.proofs.Common.{ℕ, ◌≡◌, ◌≤◌, ◌∙◌, Some, ap, refl, sym, subst, length}
+use Rattle.std.proofs.Common.{ℕ, ◌≤◌, ◌∙◌, Some, ap, refl, sym, subst, length}
 use Rattle.serve_core.specs.Schedule.{ScheduleValue}
 use Rattle.serve_hub.specs.Books.{BookValue, IsBook}
 use Rattle.serve_hub.specs.Ends.{IsHistory}

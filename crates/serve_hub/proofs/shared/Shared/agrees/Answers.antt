@@ -1,4 +1,4 @@
-use Rattle.std.proofs.Common.{ℕ, ◌≡◌, ap, length, reverse, subst, sym, ◌∙◌, IsTrue, List, rules, true}
+use Rattle.std.proofs.Common.{ℕ, ◌≡◌, ap, length, reverse, subst, sym, ◌∙◌, IsTrue, List, rules}
 use Rattle.std.proofs.lemmas.List.{reverse-reverse}
 use Rattle.serve_hub.specs.declared.entry.Entry.{Entry}
 use Rattle.serve_core.specs.Schedule.{ScheduleValue}
