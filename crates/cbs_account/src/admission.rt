@@ -45,7 +45,7 @@ impl Model for Admission {
 impl Admission {
     /// No server yet, on so many workers.
     pub fn new(workers: u64) -> Admission
-        requires some { 1 ≤ workers }
+        requires some_workers { 1 ≤ workers }
         requires most { workers ≤ MOST_WORKERS }
         ensures { result ≡ record { workers = workers; shares = 0 } }
     {

@@ -74,7 +74,7 @@ impl Pool {
 
     /// The ready stream with the earliest deadline, among equal deadlines that with the lowest number.
     pub fn earliest(&self) -> Option<u32>
-        ensures some { IfSome result (IsEarliest self.now) }
+        ensures earliest { IfSome result (IsEarliest self.now) }
         ensures none { IfNone result (NoneReady self.now) }
     {
         self.nodes[1].map(|ready| ready.stream())

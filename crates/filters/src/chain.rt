@@ -59,9 +59,9 @@ fn check_chain(
     ensures is_chain { IfOk result (λ _. IsChain (chain_of ops.now geometry band_height)) }
     ensures steps { IfOk result (λ totals. totals.steps ≡ steps_of (chain_of ops.now geometry band_height)) }
     ensures cost { IfOk result (λ totals. totals.cost ≡ cost_of (chain_of ops.now geometry band_height)) }
-    ensures some { IfOk result (λ totals. 1 ≤ totals.steps) }
+    ensures some_steps { IfOk result (λ totals. 1 ≤ totals.steps) }
     ensures refused { IfErr result (λ e. IsChainRefusedAs e (chain_of ops.now geometry band_height)) }
-    ensures told { IfErr result (λ e. e ≢ FilterError.NoMemory) }
+    ensures never_no_memory { IfErr result (λ e. e ≢ FilterError.NoMemory) }
 {
     if !ops.iter().all(has_good_radius) {
         return Err(FilterError::BadOp);

@@ -21,7 +21,7 @@ use y4m_header::text::cut;
 /// before there are too many.
 pub fn parse_ops(alloc: Global, text: &[u8]) -> Result<Vec<Op>, FilterError>
     ensures ops { IfOk result (λ ops. ops_of text.now ≡ Some ops.items) }
-    ensures few { IfOk result (λ ops. length ops.items ≤ MOST_OPS) }
+    ensures few_ops { IfOk result (λ ops. length ops.items ≤ MOST_OPS) }
     ensures bad { IsErrOf result FilterError.BadOp ↔ (ops_of text.now ≡ None) }
     ensures many { IsErrOf result FilterError.TooManyOps
         ↔ IsSomeAnd (ops_of text.now) (λ ops. MOST_OPS < length ops) }

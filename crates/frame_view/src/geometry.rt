@@ -104,7 +104,7 @@ impl Geometry {
 
     /// The planes that a frame lends at once, one after another in its data.
     #[tactic(auto, using(crate::proofs::Places::lent_fill))]
-    pub fn lent(self) -> LentPlanes
+    pub fn lent_planes(self) -> LentPlanes
         ensures luma { IsLent self 0 result.luma }
         ensures cb { IsLent self 1 result.cb }
         ensures cr { IsLent self 2 result.cr }

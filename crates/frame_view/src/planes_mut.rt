@@ -55,7 +55,7 @@ pub fn split_rows(samples: &mut [u8], columns: usize, y: usize) -> (&mut [u8], &
 macro_rules! lend_planes {
     ($frame:expr => $luma:ident, $cb:ident, $cr:ident, $alpha:ident) => {
         let frame = $frame;
-        let lent = frame.geometry().lent();
+        let lent = frame.geometry().lent_planes();
         let samples = frame.data_mut();
         let (luma, rest) = samples.split_at_mut(lent.luma.len);
         let (cb, rest) = rest.split_at_mut(lent.cb.len);

@@ -49,7 +49,7 @@ all_pixels chain frames i o d h shaped done p y x at =
     let count : band_count image.geometry b ≡ get_or counts i 0 =
     count_of_output chain i image.geometry within (shaped.format (i + 1) d (omega (arith, h))) in
     let band =
-    each_row_in_one_band image.geometry b chain.band_height.some chain.band_height.even p y at.plane at.row in
+    each_row_in_one_band image.geometry b chain.band_height.fewest chain.band_height.even p y at.plane at.row in
     let inside : band.0 < get_or counts i 0 = rw count at band.1 in
     let step : IsStep counts (sum (take i counts) + band.0) i band.0 =
     record { of_chain = within; of_op = inside; number = refl } in

@@ -60,7 +60,7 @@ impl Job {
         ensures fits { IfOk result (λ _. (arc_value source).geometry ≡ (arc_value spec).geometry) }
         ensures wrong_size { IsErrOf result (JobRefused.WrongSize source)
             ↔ ((arc_value source).geometry ≢ (arc_value spec).geometry) }
-        ensures back { IfErr result (λ refused. frame_in refused ≡ source) }
+        ensures returns_frame { IfErr result (λ refused. frame_in refused ≡ source) }
     {
         if !spec.fits(source.geometry()) {
             return Err(JobRefused::WrongSize(source));
@@ -97,7 +97,7 @@ impl Job {
             ↔ ((arc_value source).geometry ≢ (arc_value spec).geometry) }
         ensures memory { IfErr result (λ _. (arc_value source).geometry ≡ (arc_value spec).geometry
             → line_of image ≢ line_of (arc_value source)) }
-        ensures back { IfErr result (λ refused. frame_beside refused ≡ source) }
+        ensures returns_frame { IfErr result (λ refused. frame_beside refused ≡ source) }
         ensures image_back { IfErr result (λ refused. value_of (image_in refused) ≡ value_of image) }
     {
         if !spec.fits(source.geometry()) {
@@ -152,8 +152,8 @@ impl Job {
     pub fn steps(&self) -> u32
         ensures value { result ≡ steps_of self.now.chain }
         ensures costs { length (step_costs self.now.chain) ≡ result }
-        ensures some { 1 ≤ result }
-        ensures few { result ≤ MOST_COST }
+        ensures positive { 1 ≤ result }
+        ensures within_limit { result ≤ MOST_COST }
     {
         self.spec.chain().steps()
     }
@@ -206,7 +206,7 @@ impl Job {
     pub(crate) fn next_cost(&self) -> u32
         requires { self.now.done < steps_of self.now.chain }
         ensures value { slice_get (step_costs self.now.chain) self.now.done ≡ Some result }
-        ensures few { result ≤ 9 }
+        ensures within_limit { result ≤ 9 }
     {
         self.spec.chain().cost_of_step(self.done)
     }

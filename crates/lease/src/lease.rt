@@ -44,7 +44,7 @@ impl Lease {
     /// A lease of this many steps of the job of frame `number` of its stream.
     pub fn new(job: Job, stream: u32, number: u64, grant: u32) -> Lease
         requires started { IsSome job.scratch }
-        requires some { 1 ≤ grant }
+        requires positive_grant { 1 ≤ grant }
         requires left { job.done + grant ≤ steps_of job.chain }
         ensures { result ≡ granted_of job stream number grant }
     {
@@ -134,7 +134,7 @@ impl Lease {
     /// How many steps may be done under the lease.
     pub fn granted(&self) -> u32
         ensures value { result ≡ self.now.granted }
-        ensures some { 1 ≤ result }
+        ensures positive { 1 ≤ result }
     {
         self.granted
     }

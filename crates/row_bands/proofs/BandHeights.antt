@@ -10,6 +10,6 @@ pub same_height : (a b : BandHeight) → a.rows ≡ b.rows → a ≡ b
 same_height a b rows = λ i. record {
   rows = rows i;
   even = joined (λ k. rows k % 2 ≡ 0) (hlevel props) a.even b.even i;
-  some = joined (λ k. FEWEST_BAND_ROWS ≤ rows k) (hlevel props) a.some b.some i;
-  few = joined (λ k. rows k ≤ MOST_BAND_ROWS) (hlevel props) a.few b.few i;
+  fewest = joined (λ k. FEWEST_BAND_ROWS ≤ rows k) (hlevel props) a.fewest b.fewest i;
+  most = joined (λ k. rows k ≤ MOST_BAND_ROWS) (hlevel props) a.most b.most i;
 }

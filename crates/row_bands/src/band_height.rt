@@ -10,8 +10,8 @@ use crate::limits::{FEWEST_BAND_ROWS, MOST_BAND_ROWS};
 pub struct BandHeight {
     pub(crate) rows: u32,
     pub ghost even: { rows % 2 ≡ 0 },
-    pub ghost some: { FEWEST_BAND_ROWS ≤ rows },
-    pub ghost few: { rows ≤ MOST_BAND_ROWS },
+    pub ghost fewest: { FEWEST_BAND_ROWS ≤ rows },
+    pub ghost most: { rows ≤ MOST_BAND_ROWS },
 }
 
 impl BandHeight {

@@ -41,7 +41,7 @@ impl BandPlan {
         requires plane { p < plane_count self.geometry.chroma }
         ensures rows { GoWith self.geometry p (luma_from self.height.rows k)
             (luma_to self.geometry self.height.rows k) result.0 result.1 }
-        ensures some { result.0 < result.1 }
+        ensures some_rows { result.0 < result.1 }
     {
         let from = k * self.height.rows();
         let to = (from + self.height.rows()).min(self.geometry.height as usize);

@@ -78,7 +78,7 @@ impl Canvas {
     /// line.
     pub fn set_line(&mut self, alloc: Global, line: &[u8]) -> Result<(), AllocError>
         requires { IsFrameLine line.now }
-        ensures kept { KeepsAllButLine self.old self.new }
+        ensures keeps_rest { KeepsAllButLine self.old self.new }
         ensures same { line_of (frame_of self.old) ≡ line.now → IsOk result }
         ensures ok { OnOk result (line_of (frame_of self.new) ≡ line.now) }
         ensures err { OnErr result (line_of (frame_of self.new) ≡ line_of (frame_of self.old)) }

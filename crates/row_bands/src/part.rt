@@ -130,7 +130,7 @@ pub(crate) fn paint_parts<R: Threads, P: Painter + Sync, N: Fn(u32) + Sync>(
     ensures parts { HasParts (GivesRows (P.picture painter.now) (P.paint_gives painter.now) part.geometry)
         part.from row part.to part.geometry samples.old samples.new }
 {
-    let lent = part.geometry.lent();
+    let lent = part.geometry.lent_planes();
     let (luma, rest) = samples.split_at_mut(lent.luma.len);
     let (cb, rest) = rest.split_at_mut(lent.cb.len);
     let (cr, alpha) = rest.split_at_mut(lent.cr.len);
@@ -172,7 +172,7 @@ fn paint_runs<R: Threads, P: Painter + Sync, N: Fn(u32) + Sync>(
     ensures parts { HaveParts (GivesRows (P.picture painter.now) (P.paint_gives painter.now) part.geometry)
         part.from row part.to part.geometry luma.new cb.new cr.new alpha.new }
 {
-    let lent = part.geometry.lent();
+    let lent = part.geometry.lent_planes();
     let (top, bottom) = part.split(row);
     let (luma_top, luma_bottom) = luma.split_at_mut(top.len(0, lent.luma));
     let (cb_top, cb_bottom) = cb.split_at_mut(top.len(1, lent.cb));

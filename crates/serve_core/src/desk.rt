@@ -105,7 +105,7 @@ impl Desk {
         ensures { option_copied result
             ≡ option_map (λ stream. stream.state.spec) (slice_get self.now.streams s) }
     {
-        self.schedule.stream(s).map(|stream| stream.made_for())
+        self.schedule.stream(s).map(|stream| stream.stream_spec())
     }
 
     /// What [`Desk::offer`] would refuse this frame for, want of memory aside.
@@ -137,7 +137,7 @@ impl Desk {
         ensures job { IfOk result (λ n. rules.TakesFrame s at (arc_value frame) n self.old self.new) }
         ensures refused { IfErr result (λ e.
             rules.RefusesOffer self.old s at (arc_value frame).geometry e.0) }
-        ensures back { IfErr result (λ e. (e.1 ≡ frame) × (self.new ≡ self.old)) }
+        ensures returns_frame { IfErr result (λ e. (e.1 ≡ frame) × (self.new ≡ self.old)) }
     {
         if let Some(refusal) = self.offer_refusal(s, at, &frame) {
             return Err((refusal, frame));
@@ -167,7 +167,7 @@ impl Desk {
         ensures answer { OnOk result (rules.job_refusal self.old s at ≡ None) }
         ensures job { IfOk result (λ n. rules.TakesJob s at job n self.old self.new) }
         ensures refused { IfErr result (λ e. rules.job_refusal self.old s at ≡ Some e.0) }
-        ensures back { IfErr result (λ e. (e.1 ≡ job) × (self.new ≡ self.old)) }
+        ensures returns_job { IfErr result (λ e. (e.1 ≡ job) × (self.new ≡ self.old)) }
     {
         if at > LAST_MOMENT {
             return Err((Refusal::ClockEnd, job));
@@ -206,7 +206,7 @@ impl Desk {
         ensures stream { IfOk result (λ s. (s ≡ length self.old.streams)
             × (self.new ≡ schedules.with_stream spec self.old)) }
         ensures refused { IfErr result (λ e. rules.RefusesAdmission self.old spec e.0) }
-        ensures back { IfErr result (λ e. (e.1 ≡ spec) × (self.new ≡ self.old)) }
+        ensures returns_spec { IfErr result (λ e. (e.1 ≡ spec) × (self.new ≡ self.old)) }
     {
         if let Some(refusal) = self.schedule.admit_refusal(&spec) {
             return Err((refusal, spec));
@@ -226,7 +226,7 @@ impl Desk {
         ensures stream { IfOk result (λ s. (s ≡ length self.old.streams)
             × (self.new ≡ schedules.with_stream newcomer self.old)) }
         ensures refused { IfErr result (λ e. rules.RefusesAdmission self.old newcomer e.0) }
-        ensures back { IfErr result (λ e. (e.1 ≡ newcomer) × (self.new ≡ self.old)) }
+        ensures returns_newcomer { IfErr result (λ e. (e.1 ≡ newcomer) × (self.new ≡ self.old)) }
     {
         if let Some(refusal) = self.schedule.admit_refusal(newcomer.spec()) {
             return Err((refusal, newcomer));
@@ -257,8 +257,8 @@ impl Desk {
     /// stay are numbered anew, in their order; they keep all that they have.
     pub fn retire(&mut self)
         requires free { AreFree self.old.workers }
-        requires few { length self.old.streams ≤ MOST_STREAMS }
-        requires some { 1 ≤ length (staying self.old) }
+        requires few_streams { length self.old.streams ≤ MOST_STREAMS }
+        requires some_stay { 1 ≤ length (staying self.old) }
         ensures desk { self.new ≡ retired_schedule self.old }
         ensures reached { IsReached measures_any is_any_image (desk_state self.old)
             → IsReached measures_any is_any_image (desk_state self.new) }
@@ -268,7 +268,7 @@ impl Desk {
 
     /// What [`Desk::lease`] would refuse worker `w` for.
     pub fn lease_refusal(&self, w: u32) -> Option<Refusal>
-        ensures some { IfSome result (schedules.RefusesLease self.now w) }
+        ensures refused { IfSome result (schedules.RefusesLease self.now w) }
         ensures free { IfNone result (slice_get self.now.workers w ≡ Some None) }
         ensures ready { IfNone result (rules.SomeReady self.now) }
     {
@@ -334,7 +334,7 @@ impl Desk {
         ensures job { IfOk result (λ n. MatchOption n (rules.TakesBack w lease self.old self.new)
             (λ number. rules.TakesImage w lease number self.old self.new)) }
         ensures refused { IfErr result (λ e. rules.RefusesSettle self.old w e.0) }
-        ensures back { IfErr result (λ e. (e.1 ≡ lease) × (self.new ≡ self.old)) }
+        ensures returns_lease { IfErr result (λ e. (e.1 ≡ lease) × (self.new ≡ self.old)) }
     {
         match self.schedule.lease_of_worker(w) {
             Err(refusal) => Err((refusal, lease)),
@@ -369,7 +369,7 @@ impl Desk {
 
     /// What [`Desk::collect`] would refuse for stream `s`.
     pub fn collect_refusal(&self, s: u32) -> Option<Refusal>
-        ensures some { IfSome result (schedules.RefusesCollect self.now s) }
+        ensures refused { IfSome result (schedules.RefusesCollect self.now s) }
         ensures none { IfNone result (HasStream self.now s (λ stream.
             stream.state.collected < stream.state.finished)) }
     {

@@ -70,7 +70,7 @@ impl Machine {
         ensures allowed { Allows measures is_image self.old (seen event) (heard result) }
         ensures state { self.new ≡ after self.old (seen event) (heard result) }
         ensures transcript { LeadsOn measures is_image self.old (seen event) (heard result) self.new }
-        ensures back { GivesBack event result }
+        ensures returns_frame { GivesBack event result }
     {
         self.answer(alloc, event)
     }
@@ -79,7 +79,7 @@ impl Machine {
     fn answer(&mut self, alloc: Global, event: Event) -> Reply
         ensures allowed { Allows measures is_image self.old (seen event) (heard result) }
         ensures state { self.new ≡ after self.old (seen event) (heard result) }
-        ensures back { GivesBack event result }
+        ensures returns_frame { GivesBack event result }
     {
         match event {
             Event::Arrive(s, frame) => self.arrive(alloc, s, frame),
@@ -136,7 +136,7 @@ impl Machine {
             Allows measures is_image self.old arrival (heard result) }
         ensures state { let arrival = rules.Arrive s (value_of (arc_value frame)) in
             self.new ≡ after self.old arrival (heard result) }
-        ensures back { IsGivenBack frame result }
+        ensures returns_frame { IsGivenBack frame result }
     {
         let geometry = frame.geometry();
         if let Some(refusal) = self.schedule.arrival_refusal(s, geometry) {

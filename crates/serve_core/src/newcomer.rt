@@ -36,7 +36,7 @@ impl Newcomer {
         ensures newcomer { IfOk result (λ newcomer. newcomer ≡ spec) }
         ensures fit { OnOk result (IsWithinLimits spec × HasBandwidth spec) }
         ensures refused { IfErr result (λ e. RefusesSpec spec e.0) }
-        ensures back { IfErr result (λ e. e.1 ≡ spec) }
+        ensures returns_spec { IfErr result (λ e. e.1 ≡ spec) }
     {
         if !spec.is_within_limits() {
             return Err((Refusal::BadLimits, spec));
@@ -55,7 +55,7 @@ impl Newcomer {
         ensures spec { result.now ≡ self.now }
         ensures limits { IsWithinLimits self.now }
     {
-        self.stream.made_for()
+        self.stream.stream_spec()
     }
 
     /// What every newcomer keeps. It does nothing: the call that takes its stream asks for this.

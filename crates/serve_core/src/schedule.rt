@@ -138,7 +138,7 @@ impl Schedule {
         ensures ok { IfOk result
             (λ job. HasStream self.now s (λ stream. IsFresh stream.state.spec.chain job)) }
         ensures source { IfOk result (λ job. job.source ≡ arc_value frame) }
-        ensures back { IfErr result (λ back. back ≡ frame) }
+        ensures returns_frame { IfErr result (λ back. back ≡ frame) }
     {
         self.streams[s as usize].job(alloc, frame)
     }
@@ -158,7 +158,7 @@ impl Schedule {
 
     /// Why a stream isn't admitted, if it isn't, want of memory aside.
     pub(crate) fn admit_refusal(&self, spec: &StreamSpec) -> Option<Refusal>
-        requires some { 1 ≤ length self.now.workers }
+        requires some_workers { 1 ≤ length self.now.workers }
         requires most { length self.now.workers ≤ MOST_WORKERS }
         requires fits { Fits (rules.held_by self.now) }
         ensures { rules.IsAdmitAnswer self.now spec.now result }
@@ -184,7 +184,7 @@ impl Schedule {
     /// Takes a stream behind all others, and answers its number. The spec comes back where the memory for it
     /// is refused.
     pub(crate) fn admit(&mut self, alloc: Global, spec: StreamSpec) -> Result<u32, StreamSpec>
-        requires few { length self.old.streams < MOST_STREAMS }
+        requires room_for_stream { length self.old.streams < MOST_STREAMS }
         ensures ok { IfOk result (λ s. (s ≡ length self.old.streams)
             × (self.new ≡ rules.with_stream spec self.old)) }
         ensures err { IfErr result (λ back. (back ≡ spec) × (self.new ≡ self.old)) }
@@ -202,7 +202,7 @@ impl Schedule {
     /// Takes a newcomer behind all others, and answers its number. It comes back where the memory for its
     /// place is refused.
     pub(crate) fn join(&mut self, newcomer: Newcomer) -> Result<u32, Newcomer>
-        requires few { length self.old.streams < MOST_STREAMS }
+        requires room_for_stream { length self.old.streams < MOST_STREAMS }
         ensures ok { IfOk result (λ s. (s ≡ length self.old.streams)
             × (self.new ≡ rules.with_stream newcomer self.old)) }
         ensures err { IfErr result (λ back. (back ≡ newcomer) × (self.new ≡ self.old)) }
@@ -244,8 +244,8 @@ impl Schedule {
 
     /// Takes the released streams out. The others are numbered anew, in their order.
     pub(crate) fn retire(&mut self)
-        requires few { length self.old.streams ≤ MOST_STREAMS }
-        requires some { 1 ≤ length (staying self.old) }
+        requires few_streams { length self.old.streams ≤ MOST_STREAMS }
+        requires some_stay { 1 ≤ length (staying self.old) }
         ensures { self.new ≡ retired_schedule self.old }
     {
         drop_released(&mut self.streams, self.clock);
@@ -255,7 +255,7 @@ impl Schedule {
 
     /// Why worker `w` gets no lease, if it gets none.
     pub(crate) fn lease_refusal(&self, w: u32) -> Option<Refusal>
-        ensures some { IfSome result (λ e. rules.RefusesLease self.now w e) }
+        ensures refused { IfSome result (λ e. rules.RefusesLease self.now w e) }
         ensures none { IfNone result (slice_get self.now.workers w ≡ Some None) }
         ensures ready { IfNone result (SomeReady self.now) }
     {
@@ -342,7 +342,7 @@ impl Schedule {
     pub(crate) fn settle(&mut self, w: u32, held: Held) -> Option<u64>
         requires lease { HasLease self.old w held }
         requires stream { HasStream self.old held.stream (λ stream. IsSome stream.leased) }
-        ensures back { IfNone result (HasStream self.old held.stream (λ stream.
+        ensures requeued { IfNone result (HasStream self.old held.stream (λ stream.
             (stream.state.done ≢ steps stream.state.spec)
             × (self.new ≡ with_held w None
             (with_stream_at held.stream (rules.stream_returned stream) self.old)))) }
@@ -379,7 +379,7 @@ impl Schedule {
 
     /// Why stream `s` gives no image, if it gives none.
     pub(crate) fn collect_refusal(&self, s: u32) -> Option<Refusal>
-        ensures some { IfSome result (λ e. rules.RefusesCollect self.now s e) }
+        ensures refused { IfSome result (λ e. rules.RefusesCollect self.now s e) }
         ensures none { IfNone result (HasStream self.now s (λ stream.
             stream.state.collected < stream.state.finished)) }
     {
@@ -411,7 +411,7 @@ impl Schedule {
 
 /// The workers with the shares that the streams hold at a moment.
 fn admission_of_held_shares(workers: u64, moment: u64, streams: &[Stream]) -> Admission
-    requires some { 1 ≤ workers }
+    requires some_workers { 1 ≤ workers }
     requires most { workers ≤ MOST_WORKERS }
     requires fits { Fits (rules.held_of_streams workers moment streams.now) }
     ensures { result ≡ rules.held_of_streams workers moment streams.now }
@@ -443,7 +443,7 @@ fn drop_released(streams: &mut Vec<Stream>, moment: u64)
 /// Tells a pool of these streams, none of which is ready in it, which of them are.
 fn show_all(pool: &mut Pool, streams: &[Stream])
     requires pool { pool.old ≡ replicate (length streams.now) None }
-    requires few { length streams.now ≤ MOST_STREAMS }
+    requires few_streams { length streams.now ≤ MOST_STREAMS }
     ensures { pool.new ≡ rules.ready_deadlines streams.now }
 {
     for s in 0..streams.len() {

@@ -116,9 +116,9 @@ fn are_within_limits(streams: &[StreamSpec]) -> bool
 
 /// Admits the streams, one after the other.
 fn admit_all(workers: u64, streams: &[StreamSpec]) -> Result<(), SetupError>
-    requires some { 1 ≤ workers }
+    requires some_workers { 1 ≤ workers }
     requires most { workers ≤ MOST_WORKERS }
-    requires few { length streams.now ≤ MOST_STREAMS }
+    requires few_streams { length streams.now ≤ MOST_STREAMS }
     ensures ok { OnOk result (AreAdmitted workers streams.now) }
     ensures err { IfErr result (λ e. IsRefusal e workers streams.now) }
 {

@@ -68,7 +68,7 @@ impl Stream {
         requires limits { IsWithinLimits spec }
         requires bandwidth { HasBandwidth spec }
         ensures stream { IfOk result (λ x. x ≡ opened spec) }
-        ensures back { IfErr result (λ back. back ≡ spec) }
+        ensures returns_spec { IfErr result (λ back. back ≡ spec) }
     {
         let account = match Account::new(spec.maximum, spec.period) {
             Ok(account) => account,
@@ -98,7 +98,7 @@ impl Stream {
     }
 
     /// What the stream was made for.
-    pub(crate) fn made_for(&self) -> &StreamSpec
+    pub(crate) fn stream_spec(&self) -> &StreamSpec
         ensures { result.now ≡ self.now.state.spec }
     {
         &self.spec
@@ -143,7 +143,7 @@ impl Stream {
         requires { (arc_value frame).geometry ≡ self.now.state.spec.geometry }
         ensures fresh { IfOk result (IsFresh self.now.state.spec.chain) }
         ensures source { IfOk result (λ job. job.source ≡ arc_value frame) }
-        ensures back { IfErr result (λ back. back ≡ frame) }
+        ensures returns_frame { IfErr result (λ back. back ≡ frame) }
     {
         let spec = match self.spec.job.clone() {
             Ok(spec) => spec,
@@ -256,7 +256,7 @@ impl Stream {
         requires leased { IsSome self.old.leased }
         requires left { self.old.state.done < steps self.old.state.spec }
         requires charge { CanCharge (next_cost self.old.state) self.old.state.account }
-        requires few { self.old.state.charged + next_cost self.old.state < 2 ^ 64 }
+        requires no_overflow { self.old.state.charged + next_cost self.old.state < 2 ^ 64 }
         ensures worked { self.new ≡ record self.old {
           state = did self.old.state Worked;
           leased = self.new.leased;
@@ -283,7 +283,7 @@ impl Stream {
         requires left { self.old.state.done + bands ≤ steps self.old.state.spec }
         requires units { units ≡ cost_of_next bands self.old.state }
         requires charge { CanCharge units self.old.state.account }
-        requires few { self.old.state.charged + units < 2 ^ 64 }
+        requires no_overflow { self.old.state.charged + units < 2 ^ 64 }
         ensures { self.new ≡ record self.old { state = worked_at_once bands self.old.state } }
     {
         self.account.charge(units);
@@ -342,7 +342,7 @@ impl Stream {
     /// its number then.
     pub(crate) fn settle(&mut self) -> Option<u64>
         requires { IsSome self.old.leased }
-        ensures back { IfNone result ((self.old.state.done ≢ steps self.old.state.spec)
+        ensures requeued { IfNone result ((self.old.state.done ≢ steps self.old.state.spec)
             × (self.new ≡ stream_returned self.old)) }
         ensures finished { IfSome result (λ number. (self.old.state.done ≡ steps self.old.state.spec)
             × (number ≡ self.old.state.finished)
@@ -377,7 +377,7 @@ impl Stream {
         ensures source { IfSome result (λ pair. slice_get self.old.state.frames 0 ≡ Some (source_in pair)) }
         ensures pair { IfSome result (IsPair self.old.state.spec.chain) }
         ensures less { OnSome result (self.old.state.collected < self.old.state.finished) }
-        ensures some { OnSome result (self.new ≡ record self.old {
+        ensures taken { OnSome result (self.new ≡ record self.old {
           state = did self.old.state Taken;
           images = drop 1 self.old.images;
         }) }
@@ -395,7 +395,7 @@ impl Stream {
 
     /// Why the stream gives no image, if it gives none.
     pub(crate) fn collect_refusal(&self) -> Option<Refusal>
-        ensures some { IfSome result (λ e. (self.now.state.finished ≤ self.now.state.collected)
+        ensures refused { IfSome result (λ e. (self.now.state.finished ≤ self.now.state.collected)
             × (e ≡ rules.lack self.now.state)) }
         ensures none { IfNone result (self.now.state.collected < self.now.state.finished) }
     {

@@ -84,7 +84,7 @@ impl<R: Read> Ahead<R> {
         ensures bytes { Keeps (rest_of self.old) (rest_of self.new) }
         ensures held { StartsWith self.new.held self.old.held }
         ensures news { ¬ HasNone self.new }
-        ensures told { self.old.told ≢ Told.Nothing → self.new ≡ self.old }
+        ensures same_once_told { self.old.told ≢ Told.Nothing → self.new ≡ self.old }
         ensures same { HasWanted wanted self.old.held → self.new ≡ self.old }
         ensures no_further { IsNoFurther wanted self.old.held self.new.held }
         ensures memory { self.old.room < self.new.room → self.new.room ≡ wanted.line + wanted.behind }
@@ -114,7 +114,7 @@ impl<R: Read> Read for Ahead<R> {
         ensures bytes { ReadConsumes (prepend_known self.old.held self.old.left)
             (prepend_known self.new.held self.new.left) result buf.new }
         ensures held { self.old.held ≢ [] → IsOk result }
-        ensures told { self.old.held ≡ [] → self.old.told ≢ Told.Nothing → 0 < length buf.old
+        ensures end_or_fault { self.old.held ≡ [] → self.old.told ≢ Told.Nothing → 0 < length buf.old
             → HasNone self.new × MatchResult result (λ count. (count ≡ 0) × (self.old.told ≡ Told.End))
             (λ error. self.old.told ≡ Told.Fault error) }
     {

@@ -119,7 +119,7 @@ impl<W: Write> Load<W> {
     pub fn answer_to(&mut self, buf: &[u8]) -> Option<io::Result<usize>>
         ensures bound { IfSome result (λ answer. WritesAtMost answer buf.now) }
         ensures answer { StartsWith buf.now self.old.handed → IsTold self.old.answer result }
-        ensures told { self.new ≡ record self.old { answer = Answer.Awaited } }
+        ensures awaits_answer { self.new ≡ record self.old { answer = Answer.Awaited } }
     {
         match mem::replace(&mut self.answer, Answer::Awaited) {
             Answer::Awaited => None,
@@ -131,7 +131,7 @@ impl<W: Write> Load<W> {
 
     /// Flushes the writer.
     pub fn flush(&mut self) -> io::Result<()>
-        ensures kept { Keeps self.old.contents self.new.contents }
+        ensures keeps_contents { Keeps self.old.contents self.new.contents }
         ensures others { (self.new.handed ≡ self.old.handed) × (self.new.answer ≡ self.old.answer) }
     {
         self.writer.flush()

@@ -46,7 +46,7 @@ impl Stock {
 
     /// Whether bytes are held.
     pub fn is_holding(&self) -> bool
-        ensures some { result ≡ true → 0 < length self.now.held }
+        ensures not_empty { result ≡ true → 0 < length self.now.held }
         ensures none { result ≡ false → self.now.held ≡ [] }
     {
         self.from < self.to
@@ -62,7 +62,7 @@ impl Stock {
     /// How many bytes it has room for.
     pub fn room(&self) -> usize
         ensures value { result ≡ self.now.room }
-        ensures some { 0 < result }
+        ensures positive { 0 < result }
     {
         self.bytes.len()
     }

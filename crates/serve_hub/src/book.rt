@@ -114,7 +114,7 @@ impl Book {
         requires empty { journal.items ≡ [] }
         requires capacity { self.limit ≤ vec_capacity journal }
         requires free { AreFree self.desk.workers }
-        requires some { 1 ≤ length (staying self.desk) }
+        requires some_stay { 1 ≤ length (staying self.desk) }
         requires reached { IsReached measures_any is_any_image (desk_state self.desk) }
         ensures book { result.0 ≡ opened_book (retired_schedule self.desk) self.limit }
         ensures reached { IsReached measures_any is_any_image (desk_state result.0.desk) }

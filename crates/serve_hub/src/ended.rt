@@ -96,7 +96,7 @@ impl Ended {
     pub fn retire(self, alloc: Global) -> Result<Retired, Ended>
         ensures ended { IfOk result (λ r. r.ended ≡ retired_end self) }
         ensures journal { IfOk result (λ r. reverse r.journal.items ≡ self.book.past) }
-        ensures back { IfErr result (λ ended. ended ≡ self) }
+        ensures returns_ended { IfErr result (λ ended. ended ≡ self) }
     {
         if !self.can_retire() {
             return Err(self);
@@ -116,7 +116,7 @@ impl Ended {
 
     /// Whether a stream stays, and each that does has its seat's part here.
     fn can_retire(&self) -> bool
-        ensures some { IsTrue result → 1 ≤ length (staying self.now.book.desk) }
+        ensures some_stay { IsTrue result → 1 ≤ length (staying self.now.book.desk) }
         ensures each_stream { IsTrue result → length (rests_kept self.now.book.desk self.now.streams)
             ≡ length (staying self.now.book.desk) }
     {
@@ -129,7 +129,7 @@ impl Ended {
     fn retire_over(self, journal: Vec<Entry>) -> Retired
         requires empty { journal.items ≡ [] }
         requires capacity { self.book.limit ≤ vec_capacity journal }
-        requires some { 1 ≤ length (staying self.book.desk) }
+        requires some_stay { 1 ≤ length (staying self.book.desk) }
         requires each_stream { length (rests_kept self.book.desk self.streams)
             ≡ length (staying self.book.desk) }
         ensures ended { result.ended ≡ retired_end self }

@@ -132,7 +132,7 @@ impl<L: Epoch> Hub<L> {
         ensures end { IfOk result (IsEndOf L.opening self streams.items workers.items) }
         ensures refused { IfErr result (λ m.
             IsUnended L.opening self streams.items workers.items m.fault m.unlocked) }
-        ensures back { IfErr result (λ m. (m.streams.items ≡ streams.items)
+        ensures returns_seats { IfErr result (λ m. (m.streams.items ≡ streams.items)
             × (m.workers.items ≡ workers.items)) }
     {
         let Hub {
@@ -251,7 +251,7 @@ fn any_lease_out<L: Epoch>(seats: &[WorkSeat<L>]) -> bool
 #[tactic(auto, using(crate::proofs::Seating::one_more_rest))]
 fn rests_of(alloc: Global, streams: &[StreamSpec]) -> Result<Vec<SeatRest>, AllocError>
     requires limits { All IsWithinLimits streams.now }
-    requires few { length streams.now ≤ MOST_STREAMS }
+    requires few_streams { length streams.now ≤ MOST_STREAMS }
     ensures rests { IfOk result (λ rests. rests.items ≡ opened_rests 0 streams.now) }
     ensures count { IfOk result (λ rests. vec_len rests ≡ length streams.now) }
 {

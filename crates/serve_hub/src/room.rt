@@ -130,7 +130,7 @@ fn fill_seats<L: Epoch>(
 
 /// One of the lists, all of which are the same.
 fn next_calls<L: Epoch>(lists: &mut Vec<Calls<L>>, limit: usize) -> Calls<L>
-    requires some { 0 < vec_len lists.old }
+    requires not_empty { 0 < vec_len lists.old }
     requires calls { lists.old.items ≡ replicate (vec_len lists.old) (no_calls limit) }
     ensures calls { lists.new.items ≡ replicate (vec_len lists.new) (no_calls limit) }
     ensures fewer { vec_len lists.new + 1 ≡ vec_len lists.old }
@@ -151,7 +151,7 @@ fn lists_of_calls<L: Epoch>(
 ) -> Result<Vec<Calls<L>>, AllocError>
     requires parts { streams ≤ spare.old.parts }
     requires amount { spare.old.amount ≡ 0 }
-    requires few { streams ≤ MOST_STREAMS }
+    requires few_streams { streams ≤ MOST_STREAMS }
     ensures calls { IfOk result (λ calls. calls.items ≡ replicate streams (no_calls limit)) }
     ensures parts { OnOk result (spare.new.parts + streams ≡ spare.old.parts) }
     ensures amount { spare.new.amount ≡ 0 }
@@ -173,7 +173,7 @@ fn work_seats<L: Epoch>(
 ) -> Result<Vec<WorkSeat<L>>, AllocError>
     requires parts { workers ≤ spare.old.parts }
     requires amount { spare.old.amount ≡ 0 }
-    requires few { workers ≤ MOST_WORKERS }
+    requires few_workers { workers ≤ MOST_WORKERS }
     ensures seats { IfOk result (λ seats.
         seats.items ≡ map (opened_worker limit) (range_with_len 0 workers)) }
     ensures parts { OnOk result (spare.new.parts + workers ≡ spare.old.parts) }

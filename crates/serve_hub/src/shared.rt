@@ -153,7 +153,7 @@ impl<L: Epoch> Shared<L> {
 
     /// Why a worker that finds no stream ready need not wait for one.
     pub(crate) fn end_of_work(&self) -> Option<Refusal>
-        ensures some { IfSome result (λ e. (e ≡ Core Drained) × All IsOver self.now.book.desk.streams
+        ensures refused { IfSome result (λ e. (e ≡ Core Drained) × All IsOver self.now.book.desk.streams
             ⊎ (e ≡ HistoryFull) × (room self.now.book < 2)) }
         ensures none { IfNone result (2 ≤ room self.now.book) }
     {

@@ -14,7 +14,7 @@ pub struct Host<'t, 'f, 'w, F, V, T> {
 
 impl<'t, 'f, 'w, F, V, T> Host<'t, 'f, 'w, F, V, T> {
     /// A host under this watch in place of its own.
-    pub fn watched_by<'u, U>(self, watch: Option<&'u U>) -> Host<'t, 'f, 'u, F, U, T> {
+    pub fn with_watch<'u, U>(self, watch: Option<&'u U>) -> Host<'t, 'f, 'u, F, U, T> {
         Host {
             rt: self.rt,
             alloc: self.alloc,

@@ -128,7 +128,7 @@ where
         if let Err(fault) = tell_apart(self.alloc, self.files, &checked.streams) {
             return refuse(errors, fault);
         }
-        let host = self.watched_by(self.watch_of_frames(words.is_quiet));
+        let host = self.with_watch(self.watch_of_frames(words.is_quiet));
         let clock = RunClock::new(self.rt, words.microseconds());
         if let Some(control) = words.control {
             if words.trace.is_some() {
@@ -207,7 +207,7 @@ where
             (W.contents output.new)) }
     {
         let watch = announce_streams(self.alloc, &checked.streams, self.watch);
-        let rows = self.watched_by(watch).serve_files(checked, clock);
+        let rows = self.with_watch(watch).serve_files(checked, clock);
         if let Some(watch) = watch {
             watch.ends();
         }

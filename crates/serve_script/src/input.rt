@@ -22,7 +22,7 @@ pub fn read_front<R: Source>(
     ensures bound { IfOk result (λ bytes. vec_len bytes ≤ limit) }
     ensures whole { IfOk result (λ bytes. vec_len bytes < limit → IsAtEnd (R.remaining input.new)) }
     ensures no_write { IfErr result (λ fault. fault ≢ ReplayFault.Write) }
-    ensures some { IsErrOf result ReplayFault.NoMemory
+    ensures memory_for_bytes { IsErrOf result ReplayFault.NoMemory
         → IfSome (R.remaining input.old) (λ rest. 0 < length rest) }
     ensures failures { R.failures input.new ≡ reads_told result (R.failures input.old) }
 {

@@ -196,7 +196,7 @@ fn has_name(streams: &[Asked<'_>], name: &str) -> bool
 
 /// Asks for the streams' shares of the workers, one after the other.
 fn admit_all<'a>(workers: u64, streams: &[Asked<'a>]) -> Result<(), WordFault<'a>>
-    requires some { 1 ≤ workers }
+    requires some_workers { 1 ≤ workers }
     requires most { workers ≤ MOST_WORKERS }
     ensures { MatchResult result
         (λ _. AdmissionGives (load_of workers []) (all_told streams.now) None)

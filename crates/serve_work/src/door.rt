@@ -44,7 +44,7 @@ pub trait Door<R: Source, W: Sink>: Bell {
             × waits self.old (before ++ w ∷ after) × (w.ticket ≡ ticket)
             × IsSomeAnd answer.old
             (IsAnswer W.contents W.failures limit times w.request) }
-        ensures told { (before : List Waiting) (w : Waiting) (after : List Waiting)
+        ensures waits_no_longer { (before : List Waiting) (w : Waiting) (after : List Waiting)
             → waits self.old (before ++ w ∷ after) → w.ticket ≡ ticket → waits self.new (before ++ after) };
 
     /// Whether it is to be shown how the streams stand.

@@ -173,7 +173,7 @@ impl<L: Epoch, R: Source + Drop, W: Sink> Pipeline<L, R, W> {
         requires frame { (arc_value frame).geometry ≡ self.old.seat.chain.geometry }
         ensures answer { Offers result (arc_value frame) self.old.seat self.new.seat
             self.old.writer self.new.writer }
-        ensures kept { HasFed (K.gives post.entry.clock.now) (result_err result) self.old self.new }
+        ensures has_fed { HasFed (K.gives post.entry.clock.now) (result_err result) self.old self.new }
         ensures reader { self.new.reader ≡ self.old.reader }
     {
         let mut frame = frame;
@@ -209,7 +209,7 @@ impl<L: Epoch, R: Source + Drop, W: Sink> Pipeline<L, R, W> {
         ensures passed { OnOk result (PassesOn self.old self.new) }
         ensures answer { IfErr result (λ fed. (past : List Act) → IsCounted past self.old.seat
             → StopsFeeding fed past self.old.reader self.old self.new) }
-        ensures kept { HasFed (K.gives post.entry.clock.now) (result_err result) self.old self.new }
+        ensures has_fed { HasFed (K.gives post.entry.clock.now) (result_err result) self.old self.new }
     {
         let ahead = reads_ahead(&self.seat, &self.reader);
         match self.deliver_ready(post.rt, post.hub, ahead) {
@@ -235,7 +235,7 @@ impl<L: Epoch, R: Source + Drop, W: Sink> Pipeline<L, R, W> {
         requires can { CanReadOn self.old }
         ensures answer { (past : List Act) → IsCounted past self.old.seat
             → StopsFeeding result past self.old.reader self.old self.new }
-        ensures kept { HasFed (K.gives post.entry.clock.now) (Some result) self.old self.new }
+        ensures has_fed { HasFed (K.gives post.entry.clock.now) (Some result) self.old self.new }
     {
         for _ in post.rt.forever() {
             match self.feed_once(post) {
@@ -257,7 +257,7 @@ impl<L: Epoch, R: Source + Drop, W: Sink> Pipeline<L, R, W> {
         ensures answer { (past : List Act) (before : ReaderState) → IsCounted past self.old.seat
             → Holds before self.old.reader (text_in in_hand)
             → StopsFeeding result past before self.old self.new }
-        ensures kept { HasFed (K.gives post.entry.clock.now) (Some result) self.old self.new }
+        ensures has_fed { HasFed (K.gives post.entry.clock.now) (Some result) self.old self.new }
     {
         match in_hand {
             None => self.feed_on(post),

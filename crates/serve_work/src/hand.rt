@@ -50,7 +50,7 @@ pub(crate) fn finish<L: Epoch, W: Sink, T: Wait>(
     ensures answer { (seat : StreamSeatValue) (before : WriterState)
         → IsBegunPair seat.chain pair before writer.old
         → MovesOrHalts result (with_kept pair seat) seat before writer.new [] }
-    ensures back { IfOk result (λ back. back ≡ pair) }
+    ensures returns_pair { IfOk result (λ back. back ≡ pair) }
     ensures own { IfErr result IsOfWriting }
     ensures left { IfErr result (LeavesInHand pair writer.new) }
     ensures count { (counted_with (image_at image_in result) writer.new).frames ≤ writer.old.frames + 1 }

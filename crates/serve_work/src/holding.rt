@@ -98,7 +98,7 @@ fn hold_on<L: Epoch, R: Source + Drop, K: Clock, T: Wait>(
     requires can { CanHoldOn reader.old seat.old }
     ensures answer { (past : List Act) (writer : WriterState) → IsCounted past seat.old
         → OffersOn result past reader.old reader.new seat.old seat.new writer }
-    ensures kept { HasHeld (K.gives post.entry.clock.now) result reader.old reader.new seat.old seat.new }
+    ensures has_held { HasHeld (K.gives post.entry.clock.now) result reader.old reader.new seat.old seat.new }
 {
     for _ in post.rt.forever() {
         match hold_once(post, seat, reader) {
@@ -121,7 +121,7 @@ pub(crate) fn hold<L: Epoch, R: Source + Drop, K: Clock, T: Wait>(
     ensures answer { (past : List Act) (before : ReaderState) (writer : WriterState) → IsCounted past seat.old
         → Holds before reader.old (text_in in_hand)
         → OffersOn result past before reader.new seat.old seat.new writer }
-    ensures kept { HasHeld (K.gives post.entry.clock.now) result reader.old reader.new seat.old seat.new }
+    ensures has_held { HasHeld (K.gives post.entry.clock.now) result reader.old reader.new seat.old seat.new }
 {
     match in_hand {
         None => hold_on(post, seat, reader),

@@ -73,7 +73,7 @@ impl Header {
     /// In pixels.
     pub fn width(&self) -> u32
         ensures value { result ≡ self.now.width }
-        ensures some { 1 ≤ result }
+        ensures positive { 1 ≤ result }
         ensures limit { result ≤ LONGEST_SIDE }
     {
         self.width
@@ -82,7 +82,7 @@ impl Header {
     /// In pixels.
     pub fn height(&self) -> u32
         ensures value { result ≡ self.now.height }
-        ensures some { 1 ≤ result }
+        ensures positive { 1 ≤ result }
         ensures limit { result ≤ LONGEST_SIDE }
     {
         self.height

@@ -55,7 +55,7 @@ fn are_digits(text: &[u8]) -> bool
 
 /// The number that decimal digits write.
 pub(crate) fn digits_value(digits: &[u8]) -> u64
-    requires few { length digits.now ≤ MOST_DIGITS }
+    requires few_digits { length digits.now ≤ MOST_DIGITS }
     requires digits { All IsAsciiDigit digits.now }
     ensures { result ≡ digits_value 10 digits.now }
 {

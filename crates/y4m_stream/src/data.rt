@@ -15,7 +15,7 @@ pub fn fill_exactly<R: Source>(source: &mut R, out: &mut [u8]) -> Result<(), Rea
         LacksBytes (length out.old) fault (R.remaining source.old) (R.remaining source.new)) }
     ensures given { IfErr result (λ _. HasGiven (R.remaining source.old) (R.remaining source.new)
         (λ bytes. length bytes < length out.old)) }
-    ensures told { R.failures source.new ≡ failures_told result (R.failures source.old) }
+    ensures failures { R.failures source.new ≡ failures_told result (R.failures source.old) }
 {
     let mut at = 0;
     while at < out.len() {

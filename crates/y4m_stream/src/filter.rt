@@ -111,7 +111,7 @@ pub fn begin<W: Sink>(
 
 /// Flushes the writer, and answers the first fault, if there is one.
 pub fn close<W: Sink>(writer: StreamWriter<W>, passed: Filtered) -> (W, Filtered)
-    ensures kept { Keeps writer.contents (W.contents result.0) }
+    ensures keeps_contents { Keeps writer.contents (W.contents result.0) }
     ensures answer { Closes passed writer result.1 }
     ensures counted { CountsClosing passed writer result.1 (W.failures result.0) }
     ensures flushed { OnOk result.1 (W.is_flushed result.0 ≡ true) }

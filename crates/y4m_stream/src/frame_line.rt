@@ -56,7 +56,7 @@ fn is_at_end<R: Source>(input: &mut Lookahead<R>) -> Result<bool, ReadFault>
     ensures ended { result ≡ Ok true → IsAtEnd (rest_of input.old) × (input.new.held ≡ []) }
     ensures not_ended { result ≡ Ok false → 0 < length input.new.held }
     ensures err { IfErr result (λ fault. (fault ≡ ReadFault.Device) × (input.new.held ≡ [])) }
-    ensures told { input.new.failures ≡ failures_told result input.old.failures }
+    ensures failures { input.new.failures ≡ failures_told result input.old.failures }
 {
     if !input.bytes().is_empty() {
         return Ok(false);
@@ -74,8 +74,8 @@ pub fn find_frame_line<R: Source>(input: &mut Lookahead<R>) -> Result<Option<usi
     ensures line { IfOk result (λ next. IfSome next (HoldsFrameLine input.new.held)) }
     ensures end { IfOk result (λ next. IfNone next (IsAtEnd (rest_of input.old) × (input.new.held ≡ []))) }
     ensures fault { IfErr result (λ fault. LacksFrameLine fault (rest_of input.old) input.new.left) }
-    ensures few { length input.new.held ≤ LINE_LIMIT }
-    ensures told { input.new.failures ≡ failures_told result input.old.failures }
+    ensures few_held { length input.new.held ≤ LINE_LIMIT }
+    ensures failures { input.new.failures ≡ failures_told result input.old.failures }
 {
     if is_at_end(input)? {
         return Ok(None);
@@ -99,8 +99,8 @@ pub fn take_data<R: Source>(input: &mut Lookahead<R>, end: usize, out: &mut Fram
         StandsAtFrame (length (samples_of out.old)) fault (rest_of input.old) input.new.left) }
     ensures given { IfErr result (λ _. HasGiven (rest_of input.old) input.new.left
         (IsCutFrame (length (samples_of out.old)))) }
-    ensures few { length input.new.held ≤ LINE_LIMIT }
-    ensures told { input.new.failures ≡ failures_told result input.old.failures }
+    ensures few_held { length input.new.held ≤ LINE_LIMIT }
+    ensures failures { input.new.failures ≡ failures_told result input.old.failures }
 {
     input.consume(end + 1);
     input.take_exactly(out.data_mut())?;

@@ -16,8 +16,8 @@ pub fn find_line<R: Source>(input: &mut Lookahead<R>) -> Result<usize, ReadFault
     ensures line { IfOk result (BeginsWithLine input.new.held) }
     ensures rest { Keeps (rest_of input.old) (rest_of input.new) }
     ensures fault { IfErr result (λ fault. LacksLine fault (rest_of input.old) input.new.left) }
-    ensures few { length input.new.held ≤ LINE_LIMIT }
-    ensures told { input.new.failures ≡ failures_told result input.old.failures }
+    ensures few_held { length input.new.held ≤ LINE_LIMIT }
+    ensures failures { input.new.failures ≡ failures_told result input.old.failures }
 {
     loop {
         if let Some(end) = place_of(b'\n', input.bytes()) {

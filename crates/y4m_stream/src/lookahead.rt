@@ -57,7 +57,7 @@ impl<R: Source> Lookahead<R> {
     /// The bytes that are held.
     pub fn bytes(&self) -> &[u8]
         ensures value { result.now ≡ self.now.held }
-        ensures few { length self.now.held ≤ LINE_LIMIT }
+        ensures few_held { length self.now.held ≤ LINE_LIMIT }
     {
         &self.bytes[..self.len]
     }
@@ -77,7 +77,7 @@ impl<R: Source> Lookahead<R> {
         ensures count { IfOk result (λ n. length self.new.held ≡ length self.old.held + n) }
         ensures end { IfOk result (λ n. n ≡ 0 → IsAtEnd self.new.left) }
         ensures err { OnErr result (self.new.held ≡ self.old.held) }
-        ensures told { self.new.failures ≡ failures_after result self.old.failures }
+        ensures failures { self.new.failures ≡ failures_after result self.old.failures }
     {
         let n = self.source.read(&mut self.bytes[self.len..])?;
         self.len += n;
@@ -112,8 +112,8 @@ impl<R: Source> Lookahead<R> {
             LacksBytes (length out.old) fault (rest_of self.old) self.new.left) }
         ensures given { IfErr result (λ _. HasGiven (rest_of self.old) self.new.left
             (λ bytes. length bytes < length out.old)) }
-        ensures few { length self.new.held ≤ LINE_LIMIT }
-        ensures told { self.new.failures ≡ failures_told result self.old.failures }
+        ensures few_held { length self.new.held ≤ LINE_LIMIT }
+        ensures failures { self.new.failures ≡ failures_told result self.old.failures }
     {
         let taken = self.take_into(out);
         fill_exactly(&mut self.source, &mut out[taken..])
@@ -130,7 +130,7 @@ impl<R: Source> Lookahead<R> {
     pub fn into_source(self) -> R
         ensures remaining { R.remaining result ≡ self.left }
         ensures failures { R.failures result ≡ self.failures }
-        ensures few { length self.held ≤ LINE_LIMIT }
+        ensures few_held { length self.held ≤ LINE_LIMIT }
     {
         self.source
     }

@@ -34,7 +34,7 @@ type WriteResult = Result<(), WriteFault>;
 /// Makes the image of the filter's frame, whose line was taken, and writes it.
 fn paint_and_put<W: Sink>(writer: &mut StreamWriter<W>, filter: &mut Filter) -> WriteResult
     requires { CanPaint filter.old writer.old }
-    ensures kept { KeepsSizes filter.old filter.new }
+    ensures keeps_sizes { KeepsSizes filter.old filter.new }
     ensures put { HasImage filter.old.images.chain (frame_text_of filter.old.frame)
         (λ image. PutsOpen writer.old writer.new image result) }
 {
@@ -55,7 +55,7 @@ fn read_and_put<T: Threads, R: Source + Drop + Send, W: Sink>(
     requires ready { CanReadBeside filter.old reader.old writer.old next.old }
     ensures next { next.new.geometry ≡ next.old.geometry }
     ensures header { reader.new.header ≡ reader.old.header }
-    ensures kept { KeepsSizes filter.old filter.new }
+    ensures keeps_sizes { KeepsSizes filter.old filter.new }
     ensures read { AnswersOpen reader.old reader.new (answer_into next.new result.0) }
     ensures ahead { IfErr result.0 (λ _.
         IsFrameAhead (data_len_of reader.old.header) reader.old.rest reader.new.left) }

@@ -19,8 +19,8 @@ fn pass_frame<R: Source + Drop, W: Sink>(
     filter: &mut Filter,
 ) -> Result<bool, FilterFault>
     requires ready { CanFilter filter.old reader.old writer.old }
-    requires few { writer.old.frames < MOST_FRAMES }
-    ensures kept { KeepsSizes filter.old filter.new }
+    requires room_for_frame { writer.old.frames < MOST_FRAMES }
+    ensures keeps_sizes { KeepsSizes filter.old filter.new }
     ensures header { reader.new.header ≡ reader.old.header }
     ensures answer { PassesNext filter.old.images.chain reader.old reader.new writer.old writer.new result }
 {

@@ -36,8 +36,8 @@ fn take_header<R: Source>(alloc: Global, input: &mut Lookahead<R>) -> Result<Hea
     ensures taken { IfOk result (λ header.
         Consumes (rest_of input.old) (rest_of input.new) (header.line ++ 10 ∷ [])) }
     ensures fault { IfErr result (λ fault. StandsAtHeader fault (rest_of input.old) input.new.left) }
-    ensures few { OnOk result (length input.new.held ≤ LINE_LIMIT) }
-    ensures told { input.new.failures ≡ failures_told result input.old.failures }
+    ensures few_held { OnOk result (length input.new.held ≤ LINE_LIMIT) }
+    ensures failures { input.new.failures ≡ failures_told result input.old.failures }
 {
     let end = find_line(input)?;
     let header = match Header::parse(alloc, &input.bytes()[..end]) {
@@ -54,7 +54,7 @@ fn take_header<R: Source>(alloc: Global, input: &mut Lookahead<R>) -> Result<Hea
 fn begin_frame<R: Source>(input: &mut Lookahead<R>, phase: &mut Phase) -> ReadResult<Option<usize>>
     ensures answer { BeginsFrame input.old input.new phase.old phase.new result }
     ensures rest { Keeps (rest_of input.old) (rest_of input.new) }
-    ensures few { phase.old ≡ Phase.Open → length input.new.held ≤ LINE_LIMIT }
+    ensures few_held { phase.old ≡ Phase.Open → length input.new.held ≤ LINE_LIMIT }
 {
     match *phase {
         Phase::Failed => return Err(ReadFault::Failed),

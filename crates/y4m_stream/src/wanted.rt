@@ -32,7 +32,7 @@ pub struct Wanted {
     line: usize,
     /// How many bytes are wanted behind it.
     behind: usize,
-    ghost some: { 0 < line + behind },
+    ghost not_empty: { 0 < line + behind },
     ghost short: { line ≤ LINE_LIMIT },
     ghost small: { behind ≤ LARGEST_DATA },
 }

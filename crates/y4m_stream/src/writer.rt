@@ -64,7 +64,7 @@ impl<W: Sink> StreamWriter<W> {
         ensures opened { IfOk result (IsOpenedFor header.now (W.contents sink) (W.failures sink)) }
         ensures cut { IfErr result (λ failed. CutsShort (W.contents sink) (W.contents failed.0)
             (header.now.line ++ 10 ∷ []) 0 failed.1) }
-        ensures told { IfErr result (λ failed. W.failures failed.0 ≡ one_more (W.failures sink)) }
+        ensures failures { IfErr result (λ failed. W.failures failed.0 ≡ one_more (W.failures sink)) }
     {
         match put_line(&mut sink, header.line()) {
             Ok(()) => Ok(StreamWriter {
@@ -85,7 +85,7 @@ impl<W: Sink> StreamWriter<W> {
     /// `WriteFault::Failed`.
     pub fn put(&mut self, frame: &Frame) -> Result<(), WriteFault>
         requires size { IsOfSize self.old frame.now.geometry }
-        requires few { self.old.frames < MOST_FRAMES }
+        requires room_for_frame { self.old.frames < MOST_FRAMES }
         ensures { Puts self.old self.new (frame_text_of frame.now) result }
     {
         if self.failed {
@@ -113,7 +113,7 @@ impl<W: Sink> StreamWriter<W> {
     /// `WriteFault::Failed`, as those of `put` do.
     pub fn put_on(&mut self, frame: &Frame, patience: Option<u64>) -> Result<bool, WriteFault>
         requires size { IsOfSize self.old frame.now.geometry }
-        requires few { self.old.frames < MOST_FRAMES }
+        requires room_for_frame { self.old.frames < MOST_FRAMES }
         requires part { self.old.part < length (text_of (frame_text_of frame.now)) }
         ensures more { (before : WriterState) → IsWithin before self.old (frame_text_of frame.now)
             → PutsMore before self.new (frame_text_of frame.now) result }
@@ -168,13 +168,13 @@ impl<W: Sink> StreamWriter<W> {
 
     /// Flushes, and gives the sink back. A writer that has failed flushes nothing.
     pub fn finish(self) -> (W, Result<(), WriteFault>)
-        ensures kept { Keeps self.contents (W.contents result.0) }
+        ensures keeps_contents { Keeps self.contents (W.contents result.0) }
         ensures flushed { OnOk result.1 (W.is_flushed result.0 ≡ true) }
         ensures closed { self.failed ≡ false
             → FlushesOrFails (W.is_flushed result.0) self.failures (W.failures result.0) }
         ensures failed { (result.1 ≡ Err WriteFault.Failed) ↔ (self.failed ≡ true) }
         ensures fault { self.failed ≡ false → IfErr result.1 (λ fault. fault ≡ WriteFault.Device self.bytes) }
-        ensures told { W.failures result.0 ≡ write_failures_told result.1 self.failures }
+        ensures failures { W.failures result.0 ≡ write_failures_told result.1 self.failures }
     {
         let StreamWriter {
             mut sink,

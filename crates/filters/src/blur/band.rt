@@ -21,11 +21,11 @@ const WIDEST_ROOM: usize = LONGEST_SIDE as usize + 2 * MOST_RADIUS as usize;
 fn mean_row(columns: &mut [u16], radius: usize, fours: &mut [u16], target: &mut [u8])
     requires reach { 1 ≤ radius }
     requires small { radius ≤ MOST_RADIUS }
-    requires some { 0 < length target.old }
+    requires not_empty { 0 < length target.old }
     requires sized { length target.old + 2 * radius ≡ length columns.old }
     requires fours { length fours.old ≡ length columns.old }
     requires bytes { (x : ℕ) → x < length target.old → column columns.old radius x ≤ 255 * side radius }
-    ensures kept { (x : ℕ) → x < length target.old →
+    ensures keeps_columns { (x : ℕ) → x < length target.old →
         column columns.new radius x ≡ column columns.old radius x }
     ensures means { AreMeansRound radius (length target.old) columns.old target.new }
 {
@@ -40,7 +40,7 @@ fn mean_row(columns: &mut [u16], radius: usize, fours: &mut [u16], target: &mut 
 fn blur_band<const ROOM: usize>(plane: &SourcePlane, from: usize, to: usize, target: &mut [u8])
     requires room { plane.now.width + 2 * plane.now.radius ≤ ROOM }
     requires most { ROOM ≤ WIDEST_ROOM }
-    requires some { from < to }
+    requires some_rows { from < to }
     requires rows { to ≤ plane.now.height }
     requires sized { length target.old ≡ (to - from) * plane.now.width }
     ensures { AreBlurredRows plane.now.samples.now plane.now.width plane.now.height plane.now.radius

@@ -52,7 +52,7 @@ fn move_row(columns: &mut [u16], radius: usize, entering: &[u8], leaving: &[u8])
     requires enters { length entering.now + 2 * radius ≡ length columns.old }
     requires leaves { length leaving.now ≡ length entering.now }
     requires room { (x : ℕ) → x < length entering.now → slice_index columns.old (radius + x) ≤ 65280 }
-    requires kept { (x : ℕ) → x < length entering.now →
+    requires no_underflow { (x : ℕ) → x < length entering.now →
         slice_index leaving.now x ≤ column columns.old radius x }
     ensures { (x : ℕ) → x < length entering.now →
         slice_index columns.new (radius + x) + slice_index leaving.now x
@@ -66,7 +66,7 @@ fn move_row(columns: &mut [u16], radius: usize, entering: &[u8], leaving: &[u8])
 /// Row `k` of those near `y`, from `y - radius` on.
 fn row_near<'a>(plane: &'a SourcePlane, y: usize, k: usize) -> &'a [u8]
     requires down { y < plane.now.height }
-    requires few { k ≤ 2 * MOST_RADIUS + 1 }
+    requires near { k ≤ 2 * MOST_RADIUS + 1 }
     ensures { IsRowOf plane.now (clamped plane.now.height plane.now.radius y k) result.now }
 {
     plane.row(clamped_place(plane.height, plane.radius, y, k))
@@ -112,7 +112,7 @@ pub fn next_columns(plane: &SourcePlane, y: usize, columns: &mut [u16])
 
 /// Repeats the first and the last column in the places before and after the columns.
 pub fn repeat_ends(columns: &mut [u16], radius: usize)
-    requires some { 2 * radius < length columns.old }
+    requires some_columns { 2 * radius < length columns.old }
     requires small { radius ≤ MOST_RADIUS }
     ensures { (k : ℕ) → k < length columns.old →
         slice_index columns.new k

@@ -41,7 +41,7 @@ impl SourcePlane<'_> {
 pub fn clamped_place(count: usize, radius: usize, at: usize, k: usize) -> usize
     requires short { count ≤ LONGEST_SIDE }
     requires inside { at < count }
-    requires few { k ≤ 2 * MOST_RADIUS + 1 }
+    requires near { k ≤ 2 * MOST_RADIUS + 1 }
     ensures place { result ≡ clamped count radius at k }
     ensures within { result < count }
 {

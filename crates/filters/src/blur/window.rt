@@ -12,8 +12,8 @@ use crate::limits::MOST_RADIUS;
 /// The rounded mean of a square of up to 15 columns, from its sum. The compiler knows `SIDE`, so that it need
 /// not divide.
 fn mean<const SIDE: usize>(sum: u16) -> u8
-    requires some { 0 < SIDE }
-    requires few { SIDE ≤ 15 }
+    requires positive_side { 0 < SIDE }
+    requires small_side { SIDE ≤ 15 }
     requires bytes { sum ≤ 255 * (SIDE * SIDE) }
     ensures { result ≡ (sum + SIDE * SIDE / 2) / (SIDE * SIDE) }
 {
@@ -65,7 +65,7 @@ fn quotient_of_parts(one: u16, other: u16) -> u8
 /// The sum of `COUNT` columns from `x` on.
 #[tactic(auto, using(crate::proofs::BlurSums::sum_below_more))]
 fn columns_sum<const COUNT: usize>(columns: &[u16], x: usize) -> u16
-    requires few { COUNT ≤ 15 }
+    requires few_columns { COUNT ≤ 15 }
     requires inside { x + COUNT ≤ length columns.now }
     requires small { (k : ℕ) → k < length columns.now → slice_index columns.now k ≤ 4335 }
     ensures { result ≡ sum_below (λ j. slice_index columns.now (x + j)) COUNT }
@@ -80,7 +80,7 @@ fn columns_sum<const COUNT: usize>(columns: &[u16], x: usize) -> u16
 /// The sum of `COUNT` groups of four columns, from `x` on.
 #[tactic(auto, using(crate::proofs::BlurSums::sum_below_more))]
 fn fours_sum<const COUNT: usize>(fours: &[u16], x: usize) -> u16
-    requires few { COUNT ≤ 3 }
+    requires few_fours { COUNT ≤ 3 }
     requires inside { x + 4 * COUNT ≤ length fours.now + 3 }
     requires small { (k : ℕ) → k < length fours.now → slice_index fours.now k ≤ 17340 }
     ensures { result ≡ sum_below (λ g. slice_index fours.now (x + 4 * g)) COUNT }
@@ -105,8 +105,8 @@ fn add_fours(columns: &[u16], fours: &mut [u16])
 
 /// The rounded means of the squares of `SIDE` columns that begin at each place.
 fn narrow_means<const SIDE: usize>(columns: &[u16], target: &mut [u8])
-    requires some { 0 < SIDE }
-    requires few { SIDE ≤ 15 }
+    requires positive_side { 0 < SIDE }
+    requires small_side { SIDE ≤ 15 }
     requires squares { AreSquares SIDE (length target.old) columns.now }
     ensures { AreMeans SIDE columns.now target.new }
 {
@@ -122,8 +122,8 @@ fn wide_means<const SIDE: usize, const FOURS: usize, const REST: usize>(
     target: &mut [u8],
 )
     requires parts { SIDE ≡ 4 * FOURS + REST }
-    requires some { 0 < REST }
-    requires few { SIDE ≤ 15 }
+    requires positive_rest { 0 < REST }
+    requires small_side { SIDE ≤ 15 }
     requires squares { AreSquares SIDE (length target.old) columns.now }
     requires fours { AreFours columns.now fours.now }
     ensures { AreMeans SIDE columns.now target.new }

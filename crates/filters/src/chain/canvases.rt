@@ -88,7 +88,7 @@ impl Images {
         ensures chain { self.new.chain ≡ self.old.chain }
         ensures geometry { source.new.geometry ≡ source.old.geometry }
         ensures made { OnOk result (HoldsImage self.new source.old source.new) }
-        ensures kept { OnErr result (source.new ≡ source.old) }
+        ensures keeps_source { OnErr result (source.new ≡ source.old) }
         ensures memory { IfErr result (λ e. e ≡ FilterError.NoMemory) }
     {
         self.take_line_of(alloc, source)?;

@@ -22,7 +22,7 @@ use std::alloc::Global;
 /// The image of a frame by operation `i` alone, with the frame's line.
 fn image_by(chain: &Chain, alloc: Global, i: usize, source: &Frame) -> Result<Frame, FilterError>
     requires op { i < length chain.now.ops }
-    requires few { i < MOST_OPS }
+    requires op_within_limit { i < MOST_OPS }
     requires reaches { format_of source.now.geometry ≡ format_at chain.now i }
     ensures image { IfOk result (λ image. (d : Op) →
         IsImage (slice_index_or chain.now.ops i d) (value_of source.now) (value_of image)) }
@@ -56,9 +56,9 @@ fn paint_at(chain: &Chain, i: usize, source: &Frame, canvas: &mut Canvas)
 /// Makes canvas `i` the image, by the operation that it is for, of what the canvas before it holds. All lines
 /// stay.
 fn paint_next(chain: &Chain, front: usize, i: usize, canvases: &mut [Canvas])
-    requires few { length chain.now.ops ≤ MOST_OPS }
+    requires few_ops { length chain.now.ops ≤ MOST_OPS }
     requires front { front ≡ front_of chain.now }
-    requires some { 1 ≤ i }
+    requires not_first { 1 ≤ i }
     requires inside { i < length canvases.old }
     requires canvases { AreCanvases chain.now canvases.old }
     ensures canvases { AreCanvases chain.now canvases.new }

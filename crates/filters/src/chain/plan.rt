@@ -27,7 +27,7 @@ pub fn totals_of(ops: &[Op], geometry: Geometry, band_height: BandHeight) -> Opt
         totals.steps ≡ step_count ops.now geometry.height band_height.rows) }
     ensures cost { IfSome result (λ totals.
         totals.cost ≡ sum (costs_by ops.now geometry.height band_height.rows)) }
-    ensures some { IfSome result (λ totals. length ops.now ≤ totals.steps) }
+    ensures step_per_op { IfSome result (λ totals. length ops.now ≤ totals.steps) }
 {
     let mut reached = geometry;
     let mut steps = 0;

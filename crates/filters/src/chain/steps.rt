@@ -23,8 +23,8 @@ impl Chain {
     pub fn steps(&self) -> u32
         ensures value { result ≡ steps_of self.now }
         ensures costs { length (step_costs self.now) ≡ result }
-        ensures some { 1 ≤ result }
-        ensures few { result ≤ MOST_COST }
+        ensures positive { 1 ≤ result }
+        ensures within_limit { result ≤ MOST_COST }
     {
         self.steps
     }
@@ -32,8 +32,8 @@ impl Chain {
     /// What all steps of a frame cost, in units: at least one for each step, and at most 32,768.
     pub fn cost(&self) -> u32
         ensures value { result ≡ cost_of self.now }
-        ensures some { steps_of self.now ≤ result }
-        ensures few { result ≤ MOST_COST }
+        ensures unit_per_step { steps_of self.now ≤ result }
+        ensures within_limit { result ≤ MOST_COST }
     {
         self.cost
     }
@@ -43,7 +43,7 @@ impl Chain {
         requires { k < steps_of self.now }
         ensures step { IsStep (counts_of self.now) k result.0 result.1 }
         ensures op { result.0 < length self.now.ops }
-        ensures few { result.0 < MOST_OPS }
+        ensures op_within_limit { result.0 < MOST_OPS }
         ensures band { (output : Geometry) → format_of output ≡ format_at self.now (result.0 + 1)
             → result.1 < band_count output self.now.band_height.rows }
     {
@@ -54,8 +54,8 @@ impl Chain {
     pub fn cost_of_step(&self, k: u32) -> u32
         requires { k < steps_of self.now }
         ensures value { slice_get (step_costs self.now) k ≡ Some result }
-        ensures some { 1 ≤ result }
-        ensures few { result ≤ MOST_BAND_COST }
+        ensures positive { 1 ≤ result }
+        ensures within_limit { result ≤ MOST_BAND_COST }
     {
         self.run_of_step(k).cost
     }
@@ -64,8 +64,8 @@ impl Chain {
     pub fn run_of_step(&self, k: u32) -> StepRun
         requires { k < steps_of self.now }
         ensures run { IsRun self.now k result }
-        ensures some { 1 ≤ result.cost }
-        ensures few { result.cost ≤ MOST_BAND_COST }
+        ensures positive_cost { 1 ≤ result.cost }
+        ensures cost_within_limit { result.cost ≤ MOST_BAND_COST }
     {
         let (op, band) = self.op_of_step(k);
         let bands = BandPlan::new(self.geometry_after(op + 1), self.band_height).count();

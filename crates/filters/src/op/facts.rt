@@ -76,8 +76,8 @@ impl Op {
     pub fn cost(self) -> u32
         requires { HasGoodRadius self }
         ensures value { result ≡ op_cost self }
-        ensures some { 1 ≤ result }
-        ensures few { result ≤ MOST_BAND_COST }
+        ensures positive { 1 ≤ result }
+        ensures within_limit { result ≤ MOST_BAND_COST }
     {
         match self {
             Op::Blur(blur) => 1 + blur.radius,

@@ -45,5 +45,5 @@ pub fn reached_law()
     ensures over { OverLaw measures_any is_any_image }
     ensures reached { ReachedLaw measures_any is_any_image }
     ensures joined { OverJoinLaw measures_any is_any_image }
-    ensures few { FewLaw measures_any is_any_image }
+    ensures within_limits { FewLaw measures_any is_any_image }
 {}

@@ -35,7 +35,7 @@ impl Book {
             × (self.new.desk ≡ with_stream spec self.old.desk)) }
         ensures answer { OnOk result (IsAdmitAnswer self.old spec None) }
         ensures refused { IfErr result (λ e. RefusesAdmission self.old spec e.0) }
-        ensures back { IfErr result (λ e. (e.1 ≡ spec) × (self.new ≡ self.old)) }
+        ensures returns_spec { IfErr result (λ e. (e.1 ≡ spec) × (self.new ≡ self.old)) }
     {
         let newcomer = match Newcomer::new(alloc, spec) {
             Ok(newcomer) => newcomer,
@@ -64,7 +64,7 @@ impl Book {
             × (self.new.desk ≡ with_stream newcomer self.old.desk)) }
         ensures answer { OnOk result (IsAdmitAnswer self.old newcomer None) }
         ensures refused { IfErr result (λ e. RefusesAdmission self.old newcomer e.0) }
-        ensures back { IfErr result (λ e. (e.1 ≡ newcomer) × (self.new ≡ self.old)) }
+        ensures returns_newcomer { IfErr result (λ e. (e.1 ≡ newcomer) × (self.new ≡ self.old)) }
     {
         if self.room() < 2 {
             return Err((or_full(self.desk.admit_refusal(newcomer.spec())), newcomer));

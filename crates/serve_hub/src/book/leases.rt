@@ -48,7 +48,7 @@ impl Book {
         ensures job { IfOk result (λ done. TakesLease w lease done self.old.desk self.new.desk) }
         ensures recorded { OnOk result (IsOut self.old w lease) }
         ensures refused { IfErr result (λ e. RefusesSettle self.old w lease e.0) }
-        ensures back { IfErr result (λ e. (e.1 ≡ lease) × (self.new ≡ self.old)) }
+        ensures returns_lease { IfErr result (λ e. (e.1 ≡ lease) × (self.new ≡ self.old)) }
     {
         let held = match self.desk.lease_of_worker(w) {
             Ok(held) => held,

@@ -44,7 +44,7 @@ impl Book {
         ensures job { IfOk result (λ n. TakesFrame s at (arc_value frame) n self.old.desk self.new.desk) }
         ensures answer { OnOk result (IsOfferAnswer self.old s at (arc_value frame).geometry None) }
         ensures refused { IfErr result (λ e. RefusesOffer self.old s at (arc_value frame).geometry e.0) }
-        ensures back { IfErr result (λ e. (e.1 ≡ frame) × (self.new ≡ self.old)) }
+        ensures returns_frame { IfErr result (λ e. (e.1 ≡ frame) × (self.new ≡ self.old)) }
     {
         if self.room() < 1 {
             return Err((or_full(self.desk.offer_refusal(s, at, &frame)), frame));
@@ -84,7 +84,7 @@ impl Book {
         ensures job { IfOk result (λ n. TakesJob s at job n self.old.desk self.new.desk) }
         ensures answer { OnOk result (IsJobAnswer self.old s at None) }
         ensures refused { IfErr result (λ e. IsJobAnswer self.old s at (Some e.0)) }
-        ensures back { IfErr result (λ e. (e.1 ≡ job) × (self.new ≡ self.old)) }
+        ensures returns_job { IfErr result (λ e. (e.1 ≡ job) × (self.new ≡ self.old)) }
     {
         if self.room() < 1 {
             return Err((or_full(self.desk.offer_job_refusal(s, at)), job));

@@ -64,7 +64,7 @@ fn make_newcomer(alloc: Global, limit: usize, spec: StreamSpec) -> Result<Made, 
     ensures newcomer { IfOk result (λ made. made.0 ≡ spec) }
     ensures rest { IfOk result (λ made. made.1 ≡ opened_rest made.1.number spec) }
     ensures list { IfOk result (λ made. made.2.items ≡ []) }
-    ensures back { IfErr result (λ back. back ≡ spec) }
+    ensures returns_spec { IfErr result (λ back. back ≡ spec) }
 {
     let newcomer = match Newcomer::new(alloc, spec) {
         Ok(newcomer) => newcomer,

@@ -63,7 +63,7 @@ impl<L: Epoch> Hub<L> {
         ensures limit { OnOk result (IsLimit (length ended.streams) limit) }
         ensures bad_limit { IfErr result (λ e.
             (e.refusal ≡ HubError.BadLimit) ↔ ¬ IsLimit (length ended.streams) limit) }
-        ensures back { IfErr result (λ e. e.ended ≡ ended) }
+        ensures returns_ended { IfErr result (λ e. e.ended ≡ ended) }
     {
         let (streams, workers) = ended.seats();
         if !is_limit(streams, limit) {

@@ -105,7 +105,7 @@ impl<L: Epoch> Hub<L> {
 
     /// What a frame is refused for whose job wasn't made.
     fn refusal(&self, rt: &impl Wait, seat: &mut StreamSeat<L>, at: u64, frame: &Frame) -> Refusal
-        ensures told { IsOfferTold seat.old at frame.now.geometry result }
+        ensures refused { IsOfferTold seat.old at frame.now.geometry result }
         ensures seat { seat.new ≡ noted result seat.old }
     {
         let shared = self.shared.lock(rt);

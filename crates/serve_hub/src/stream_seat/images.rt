@@ -42,7 +42,7 @@ impl<L: Epoch> StreamSeat<L> {
     /// Takes an image out of the book. It isn't compared yet.
     pub(crate) fn collect(&mut self, shared: &mut Shared<L>) -> Result<Collected, Refusal>
         ensures given { IfOk result (λ pair. Collects pair self.old self.new) }
-        ensures kept { OnOk result (self.new.kept ≡ self.old.kept) }
+        ensures keeps_frames { OnOk result (self.new.kept ≡ self.old.kept) }
         ensures refused { IfErr result (λ e. IsCollectTold self.old e × (self.new ≡ self.old)) }
     {
         if let Some(came) = self.contradiction(shared) {
@@ -121,7 +121,7 @@ impl<L: Epoch> StreamSeat<L> {
     fn judge_close(&self, refusal: Refusal) -> Refusal
         requires book { IsOfBook refusal }
         requires reserved { refusal ≢ HistoryFull }
-        ensures told { IsCloseTold self.now result }
+        ensures refused { IsCloseTold self.now result }
         ensures reserved { result ≢ HistoryFull }
     {
         match refusal {

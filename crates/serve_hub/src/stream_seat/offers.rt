@@ -44,9 +44,9 @@ impl<L: Epoch> StreamSeat<L> {
         requires { IfSome memory (IsImageOf self.now.chain) }
         ensures fresh { IfOk result (λ made. IsFresh self.now.chain made.job) }
         ensures source { IfOk result (λ made. made.job.source ≡ arc_value frame) }
-        ensures kept { IfOk result (λ made. arc_value made.frame ≡ arc_value frame) }
+        ensures keeps_frame { IfOk result (λ made. arc_value made.frame ≡ arc_value frame) }
         ensures size { IfOk result (λ made. (arc_value frame).geometry ≡ self.now.chain.geometry) }
-        ensures back { IfErr result (λ back. back.0 ≡ frame) }
+        ensures returns_frame { IfErr result (λ back. back.0 ≡ frame) }
         ensures memory { IfErr result (λ back. ReturnsMemory self.now.chain memory back.1) }
     {
         let (Ok(spec), Ok(kept)) = (Arc::try_clone(&self.rest.spec), Arc::try_clone(&frame)) else {
@@ -95,7 +95,7 @@ impl<L: Epoch> StreamSeat<L> {
             return Err((Refusal::Torn(came), Some(entrant.job)));
         }
         if !self.has_place() {
-            let refusal = match self.refused_by(shared, at, &entrant.frame) {
+            let refusal = match self.offer_refusal(shared, at, &entrant.frame) {
                 Some(refusal) => refusal,
                 None => Refusal::Torn(Came::NoPlace),
             };
@@ -166,18 +166,18 @@ impl<L: Epoch> StreamSeat<L> {
 
     /// What a frame is refused for whose job wasn't made: where the book would accept it, for want of memory.
     pub(crate) fn refusal(&self, shared: &Shared<L>, at: u64, frame: &Frame) -> Refusal
-        ensures told { IsOfferTold self.now at frame.now.geometry result }
+        ensures refused { IsOfferTold self.now at frame.now.geometry result }
         ensures never_no_place { result ≢ Torn NoPlace }
     {
-        match self.refused_by(shared, at, frame) {
+        match self.offer_refusal(shared, at, frame) {
             Some(refusal) => refusal,
             None => self.judge_offer(at, frame, Refusal::Core(Core::NoMemory)),
         }
     }
 
     /// What a frame is refused for, want of memory aside, if it is.
-    fn refused_by(&self, shared: &Shared<L>, at: u64, frame: &Frame) -> Option<Refusal>
-        ensures told { IfSome result (IsOfferTold self.now at frame.now.geometry) }
+    fn offer_refusal(&self, shared: &Shared<L>, at: u64, frame: &Frame) -> Option<Refusal>
+        ensures refused { IfSome result (IsOfferTold self.now at frame.now.geometry) }
         ensures never_no_place { result ≢ Some (Torn NoPlace) }
         ensures accepts { IfNone result (IsOfferAnswer shared.now.book self.now.number at frame.now.geometry
             None) }
@@ -192,7 +192,7 @@ impl<L: Epoch> StreamSeat<L> {
     /// A refusal of a frame as the seat is told it.
     fn judge_offer(&self, at: u64, frame: &Frame, refusal: Refusal) -> Refusal
         requires book { IsOfBook refusal }
-        ensures told { IsOfferTold self.now at frame.now.geometry result }
+        ensures refused { IsOfferTold self.now at frame.now.geometry result }
         ensures never_no_place { result ≢ Torn NoPlace }
     {
         match refusal {

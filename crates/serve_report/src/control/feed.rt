@@ -183,7 +183,7 @@ impl<R: Read> Feed<R> {
     fn read_more(&mut self) -> io::Result<bool>
         requires { length self.old.held ≤ LONGEST_LINE }
         ensures bytes { Keeps (rest_of self.old) (rest_of self.new) }
-        ensures some { IfOk result
+        ensures holds_more { IfOk result
             (λ came. came ≡ true → length self.old.held < length self.new.held) }
         ensures none { IfOk result
             (λ came. came ≡ false → (self.new.held ≡ self.old.held) × IsAtEnd self.new.left) }

@@ -148,7 +148,7 @@ fn name_to_close(text: &str) -> Option<&str>
 pub fn check_stream<'a>(alloc: Global, word: StreamWord<'a>) -> Result<Asked<'a>, LineFault>
     ensures stream { IfOk result (λ asked. asked.word ≡ word.entry) }
     ensures ops { IfOk result IsSaid }
-    ensures few { IfOk result (λ asked. length asked.ops.items ≤ MOST_OPS) }
+    ensures few_ops { IfOk result (λ asked. length asked.ops.items ≤ MOST_OPS) }
     ensures bandwidth { IfOk result (λ asked. IsBandwidth word.entry.q word.entry.t) }
     ensures fault { IfErr result (IsWrongBy (stream_told word.entry)) }
 {

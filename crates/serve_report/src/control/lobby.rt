@@ -35,7 +35,7 @@ impl<'o, R: Source + Drop, W: Sink + Drop, S: Drop, O: Write, E: Write> Lobby<'o
         workers: u64,
         voice: Voice<'o, O, E>,
     ) -> Result<Lobby<'o, R, W, S, O, E>, Voice<'o, O, E>>
-        requires some { 1 ≤ workers }
+        requires some_workers { 1 ≤ workers }
         requires most { workers ≤ MOST_WORKERS }
     {
         match Table::new(alloc, workers) {

@@ -61,7 +61,7 @@ where
     {
         let watch = announce_some(self.alloc, &agenda.checked.streams, self.watch);
         let status = self
-            .watched_by(watch)
+            .with_watch(watch)
             .serve_control(agenda, clock, output, errors);
         if let Some(watch) = watch {
             watch.ends();

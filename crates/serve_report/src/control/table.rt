@@ -26,14 +26,14 @@ pub struct Table<R: Source, W: Sink, S: Drop> {
     pub is_ended: bool,
     /// Whether nobody is served any more.
     is_given_up: bool,
-    ghost some: { 1 ≤ workers },
+    ghost fewest: { 1 ≤ workers },
     ghost most: { workers ≤ MOST_WORKERS },
 }
 
 impl<R: Source + Drop, W: Sink + Drop, S: Drop> Table<R, W, S> {
     /// No stream was asked for yet.
     pub fn new(alloc: Global, workers: u64) -> Result<Table<R, W, S>, AllocError>
-        requires some { 1 ≤ workers }
+        requires some_workers { 1 ≤ workers }
         requires most { workers ≤ MOST_WORKERS }
     {
         Ok(Table {

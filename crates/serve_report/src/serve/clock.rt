@@ -82,7 +82,7 @@ pub struct Timer<'a, T: Wait + time::Clock> {
     start: Option<Instant>,
     microseconds: u32,
     latest: Mutex<Moment>,
-    ghost some: { 1 ≤ microseconds },
+    ghost not_zero: { 1 ≤ microseconds },
 }
 
 impl<'a, T: Wait + time::Clock> Timer<'a, T> {

@@ -9,7 +9,7 @@ use Rattle.serve_script.proofs.replay_through.Goals as goal
 pub returns-in-Err-NoMemory-clause-replay : goal.returns-in-Err-NoMemory-clause-replay
 returns-in-Err-NoMemory-clause-replay g c =
     replayed_unkept (g.R.Source.remaining c.args.input.now) _ _ _ c.tell.result c.as_slice.ensures
-    (c.read_front.ensures.some (search rules)) c.tell.ensures.written
+    (c.read_front.ensures.memory_for_bytes (search rules)) c.tell.ensures.written
 
 pub returns-clause-replay : goal.returns-clause-replay
 returns-clause-replay g c =

@@ -23,7 +23,7 @@ pub fn frame_of<'a>(
     ensures ok { IfOk result (λ frame. IsFrameOf geometry hex.now (value_of frame)) }
     ensures fault { IfErr result (λ fault. IsNoFrame geometry hex.now (fault_told fault)) }
 {
-    let Some(geometry) = arriving(geometry, hex.len() / 2) else {
+    let Some(geometry) = geometry_of_arrival(geometry, hex.len() / 2) else {
         return Err(ScriptFault::BadLine);
     };
     let samples = decode_digits(alloc, hex)?;
@@ -36,9 +36,9 @@ pub fn frame_of<'a>(
 }
 
 /// The geometry of a frame of so many samples that arrives where frames have this one.
-fn arriving(geometry: Option<Geometry>, count: usize) -> Option<Geometry>
+fn geometry_of_arrival(geometry: Option<Geometry>, count: usize) -> Option<Geometry>
     requires { 1 ≤ count }
-    ensures some { IfSome result (IsArriving geometry count) }
+    ensures arriving { IfSome result (IsArriving geometry count) }
     ensures filled { IfSome result (λ g. frame_len g ≡ count) }
     ensures none { IfNone result ((fills_geometry geometry count ≡ false) × (LONGEST_SIDE < count)) }
 {

@@ -133,7 +133,7 @@ impl<'a> Preparation<'a> {
     /// The session of this setup, before any event.
     pub fn start(self, alloc: Global) -> Result<Session<'a>, ScriptFault<'a>>
         ensures ok { IfOk result (λ kept. StartGives self.entry (started self.entry)) }
-        ensures kept { IfOk result (λ kept. IsAt kept (begun self.entry)) }
+        ensures at_beginning { IfOk result (λ kept. IsAt kept (begun self.entry)) }
         ensures fault { IfErr result (λ fault. MayFault (StartGives self.entry) (fault_told fault)) }
     {
         let Preparation {

@@ -84,7 +84,7 @@ impl<'a> Session<'a> {
             printed.old.items printed.new.items) }
         ensures fault { IfErr result (λ fault. (session : Begun) → IsAt self.old session
             → MayFault (RunGives session (run_told command.entry)) (fault_told fault)) }
-        ensures kept { OnErr result (printed.new.items ≡ printed.old.items) }
+        ensures keeps_printed { OnErr result (printed.new.items ≡ printed.old.items) }
     {
         let event = match command {
             RunCommand::Arrive { name, hex } => self.arrival(alloc, name, hex)?,
@@ -134,7 +134,7 @@ impl<'a> Session<'a> {
     ) -> Result<(), AllocError>
         ensures ran { OnOk result ((session : Begun) → IsAt self.old session → AsksForNone (seen event)
             → AnswersIn (EventGives session (seen event)) self.new printed.old.items printed.new.items) }
-        ensures kept { OnErr result (printed.new.items ≡ printed.old.items) }
+        ensures keeps_printed { OnErr result (printed.new.items ≡ printed.old.items) }
     {
         let reply = self.machine.step(alloc, event);
         self.print_reply(alloc, &reply, printed)
@@ -155,7 +155,7 @@ impl<'a> Session<'a> {
             printed.old.items printed.new.items) }
         ensures fault { IfErr result (λ fault. (session : Begun) → IsAt self.old session
             → MayFault (AdmitGives session (stream_told stream.entry)) (fault_told fault)) }
-        ensures kept { OnErr result (printed.new.items ≡ printed.old.items) }
+        ensures keeps_printed { OnErr result (printed.new.items ≡ printed.old.items) }
     {
         let count = self.streams.count();
         let spec = self.streams.enter(alloc, self.settings, stream)?;
@@ -193,7 +193,7 @@ impl<'a> Session<'a> {
     fn print_state(&self, name: &[u8], printed: &mut Vec<u8>) -> Result<(), AllocError>
         ensures ran { OnOk result ((session : Begun) → IsAt self.now session
             → AnswersIn (StateGives session name.now) self.now printed.old.items printed.new.items) }
-        ensures kept { OnErr result (printed.new.items ≡ printed.old.items) }
+        ensures keeps_printed { OnErr result (printed.new.items ≡ printed.old.items) }
     {
         let number = self.number_of(name);
         match (self.machine.account(number), self.machine.counts(number)) {

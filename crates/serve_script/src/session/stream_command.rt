@@ -59,7 +59,7 @@ pub fn parse_stream(text: &[u8]) -> Option<StreamCommand<'_>>
 /// The words of a stream's line, if there are so many.
 fn stream_words(text: &[u8]) -> Option<StreamWords<'_>>
     ensures words { IfSome result (λ words. cut_at_spaces 6 text.now ≡ parts_of words) }
-    ensures few { IfNone result (stream_of text.now ≡ None) }
+    ensures no_stream { IfNone result (stream_of text.now ≡ None) }
 {
     let (name, rest) = cut(b' ', text);
     let (q, rest) = cut(b' ', rest?);

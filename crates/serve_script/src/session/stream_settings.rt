@@ -39,7 +39,7 @@ impl StreamSettings {
 
     /// Bands of so many rows, if bands can have them.
     pub fn with_band(self, rows: u64) -> Option<StreamSettings>
-        ensures some { IfSome result (λ next. IsBandHeight rows
+        ensures sets_band { IfSome result (λ next. IsBandHeight rows
             × (settings_told next ≡ record (settings_told self) { band = rows })) }
         ensures none { IfNone result (¬ IsBandHeight rows) }
     {

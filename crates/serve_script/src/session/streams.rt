@@ -103,7 +103,7 @@ impl<'a> StreamTable<'a> {
             (λ spec. self.new ≡ with_named stream.entry.name.now spec.geometry self.old) }
         ensures fault { IfErr result (λ fault. MayLack
             (AsksFor self.old.names (settings_told settings) (stream_told stream.entry)) (fault_told fault)) }
-        ensures kept { OnErr result (self.new ≡ self.old) }
+        ensures keeps_streams { OnErr result (self.new ≡ self.old) }
     {
         if self.has(stream.name) {
             return Err(ScriptFault::BadName);

@@ -10,7 +10,7 @@ use std::io::Write;
 pub struct TraceFile<W: Write> {
     output: Option<W>,
     is_whole: bool,
-    ghost some: { is_whole ≡ true → IsSome output },
+    ghost open_while_whole: { is_whole ≡ true → IsSome output },
 }
 
 impl<W: Write + Drop> TraceFile<W> {

@@ -38,7 +38,7 @@ fn fill_guests<R: Source + Drop, W: Sink + Drop>(
     requires none { guests.old.items ≡ [] }
     requires room { vec_len streams ≤ vec_capacity guests.old }
     ensures guests { guests.new.items ≡ guests_of tickets.items streams.items }
-    ensures few { vec_len guests.new ≤ vec_len streams }
+    ensures guests_within { vec_len guests.new ≤ vec_len streams }
     ensures same_room { vec_capacity guests.new ≡ vec_capacity guests.old }
 {
     for (ticket, stream) in tickets.into_iter().zip(streams) {
@@ -269,7 +269,7 @@ fn open_next<L: Epoch, R: Source + Drop, W: Sink + Drop, D: Door<R, W>>(
         → AreGuests D.limit D.times interval.ended ws interval.guests.items
         → IfOk result (λ opening. AreSeated D.limit D.times L.opening ws opening.hall) }
     ensures limit { IfOk result (λ opening. opening.hub.limit ≡ interval.ended.book.limit) }
-    ensures back { IfErr result (λ back. (back.ended ≡ interval.ended)
+    ensures returns_interval { IfErr result (λ back. (back.ended ≡ interval.ended)
         × (back.guests.items ≡ interval.guests.items)) }
 {
     let Interval {

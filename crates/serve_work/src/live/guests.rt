@@ -82,7 +82,7 @@ fn tell<R: Source + Drop, W: Sink + Drop, D: Door<R, W>>(
         × D.waits door.old (before ++ w ∷ after)
         × CanTell D.limit D.times ended.now
         place guest w }
-    ensures told { (before : List Waiting) (w : Waiting) (after : List Waiting)
+    ensures waits_no_longer { (before : List Waiting) (w : Waiting) (after : List Waiting)
         → D.waits door.old (before ++ w ∷ after) → w.ticket ≡ guest.ticket.number
         → D.waits door.new (before ++ after) }
 {

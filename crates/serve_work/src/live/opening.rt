@@ -133,7 +133,7 @@ impl<L: Epoch, R: Source + Drop, W: Sink + Drop> Hall<L, R, W> {
     /// Seats one stream more.
     pub(super) fn seat(&mut self, seat: StreamSeat<L>, ticket: Ticket, stream: Stream<R, W>)
         requires places { HasPlaces self.old }
-        requires few { vec_len self.old.room.turns + vec_len self.old.idle < MOST_STREAMS }
+        requires room_for_stream { vec_len self.old.room.turns + vec_len self.old.idle < MOST_STREAMS }
         requires tickets_fit { vec_len self.old.tickets ≤ vec_len self.old.room.turns }
         requires ready { IsReady (held_at seat stream) }
         ensures { TakesSeat ticket (held_at seat stream) self.old self.new }
@@ -145,7 +145,7 @@ impl<L: Epoch, R: Source + Drop, W: Sink + Drop> Hall<L, R, W> {
     /// Seats the stream of a seat, or puts a seat without one to the idle ones.
     fn seat_one(&mut self, seat: StreamSeat<L>, guest: Option<Guest<R, W>>)
         requires places { HasPlaces self.old }
-        requires few { vec_len self.old.room.turns + vec_len self.old.idle < MOST_STREAMS }
+        requires room_for_stream { vec_len self.old.room.turns + vec_len self.old.idle < MOST_STREAMS }
         requires tickets_fit { vec_len self.old.tickets ≤ vec_len self.old.room.turns }
         requires ready { AllByRecursion IsReady (helds_of (seat ∷ []) (guest ∷ [])) }
         ensures places { HasPlaces self.new }
@@ -171,12 +171,12 @@ impl<L: Epoch, R: Source + Drop, W: Sink + Drop> Hall<L, R, W> {
         requires places { HasPlaces self.old }
         requires empty { (self.old.room.turns.items ≡ []) × (self.old.tickets.items ≡ [])
             × (self.old.idle.items ≡ []) }
-        requires few { vec_len seats ≤ MOST_STREAMS }
+        requires few_seats { vec_len seats ≤ MOST_STREAMS }
         requires ready { AllByRecursion IsReady (helds_of seats.items guests.items) }
         ensures places { HasPlaces self.new }
         ensures turns { self.new.room.turns.items ≡ map Some (helds_of seats.items guests.items) }
         ensures tickets { self.new.tickets.items ≡ tickets_of seats.items guests.items }
-        ensures few { vec_len self.new.room.turns + vec_len self.new.idle ≤ vec_len seats }
+        ensures turns_within { vec_len self.new.room.turns + vec_len self.new.idle ≤ vec_len seats }
     {
         for (seat, guest) in seats.into_iter().zip(guests) {
             self.seat_one(seat, guest);

@@ -59,7 +59,7 @@ fn marks_and_room<R: Source + Drop, W: Sink + Drop>(
     ensures marks { IfSome result (λ made. made.0.items ≡ map
         (λ rest. stays interval.now.ended.book.desk rest.number)
         (take (length interval.now.guests.items) interval.now.ended.streams)) }
-    ensures told { IfSome result (λ made. AreToldBut made.0.items interval.now.guests.items) }
+    ensures unmarked_told { IfSome result (λ made. AreToldBut made.0.items interval.now.guests.items) }
     ensures none { IfSome result (λ made. made.1.items ≡ []) }
     ensures room { IfSome result (λ made. vec_len interval.now.guests ≤ vec_capacity made.1) }
 {
@@ -119,7 +119,7 @@ fn keep_one<R: Source + Drop, W: Sink + Drop>(
     guest: Option<Guest<R, W>>,
 )
     requires room { vec_len kept.old + 1 ≤ vec_capacity kept.old }
-    ensures kept { kept.new.items ≡ kept.old.items ++ at_marks (mark ∷ []) (guest ∷ []) }
+    ensures appends_marked { kept.new.items ≡ kept.old.items ++ at_marks (mark ∷ []) (guest ∷ []) }
     ensures one_more { vec_len kept.new ≤ vec_len kept.old + 1 }
     ensures same_room { vec_capacity kept.new ≡ vec_capacity kept.old }
 {

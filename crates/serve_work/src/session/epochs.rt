@@ -137,7 +137,7 @@ pub(super) fn begin<
     ensures limit { OnOk result (IsLimit (length setup.streams) limit) }
     ensures bad_limit { IfErr result (λ e.
         (fault_of e ≡ SessionFault.BadLimit) ↔ ¬ IsLimit (length setup.streams) limit) }
-    ensures back { IfErr result (GivesBack W.contents W.failures inputs.items) }
+    ensures returns_inputs { IfErr result (GivesBack W.contents W.failures inputs.items) }
 {
     let opening = open_first::<L, R, W>(setting.alloc, blank, setup, inputs, limit)?;
     epoch(setting, opening, true)

@@ -66,7 +66,7 @@ fn charge<R: Source, W: Sink>(ended: &Ended, served: &mut Vec<Served<R, W>>)
     requires fits_u32 { vec_len served.old < 2 ^ 32 }
     requires in_desk { (n : ℕ) → n < vec_len served.old → HasStream ended.now.book.desk n (λ _. ⊤) }
     ensures outcomes { outcomes_of served.new.items ≡ outcomes_of served.old.items }
-    ensures told { AreTold ended.now.book.desk (vec_len served.new) served.new.items }
+    ensures tells_charges { AreTold ended.now.book.desk (vec_len served.new) served.new.items }
 {
     for n in 0..served.len() {
         let Some(counts) = ended.counts(n as u32) else {

@@ -74,7 +74,7 @@ pub(super) fn open_first<L: Epoch, R: Source + Drop, W: Sink + Drop>(
     ensures limit { OnOk result (IsLimit (length setup.streams) limit) }
     ensures bad_limit { IfErr result (λ e.
         (fault_of e ≡ SessionFault.BadLimit) ↔ ¬ IsLimit (length setup.streams) limit) }
-    ensures back { IfErr result (GivesBack W.contents W.failures inputs.items) }
+    ensures returns_inputs { IfErr result (GivesBack W.contents W.failures inputs.items) }
 {
     let (opened, room, served) = match lists(alloc, blank, setup, inputs.len(), limit) {
         Ok(lists) => lists,
@@ -101,7 +101,7 @@ pub(super) fn open_next<L: Epoch, R: Source + Drop, W: Sink + Drop>(
     requires blank { CanName blank.name blank.parts interval.ended.book.desk L.name L.parts L.opening }
     ensures can_begin { (b : Beginning) (journal : List Entry) → IsBetween b journal interval
         → IfOk result (CanBegin b journal L.opening) }
-    ensures back { (b : Beginning) (journal : List Entry) → IsBetween b journal interval
+    ensures still_between { (b : Beginning) (journal : List Entry) → IsBetween b journal interval
         → IfErr result (IsBetween b journal) }
     ensures streams { IfOk result (λ opening. opening.streams ≡ interval.streams) }
     ensures same { IfErr result (λ back. back.streams ≡ interval.streams) }

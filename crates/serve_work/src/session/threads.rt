@@ -106,7 +106,7 @@ pub(crate) fn run_threads<
     ensures count { IfOk result (λ after. vec_len after ≡ vec_len turns) }
     ensures run { IfOk result (λ after. AllRun (K.gives setting.entry.clock.now) turns.items after.items) }
     ensures needed { IsErr result → IsTrue needs_all }
-    ensures back { IfErr result (λ back. back.items ≡ turns.items) }
+    ensures returns_turns { IfErr result (λ back. back.items ≡ turns.items) }
     ensures all_back { IfErr result (λ back. vec_len back ≡ vec_len turns) }
 {
     let Setting {
@@ -126,7 +126,7 @@ pub(crate) fn run_threads<
             ensures count { IfOk result (λ after. vec_len after ≡ vec_len turns) }
             ensures run { IfOk result (λ after. AllRun (K.gives clock.entry.now) turns.items after.items) }
             ensures needed { IsErr result → IsTrue needs_all }
-            ensures back { IfErr result (λ back. back.items ≡ turns.items) }
+            ensures returns_turns { IfErr result (λ back. back.items ≡ turns.items) }
             ensures all_back { IfErr result (λ back. vec_len back ≡ vec_len turns) }
         {
             let mut begins = start.lock(rt);

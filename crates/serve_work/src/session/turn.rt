@@ -228,7 +228,7 @@ pub(crate) fn streams_of<R: Source + Drop, W: Sink + Drop>(
     requires unread { AreUnread inputs.items }
     ensures streams { IfOk result (λ streams.
         streams.items ≡ map (unread W.contents W.failures) inputs.items) }
-    ensures back { IfErr result (λ back. back ≡ inputs) }
+    ensures returns_inputs { IfErr result (λ back. back ≡ inputs) }
 {
     let Ok(mut streams) = Vec::with_capacity(alloc, inputs.len()) else {
         return Err(inputs);

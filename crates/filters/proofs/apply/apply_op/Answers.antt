@@ -23,7 +23,7 @@ loop-k-preserved c =
       height = c.apply_at.ensures.height ∙ before.height;
       rows = next_band (image_pixel c.args.op c.args.source.now.geometry (samples_of c.args.source.now))
           (height_of old) (height_of c.apply_at.new.canvas) c.loop-k.k
-          (frame_of old) (frame_of c.apply_at.new.canvas) (omega (arith, old.height.some))
+          (frame_of old) (frame_of c.apply_at.new.canvas) (omega (arith, old.height.fewest))
           c.apply_at.ensures.height (omega arith) before.rows band;
     }
 
@@ -43,6 +43,6 @@ returns-clause-image c =
       pixels = λ p y x place. all_bands
           (image_pixel c.args.op c.args.source.now.geometry (samples_of c.args.source.now)) frame
           (height_of canvas) c.loop-k.k
-          (omega (arith, canvas.height.some)) (omega arith) before.rows p y x place.plane place.row
+          (omega (arith, canvas.height.fewest)) (omega arith) before.rows p y x place.plane place.row
           place.column;
     }

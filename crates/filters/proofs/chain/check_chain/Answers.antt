@@ -17,7 +17,7 @@ returns-clause-is_chain c = record {
   cheap = search rules;
 }
 
-pub returns-clause-some : goal.returns-clause-some
-returns-clause-some c =
-    let steps = rw c.in_ok-totals.ensures.ok_part at c.totals_of.ensures.some in
+pub returns-clause-some_steps : goal.returns-clause-some_steps
+returns-clause-some_steps c =
+    let steps = rw c.in_ok-totals.ensures.ok_part at c.totals_of.ensures.step_per_op in
     omega (arith, steps, some_op c)

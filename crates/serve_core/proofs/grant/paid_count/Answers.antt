@@ -12,7 +12,7 @@ returns-then-fitting-count c =
     let fitting = c.min-fitting.ensures ∙ ap (λ n. min n (c.loop-k.budget / run.result.cost)) c.min.ensures in
     let turn = ap (paid_count c.loop-k.most c.loop-k.budget) run.ensures.run.costs
     ∙ turn_some run.result.count run.result.cost c.loop-k.most c.loop-k.budget k
-    (drop (c.loop-k.k + run.result.count) costs) run.ensures.some fitting (omega arith) in
+    (drop (c.loop-k.k + run.result.count) costs) run.ensures.positive_cost fitting (omega arith) in
     sym (c.loop-k.invariant.paid ∙ ap (λ n. c.loop-k.paid + n) turn)
 
 pub loop-k-preserved : goal.loop-k-preserved

@@ -20,7 +20,7 @@ returns-in_err-run c =
     let is : run_of c.args.line.now ≡ Some (run_told c.in_ok-command.command) = search rules in
     from_faulty _ _ c.from_residual-in_err-run.result _ _ c.from_residual-in_err-run.ensures.1 (λ fault same session here.
     subst (λ own. MayFault (RunLineGives c.args.line.now session) (fault_told own)) (sym same)
-    (run_may_fault session c.args.line.now _ _ is (c.in_err-run.ensures.fault session here))) c.in_err-run.ensures.kept
+    (run_may_fault session c.args.line.now _ _ is (c.in_err-run.ensures.fault session here))) c.in_err-run.ensures.keeps_printed
 
 pub returns : goal.returns
 returns c = λ session here.

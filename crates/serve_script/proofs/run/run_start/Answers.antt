@@ -23,6 +23,6 @@ returns c = record {
   answer = codes "started";
   next = InSession (begun c.args.preparation);
   gives = c.in_ok-session.ensures.ok;
-  stands = (begun c.args.preparation, refl, c.in_ok-session.ensures.kept);
+  stands = (begun c.args.preparation, refl, c.in_ok-session.ensures.at_beginning);
   printed = c.in_ok-push_line.ensures.ok ∙ ap (λ text. c.args.printed.now.items ++ line_text text) c.as_slice.ensures;
 }

@@ -48,7 +48,7 @@ returns-in-Err-clause-turn g c = λ start past is.
       none = refl;
       cut = subst (λ l. CutsShort start.before contents (l ++ 10 ∷ []) 0 c.in-Err.fault) shown.line
           (subst (λ b. CutsShort b contents (h.line ++ 10 ∷ []) 0 c.in-Err.fault) is.same_contents c.in-Err.ensures.cut);
-      failure = c.in-Err.ensures.told ∙ ap one_more is.same_failures;
+      failure = c.in-Err.ensures.failures ∙ ap one_more is.same_failures;
     })))
 
 pub run-requires-clause-can : goal.run-requires-clause-can

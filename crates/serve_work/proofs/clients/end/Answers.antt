@@ -10,12 +10,12 @@ returns-clause-ends g c = λ start past shown opened header is_opened fresh serv
     Ends-served start _ shown opened header is_opened ClientStopsAt past c.args.stop left.reader left.seat left.writer _
     (stops_flushed c.args.stop c.finish-writer.result.1) serves fresh tally
     (record {
-      kept = finish.kept;
+      kept = finish.keeps_contents;
       flushed = finish.flushed;
       closed = finish.closed;
       fault = finish.fault;
       failed = finish.failed;
-      told = finish.told;
+      told = finish.failures;
     })
     c.stop_after_flush.ensures c.accepted-accepted.ensures c.frames-delivered.ensures c.into_source.ensures.remaining
     c.into_source.ensures.failures

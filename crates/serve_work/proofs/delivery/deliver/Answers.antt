@@ -20,7 +20,7 @@ returns-in-Ok-clause-answer g c =
 
 pub returns-in-Ok-clause-pair : goal.returns-in-Ok-clause-pair
 returns-in-Ok-clause-pair g c =
-    back_is (IsPairOf c.args.seat.now.chain) c.finish.result c.in-Ok.pair c.finish.ensures.back
+    back_is (IsPairOf c.args.seat.now.chain) c.finish.result c.in-Ok.pair c.finish.ensures.returns_pair
     (record { source = c.in-Ok.ensures.given.source; image = c.in-Ok.ensures.given.size })
 
 pub returns-in-Ok-clause-drained : goal.returns-in-Ok-clause-drained

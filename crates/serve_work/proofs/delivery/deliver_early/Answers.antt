@@ -22,7 +22,7 @@ returns-in-Ok-finish-clause-answer g c =
 
 pub returns-in-Ok-finish-clause-pair : goal.returns-in-Ok-finish-clause-pair
 returns-in-Ok-finish-clause-pair g c =
-    rw c.in-Ok-finish.ensures.back (record { source = c.in-Ok.ensures.given.source; image = c.in-Ok.ensures.given.size })
+    rw c.in-Ok-finish.ensures.returns_pair (record { source = c.in-Ok.ensures.given.source; image = c.in-Ok.ensures.given.size })
 
 pub returns-in-Ok-finish-clause-tally : goal.returns-in-Ok-finish-clause-tally
 returns-in-Ok-finish-clause-tally g c =

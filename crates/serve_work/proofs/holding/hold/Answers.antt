@@ -38,9 +38,9 @@ returns-in-Ok-clause-answer g c = λ past before writer counted h.
     first.frames first.passed past c.hold_on-in-Ok.result
     (c.hold_on-in-Ok.ensures.answer past writer (counted_later past c.args.seat.now c.offer_on.new.seat c.offer_on.ensures.tally counted))
 
-pub returns-in-Ok-clause-kept : goal.returns-in-Ok-clause-kept
-returns-in-Ok-clause-kept g c =
-    let kept = c.hold_on-in-Ok.ensures.kept in
+pub returns-in-Ok-clause-has_held : goal.returns-in-Ok-clause-has_held
+returns-in-Ok-clause-has_held g c =
+    let kept = c.hold_on-in-Ok.ensures.has_held in
     record {
       tally = TalliesSeat-trans _ _ _ c.offer_on.ensures.tally kept.tally;
       moments = KeepsMoments-trans _ _ _ _ c.offer_on.ensures.moments kept.moments;
@@ -55,8 +55,8 @@ returns-in-Err-clause-answer g c = λ past before writer counted h.
     c.in-Err.ensures.answer past before reader writer counted
     (subst (λ (o : Option (Arc Frame Global)). Holds before reader (text_in o)) c.in-Some.is h)
 
-pub returns-in-Err-clause-kept : goal.returns-in-Err-clause-kept
-returns-in-Err-clause-kept g c = record {
+pub returns-in-Err-clause-has_held : goal.returns-in-Err-clause-has_held
+returns-in-Err-clause-has_held g c = record {
   tally = c.offer_on.ensures.tally;
   moments = c.offer_on.ensures.moments;
   stop = c.in-Err.ensures.stop;

@@ -54,7 +54,7 @@ returns-in-Err g c =
           OffersOn-behind c.args.reader.now c.loop.reader c.hold_once.new.reader c.args.seat.now c.loop.seat c.hold_once.new.seat writer
           so_far.frames so_far.passed past c.in-Err.onward
           (c.in-Err.ensures.answer past writer (counted_later past c.args.seat.now c.loop.seat inv.tally counted));
-      kept = record {
+      has_held = record {
         tally = TalliesSeat-trans _ _ _ inv.tally c.hold_once.ensures.tally;
         moments = KeepsMoments-trans _ _ _ _ inv.moments c.hold_once.ensures.moments;
         stop = c.in-Err.ensures.stop;

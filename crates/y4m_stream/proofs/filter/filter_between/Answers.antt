@@ -43,7 +43,7 @@ returns-clause-answer g c =
     let writer = rw c.header.ensures at c.in-Ok-begin.ensures.opened in
     rw c.into_source-2.ensures.remaining
     (filtered_once_begun IsLineAhead (λ len rest left ahead. ahead) _ _ _ c.in-Ok.reader (counts_on _ _ _ c.in-Ok.ensures.opened)
-    c.in-Ok-begin.begun.0 c.pass_frames-passed.new.reader _ _ _ c.in-Ok-begin.begun.1 _ filter writer c.close-output.ensures.kept _ _
+    c.in-Ok-begin.begun.0 c.pass_frames-passed.new.reader _ _ _ c.in-Ok-begin.begun.1 _ filter writer c.close-output.ensures.keeps_contents _ _
     c.close-output.ensures.answer c.pass_frames-passed.ensures.outcome)
 
 pub returns-clause-reads : goal.returns-clause-reads

@@ -8,7 +8,7 @@ use Rattle.y4m_stream.proofs.line.find_line.Goals as goal
 pub returns-in-Some-clause-line : goal.returns-in-Some-clause-line
 returns-in-Some-clause-line g c =
     rw (← c.bytes.ensures.value) (begins_with_line c.bytes.result.now c.in-Some.end
-    (rw c.bytes.ensures.value c.bytes.ensures.few) (sym c.place_of.ensures ∙ c.in-Some.is))
+    (rw c.bytes.ensures.value c.bytes.ensures.few_held) (sym c.place_of.ensures ∙ c.in-Some.is))
 
 pub returns-then-bytes-eq-LINE_LIMIT-clause-fault : goal.returns-then-bytes-eq-LINE_LIMIT-clause-fault
 returns-then-bytes-eq-LINE_LIMIT-clause-fault g c =

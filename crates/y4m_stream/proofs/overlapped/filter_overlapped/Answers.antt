@@ -49,7 +49,7 @@ returns-clause-answer g c =
       rw c.into_source-2.ensures.remaining
           (filtered_once_begun IsFrameAhead (λ len rest left ahead. (ahead.0, ahead.1, omega (arith, ahead.2))) _ _ _
           c.in-Ok.reader (counts_on _ _ _ opened) c.in-Ok-begin.begun.0 c.pass_beside-passed.new.reader _ _ _
-          c.in-Ok-begin.begun.1 _ filter writer c.close-output.ensures.kept _ _ c.close-output.ensures.answer passed.outcome),
+          c.in-Ok-begin.begun.1 _ filter writer c.close-output.ensures.keeps_contents _ _ c.close-output.ensures.answer passed.outcome),
     )
 
 pub returns-clause-writes : goal.returns-clause-writes

@@ -84,9 +84,9 @@ loop-count-preserved g c =
     let put = rw (c.take_line_of.ensures.chain, so_far.same, c.swap.ensures.x_after, c.in_ok-put.was) at both.put in
     let read = rw c.in_ok-more-2.was at both.read in
     record {
-      same = both.kept.chain ∙ c.take_line_of.ensures.chain ∙ so_far.same;
+      same = both.keeps_sizes.chain ∙ c.take_line_of.ensures.chain ∙ so_far.same;
       next = both.next ∙ ap (λ frame. frame.geometry) c.swap.ensures.y_after ∙ so_far.frame;
-      frame = both.kept.frame ∙ ap (λ frame. frame.geometry) c.swap.ensures.x_after ∙ so_far.next;
+      frame = both.keeps_sizes.frame ∙ ap (λ frame. frame.geometry) c.swap.ensures.x_after ∙ so_far.next;
       ready = beside_ready _ _ _ _ _ next _ _ both.header read put.holds (so_far.ready c.if-not-more.false);
       put = ap (λ w. w.frames) put.holds.counted ∙ ap (λ n. n + 1) so_far.put;
       passed = Ahead-next _ _ _ _ _ _ _ _ so_far.passed c.if-not-more.false (omega arith) put.image put.made _ _ _ next

@@ -24,8 +24,8 @@ loop-count-preserved g c =
     let one = rw (c.if-not-branch.false, so_far.same) at passed.answer in
     let put = one.2.put in
     record {
-      same = passed.kept.chain ∙ so_far.same;
-      frame = passed.kept.frame ∙ so_far.frame;
+      same = passed.keeps_sizes.chain ∙ so_far.same;
+      frame = passed.keeps_sizes.frame ∙ so_far.frame;
       ready = CanPass-next _ _ _ _ _ one.1 passed.header one.2.taken.stays_open put so_far.ready;
       put = ap (λ w. w.frames) put.counted ∙ ap (λ n. n + 1) so_far.put;
       passed = (

@@ -14,8 +14,8 @@ move_row-requires-clause-room c x h =
     (λ k p. plane.bytes (clamped plane.height c.args.plane.now.radius c.args.y k * plane.width + x)) in
     omega arith
 
-pub move_row-requires-clause-kept : goal.move_row-requires-clause-kept
-move_row-requires-clause-kept c x h =
+pub move_row-requires-clause-no_underflow : goal.move_row-requires-clause-no_underflow
+move_row-requires-clause-no_underflow c x h =
     let plane = c.args.plane.now in
     let at = c.requires.at x (omega arith) in
     let read = c.row_near-leaving.ensures.samples x (omega arith) in

@@ -12,7 +12,7 @@ overflow_add-sum g c =
     c.requires.parts (λ k h. c.requires.fours.sums (x + 4 * k) (omega arith)) in
     let most = sum_of_bytes column x g.row.SIDE (λ j h. c.requires.squares.bytes (x + j) (omega arith)) in
     let fits =
-    mean_fits (sum_below (λ j. column (x + j)) g.row.SIDE) g.row.SIDE (omega arith) c.requires.few most in
+    mean_fits (sum_below (λ j. column (x + j)) g.row.SIDE) g.row.SIDE (omega arith) c.requires.small_side most in
     omega arith
 
 pub mean-requires-clause-bytes : goal.mean-requires-clause-bytes

@@ -5,8 +5,8 @@ use Rattle.filters.specs.ChainInside.{kept_chain}
 use Rattle.filters.proofs.Costs.{steps_within}
 use Rattle.filters.proofs.chain.Chain.cost.Goals as goal
 
-pub returns-clause-some : goal.returns-clause-some
-returns-clause-some c =
+pub returns-clause-unit_per_step : goal.returns-clause-unit_per_step
+returns-clause-unit_per_step c =
     let inside = c.self.inside in
     let within : steps_of (kept_chain inside) ≤ cost_of (kept_chain inside) =
     steps_within inside.ops.items inside.geometry.height inside.band_height.rows in

@@ -11,6 +11,6 @@ invariant_of-result c =
       outputs = rw c.deref-2.ensures.value at c.in_ok-outputs.ensures;
       steps = rw c.deref.ensures.value at checked.steps;
       cost = rw c.deref.ensures.value at checked.cost;
-      some_steps = checked.some;
+      some_steps = checked.some_steps;
       cheap = omega (arith, is_chain.cheap, checked.cost);
     }

@@ -27,8 +27,8 @@ returns-clause-op c =
     let within = (step c).of_chain in
     rw (sym c.self.view_is) (rw length-band_counts at within)
 
-pub returns-clause-few : goal.returns-clause-few
-returns-clause-few c =
+pub returns-clause-op_within_limit : goal.returns-clause-op_within_limit
+returns-clause-op_within_limit c =
     let within = (step c).of_chain in
     let op : c.op_of_step.result.0 < length c.self.inside.ops.items = rw length-band_counts at within in
     omega (arith, op, c.self.invariant.count)

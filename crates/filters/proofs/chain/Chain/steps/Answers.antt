@@ -12,8 +12,8 @@ returns-clause-costs c =
     (length-costs_by inside.ops.items inside.geometry.height inside.band_height.rows
     ∙ sym c.self.invariant.steps)
 
-pub returns-clause-few : goal.returns-clause-few
-returns-clause-few c =
+pub returns-clause-within_limit : goal.returns-clause-within_limit
+returns-clause-within_limit c =
     let inside = c.self.inside in
     let within : steps_of (kept_chain inside) ≤ cost_of (kept_chain inside) =
     steps_within inside.ops.items inside.geometry.height inside.band_height.rows in

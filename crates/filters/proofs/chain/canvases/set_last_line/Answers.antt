@@ -36,7 +36,7 @@ returns-clause-canvases c chain all =
     let set = c.set_line.ensures in
     let some : 0 < length c.args.canvases.now = search rules in
     canvas_lined chain c.args.canvases.now _ c.index-canvases-last.result c.set_line.new.self (omega arith) all
-    set.kept.geometry set.kept.height
+    set.keeps_rest.geometry set.keeps_rest.height
 
 pub returns-clause-line : goal.returns-clause-line
 returns-clause-line c =

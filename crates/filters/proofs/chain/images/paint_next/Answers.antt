@@ -23,12 +23,12 @@ paint_at-requires-clause-reaches c =
     let canvases = c.args.canvases.now in
     let d = c.index-done-i.result in
     let held : get_or canvases (c.args.i - 1) d ≡ d =
-    canvas_before _ _ canvases c.args.i d d parts.value parts.front_len c.requires.some c.index-done-i.is in
+    canvas_before _ _ canvases c.args.i d d parts.value parts.front_len c.requires.not_first c.index-done-i.is in
     let source : c.frame.result.now ≡ frame_of (get_or canvases (c.args.i - 1) d) =
     c.frame.ensures ∙ ap frame_of (sym c.index-done-i.is ∙ sym held) in
     let before = c.requires.canvases.each (c.args.i - 1) d (omega (arith, c.requires.inside)) in
     let next : front_of chain + (c.args.i - 1) + 1 ≡ c.args.front + c.args.i =
-    omega (arith, c.requires.front, c.requires.some) in
+    omega (arith, c.requires.front, c.requires.not_first) in
     ap (λ frame. format_of frame.geometry) source ∙ before.format ∙ ap (format_at chain) next
 
 pub returns-clause-canvases : goal.returns-clause-canvases
@@ -60,7 +60,7 @@ returns-clause-image c o d =
     let canvases = c.args.canvases.now in
     let within : c.args.i < length canvases = c.requires.inside in
     let held : get_or canvases (c.args.i - 1) d ≡ c.index-done-i.result =
-    canvas_before _ _ canvases c.args.i c.index-done-i.result d parts.value parts.front_len c.requires.some
+    canvas_before _ _ canvases c.args.i c.index-done-i.result d parts.value parts.front_len c.requires.not_first
     c.index-done-i.is in
     let source : c.frame.result.now ≡ frame_of (get_or canvases (c.args.i - 1) d) =
     c.frame.ensures ∙ ap frame_of (sym c.index-done-i.is ∙ sym held) in

@@ -12,7 +12,7 @@ cost-requires c = good_radius _ _ (c.if-not-is_doable.ensures.0 refl)
 pub overflow_mul-cost : goal.overflow_mul-cost
 overflow_mul-cost c =
     let few : c.count-bands.result * c.cost.result ≤ 8192 * 9 =
-    mul-le-mul c.count-bands.ensures.within.1 c.cost.ensures.few in omega (arith, few)
+    mul-le-mul c.count-bands.ensures.within.1 c.cost.ensures.within_limit in omega (arith, few)
 
 pub loop-op-preserved : goal.loop-op-preserved
 loop-op-preserved c =
@@ -22,7 +22,7 @@ loop-op-preserved c =
     let bands : c.count-bands.result ≡ div_ceil c.output_of-reached.result.height c.args.band_height.rows =
     c.count-bands.ensures.value ∙ rw (c.new.ensures.geometry, c.new.ensures.height) refl in
     let few : c.count-bands.result * c.cost.result ≤ 8192 * 9 =
-    mul-le-mul c.count-bands.ensures.within.1 c.cost.ensures.few in
+    mul-le-mul c.count-bands.ensures.within.1 c.cost.ensures.within_limit in
     record {
       doable = (
         λ all. doable_next _ _ _ _ _ h image (so_far.doable.0 all),

@@ -9,7 +9,7 @@ unreachable-requires c =
     let none = c.self.invariant.waits c.in_default.is in
     let all : c.self.inside.done ≡ steps_of (job_of c.self.inside).chain =
     rw (sym c.self.view_is) at c.requires in
-    omega (arith, none, all, c.steps.ensures.some, rw (sym c.self.view_is) at c.steps.ensures.value)
+    omega (arith, none, all, c.steps.ensures.positive, rw (sym c.self.view_is) at c.steps.ensures.value)
 
 pub returns-clause-image : goal.returns-clause-image
 returns-clause-image c =

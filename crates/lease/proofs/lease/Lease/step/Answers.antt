@@ -19,7 +19,7 @@ invariant_of-self c =
       lease = stays_lease lease c.step.new.self is
           (omega (arith, is.within, c.if-self.false)) c.step.ensures.started c.step.ensures.step;
       spent = ap (λ units. units + c.next_cost.result) c.self.invariant.spent ∙ sym more;
-      cheap = omega (arith, c.self.invariant.cheap, c.next_cost.ensures.few);
+      cheap = omega (arith, c.self.invariant.cheap, c.next_cost.ensures.within_limit);
     }
 
 pub returns : goal.returns

@@ -20,7 +20,7 @@ invariant_of-self g c =
           (omega (arith, is.within, c.if-self.false)) c.step_halves.ensures.started
           c.step_halves.ensures.step;
       spent = ap (λ units. units + c.next_cost-cost.result) c.self.invariant.spent ∙ sym more;
-      cheap = omega (arith, c.self.invariant.cheap, c.next_cost-cost.ensures.few);
+      cheap = omega (arith, c.self.invariant.cheap, c.next_cost-cost.ensures.within_limit);
     }
 
 pub returns-clause-step : goal.returns-clause-step

@@ -45,5 +45,5 @@ returns-clause-stream c = (answers c).stream
 pub returns-clause-refused : goal.returns-clause-refused
 returns-clause-refused c = (answers c).refused
 
-pub returns-clause-back : goal.returns-clause-back
-returns-clause-back c = (answers c).back
+pub returns-clause-returns_newcomer : goal.returns-clause-returns_newcomer
+returns-clause-returns_newcomer c = (answers c).back

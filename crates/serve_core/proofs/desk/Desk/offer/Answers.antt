@@ -13,5 +13,5 @@ returns-in-Ok-clause-job c =
       c.accept.ensures.job,
     )
 
-pub returns-in-Err-clause-back : goal.returns-in-Err-clause-back
-returns-in-Err-clause-back c = search rules
+pub returns-in-Err-clause-returns_frame : goal.returns-in-Err-clause-returns_frame
+returns-in-Err-clause-returns_frame c = search rules

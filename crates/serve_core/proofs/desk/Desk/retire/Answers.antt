@@ -17,4 +17,4 @@ pub returns-clause-reached : goal.returns-clause-reached
 returns-clause-reached c r =
     let reached = λ (x : ScheduleValue). IsReached measures_any is_any_image (desk_state x) in
     subst reached (sym (c.retire.ensures ∙ ap retired_schedule c.self.view_is))
-    (reached_retired c.args.self.now c.requires.free c.requires.some r)
+    (reached_retired c.args.self.now c.requires.free c.requires.some_stay r)

@@ -29,7 +29,7 @@ settled c =
     c.return_job.new.self =
     rw (c.into_job-job.ensures.value, c.used-bands.ensures.value) at c.return_job.ensures in
     settles c.self.inside.schedule c.return_job.new.self c.settle.new.self c.args.w c.args.held c.args.lease
-    c.settle.result c.self.invariant holds known within back c.settle.ensures.back
+    c.settle.result c.self.invariant holds known within back c.settle.ensures.requeued
     c.settle.ensures.finished
 
 pub invariant_of-self : goal.invariant_of-self

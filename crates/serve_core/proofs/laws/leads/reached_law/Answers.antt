@@ -7,5 +7,5 @@ returns c = record {
   over = over_is measures_any is_any_image;
   reached = reached_is measures_any is_any_image;
   joined = over_join_is measures_any is_any_image;
-  few = few_is measures_any is_any_image;
+  within_limits = few_is measures_any is_any_image;
 }

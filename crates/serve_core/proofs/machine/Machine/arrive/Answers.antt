@@ -43,7 +43,7 @@ returns-in-Err-clause-allowed c =
     let allowed = no_memory_allowed c.self.inside.schedule c.args.s f c.geometry-geometry.result
     c.arrival_refusal.result (cc) c.in_default.is c.arrival_refusal.ensures.refusal in
     subst (λ (frame : Arc Frame Global). Allows measures is_image c.args.self.now (Arrive c.args.s f)
-    (GivenBack refusals.NoMemory (value_of (arc_value frame)))) (sym c.in-Err.ensures.back)
+    (GivenBack refusals.NoMemory (value_of (arc_value frame)))) (sym c.in-Err.ensures.returns_frame)
     (subst (λ (m : State FrameValue). Allows measures is_image m (Arrive c.args.s f)
     (GivenBack refusals.NoMemory f)) c.self.view_is allowed)
 

@@ -17,7 +17,7 @@ went c =
     let is_reply = λ (r : Reply FrameValue FrameValue). Goes old new (Settle c.args.w) r in
     elim c.match-settle.branch [
       | in-None w ↦ subst is_reply (sym (ap heard w.result-is))
-          (returned_goes old new c.args.w held c.self.invariant mine w.in-None.ensures.back)
+          (returned_goes old new c.args.w held c.self.invariant mine w.in-None.ensures.requeued)
       | in-Some w ↦ subst is_reply (sym (ap heard w.result-is))
           (finished_goes old new c.args.w w.in-Some.number held c.self.invariant mine
           w.in-Some.ensures.finished)

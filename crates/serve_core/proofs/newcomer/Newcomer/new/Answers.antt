@@ -7,5 +7,5 @@ returns-then-not-is_within_limits-clause-refused c = search rules
 pub returns-in-Ok-clause-newcomer : goal.returns-in-Ok-clause-newcomer
 returns-in-Ok-clause-newcomer c = search rules
 
-pub returns-in-Err-clause-back : goal.returns-in-Err-clause-back
-returns-in-Err-clause-back c = search rules
+pub returns-in-Err-clause-returns_spec : goal.returns-in-Err-clause-returns_spec
+returns-in-Err-clause-returns_spec c = search rules

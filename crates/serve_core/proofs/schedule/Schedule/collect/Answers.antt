@@ -22,5 +22,5 @@ returns-clause-ok c =
     let told = c.in-Some-collect.ensures in
     rw (← c.self.view_is) (and_some (slice_get streams c.args.s) _ stream here.0 (
       record { first = told.first; frame = told.source; image = told.pair; less = told.less },
-      ap (λ (stream : KeptStream). with_stream_at c.args.s stream (schedule c.self.inside)) told.some,
+      ap (λ (stream : KeptStream). with_stream_at c.args.s stream (schedule c.self.inside)) told.taken,
     ))

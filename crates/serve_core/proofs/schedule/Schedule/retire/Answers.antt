@@ -8,14 +8,14 @@ use Rattle.serve_core.proofs.schedule.Schedule.retire.Goals as goal
 pub reset-requires : goal.reset-requires
 reset-requires c =
     let some : 1 ≤ length (staying (schedule c.self.inside)) =
-    subst (λ (x : ScheduleValue). 1 ≤ length (staying x)) (sym c.self.view_is) c.requires.some in
+    subst (λ (x : ScheduleValue). 1 ≤ length (staying x)) (sym c.self.view_is) c.requires.some_stay in
     let few = ap (λ (x : ScheduleValue). length x.streams) c.self.view_is in
     let all = ap length c.drop_released.ensures.streams in (
       omega (arith, some, all, c.drop_released.new.streams.ok.0, c.len.ensures),
       omega (
         arith,
         few,
-        c.requires.few,
+        c.requires.few_streams,
         c.drop_released.ensures.fewer,
         c.len.ensures,
         c.self.inside.streams.ok.0,

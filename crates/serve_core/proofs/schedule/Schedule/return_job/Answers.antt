@@ -16,8 +16,8 @@ charge-requires-clause-charge c =
     (rw (← c.self.view_is) at c.requires) c.index_mut-stream.ensures.value in
     here.1.charge
 
-pub charge-requires-clause-few : goal.charge-requires-clause-few
-charge-requires-clause-few c =
+pub charge-requires-clause-no_overflow : goal.charge-requires-clause-no_overflow
+charge-requires-clause-no_overflow c =
     let stream = c.index_mut-stream.result.now in
     let here = item_here (CanBring c.args.job c.args.bands c.args.units) c.self.inside.streams.items c.args.s stream
     (rw (← c.self.view_is) at c.requires) c.index_mut-stream.ensures.value in

@@ -15,15 +15,15 @@ invariant_of-self c = record {
       c.self.invariant.pool;
 }
 
-pub returns-clause-back : goal.returns-clause-back
-returns-clause-back c =
+pub returns-clause-requeued : goal.returns-clause-requeued
+returns-clause-requeued c =
     let streams = c.self.inside.streams.items in
     let s = c.args.held.stream in
     let stream = c.index_mut-stream.result.now in
     let here = item_here (λ (stream : KeptStream). IsSome stream.leased) streams s stream
     (rw (← c.self.view_is) at c.requires.stream) c.index_mut-stream.ensures.value in
     let change = λ (stream : KeptStream). with_held c.args.w None (with_stream_at s stream (schedule c.self.inside)) in
-    rw (← c.self.view_is) (none_then c.settle-number.result c.settle-number.ensures.back (λ told.
+    rw (← c.self.view_is) (none_then c.settle-number.result c.settle-number.ensures.requeued (λ told.
     and_some (slice_get streams s) _ stream here.0 (told.0, ap change told.1)))
 
 pub returns-clause-finished : goal.returns-clause-finished

@@ -83,7 +83,7 @@ returns-then-room-lt2-clause-refused c =
     subst (RefusesAdmission b spec) (sym c.or_full.ensures) told
 
 pub invariant_of-self-in-Err : goal.invariant_of-self-in-Err
-invariant_of-self-in-Err c = rw c.in-Err.ensures.back.1 c.self.invariant
+invariant_of-self-in-Err c = rw c.in-Err.ensures.returns_newcomer.1 c.self.invariant
 
 pub returns-in-Err-clause-refused : goal.returns-in-Err-clause-refused
 returns-in-Err-clause-refused c =

@@ -10,8 +10,8 @@ use Rattle.serve_hub.proofs.Histories.{few_here}
 use Rattle.serve_hub.proofs.Retiring.{reached_sound, reserved_kept}
 use Rattle.serve_hub.proofs.book.Book.retire.Goals as goal
 
-pub retire-requires-clause-few : goal.retire-requires-clause-few
-retire-requires-clause-few c =
+pub retire-requires-clause-few_streams : goal.retire-requires-clause-few_streams
+retire-requires-clause-few_streams c =
     let reached = subst (λ (b : BookValue). IsReached measures_any is_any_image (desk_state b.desk)) (sym c.self.view_is)
     c.requires.reached in
     (few_here c.self.inside.desk reached).0

@@ -24,8 +24,8 @@ pub returns-in-Err-clause-refused : goal.returns-in-Err-clause-refused
 returns-in-Err-clause-refused c =
     subst (λ (b : BookValue). RefusesSettle b.desk c.args.w c.in-Err.refusal) c.self.view_is c.in-Err.ensures.err
 
-pub returns-then-not-is_recorded-clause-back : goal.returns-then-not-is_recorded-clause-back
-returns-then-not-is_recorded-clause-back c = (refl, refl)
+pub returns-then-not-is_recorded-clause-returns_lease : goal.returns-then-not-is_recorded-clause-returns_lease
+returns-then-not-is_recorded-clause-returns_lease c = (refl, refl)
 
 pub returns-then-not-is_recorded-clause-refused : goal.returns-then-not-is_recorded-clause-refused
 returns-then-not-is_recorded-clause-refused c =

@@ -22,7 +22,7 @@ returns-in-Err-default-Some g c =
               (ap (λ (j : JobValue). j.chain) back.0 ∙ c.in-Ok.ensures.fresh.of_chain);
         };
         told = subst (λ (f : Frame). IsOfferTold c.args.seat.now c.args.offer.at f.geometry e.refusal)
-            c.in-Ok.ensures.kept back.2;
+            c.in-Ok.ensures.keeps_frame back.2;
         seat = back.1;
       };
       late = λ late. absurd (omega arith);
@@ -32,7 +32,7 @@ pub returns-in-Err-default-None : goal.returns-in-Err-default-None
 returns-in-Err-default-None g c =
     let e = c.in-Err-default-None in record {
       back = (
-        subst (λ (f : Frame). AcceptsOther (value_of f) e.refusal c.args.seat.now c.enter.new.seat) c.in-Ok.ensures.kept
+        subst (λ (f : Frame). AcceptsOther (value_of f) e.refusal c.args.seat.now c.enter.new.seat) c.in-Ok.ensures.keeps_frame
             (unmatched _ _ e.field-0-1 e.field-0-1-is e.ensures.refused),
         rw e.field-0-1-is at e.ensures.other_moment,
       );

@@ -13,6 +13,6 @@ split_off-requires-clause-has_parts g c =
 
 pub returns-in-Err-clause-refused : goal.returns-in-Err-clause-refused
 returns-in-Err-clause-refused g c = (
-  c.into_spec-in-Err.ensures ∙ c.in-Err.ensures.back.0,
+  c.into_spec-in-Err.ensures ∙ c.in-Err.ensures.returns_newcomer.0,
   refusal_told c.self.inside.book c.args.newcomer c.in-Err.refusal c.in-Err.ensures.refused,
 )

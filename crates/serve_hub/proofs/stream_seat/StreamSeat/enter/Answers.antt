@@ -48,8 +48,8 @@ judge_offer-requires g c =
 
 pub returns-in-Err-clause-refused : goal.returns-in-Err-clause-refused
 returns-in-Err-clause-refused g c = (
-  c.in-Err.ensures.back.0,
+  c.in-Err.ensures.returns_job.0,
   refl,
   subst (λ (f : Frame). IsOfferTold c.args.self.now c.args.at f.geometry c.judge_offer.result)
-      c.deref.ensures c.judge_offer.ensures.told,
+      c.deref.ensures c.judge_offer.ensures.refused,
 )

@@ -31,12 +31,12 @@ returns g c =
           Ends-served start _ b.shown b.opened b.header b.is_opened StreamStopsAt past c.or-stop.result inside.reader seat
           writer _ (stream_flushed c.or-stop.result c.finish-writer.result.1) serves b.first tally
           (record {
-            kept = finish.kept;
+            kept = finish.keeps_contents;
             flushed = finish.flushed;
             closed = finish.closed;
             fault = finish.fault;
             failed = finish.failed;
-            told = finish.told;
+            told = finish.failures;
           })
           c.stop_after_flush.ensures b.accepted c.frames-delivered.ensures c.into_source.ensures.remaining c.into_source.ensures.failures;
       stop =

@@ -23,7 +23,7 @@ returns-then-len-ge-MOST_STREAMS g c =
     record {
       seated = (
         at.0,
-        subst (g.D.Door.waits c.tell.new.self) (append-nil at.0) (c.tell.ensures.told at.0 w [] at.1 refl),
+        subst (g.D.Door.waits c.tell.new.self) (append-nil at.0) (c.tell.ensures.waits_no_longer at.0 w [] at.1 refl),
         at.2,
       );
     }
@@ -88,7 +88,7 @@ returns-in-Err g c =
     record {
       seated = (
         at.0,
-        subst (g.D.Door.waits c.tell-in-Err.new.self) (append-nil at.0) (c.tell-in-Err.ensures.told at.0 w [] at.1 refl),
+        subst (g.D.Door.waits c.tell-in-Err.new.self) (append-nil at.0) (c.tell-in-Err.ensures.waits_no_longer at.0 w [] at.1 refl),
         at.2,
       );
     }

@@ -74,7 +74,7 @@ append_idle-requires g c =
         c.run_threads-turns.ensures.count,
         c.fill.new.self.streams.ok.0,
         seated.few,
-        c.fill_guests.ensures.few,
+        c.fill_guests.ensures.guests_within,
         c.fill_guests.ensures.same_room,
         seated.places.guests,
       );

@@ -22,6 +22,6 @@ returns g c =
     record {
       guests = guests_made c.loop-ticket.guests.items _ _ _
           (one_empty _ _ _ _ inv.tickets_left inv.streams_left c.in-None.ensures.steps) inv.told;
-      few = omega (arith, inv.few);
+      guests_within = omega (arith, inv.few);
       same_room = inv.same_room;
     }

@@ -47,7 +47,7 @@ seat-requires g c =
     let is : _ ≡ rest = c.new.ensures ∙ rw (first.reader, first.before, first.failures_of) refl in
     record {
       places = c.in-Some.ensures.places;
-      few = omega (arith, ap length empty.0, ap length empty.2, hall.room.turns.ok.0, hall.idle.ok.0);
+      room_for_stream = omega (arith, ap length empty.0, ap length empty.2, hall.room.turns.ok.0, hall.idle.ok.0);
       tickets_fit = omega (arith, ap length empty.1, hall.tickets.ok.0);
       ready = subst (λ (v : StreamValue). IsReadyAt v seat) (sym is)
           (may_go g.D.Door.limit g.D.Door.times g.L.Epoch.opening request rest seat b);
@@ -88,4 +88,4 @@ epoch-requires-clause-limit g c κs within = c.in-Some.ensures.limit ∙ c.requi
 
 pub returns-in-None-clause-answered : goal.returns-in-None-clause-answered
 returns-in-None-clause-answered g c =
-    let at = c.requires.first in c.tell.ensures.told [] at.0 [] at.1 (sym (ap (λ (t : Ticket). t.number) at.2.ticket))
+    let at = c.requires.first in c.tell.ensures.waits_no_longer [] at.0 [] at.1 (sym (ap (λ (t : Ticket). t.number) at.2.ticket))

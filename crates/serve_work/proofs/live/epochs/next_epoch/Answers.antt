@@ -6,7 +6,7 @@ open_next-requires-clause-guests g c = let at = c.requires.guests in (at.0, at.2
 
 pub returns-in-Err-clause-guests : goal.returns-in-Err-clause-guests
 returns-in-Err-clause-guests g c =
-    let at = c.requires.guests in (at.0, at.1, rw (c.in-Err.ensures.back.0, c.in-Err.ensures.back.1) at.2)
+    let at = c.requires.guests in (at.0, at.1, rw (c.in-Err.ensures.returns_interval.0, c.in-Err.ensures.returns_interval.1) at.2)
 
 pub epoch-requires-clause-seated : goal.epoch-requires-clause-seated
 epoch-requires-clause-seated g c κs within =

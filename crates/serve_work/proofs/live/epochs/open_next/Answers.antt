@@ -22,7 +22,7 @@ seat_all-requires g c =
     record {
       places = c.in-Ok.ensures.places;
       empty = c.in-Ok.ensures.empty;
-      few = omega (
+      few_seats = omega (
         arith,
         ap length are,
         same_length (seat_over size) (map left_by at.seats),
@@ -49,7 +49,7 @@ returns-in-Ok-reopen-clause-seated g c = λ ws at.
       places = c.seat_all.ensures.places;
       few = omega (
         arith,
-        c.seat_all.ensures.few,
+        c.seat_all.ensures.turns_within,
         ap length are,
         same_length (seat_over size) (map left_by at.seats),
         same_length left_by at.seats,

@@ -31,7 +31,7 @@ returns-in-Some-clause-guests g c =
     let at = guest_at (IsGuestAt g.D.Door.limit g.D.Door.times c.args.ended.now.book.desk) guests a.2.seats a.0
     c.args.place c.in-Some.guest
     a.2.each (c.take_at.ensures.taken ∙ ap Some c.in-Some.is) in
-    let told = c.tell.ensures.told at.before at.w at.after (subst (g.D.Door.waits c.args.door.now) at.split a.1)
+    let told = c.tell.ensures.waits_no_longer at.before at.w at.after (subst (g.D.Door.waits c.args.door.now) at.split a.1)
     (sym (ap (λ (t : Ticket). t.number) at.is.0)) in (
       at.before ++ at.after,
       told,

@@ -16,4 +16,4 @@ tell-requires g c = record {
 
 pub returns-in-Err-clause-answered : goal.returns-in-Err-clause-answered
 returns-in-Err-clause-answered g c =
-    c.tell.ensures.told [] (waiting_of g.W.Sink.contents g.W.Sink.failures c.args.request) [] c.requires.waits refl
+    c.tell.ensures.waits_no_longer [] (waiting_of g.W.Sink.contents g.W.Sink.failures c.args.request) [] c.requires.waits refl

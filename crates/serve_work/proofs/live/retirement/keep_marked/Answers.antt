@@ -14,7 +14,7 @@ loop-mark-preserved g c =
     let inv = c.loop-mark.invariant in
     let steps = c.in-Some.ensures.steps in
     record {
-      kept = marked_more _ _ _ _ _ _ _ _ _ steps.0.0 steps.1.0 inv.kept c.keep_one.ensures.kept;
+      kept = marked_more _ _ _ _ _ _ _ _ _ steps.0.0 steps.1.0 inv.kept c.keep_one.ensures.appends_marked;
       marks_left = omega (arith, inv.marks_left, ap length steps.0.0, steps.0.1);
       guests_left = omega (arith, inv.guests_left, ap length steps.1.0, steps.1.1);
       room = omega (arith, inv.room, steps.1.1, c.keep_one.ensures.one_more, c.keep_one.ensures.same_room);

@@ -12,8 +12,8 @@ returns-clause-marks g c =
     let count : c.len.result ≡ length c.args.interval.now.guests.items = omega (arith, c.len.ensures, c.args.interval.now.guests.ok.0) in
     c.in_ok-marks.ensures.marks ∙ ap (λ (n : ℕ). map f (take n ended.streams)) count
 
-pub returns-clause-told : goal.returns-clause-told
-returns-clause-told g c =
+pub returns-clause-unmarked_told : goal.returns-clause-unmarked_told
+returns-clause-unmarked_told g c =
     subst (λ (these : List Bool). AreToldBut these c.args.interval.now.guests.items) c.deref.ensures.value
     (subst (λ (gs : List (Option (Guest _ _))). AreToldBut c.deref.result.now gs) c.deref-2.ensures.value
     (c.are_told_but_marked.ensures c.if-not-are_told_but_marked.false))

@@ -18,7 +18,7 @@ returns-in-Ok g c =
     ∙ ap (λ (these : List Bool). at_marks these guests) marks
     ∙ marked_first f ended.streams guests in
     let told : AreToldBut (map f ended.streams) guests =
-    told_first f ended.streams guests (subst (λ (these : List Bool). AreToldBut these guests) marks c.in-Some.ensures.told) in
+    told_first f ended.streams guests (subst (λ (these : List Bool). AreToldBut these guests) marks c.in-Some.ensures.unmarked_told) in
     record {
       guests = λ ws at.
           let there = guests_retired

@@ -36,8 +36,8 @@ returns-in-Stopped-clause-answer g c =
 
 -- what is known where no image was collected behind the offer
 
-pub returns-in-Accepted-clause-kept : goal.returns-in-Accepted-clause-kept
-returns-in-Accepted-clause-kept g c =
+pub returns-in-Accepted-clause-has_fed : goal.returns-in-Accepted-clause-has_fed
+returns-in-Accepted-clause-has_fed g c =
     let gives = g.K.Clock.gives c.args.post.clock.now in
     let kept = c.loop.invariant.kept in
     record {
@@ -50,8 +50,8 @@ returns-in-Accepted-clause-kept g c =
       header = kept.header;
     }
 
-pub returns-in-Stopped-clause-kept : goal.returns-in-Stopped-clause-kept
-returns-in-Stopped-clause-kept g c =
+pub returns-in-Stopped-clause-has_fed : goal.returns-in-Stopped-clause-has_fed
+returns-in-Stopped-clause-has_fed g c =
     let gives = g.K.Clock.gives c.args.post.clock.now in
     let kept = c.loop.invariant.kept in
     record {
@@ -64,8 +64,8 @@ returns-in-Stopped-clause-kept g c =
       header = kept.header;
     }
 
-pub returns-in-JournalFull-clause-kept : goal.returns-in-JournalFull-clause-kept
-returns-in-JournalFull-clause-kept g c =
+pub returns-in-JournalFull-clause-has_fed : goal.returns-in-JournalFull-clause-has_fed
+returns-in-JournalFull-clause-has_fed g c =
     let gives = g.K.Clock.gives c.args.post.clock.now in
     let so_far = c.loop.invariant in
     let kept = so_far.kept in
@@ -113,8 +113,8 @@ returns-in-Err-clause-answer g c =
     (c.in-QueueFull.ensures.answer.0 ∙ so_far.frame) moved up c.in-Err.ensures.own c.in-Err.ensures.drained
     c.requires.can.accounted.is_open c.in-Err.ensures.answer c.deliver.ensures.stays)
 
-pub returns-in-Err-clause-kept : goal.returns-in-Err-clause-kept
-returns-in-Err-clause-kept g c =
+pub returns-in-Err-clause-has_fed : goal.returns-in-Err-clause-has_fed
+returns-in-Err-clause-has_fed g c =
     let gives = g.K.Clock.gives c.args.post.clock.now in
     let so_far = c.loop.invariant in
     let seat = c.args.self.now.seat in

@@ -27,7 +27,7 @@ accept-requires g c = record { can = c.requires.can.offer; frame = rw c.in-Some.
 pub feed_on-requires-in-Ok : goal.feed_on-requires-in-Ok
 feed_on-requires-in-Ok g c = record {
   can = CanReadOn-later c.args.self.now c.accept.new.self (g.K.Clock.gives c.args.post.clock.now) _ c.in-Ok.ensures.answer
-      c.in-Ok.ensures.kept (ap (λ (r : ReaderState). r.phase) c.accept.ensures.reader ∙ c.requires.can.is_open) c.requires.can;
+      c.in-Ok.ensures.has_fed (ap (λ (r : ReaderState). r.phase) c.accept.ensures.reader ∙ c.requires.can.is_open) c.requires.can;
 }
 
 pub returns-in-Ok-clause-answer : goal.returns-in-Ok-clause-answer
@@ -43,12 +43,12 @@ returns-in-Ok-clause-answer g c = λ past before counted h.
     at.reader at.seat at.writer (arc_value c.in-Some.frame) there.0 there.1 c.in-Ok.ensures.answer in
     FeedsOn-behind before at.reader old.seat at.seat old.writer at.writer first.frames first.passed past c.feed_on-in-Ok.result
     new.reader new.seat new.writer
-    (c.feed_on-in-Ok.ensures.answer past (counted_later past old.seat at.seat c.accept.ensures.kept.tally.seat counted))
+    (c.feed_on-in-Ok.ensures.answer past (counted_later past old.seat at.seat c.accept.ensures.has_fed.tally.seat counted))
 
-pub returns-in-Ok-clause-kept : goal.returns-in-Ok-clause-kept
-returns-in-Ok-clause-kept g c =
+pub returns-in-Ok-clause-has_fed : goal.returns-in-Ok-clause-has_fed
+returns-in-Ok-clause-has_fed g c =
     HasFed-trans c.args.self.now c.accept.new.self (g.K.Clock.gives c.args.post.clock.now) (Some c.feed_on-in-Ok.result)
-    c.feed_on-in-Ok.new.self c.in-Ok.ensures.answer.seat_stays c.in-Ok.ensures.kept c.feed_on-in-Ok.ensures.kept
+    c.feed_on-in-Ok.new.self c.in-Ok.ensures.answer.seat_stays c.in-Ok.ensures.has_fed c.feed_on-in-Ok.ensures.has_fed
 
 pub returns-in-Err-clause-answer : goal.returns-in-Err-clause-answer
 returns-in-Err-clause-answer g c = λ past before counted h.

@@ -23,8 +23,8 @@ feed_left-requires g c =
         is_open = can.can.is_open;
         accounted = Accounted-later _ _ _ _ [] moved can.can.accounted;
         size = size_later _ _ _ _ [] moved can.can.size;
-        memory = c.keep.ensures.sized seat.chain can.can.memory (rw c.in-Ok.ensures.back can.sized.source)
-            (rw c.in-Ok.ensures.back can.sized.image);
+        memory = c.keep.ensures.sized seat.chain can.can.memory (rw c.in-Ok.ensures.returns_pair can.sized.source)
+            (rw c.in-Ok.ensures.returns_pair can.sized.image);
         frame = can.can.frame;
         past = can.can.past;
         counted = can.can.counted;

@@ -28,7 +28,7 @@ pub returns-in-Paused : goal.returns-in-Paused
 returns-in-Paused g c =
     let old = c.args.self.now in
     let new = c.feed.new.self in
-    let kept = c.in-Paused.ensures.kept in
+    let kept = c.in-Paused.ensures.has_fed in
     record {
       answer = λ past o is counted at.
           fed_from (feds.Paused c.in-Paused.in_hand c.in-Paused.image) (text_in c.args.in_hand) past o old.reader new.reader
@@ -53,7 +53,7 @@ returns-in-Paused g c =
 pub hold_left-requires : goal.hold_left-requires
 hold_left-requires g c =
     let can = c.requires.can in
-    let kept = c.feed.ensures.kept in
+    let kept = c.feed.ensures.has_fed in
     let fed = c.in-Held.ensures.answer can.past can.before can.counted can.holds in
     record {
       header = rw (kept.header, kept.tally.seat.chain) c.requires.header;
@@ -70,7 +70,7 @@ pub returns-in-Held : goal.returns-in-Held
 returns-in-Held g c =
     let old = c.args.self.now in
     let new = c.feed.new.self in
-    let kept = c.in-Held.ensures.kept in
+    let kept = c.in-Held.ensures.has_fed in
     let left = c.hold_left.ensures in
     record {
       answer = λ past o is counted at.
@@ -100,7 +100,7 @@ returns-then-is_spoilt g c =
     let old = c.args.self.now in
     let new = c.feed.new.self in
     let stop = c.in-Stopped.stop in
-    let kept = c.in-Stopped.ensures.kept in
+    let kept = c.in-Stopped.ensures.has_fed in
     let close = c.close_torn-is_torn.ensures in
     let left = c.discard_left.ensures in
     record {
@@ -135,7 +135,7 @@ returns-then-is_torn g c =
     let old = c.args.self.now in
     let new = c.feed.new.self in
     let stop = c.in-Stopped.stop in
-    let kept = c.in-Stopped.ensures.kept in
+    let kept = c.in-Stopped.ensures.has_fed in
     let close = c.close_torn-is_torn.ensures in
     let left = c.discard_left-then-is_torn.ensures in
     record {
@@ -186,7 +186,7 @@ returns-else-is_torn g c =
     let old = c.args.self.now in
     let new = c.feed.new.self in
     let stop = c.in-Stopped.stop in
-    let kept = c.in-Stopped.ensures.kept in
+    let kept = c.in-Stopped.ensures.has_fed in
     let useful = c.is_spoilt.ensures.useful.0 c.if-is_spoilt.false in
     let fed = c.in-Stopped.ensures.answer can.past can.before can.counted can.holds in
     let moved = moves_until stop old.seat new.seat old.writer new.writer fed.frames useful fed.moved in

@@ -30,7 +30,7 @@ loop-preserved g c =
       passed = HasPassed-behind old.reader at.reader old.seat at.seat old.writer at.writer so_far.passed.frames so_far.passed.passed
           new.reader new.seat new.writer c.in-Ok.ensures.passed;
       kept = HasFed-trans old at (g.K.Clock.gives c.args.post.clock.now) None new so_far.passed.passed.moved.seat_stays so_far.kept
-          c.in-Ok.ensures.kept;
+          c.in-Ok.ensures.has_fed;
     }
 
 pub returns-in-Err : goal.returns-in-Err
@@ -44,6 +44,6 @@ returns-in-Err g c =
           FeedsOn-behind old.reader at.reader old.seat at.seat old.writer at.writer so_far.passed.frames so_far.passed.passed past
           c.in-Err.fed new.reader new.seat new.writer
           (c.in-Err.ensures.answer past (counted_later past old.seat at.seat so_far.kept.tally.seat counted));
-      kept = HasFed-trans old at (g.K.Clock.gives c.args.post.clock.now) (Some c.in-Err.fed) new
-          so_far.passed.passed.moved.seat_stays so_far.kept c.in-Err.ensures.kept;
+      has_fed = HasFed-trans old at (g.K.Clock.gives c.args.post.clock.now) (Some c.in-Err.fed) new
+          so_far.passed.passed.moved.seat_stays so_far.kept c.in-Err.ensures.has_fed;
     }

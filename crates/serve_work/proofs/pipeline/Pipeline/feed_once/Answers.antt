@@ -41,8 +41,8 @@ returns-in-Err-clause-answer g c = λ past counted.
     at.seat at.writer (ap (λ (r : ReaderState). r.phase) same ∙ c.requires.can.is_open) c.in-Err.ensures.own c.deliver_ready.ensures.stays
     c.in-Err.ensures.answer)
 
-pub returns-in-Err-clause-kept : goal.returns-in-Err-clause-kept
-returns-in-Err-clause-kept g c =
+pub returns-in-Err-clause-has_fed : goal.returns-in-Err-clause-has_fed
+returns-in-Err-clause-has_fed g c =
     let gives = g.K.Clock.gives c.args.post.clock.now in
     let halt = c.in-Err.halt in
     rw c.without_frame.ensures (record {
@@ -76,14 +76,14 @@ returns-in-JournalFull-clause-answer g c = λ past counted.
       is_open = ap (λ (r : ReaderState). r.phase) same ∙ c.requires.can.is_open;
     }
 
-pub returns-in-Silent-clause-kept : goal.returns-in-Silent-clause-kept
-returns-in-Silent-clause-kept g c =
+pub returns-in-Silent-clause-has_fed : goal.returns-in-Silent-clause-has_fed
+returns-in-Silent-clause-has_fed g c =
     let on = c.deliver_ready.ensures in
     HasFed-delivered c.args.self.now c.deliver_ready.new.self (g.K.Clock.gives c.args.post.clock.now) None c.in-Ok.ensures.tally
     on.stays on.buffers (ap (λ (r : ReaderState). r.header) on.reader) refl tt tt
 
-pub returns-in-JournalFull-clause-kept : goal.returns-in-JournalFull-clause-kept
-returns-in-JournalFull-clause-kept g c =
+pub returns-in-JournalFull-clause-has_fed : goal.returns-in-JournalFull-clause-has_fed
+returns-in-JournalFull-clause-has_fed g c =
     let on = c.deliver_ready.ensures in
     HasFed-delivered c.args.self.now c.deliver_ready.new.self (g.K.Clock.gives c.args.post.clock.now) (Some (feds.Paused None None))
     c.in-Ok.ensures.tally on.stays on.buffers (ap (λ (r : ReaderState). r.header) on.reader) refl tt
@@ -107,8 +107,8 @@ returns-in-Ok-None-clause-answer g c = λ past counted.
     (Passes-same _ _ _ _ _ _ c.deliver_ready.ensures.reader c.in-Ok.ensures.answer) past c.read_into.new.reader
     (c.in-Ok-None.ensures.end (ap Ok c.in-Ok-None.field-0-is))
 
-pub returns-in-Ok-None-clause-kept : goal.returns-in-Ok-None-clause-kept
-returns-in-Ok-None-clause-kept g c =
+pub returns-in-Ok-None-clause-has_fed : goal.returns-in-Ok-None-clause-has_fed
+returns-in-Ok-None-clause-has_fed g c =
     let on = c.deliver_ready.ensures in
     let at = c.deliver_ready.new.self in
     HasFed-delivered c.args.self.now
@@ -125,8 +125,8 @@ returns-in-Err-read_into-clause-answer g c = λ past counted.
     (Passes-same _ _ _ _ _ _ c.deliver_ready.ensures.reader c.in-Ok.ensures.answer) past c.in-Err-read_into.stop c.read_into.new.reader
     c.in-Err-read_into.ensures.fault
 
-pub returns-in-Err-read_into-clause-kept : goal.returns-in-Err-read_into-clause-kept
-returns-in-Err-read_into-clause-kept g c =
+pub returns-in-Err-read_into-clause-has_fed : goal.returns-in-Err-read_into-clause-has_fed
+returns-in-Err-read_into-clause-has_fed g c =
     let on = c.deliver_ready.ensures in
     let at = c.deliver_ready.new.self in
     let gives = g.K.Clock.gives c.args.post.clock.now in
@@ -182,8 +182,8 @@ returns-in-Ok-Some-clause-answer g c =
     c.accept.result new.reader new.seat new.writer frame c.deliver_ready.ensures.tally.seat (rw c.accept.ensures.reader taken)
     (rw c.accept.ensures.reader c.read_into.ensures.header) c.accept.ensures.answer
 
-pub returns-in-Ok-Some-clause-kept : goal.returns-in-Ok-Some-clause-kept
-returns-in-Ok-Some-clause-kept g c =
+pub returns-in-Ok-Some-clause-has_fed : goal.returns-in-Ok-Some-clause-has_fed
+returns-in-Ok-Some-clause-has_fed g c =
     let on = c.deliver_ready.ensures in
     let at = c.deliver_ready.new.self in
     let gives = g.K.Clock.gives c.args.post.clock.now in
@@ -193,4 +193,4 @@ returns-in-Ok-Some-clause-kept g c =
     (HasFed-delivered c.args.self.now
     (record { seat = at.seat; reader = c.read_into.new.reader; writer = at.writer; buffers = c.take_source-memory.new.self })
     gives None c.in-Ok.ensures.tally on.stays (c.take_source-memory.ensures.sized _ on.buffers)
-    (c.read_into.ensures.header ∙ ap (λ (r : ReaderState). r.header) on.reader) refl tt tt) c.accept.ensures.kept
+    (c.read_into.ensures.header ∙ ap (λ (r : ReaderState). r.header) on.reader) refl tt tt) c.accept.ensures.has_fed

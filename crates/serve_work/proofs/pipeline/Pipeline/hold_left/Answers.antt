@@ -18,7 +18,7 @@ hold-requires g c =
 pub returns-in-Paused : goal.returns-in-Paused
 returns-in-Paused g c =
     let old = c.args.self.now in
-    let kept = c.in-Paused.ensures.kept in
+    let kept = c.in-Paused.ensures.has_held in
     record {
       answer = λ past o is counted at.
           spoilt_on c.args.held o old.reader old.seat old.writer (text_in c.args.in_hand) (text_in c.in-Paused.in_hand) at
@@ -37,7 +37,7 @@ spoil_left-requires g c = record { can = of_no_use c.args.held c.requires.can.sp
 pub returns-in-QueueFull : goal.returns-in-QueueFull
 returns-in-QueueFull g c =
     let old = c.args.self.now in
-    let kept = c.hold.ensures.kept in
+    let kept = c.hold.ensures.has_held in
     let left = c.spoil_left.ensures in
     record {
       answer = λ past o is counted at.
@@ -64,7 +64,7 @@ pub returns-in-Stopped : goal.returns-in-Stopped
 returns-in-Stopped g c =
     let gives = g.K.Clock.gives c.args.post.clock.now in
     let old = c.args.self.now in
-    let kept = c.in-Stopped.ensures.kept in
+    let kept = c.in-Stopped.ensures.has_held in
     let left = c.spoil_left-in-Stopped.ensures in
     record {
       answer = λ past o is counted at.

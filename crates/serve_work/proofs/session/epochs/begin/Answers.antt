@@ -29,8 +29,8 @@ returns-clause-bad_limit g c =
       λ not. absurd (not c.in_ok-opening.ensures.limit),
     )) c.epoch.ensures.unended
 
-pub returns-clause-back : goal.returns-clause-back
-returns-clause-back g c =
+pub returns-clause-returns_inputs : goal.returns-clause-returns_inputs
+returns-clause-returns_inputs g c =
     let sink = g.W.Sink in
     let b = beginning_of sink.contents sink.failures c.args.setup c.args.limit c.args.inputs.items in
     let seats = c.in_ok-opening.opening.opened.1.items in

@@ -67,13 +67,13 @@ fill-requires g c =
         no_streams = c.requires.can_begin.2.room.places.no_streams;
         streams = omega (arith, few, c.requires.can_begin.2.room.places.streams);
       };
-      held = (helds, c.in-Err.ensures.back ∙ c.pair_with_seats-turns.ensures);
+      held = (helds, c.in-Err.ensures.returns_turns ∙ c.pair_with_seats-turns.ensures);
     }
 
 pub returns-in-Err-clause-unended : goal.returns-in-Err-clause-unended
 returns-in-Err-clause-unended g c =
     let helds = held_with c.args.opening.opened.1.items c.args.opening.streams.items in
-    (c.in-Err.ensures.needed refl, c.fill.ensures.streams helds (c.in-Err.ensures.back ∙ c.pair_with_seats-turns.ensures))
+    (c.in-Err.ensures.needed refl, c.fill.ensures.streams helds (c.in-Err.ensures.returns_turns ∙ c.pair_with_seats-turns.ensures))
 
 pub returns-clause-later : goal.returns-clause-later
 returns-clause-later g c =

@@ -20,7 +20,7 @@ returns-in-Err-clause-later g c =
     let gives = g.K.Clock.gives c.args.setting.clock.now in
     record {
       between = λ b journal at.
-          no_later b journal gives (IsOfEpochs b.limit b.schedule true) _ (c.in-Err.ensures.back b journal at)
+          no_later b journal gives (IsOfEpochs b.limit b.schedule true) _ (c.in-Err.ensures.still_between b journal at)
           (behind_full b.limit b.schedule _ journal);
       stops = λ allowed. rw c.in-Err.ensures.same allowed;
     }

@@ -23,7 +23,7 @@ pub returns-clause-served : goal.returns-clause-served
 returns-clause-served g c = λ b journal at.
     served_told b journal c.args.interval at c.tell.new.served.items c.charge.new.served.items c.tell.ensures
     c.charge.ensures.outcomes
-    (λ k d less. c.charge.ensures.told k d (omega (arith, less, c.charge.new.served.ok.0)))
+    (λ k d less. c.charge.ensures.tells_charges k d (omega (arith, less, c.charge.new.served.ok.0)))
 
 pub returns-clause-stops : goal.returns-clause-stops
 returns-clause-stops g c =

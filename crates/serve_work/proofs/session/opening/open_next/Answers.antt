@@ -7,11 +7,11 @@ use Rattle.serve_work.proofs.Intervals.{new_seats, stand_again, still_between}
 use Rattle.serve_work.proofs.Telling.{as_many}
 use Rattle.serve_work.proofs.session.opening.open_next.Goals as goal
 
-pub returns-in_default-clause-back : goal.returns-in_default-clause-back
-returns-in_default-clause-back g c = λ b journal at. still_between b journal c.args.interval _ refl refl refl refl at
+pub returns-in_default-clause-still_between : goal.returns-in_default-clause-still_between
+returns-in_default-clause-still_between g c = λ b journal at. still_between b journal c.args.interval _ refl refl refl refl at
 
-pub returns-in-Err-clause-back : goal.returns-in-Err-clause-back
-returns-in-Err-clause-back g c = λ b journal at. still_between b journal c.args.interval _ c.in-Err.ensures.back refl refl refl at
+pub returns-in-Err-clause-still_between : goal.returns-in-Err-clause-still_between
+returns-in-Err-clause-still_between g c = λ b journal at. still_between b journal c.args.interval _ c.in-Err.ensures.returns_ended refl refl refl at
 
 pub returns-in-Ok-reopen-clause-can_begin : goal.returns-in-Ok-reopen-clause-can_begin
 returns-in-Ok-reopen-clause-can_begin g c = λ b journal at.

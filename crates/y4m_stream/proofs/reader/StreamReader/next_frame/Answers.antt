@@ -20,4 +20,4 @@ returns-clause-answer g c =
     let is_line = found.is_frame_line in
     let is_frame : IsFrameOf (data_len_of header) (frame_text_of c.take_data.new.out) = search rules in
     let taken = c.in_ok-take_data.ensures in
-    rw (← c.self.view_is) (Answers-taken header _ _ _ _ _ c.in-Some.end _ found is_frame taken.ok taken.few taken.told)
+    rw (← c.self.view_is) (Answers-taken header _ _ _ _ _ c.in-Some.end _ found is_frame taken.ok taken.few_held taken.failures)

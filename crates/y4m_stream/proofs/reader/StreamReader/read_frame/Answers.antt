@@ -23,21 +23,21 @@ returns-clause-answer g c =
     let is_frame : IsFrameOf (data_len_of header) (frame_text_of c.take_data.new.out) =
     record { is_line = rw line found.is_frame_line; whole = len } in
     let taken = c.in_ok-take_data.ensures in
-    rw (← c.self.view_is) (Answers-taken header _ _ _ _ _ c.in-Some.end _ found is_frame taken.ok taken.few taken.told)
+    rw (← c.self.view_is) (Answers-taken header _ _ _ _ _ c.in-Some.end _ found is_frame taken.ok taken.few_held taken.failures)
 
 pub returns-in_err-end-clause-ahead : goal.returns-in_err-end-clause-ahead
 returns-in_err-end-clause-ahead g c =
     let passed = err_from_is_err_and c.from_residual.result c.from_residual.ensures.1 in
     let begun = c.begin_frame.ensures in
     rw (passed.1, ← c.self.view_is)
-    (λ is_open. IsFrameAhead-held c.self.inside.input c.begin_frame.new.input _ begun.rest (begun.few is_open))
+    (λ is_open. IsFrameAhead-held c.self.inside.input c.begin_frame.new.input _ begun.rest (begun.few_held is_open))
 
 pub returns-in_err-set_line-clause-ahead : goal.returns-in_err-set_line-clause-ahead
 returns-in_err-set_line-clause-ahead g c =
     let passed = err_from_is_err_and c.from_residual-in_err-set_line.result c.from_residual-in_err-set_line.ensures.1 in
     let begun = c.begin_frame.ensures in
     rw (passed.1, ← c.self.view_is)
-    (λ is_open. IsFrameAhead-held c.self.inside.input c.begin_frame.new.input _ begun.rest (begun.few is_open))
+    (λ is_open. IsFrameAhead-held c.self.inside.input c.begin_frame.new.input _ begun.rest (begun.few_held is_open))
 
 pub returns-in_err-take_data-clause-ahead : goal.returns-in_err-take_data-clause-ahead
 returns-in_err-take_data-clause-ahead g c =

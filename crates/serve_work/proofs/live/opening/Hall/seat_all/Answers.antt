@@ -9,7 +9,7 @@ seat_one-requires g c =
     let steps = c.in-Some.ensures.steps in
     record {
       places = inv.places;
-      few = omega (arith, inv.few, steps.0.1, c.requires.few);
+      room_for_stream = omega (arith, inv.few, steps.0.1, c.requires.few_seats);
       tickets_fit = inv.tickets_fit;
       ready = (ready_split _ _ _ _ _ _ steps.0.0 steps.1.0 inv.ready).0;
     }
@@ -34,4 +34,4 @@ returns g c =
     let inv = c.loop-seat.invariant in
     let all = all_made _ _ _ _ _ _ (one_empty _ _ _ _ inv.seats_left inv.guests_left c.in-None.ensures.steps) inv.turns inv.tickets
     in
-    record { places = inv.places; turns = all.0; tickets = all.1; few = omega (arith, inv.few) }
+    record { places = inv.places; turns = all.0; tickets = all.1; turns_within = omega (arith, inv.few) }
