@@ -19,6 +19,7 @@ BRINGS = {
     "mpeg2enc": "`apt-get install mjpegtools` brings it",
     "mandoc": "`apt-get install mandoc` brings it",
     "cc": "`apt-get install gcc` brings it",
+    "objdump": "`apt-get install binutils` brings it",
     "parallel": "`apt-get install parallel` brings it",
     "ssh": "`apt-get install openssh-client` brings it",
     "sshd": "`apt-get install openssh-server` brings it",
