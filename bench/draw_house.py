@@ -17,6 +17,7 @@ FLOORS = {
     "serve_files": (WORDS, "What is read ahead is given once and in order; what came of a write is told once."),
     "serve_script": (WORDS, "A script prints exactly the lines that the definitions give for it."),
     "serve_work": (THREADS, "Each stream writes a front of its own images, all at a whole end, then charged for just these."),
+    "serve_audit": (SHARES, "A journal is accepted exactly where it is legal; so is each that a book keeps."),
     "serve_hub": (THREADS, "Threads that share one lock have one legal history, from epoch to epoch."),
     "serve_core": (SHARES, "Every run keeps the rules: images in order, once; each lease to an earliest deadline."),
     "lease": (SHARES, "The image of a job that is done is its frame's image by the chain."),

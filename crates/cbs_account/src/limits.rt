@@ -1,4 +1,4 @@
-//! What a server may ask for, and how far its account goes.
+//! The limits of a server and of its account, and of those who are served together.
 
 /// The longest period, in the caller's units of time.
 pub const LONGEST_PERIOD: u64 = 1_048_576;
@@ -20,3 +20,15 @@ pub const WHOLE: u64 = 1_000_000;
 
 /// The most workers that servers are admitted to.
 pub const MOST_WORKERS: u64 = 16;
+
+/// The most streams that are served together.
+pub const MOST_STREAMS: usize = 64;
+
+/// The most bands of one lease.
+pub const MOST_QUANTUM: u64 = 64;
+
+/// The fewest entries that a journal may be limited to.
+pub const FEWEST_ENTRIES: usize = 16;
+
+/// The most entries that a journal may be limited to.
+pub const MOST_ENTRIES: usize = 1 << 20;

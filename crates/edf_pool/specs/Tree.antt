@@ -1,6 +1,6 @@
 use Rattle.std.specs.Prelude.{◌≡◌, ℕ, ◌+◌, ◌*◌, ◌<◌, ◌≤◌, List, length, map, take, drop, get_or, Option, Some}
 use Rattle.std.specs.Prelude.{None, MatchOption}
-use Rattle.edf_pool.specs.declared.limits.TheConstants.{MOST_STREAMS}
+use Rattle.cbs_account.specs.declared.limits.TheConstants.{MOST_STREAMS}
 use Rattle.edf_pool.specs.declared.node.Ready.{Ready}
 use Rattle.edf_pool.specs.Earliest.{IsEarliest, NoneReady}
 use Rattle.edf_pool.specs.Node.{deadline_of, lesser}

@@ -5,7 +5,6 @@
 //! it answers, and `specs/Tree.antt` what its tree keeps.
 #![tactic(auto)]
 
-pub mod limits;
 pub mod node;
 pub mod pool;
 

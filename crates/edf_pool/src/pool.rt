@@ -1,11 +1,11 @@
 //! The ready streams as a winner tree.
 ghost use Rattle.std.specs.Prelude.{◌≡◌, ◌+◌, ◌-◌, ◌<◌, ◌≤◌, IfOk, IfSome, IfNone, None, length, replicate};
-ghost use Rattle.std.specs.Prelude.{[], ◌∷◌, ◌++◌, drop, slice_set};
+ghost use Rattle.std.specs.Prelude.{[], ◌∷◌, ◌++◌, ℕ, IsFalse, IsTrue, drop, slice_set};
 ghost use Rattle.edf_pool.specs.Earliest.{IsEarliest, NoneReady};
 ghost use Rattle.edf_pool.specs.Tree.{AreWinners};
 
-use crate::limits::MOST_STREAMS;
 use crate::node::{Compares, Node, Ready};
+use cbs_account::limits::MOST_STREAMS;
 use std::alloc::{AllocError, Global};
 use std::marker::Model;
 
@@ -78,6 +78,14 @@ impl Pool {
         ensures none { IfNone result (NoneReady self.now) }
     {
         self.nodes[1].map(|ready| ready.stream())
+    }
+
+    /// Whether a stream is ready.
+    pub fn any_ready(&self) -> bool
+        ensures ready { IsTrue result → (s : ℕ) × IsEarliest self.now s }
+        ensures none { IsFalse result → NoneReady self.now }
+    {
+        self.earliest().is_some()
     }
 }
 

@@ -1,6 +1,7 @@
 //! The leave to do some steps of a job.
 use crate::job::Job;
 use crate::job_spec::JobSpec;
+use crate::report::LeaseReport;
 use frame_view::Frame;
 use std::marker::Model;
 use std::thread::Threads;
@@ -36,7 +37,7 @@ impl Model for Lease {
 }
 
 impl Lease {
-    ghost use Rattle.std.specs.Prelude.{◌≡◌, ◌+◌, ◌≤◌, IsSome, OnOk};
+    ghost use Rattle.std.specs.Prelude.{◌≡◌, ◌+◌, ◌≤◌, ◌↔◌, IsSome, IsTrue, OnOk};
     ghost use Rattle.filters.specs.Steps.{steps_of};
     ghost use Rattle.lease.specs.Halved.{CanHalveStep};
     ghost use Rattle.lease.specs.Lease.{granted_of, spent_of, TakesStep};
@@ -161,6 +162,22 @@ impl Lease {
         ensures within { result ≤ steps_of self.now.job.chain }
     {
         self.job.done()
+    }
+
+    /// What is done under the lease.
+    pub fn report(&self) -> LeaseReport
+        ensures frame { (result.stream ≡ self.now.stream) × (result.number ≡ self.now.number) }
+        ensures bands { result.bands ≡ self.now.used }
+        ensures units { result.units ≡ spent_of self.now }
+        ensures last { IsTrue result.is_finished ↔ (self.now.job.done ≡ steps_of self.now.job.chain) }
+    {
+        LeaseReport {
+            stream: self.stream,
+            number: self.number,
+            bands: self.used,
+            units: self.spent,
+            is_finished: self.job.done() == self.job.steps(),
+        }
     }
 
     /// Ends the lease. The job keeps what is done.

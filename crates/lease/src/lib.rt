@@ -9,6 +9,7 @@ pub mod job;
 pub mod job_spec;
 pub mod lease;
 pub mod refused;
+pub mod report;
 pub mod scratch;
 mod step;
 
@@ -16,4 +17,5 @@ pub use job::Job;
 pub use job_spec::{JobSpec, is_same_spec};
 pub use lease::{GrantSpent, Lease};
 pub use refused::{JobRefused, OverRefused};
+pub use report::LeaseReport;
 pub use scratch::Scratch;

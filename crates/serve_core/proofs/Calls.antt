@@ -4,3 +4,7 @@ pub mod Desks
 pub mod Offers
 pub mod Lendings
 pub mod Settlements
+pub mod Rows
+pub mod Sooner
+pub mod Tallies
+pub mod TallyStreams

@@ -2,3 +2,4 @@
 pub mod Lists
 pub mod Options
 pub mod Picks
+pub mod Sums

@@ -1,5 +1,5 @@
 -- Transcripts from any opening state.
-use Rattle.std.specs.Prelude.{◌≡◌, ◌↔◌, ⊤}
+use Rattle.std.specs.Prelude.{◌≡◌, ◌↔◌, ⊤, length}
 use Rattle.serve_core.specs.Events.{Event, Reply, Transcript, Start, Then, joined}
 use Rattle.serve_core.specs.Rules.{Allows, IsLegal}
 use Rattle.serve_core.specs.Setup.{ImageRelation, SizeTest}
@@ -16,6 +16,12 @@ module _ {F G : Type 0} where
 -- the state of a setup before any event
 abbrev pub opening_state : (F G : Type 0) → Setup → State F
 opening_state F G setup = state_of setup (opening {F = F} {G = G})
+
+-- a transcript changes neither the quantum nor how many workers there are
+abbrev pub UnchangedLaw : (F G : Type 0) → Type 0
+UnchangedLaw F G =
+    (m : State F) (p : Transcript F G)
+    → ((state_from m p).quantum ≡ m.quantum) × (length (state_from m p).workers ≡ length m.workers)
 
 module _ {F G : Type 0} (measures : SizeTest F) (is_image : ImageRelation F G) where
   -- from the opening state on, each reply is one that is right after what came before it

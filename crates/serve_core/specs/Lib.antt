@@ -19,9 +19,15 @@ pub mod Streams
 pub mod StreamInside
 pub mod Schedule
 pub mod Retired
+pub mod Life
+pub mod Ticked
 pub mod ScheduleInside
 pub mod Seen
 pub mod MachineInside
 pub mod Desk
 pub mod DeskInside
+pub mod RowInside
+pub mod Sooner
+pub mod TallyInside
+pub mod Tally
 pub mod Words

@@ -1,7 +1,6 @@
 -- States that legal transcripts of setups lead to, and what leads on from them.
 use Rattle.std.specs.Prelude.{◌≡◌, ◌≤◌, ◌↔◌, length}
-use Rattle.cbs_account.specs.declared.limits.TheConstants.{MOST_WORKERS}
-use Rattle.edf_pool.specs.declared.limits.TheConstants.{MOST_STREAMS}
+use Rattle.cbs_account.specs.declared.limits.TheConstants.{MOST_STREAMS, MOST_WORKERS}
 use Rattle.serve_core.specs.Events.{Transcript, joined}
 use Rattle.serve_core.specs.Leads.{Leads}
 use Rattle.serve_core.specs.Rules.{IsLegal}

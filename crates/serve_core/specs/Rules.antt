@@ -1,9 +1,8 @@
 -- Which replies the machine may give.
-use Rattle.std.specs.Prelude.{ℕ, ◌-◌, ◌≡◌, ◌≤◌, ◌<◌, ◌^◌, ◌⊎◌, ⊤, Bool, not, ◌&&◌, nat_eq, nat_lt, nat_le}
+use Rattle.std.specs.Prelude.{ℕ, ◌-◌, ◌≡◌, ◌≤◌, ◌<◌, ◌⊎◌, ⊤, Bool, not, ◌&&◌, nat_eq, nat_lt, nat_le}
 use Rattle.std.specs.Prelude.{drop, length}
 use Rattle.std.specs.Prelude.{slice_get, Option, Some, None, MatchOption, MatchBool, IsSomeAnd, if◌then◌else◌}
-use Rattle.cbs_account.specs.declared.limits.TheConstants.{LAST_MOMENT}
-use Rattle.edf_pool.specs.declared.limits.TheConstants.{MOST_STREAMS}
+use Rattle.cbs_account.specs.declared.limits.TheConstants.{LAST_MOMENT, MOST_STREAMS}
 use Rattle.cbs_account.specs.Admission.{Load, with_share}
 use Rattle.cbs_account.specs.Admission as admission
 use Rattle.edf_pool.specs.Earliest.{IsEarliest, NoneReady}

@@ -1,5 +1,5 @@
 -- What a schedule keeps, and what it stands for.
-use Rattle.std.specs.Prelude.{◌≡◌, ◌≤◌, ◌^◌}
+use Rattle.std.specs.Prelude.{◌≡◌, ◌≤◌}
 use Rattle.cbs_account.specs.declared.limits.TheConstants.{LAST_MOMENT}
 use Rattle.serve_core.specs.declared.schedule.Schedule.TheInside.{Inside}
 use Rattle.serve_core.specs.Schedule.{ScheduleValue, ready_deadlines}

@@ -1,8 +1,7 @@
 -- What a machine is made for, and the limits of its numbers.
 use Rattle.std.specs.Prelude.{ℕ, Bool, ◌≡◌, ◌≤◌, All, List, length, map, sum}
 use Rattle.stream_queue.specs.declared.limits.TheConstants.{MOST_PLACES}
-use Rattle.cbs_account.specs.declared.limits.TheConstants.{MOST_WORKERS}
-use Rattle.edf_pool.specs.declared.limits.TheConstants.{MOST_STREAMS}
+use Rattle.cbs_account.specs.declared.limits.TheConstants.{MOST_QUANTUM, MOST_STREAMS, MOST_WORKERS}
 use Rattle.cbs_account.specs.Admission.{Load, Reservation, load_of}
 use Rattle.cbs_account.specs.Admission as admission
 use Rattle.cbs_account.specs.Balance.{IsBandwidth}
@@ -10,7 +9,6 @@ use Rattle.filters.specs.Chain.{ChainValue}
 use Rattle.filters.specs.Costs.{step_costs}
 use Rattle.frame_view.specs.declared.geometry.Geometry.{Geometry}
 use Rattle.filters.specs.declared.limits.TheConstants.{MOST_COST}
-use Rattle.serve_core.specs.declared.limits.TheConstants.{MOST_QUANTUM}
 use Rattle.y4m_header.specs.declared.limits.TheConstants.{MOST_FRAMES}
 
 -- what a stream is served with

@@ -1,5 +1,5 @@
 -- What holds in every state that a legal transcript leads to.
-use Rattle.std.specs.Prelude.{ℕ, ◌+◌, ◌*◌, ◌≡◌, ◌≤◌, ◌<◌, ◌^◌, length, slice_get, Option, Some, None}
+use Rattle.std.specs.Prelude.{ℕ, ◌+◌, ◌*◌, ◌≡◌, ◌≤◌, ◌<◌, length, slice_get, Option, Some, None}
 use Rattle.cbs_account.specs.declared.limits.TheConstants.{LAST_MOMENT, MOST_WORKERS}
 use Rattle.cbs_account.specs.Balance.{Balance}
 use Rattle.serve_core.specs.declared.held.Held.{Held}

@@ -1,10 +1,11 @@
 //! The machine for workers that do their bands by themselves.
 ghost use Rattle.std.specs.Prelude.{◌≡◌, ◌≤◌, ◌<◌, ◌^◌, max, Some, None, length, slice_get, option_copied};
-ghost use Rattle.std.specs.Prelude.{◌↔◌, All, IsTrue, IsSome, IfOk, IfErr, IfSome, IfNone, OnOk};
+ghost use Rattle.std.specs.Prelude.{◌↔◌, All, IsFalse, IsTrue, IsSome, IfOk, IfErr, IfSome, IfNone, OnOk};
 ghost use Rattle.std.specs.Prelude.{MatchOption};
 ghost use Rattle.std.specs.Arc.{arc_value};
 ghost use Rattle.std.specs.Option.{option_map};
 ghost use Rattle.serve_core.specs.declared.refusal.Refusal.TheVariants as refusals;
+ghost use Rattle.edf_pool.specs.Earliest.{NoneReady};
 ghost use Rattle.serve_core.specs.Bare.{Blank, measures_any, is_any_image};
 ghost use Rattle.serve_core.specs.Desk as rules;
 ghost use Rattle.serve_core.specs.Desk.{IsOfferAnswer, LeadsDesk, desk_state, one};
@@ -15,6 +16,7 @@ ghost use Rattle.serve_core.specs.Retired.{AreFree, new_number, retired_schedule
 ghost use Rattle.serve_core.specs.Streams.{HasPlace, IsFresh, IsOver};
 ghost use Rattle.serve_core.specs.Schedule as schedules;
 ghost use Rattle.serve_core.specs.Schedule.{HasLease, HasStream, account_of, counts_of, with_stream_at};
+ghost use Rattle.serve_core.specs.Ticked.{at_moment};
 
 use crate::collected::Collected;
 use crate::counts::Counts;
@@ -24,8 +26,7 @@ use crate::refusal::Refusal;
 use crate::schedule::Schedule;
 use crate::setup::Setup;
 use crate::spec::StreamSpec;
-use cbs_account::limits::LAST_MOMENT;
-use edf_pool::limits::MOST_STREAMS;
+use cbs_account::limits::{LAST_MOMENT, MOST_STREAMS};
 use frame_view::Frame;
 use lease::{Job, JobSpec, Lease};
 use std::alloc::{AllocError, Global};
@@ -191,6 +192,18 @@ impl Desk {
         self.schedule.accept(s, job)
     }
 
+    /// Lets the clock go on to a moment, unless it is past that.
+    pub fn tick(&mut self, at: u64)
+        requires moment { at ≤ LAST_MOMENT }
+        ensures events { LeadsDesk self.old (rules.ticked self.old.clock at) self.new }
+        ensures desk { self.new ≡ at_moment at self.old }
+        ensures reached { IsReached measures_any is_any_image (desk_state self.old)
+            → IsReached measures_any is_any_image (desk_state self.new) }
+    {
+        let now = self.schedule.clock.max(at);
+        self.schedule.tick(now);
+    }
+
     /// What [`Desk::admit`] would refuse this stream for, want of memory aside.
     pub fn admit_refusal(&self, spec: &StreamSpec) -> Option<Refusal>
         ensures { schedules.IsAdmitAnswer self.now spec.now result }
@@ -287,6 +300,14 @@ impl Desk {
         let held = self.schedule.lease(w)?;
         let job = self.schedule.take_job(held.stream);
         Ok(Lease::new(job, held.stream, held.number, held.grant))
+    }
+
+    /// Whether a stream is ready: then a worker that holds nothing gets a lease.
+    pub fn any_ready(&self) -> bool
+        ensures ready { IsTrue result → rules.SomeReady self.now }
+        ensures none { IsFalse result → NoneReady (schedules.ready_deadlines self.now.streams) }
+    {
+        self.schedule.any_ready()
     }
 
     /// What worker `w` holds, or why it has nothing to settle. No band is told of before the settlement.

@@ -4,7 +4,7 @@ ghost use Rattle.std.specs.Prelude.{filter, not, replicate, vec_len, slice_set, 
 ghost use Rattle.std.specs.Prelude.{IsSomeAnd, MatchOption, IfOk, IfErr, IfSome, IfNone, OnOk, option_copied};
 ghost use Rattle.std.specs.Arc.{arc_value};
 ghost use Rattle.cbs_account.specs.Admission.{Fits};
-ghost use Rattle.edf_pool.specs.Earliest.{IsEarliest};
+ghost use Rattle.edf_pool.specs.Earliest.{IsEarliest, NoneReady};
 ghost use Rattle.serve_core.specs.declared.refusal.Refusal.TheVariants as refusals;
 ghost use Rattle.serve_core.specs.AtOnce.{with_used};
 ghost use Rattle.serve_core.specs.Desk.{SomeReady};
@@ -26,9 +26,8 @@ use crate::refusal::Refusal;
 use crate::setup::Setup;
 use crate::spec::StreamSpec;
 use crate::stream::Stream;
-use cbs_account::limits::{LAST_MOMENT, MOST_WORKERS};
+use cbs_account::limits::{LAST_MOMENT, MOST_STREAMS, MOST_WORKERS};
 use cbs_account::{Admission, AdmissionError};
-use edf_pool::limits::MOST_STREAMS;
 use edf_pool::{Compares, Pool};
 use frame_view::{Frame, Geometry};
 use lease::Job;
@@ -267,6 +266,14 @@ impl Schedule {
                 Some(_) => None,
             },
         }
+    }
+
+    /// Whether a stream is ready.
+    pub(crate) fn any_ready(&self) -> bool
+        ensures ready { IsTrue result → SomeReady self.now }
+        ensures none { IsFalse result → NoneReady (rules.ready_deadlines self.now.streams) }
+    {
+        self.pool.any_ready()
     }
 
     /// Lends worker `w` the front job of the ready stream that has the earliest deadline.

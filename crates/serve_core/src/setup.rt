@@ -3,11 +3,9 @@ ghost use Rattle.std.specs.Prelude.{◌≡◌, ◌≤◌, ◌↔◌, All, IsTrue
 ghost use Rattle.serve_core.specs.Admitted.{AreAdmitted, IsFault, IsRefusal};
 ghost use Rattle.serve_core.specs.Setup.{HasLimits, IsSetup, IsWithinLimits, setup_of};
 
-use crate::limits::MOST_QUANTUM;
 use crate::spec::StreamSpec;
-use cbs_account::limits::MOST_WORKERS;
+use cbs_account::limits::{MOST_QUANTUM, MOST_STREAMS, MOST_WORKERS};
 use cbs_account::{Admission, AdmissionError};
-use edf_pool::limits::MOST_STREAMS;
 use std::marker::Model;
 use thiserror::Error;
 
@@ -69,6 +67,13 @@ impl Setup {
         ensures { result ≡ self.now.workers }
     {
         self.workers
+    }
+
+    /// How many bands a lease grants at most.
+    pub fn quantum(&self) -> u64
+        ensures { result ≡ self.now.quantum }
+    {
+        self.quantum
     }
 
     /// The streams, by number.

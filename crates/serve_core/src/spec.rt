@@ -124,11 +124,32 @@ impl StreamSpec {
         true
     }
 
+    /// The size of its frames.
+    pub fn geometry(&self) -> Geometry
+        ensures { result ≡ self.now.geometry }
+    {
+        self.geometry
+    }
+
     /// What is done to each frame.
     pub fn job(&self) -> &Arc<JobSpec>
         ensures { arc_value result.now ≡ self.now.chain }
     {
         &self.job
+    }
+
+    /// How many units it may use in every period: the Q of its account.
+    pub fn maximum(&self) -> u64
+        ensures { result ≡ self.now.maximum }
+    {
+        self.maximum
+    }
+
+    /// How many moments a period of its account has: T.
+    pub fn period(&self) -> u64
+        ensures { result ≡ self.now.period }
+    {
+        self.period
     }
 
     /// How many of its frames may be unfinished.

@@ -1,12 +1,14 @@
 //! Events with the replies that were worked out by hand, through `run` and through `Machine::step`.
 mod accounts;
 mod admissions;
+mod desks;
 mod ends;
 mod fullest;
 mod leases;
 mod memory;
 mod refusals;
 mod setups;
+mod tally;
 
 use filters::{Chain, parse_ops};
 use frame_view::{Frame, Geometry};
@@ -294,7 +296,7 @@ fn answers(
     same_at(rt, content_of(&reply), wanted, i);
 }
 
-/// Runs a script in both ways.
+/// Runs a script in both ways, and tells a tally of it.
 fn serves(
     rt: &impl Abort,
     alloc: Global,
@@ -302,5 +304,6 @@ fn serves(
     script: &[Line<'_>],
 ) -> Result<(), Fail> {
     runs(rt, alloc, plan, script)?;
-    steps(rt, alloc, plan, script)
+    steps(rt, alloc, plan, script)?;
+    tally::follows(rt, alloc, plan, script)
 }

@@ -17,9 +17,9 @@ inflow_remaining prompt slow (inflow.Prompt reader) = prompt reader
 inflow_remaining prompt slow (inflow.Slow reader) = slow reader
 inflow_remaining prompt slow (inflow.Watched lookout) = None
 
--- a prompt file is read as it is, and one that may wait is not taken for prompt
+-- a file is read as it is, and one that may wait is not taken for prompt
 abbrev pub IsInflowOf : {R S T : Type 0} → Inlet R S → Inflow R S T → Type 0
 IsInflowOf (inlet.Prompt reader) flow = flow ≡ inflow.Prompt reader
 IsInflowOf (inlet.Slow reader) (inflow.Prompt prompt) = ⊥
-IsInflowOf (inlet.Slow reader) (inflow.Slow slow) = ⊤
+IsInflowOf (inlet.Slow reader) (inflow.Slow slow) = slow ≡ reader
 IsInflowOf (inlet.Slow reader) (inflow.Watched lookout) = ⊤

@@ -20,5 +20,5 @@ outflow_contents prompt (outflow.Relayed relay) = None
 abbrev pub IsOutflowOf : {W S T : Type 0} → Outlet W S → Outflow W S T → Type 0
 IsOutflowOf (outlet.Prompt writer) flow = flow ≡ outflow.Prompt writer
 IsOutflowOf (outlet.Slow writer) (outflow.Prompt prompt) = ⊥
-IsOutflowOf (outlet.Slow writer) (outflow.Slow slow) = ⊤
+IsOutflowOf (outlet.Slow writer) (outflow.Slow slow) = slow ≡ writer
 IsOutflowOf (outlet.Slow writer) (outflow.Relayed relay) = ⊤

@@ -1,7 +1,8 @@
 -- What was read of a reader before it was asked for.
 use Rattle.std.specs.Prelude.{ℕ, ◌≡◌, ◌≢◌, ◌+◌, ◌<◌, ◌≤◌, ◌⊎◌, ⊤, List, [], ◌++◌, length, take, Option}
-use Rattle.std.specs.Prelude.{Result, MatchResult}
-use Rattle.std.specs.Io.KnownBytes.{Consumes, IsAtEnd, Keeps, prepend_known}
+use Rattle.std.specs.Prelude.{Result, MatchResult, IsOk}
+use Rattle.std.specs.Io.KnownBytes.{Consumes, IsAtEnd, Keeps, ReadConsumes, prepend_known}
+use Rattle.std.specs.declared.io.Error.{Error}
 use Rattle.y4m_stream.specs.declared.wanted.Wanted.{Wanted}
 use Rattle.y4m_stream.specs.Wanted.{EndsFrame, IsEnough}
 use Rattle.serve_files.specs.declared.ahead.Told.{Told}
@@ -68,3 +69,11 @@ pub record IsNoFurther (wanted : Wanted) (old new : List ℕ) : Type 0 where
   pub behind : wanted.line ≡ 0 → length old < length new → length new ≤ wanted.behind
   pub line : 0 < wanted.line → (more : List ℕ) → EndsFrame wanted.line wanted.behind (old ++ more)
       → length new ≤ length (old ++ more)
+
+-- a read takes of the bytes that are held; where none are, it answers what was told, once
+pub record IsReadOf (old new : AheadState) (answer : Result ℕ Error) (buf : List ℕ) : Type 0 where
+  pub bytes : ReadConsumes (rest_of old) (rest_of new) answer buf
+  pub held : old.held ≢ [] → IsOk answer
+  pub told : old.held ≡ [] → old.told ≢ told.Nothing → 0 < length buf
+      → HasNone new × MatchResult answer (λ count. (count ≡ 0) × (old.told ≡ told.End))
+      (λ error. old.told ≡ told.Fault error)

@@ -1,7 +1,7 @@
 -- What a carrier writes, and what came of that.
-use Rattle.std.specs.Prelude.{ℕ, ◌≡◌, ◌≤◌, ⊤, List, length, take, Option, None, Some, IsSomeAnd}
-use Rattle.std.specs.Prelude.{Result, Ok, IsErr}
+use Rattle.std.specs.Prelude.{ℕ, ◌≡◌, ◌≤◌, ⊤, List, length, take, Option, None, Some, Result, Ok, Err}
 use Rattle.std.specs.Io.KnownBytes.{Appends, Keeps}
+use Rattle.std.specs.declared.io.Error.{Error}
 use Rattle.serve_files.specs.declared.load.Answer.{Answer}
 use Rattle.serve_files.specs.declared.load.Answer.TheVariants as answers
 
@@ -24,7 +24,7 @@ AppendsHanded before after handed (answers.Taken n) = Appends before after (take
 AppendsHanded before after handed (answers.Fault error) = Keeps before after
 
 -- what is told of it
-abbrev pub IsTold : {E : Type 0} → Answer → Option (Result ℕ E) → Type 0
+abbrev pub IsTold : Answer → Option (Result ℕ Error) → Type 0
 IsTold answers.Awaited told = told ≡ None
 IsTold (answers.Taken n) told = told ≡ Some (Ok n)
-IsTold (answers.Fault error) told = IsSomeAnd told IsErr
+IsTold (answers.Fault error) told = told ≡ Some (Err error)

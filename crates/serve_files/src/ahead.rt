@@ -70,6 +70,7 @@ impl<R: Read> Ahead<R> {
         ensures there { result ≡ true → IsThere wanted self.now }
         ensures untold { result ≡ false → self.now.told ≡ Told.Nothing }
         ensures lacking { result ≡ false → ¬ HasWanted wanted self.now.held }
+        ensures room { result ≡ false → length self.now.held < self.now.room }
     {
         if !matches!(self.told, Told::Nothing) {
             return true;

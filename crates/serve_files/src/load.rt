@@ -1,5 +1,5 @@
 //! A writer, and the bytes that are handed over to be written.
-ghost use Rattle.std.specs.Prelude.{◌≡◌, ◌≤◌, [], false, IfSome, length, take};
+ghost use Rattle.std.specs.Prelude.{◌≡◌, ◌≢◌, ◌≤◌, [], false, true, IfSome, length, take};
 ghost use Rattle.std.specs.Io.{StartsWith, WritesAtMost};
 ghost use Rattle.std.specs.Io.KnownBytes.{Keeps};
 ghost use Rattle.serve_files.specs.Relays.{AppendsHanded, IsTold};
@@ -89,7 +89,8 @@ impl<W: Write> Load<W> {
 
     /// Whether what a write answered is still to be told.
     pub fn is_answered(&self) -> bool
-        ensures { result ≡ false → self.now.answer ≡ Answer.Awaited }
+        ensures awaited { result ≡ false → self.now.answer ≡ Answer.Awaited }
+        ensures answered { result ≡ true → self.now.answer ≢ Answer.Awaited }
     {
         !matches!(self.answer, Answer::Awaited)
     }

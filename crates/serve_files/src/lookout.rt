@@ -1,5 +1,8 @@
 //! A reader that can be asked whether reads would wait.
+ghost use Rattle.std.specs.Prelude.{◌≡◌, not, IfErr};
 ghost use Rattle.std.specs.Io.{ReadsAtMost};
+ghost use Rattle.serve_files.specs.Lookers.{Asks, Lends, Reads, ReadsOrRests, Settles};
+ghost use Rattle.serve_files.specs.Lookers.{has_task, is_looking, is_unknown};
 
 use crate::ahead::Ahead;
 use crate::reading::Reading;
@@ -28,21 +31,29 @@ enum State<R: Read> {
 
 impl<R: Read + Drop> State<R> {
     /// Whether it isn't known yet if reads would wait.
-    fn is_unknown(&self) -> bool {
+    fn is_unknown(&self) -> bool
+        ensures { result ≡ is_unknown self.now }
+    {
         matches!(self, State::Asked(_, _) | State::Looking(_))
     }
 
-    fn is_looking(&self) -> bool {
+    fn is_looking(&self) -> bool
+        ensures { result ≡ is_looking self.now }
+    {
         matches!(self, State::Looking(_))
     }
 
     /// Whether the looker has something to do.
-    fn has_task(&self) -> bool {
+    fn has_task(&self) -> bool
+        ensures { result ≡ has_task self.now }
+    {
         matches!(self, State::Asked(_, _) | State::Over)
     }
 
     /// The looker is to read, where what is wanted isn't held. It answers whether that is new.
-    fn ask(&mut self, wanted: Wanted) -> bool {
+    fn ask(&mut self, wanted: Wanted) -> bool
+        ensures { Asks wanted result self.old self.new }
+    {
         match mem::replace(self, State::Looking(wanted)) {
             State::Resting(ahead) => {
                 *self = State::of_ask(ahead, wanted);
@@ -55,7 +66,9 @@ impl<R: Read + Drop> State<R> {
         }
     }
 
-    fn of_ask(ahead: Ahead<R>, wanted: Wanted) -> State<R> {
+    fn of_ask(ahead: Ahead<R>, wanted: Wanted) -> State<R>
+        ensures { ReadsOrRests wanted ahead result }
+    {
         if ahead.has(wanted) {
             State::Resting(ahead)
         } else {
@@ -64,7 +77,9 @@ impl<R: Read + Drop> State<R> {
     }
 
     /// The reader for the looker, where it is to read, and what is wanted.
-    fn lend(&mut self) -> Option<(Ahead<R>, Wanted)> {
+    fn lend(&mut self) -> Option<(Ahead<R>, Wanted)>
+        ensures { Lends result self.old self.new }
+    {
         match mem::replace(self, State::Over) {
             State::Asked(ahead, wanted) => {
                 *self = State::Looking(wanted);
@@ -79,7 +94,10 @@ impl<R: Read + Drop> State<R> {
 
     /// The looker has read once: it is to read on, where what is wanted isn't held yet. Where the client is
     /// gone the reader is given up. It answers whether the client is to be told.
-    fn settle(&mut self, ahead: Ahead<R>) -> bool {
+    fn settle(&mut self, ahead: Ahead<R>) -> bool
+        ensures state { Settles ahead self.old self.new }
+        ensures told { result ≡ not (is_unknown self.new) }
+    {
         if let State::Looking(wanted) = *self {
             *self = State::of_ask(ahead, wanted);
         }
@@ -88,7 +106,8 @@ impl<R: Read + Drop> State<R> {
 
     /// Reads for the client. What was wanted isn't any more. It fails where the reader isn't here.
     fn read(&mut self, buf: &mut [u8]) -> io::Result<usize>
-        ensures { ReadsAtMost result buf.new }
+        ensures bound { ReadsAtMost result buf.new }
+        ensures bytes { Reads self.old self.new result buf.new }
     {
         match mem::replace(self, State::Over) {
             State::Asked(ahead, _) => *self = State::Resting(ahead),
@@ -220,7 +239,9 @@ impl<R: Read + Drop, T: Wait + Drop> Looker<R, T> {
     }
 
     /// Gives the looker its reader. Nothing is read yet. Where there is no memory the reader comes back.
-    pub fn look_out(self, alloc: Global, reader: R) -> Result<Lookout<R, T>, R> {
+    pub fn look_out(self, alloc: Global, reader: R) -> Result<Lookout<R, T>, R>
+        ensures { IfErr result (λ back. back ≡ reader) }
+    {
         let ahead = Ahead::new(alloc, reader)?;
         let Self { lookout } = self;
         *lookout.post.state.lock(&lookout.rt) = State::Resting(ahead);

@@ -1,6 +1,8 @@
 //! A writer whose writes can be waited for a while.
-ghost use Rattle.std.specs.Prelude.{◌≤◌, length, IfOk, IfSome};
+ghost use Rattle.std.specs.Prelude.{◌≡◌, ◌≤◌, length, IfOk, IfSome};
 ghost use Rattle.std.specs.Io.{WritesAtMost};
+ghost use Rattle.serve_files.specs.Carriers.{Answers, Asks, Flushes, Lends, Settles, WritesOrRests};
+ghost use Rattle.serve_files.specs.Carriers.{has_task, is_busy};
 
 use crate::load::{Load, Room};
 use std::alloc::Global;
@@ -27,18 +29,24 @@ enum State<W: Write> {
 
 impl<W: Write + Drop> State<W> {
     /// Whether bytes are on their way.
-    fn is_busy(&self) -> bool {
+    fn is_busy(&self) -> bool
+        ensures { result ≡ is_busy self.now }
+    {
         matches!(self, State::Asked(_) | State::Carrying)
     }
 
     /// Whether the carrier has something to do.
-    fn has_task(&self) -> bool {
+    fn has_task(&self) -> bool
+        ensures { result ≡ has_task self.now }
+    {
         matches!(self, State::Asked(_) | State::Over)
     }
 
     /// Hands these bytes over, unless others are on their way or are still to be told of. It answers whether
     /// it did.
-    fn ask(&mut self, buf: &[u8]) -> bool {
+    fn ask(&mut self, buf: &[u8]) -> bool
+        ensures { Asks buf.now result self.old self.new }
+    {
         match mem::replace(self, State::Carrying) {
             State::Resting(load) => {
                 *self = State::of_ask(load, buf);
@@ -51,7 +59,9 @@ impl<W: Write + Drop> State<W> {
         }
     }
 
-    fn of_ask(load: Load<W>, buf: &[u8]) -> State<W> {
+    fn of_ask(load: Load<W>, buf: &[u8]) -> State<W>
+        ensures { WritesOrRests buf.now load result }
+    {
         let mut load = load;
         if load.is_answered() {
             return State::Resting(load);
@@ -61,7 +71,9 @@ impl<W: Write + Drop> State<W> {
     }
 
     /// The writer for the carrier, where it is to write.
-    fn lend(&mut self) -> Option<Load<W>> {
+    fn lend(&mut self) -> Option<Load<W>>
+        ensures { Lends result self.old self.new }
+    {
         match mem::replace(self, State::Over) {
             State::Asked(load) => {
                 *self = State::Carrying;
@@ -75,7 +87,9 @@ impl<W: Write + Drop> State<W> {
     }
 
     /// The carrier has written once.
-    fn settle(&mut self, load: Load<W>) {
+    fn settle(&mut self, load: Load<W>)
+        ensures { Settles load self.old self.new }
+    {
         if let State::Carrying = *self {
             *self = State::Resting(load);
         }
@@ -84,7 +98,8 @@ impl<W: Write + Drop> State<W> {
     /// What the write of a front of these bytes answered, unless they are on their way. It fails where there
     /// is no writer.
     fn answer_to(&mut self, buf: &[u8]) -> Option<io::Result<usize>>
-        ensures { IfSome result (λ answer. WritesAtMost answer buf.now) }
+        ensures bound { IfSome result (λ answer. WritesAtMost answer buf.now) }
+        ensures told { Answers buf.now result self.old self.new }
     {
         match self {
             State::Resting(load) => load.answer_to(buf),
@@ -94,7 +109,9 @@ impl<W: Write + Drop> State<W> {
     }
 
     /// Flushes the writer. It fails where the writer isn't here.
-    fn flush(&mut self) -> io::Result<()> {
+    fn flush(&mut self) -> io::Result<()>
+        ensures { Flushes result self.old self.new }
+    {
         match self {
             State::Resting(load) => load.flush(),
             _ => Err(io::Error::from(ErrorKind::Other)),

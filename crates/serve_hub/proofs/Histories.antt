@@ -4,8 +4,7 @@ use Rattle.std.proofs.Common.{slice_get, slice_index_or, ap, subst, arith, mul-l
 use Rattle.std.proofs.lemmas.List.{length-map}
 use Rattle.std.proofs.Math.Nat.{suc-mul}
 use Rattle.std.proofs.lemmas.Option.{slice_get-get_or}
-use Rattle.cbs_account.specs.declared.limits.TheConstants.{MOST_WORKERS}
-use Rattle.edf_pool.specs.declared.limits.TheConstants.{MOST_STREAMS}
+use Rattle.cbs_account.specs.declared.limits.TheConstants.{MOST_STREAMS, MOST_WORKERS}
 use Rattle.y4m_header.specs.declared.limits.TheConstants.{MOST_FRAMES}
 use Rattle.serve_core.specs.Bare.{Blank, measures_any, is_any_image}
 use Rattle.serve_core.specs.Desk.{bare_frames, desk_state}

@@ -23,3 +23,4 @@ pub mod Freeing
 pub mod Admitting
 pub mod Agreeing
 pub mod Retiring
+pub mod Loads

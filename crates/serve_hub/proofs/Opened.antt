@@ -23,7 +23,7 @@ use Rattle.std.specs.Vec.{vec_capacity}
 use Rattle.serve_hub.specs.declared.book.Book.TheInside.{Inside}
 use Rattle.serve_hub.specs.declared.entry.Entry.{Entry}
 use Rattle.serve_hub.specs.BookInside.{IsKept, book}
-use Rattle.serve_hub.specs.declared.limits.TheConstants.{MOST_ENTRIES}
+use Rattle.cbs_account.specs.declared.limits.TheConstants.{MOST_ENTRIES}
 use Rattle.serve_hub.specs.Books.{BookValue, IsBook, IsLimit, book_transcript, one_open, one_out, opened_book}
 use Rattle.serve_hub.specs.Books.{opening_of, reserved, specs_of, taken}
 use Rattle.serve_hub.specs.Ends.{AreFree, IsOpening}

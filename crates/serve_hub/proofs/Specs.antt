@@ -3,6 +3,7 @@ use Rattle.std.proofs.Common.{ℕ, zero, suc, ◌≡◌, ◌<◌, List, [], ◌�
 use Rattle.std.proofs.Common.{refl, sym, ◌∙◌, ap, subst, arith, append_assoc, length-append}
 use Rattle.std.specs.Bool.{⊤}
 use Rattle.std.proofs.lemmas.List.{length-map, map_push}
+use Rattle.frame_view.specs.declared.geometry.Geometry.{Geometry}
 use Rattle.serve_core.specs.AtOnce.{bands}
 use Rattle.serve_core.specs.Bare.{Blank}
 use Rattle.serve_core.specs.Counts.{Deed, deed}
@@ -21,6 +22,11 @@ use Rattle.serve_hub.specs.declared.entry.Seat.{Seat}
 use Rattle.serve_hub.specs.declared.entry.Seat.TheVariants as seats
 use Rattle.serve_hub.specs.Books.{Appends, BookValue, specs_of}
 use Rattle.serve_hub.specs.Journal.{AreEntries, IsEntry, admission_of, events_of, number_of, transcript_of}
+
+-- a spec of frames of the size that its chain is for
+pub of_its_chain : (spec : StreamSpec) → spec.geometry ≡ spec.chain.geometry
+    → spec ≡ record spec { geometry = spec.chain.geometry }
+of_its_chain spec e = ap (λ (g : Geometry). record spec { geometry = g }) e
 
 abbrev specs_in : State Blank → List StreamSpec
 specs_in m = map (λ x. x.spec) m.streams

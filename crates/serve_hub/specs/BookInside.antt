@@ -2,7 +2,7 @@
 use Rattle.std.specs.Prelude.{ℕ, ◌*◌, ◌≡◌, ◌≤◌, ◌^◌, length, reverse, slice_get, Some}
 use Rattle.std.specs.Vec.{vec_capacity}
 use Rattle.serve_hub.specs.declared.book.Book.TheInside.{Inside}
-use Rattle.serve_hub.specs.declared.limits.TheConstants.{MOST_ENTRIES}
+use Rattle.cbs_account.specs.declared.limits.TheConstants.{MOST_ENTRIES}
 use Rattle.serve_hub.specs.Books.{BookValue, IsBook, taken}
 
 abbrev pub book : Inside → BookValue

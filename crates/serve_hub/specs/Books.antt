@@ -1,7 +1,7 @@
 -- What a book keeps.
-use Rattle.std.specs.Prelude.{ℕ, ◌+◌, ◌-◌, ◌≡◌, ◌≤◌, List, [], ◌∷◌, ◌++◌, length, map, replicate, slice_get}
-use Rattle.std.specs.Prelude.{slice_set, slice_index_or, sum, sum_by, Option, Some, None, IsSomeAnd}
-use Rattle.std.specs.Prelude.{Bool, false, true, if◌then◌else◌}
+use Rattle.std.specs.Prelude.{ℕ, ◌+◌, ◌-◌, ◌≡◌, ◌≤◌, ◌<◌, ◌⊎◌, IsTrue, List, [], ◌∷◌, ◌++◌, length, map, replicate, slice_get}
+use Rattle.std.specs.Prelude.{slice_set, slice_index_or, sum, sum_by, Option, Some, None, IsSomeAnd, MatchOption}
+use Rattle.std.specs.Prelude.{Bool, ◌&&◌, false, true, if◌then◌else◌, nat_eq}
 use Rattle.lease.specs.Lease.{LeaseValue}
 use Rattle.serve_core.specs.declared.held.Held.{Held}
 use Rattle.serve_core.specs.Bare.{Blank}
@@ -15,7 +15,7 @@ use Rattle.serve_core.specs.Streams.{KeptStream}
 use Rattle.serve_hub.specs.declared.entry.Act.{Act}
 use Rattle.serve_hub.specs.declared.entry.Entry.{Entry}
 use Rattle.serve_hub.specs.declared.entry.Seat.{Seat}
-use Rattle.serve_hub.specs.declared.limits.TheConstants.{FEWEST_ENTRIES, MOST_ENTRIES}
+use Rattle.cbs_account.specs.declared.limits.TheConstants.{FEWEST_ENTRIES, MOST_ENTRIES}
 use Rattle.serve_hub.specs.Journal.{IsJournal, entry_of, events_of, transcript_of, units_from}
 
 pub record BookValue : Type 0 where
@@ -104,12 +104,67 @@ pub record IsBook (b : BookValue) : Type 0 where
   pub charges : sum b.units + charges b.opening ≡ charges b.desk
   pub fits : taken b ≤ b.limit
 
--- a book that was opened from this desk had places for so many entries
-pub record HasHadRoom (opening : ScheduleValue) (entries : ℕ) : Type 0 where
+-- how many entries a journal has left, beside those that are reserved, and whether its epoch is being ended
+pub record RoomValue : Type 0 where
+  pub entries : ℕ
+  pub is_ending : Bool
+
+abbrev pub room_of : BookValue → RoomValue
+room_of b = record { entries = entries_left b; is_ending = b.is_ending }
+
+-- there is no place for another lease and its settlement, or the epoch is being ended
+abbrev pub IsFull : RoomValue → Type 0
+IsFull left = IsTrue left.is_ending ⊎ (left.entries < 2)
+
+-- a book that was opened from this desk had this room
+pub record HasHadRoom (opening : ScheduleValue) (left : RoomValue) : Type 0 where
   pub book : BookValue
   pub is_book : IsBook book
   pub opened : book.opening ≡ opening
-  pub left : room book ≡ entries
+  pub room : room_of book ≡ left
+
+-- the deadline of a stream, if there was such a stream, and the moment of the clock, as a hub told them
+pub record DeadlineValue : Type 0 where
+  pub stream : ℕ
+  pub deadline : Option ℕ
+  pub clock : ℕ
+
+-- the stream of this number has this deadline, or there is none
+abbrev pub HasDeadline : ScheduleValue → (stream : ℕ) → Option ℕ → Type 0
+HasDeadline desk stream deadline =
+    MatchOption deadline (slice_get desk.streams stream ≡ None)
+    (λ deadline. HasStream desk stream (λ stream. stream.state.account.deadline ≡ deadline))
+
+-- in a book that was opened from this desk the stream of this number had this deadline, or there was none, at
+-- this moment
+pub record HasHadDeadline (opening : ScheduleValue) (told : DeadlineValue) : Type 0 where
+  pub book : BookValue
+  pub is_book : IsBook book
+  pub opened : book.opening ≡ opening
+  pub deadline : HasDeadline book.desk told.stream told.deadline
+  pub clock : book.desk.clock ≡ told.clock
+
+-- how many streams aren't over, and how many workers there are, as a hub told them
+pub record LoadValue : Type 0 where
+  pub streams : ℕ
+  pub workers : ℕ
+
+-- one where the stream isn't over (`IsOver`)
+abbrev pub one_not_over : KeptStream → ℕ
+one_not_over stream =
+    if stream.state.is_closed && nat_eq stream.state.finished stream.state.accepted then 0 else 1
+
+-- how many streams aren't over
+abbrev pub not_over : ScheduleValue → ℕ
+not_over desk = sum_by one_not_over desk.streams
+
+-- a book that was opened from this desk had so many streams that weren't over, and so many workers
+pub record HasHadLoad (opening : ScheduleValue) (told : LoadValue) : Type 0 where
+  pub book : BookValue
+  pub is_book : IsBook book
+  pub opened : book.opening ≡ opening
+  pub streams : not_over book.desk ≡ told.streams
+  pub workers : length book.desk.workers ≡ told.workers
 
 -- a book has the streams that it opened with, and perhaps more behind them
 abbrev pub SpecsLaw : Type 0

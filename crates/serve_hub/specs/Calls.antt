@@ -278,6 +278,13 @@ abbrev pub Settles : LeaseValue → code.Settled → (old new : WorkSeatValue) �
 Settles lease done old new =
     new ≡ record old { calls = with_call (acts.Settled lease.used (is_finished done)) old.calls }
 
+-- the worker gave this lease back, with this outcome, and then got the next one, where there is one
+pub record SettlesAndLeases (lease : LeaseValue) (done : code.Settled) (next : Option LeaseValue)
+    (old new : WorkSeatValue) : Type 0 where
+  pub mid : WorkSeatValue
+  pub settles : Settles lease done old mid
+  pub leases : MatchOption next (new ≡ mid) (λ next. Leases next mid new)
+
 -- the frame of the lease is finished where all its steps are done, and has the lease's number
 pub record IsOutcome (lease : LeaseValue) (done : code.Settled) : Type 0 where
   pub all : IsTrue (is_finished done) ↔ (lease.job.done ≡ steps_of lease.job.chain)

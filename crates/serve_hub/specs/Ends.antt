@@ -21,7 +21,7 @@ use Rattle.serve_hub.specs.declared.moments.Moments.{Moments}
 use Rattle.serve_hub.specs.Books.{BookValue, IsBook, book_transcript, opening_of, specs_of}
 use Rattle.serve_hub.specs.Journal.{clock_in}
 use Rattle.serve_hub.specs.Seats.{HubValue, StreamRest, StreamSeatValue, UnlockedValue, WorkSeatValue}
-use Rattle.serve_hub.specs.Seats.{collected_by, left_by}
+use Rattle.serve_hub.specs.Seats.{collected_by, left_by, spec_told}
 
 abbrev pub is_same_seat : Seat → Seat → Bool
 is_same_seat (Stream a) (Stream b) = a == b
@@ -123,10 +123,10 @@ HaveStreams count seats = (n : ℕ) → n < count → Any (λ s. s.number ≡ n)
 abbrev pub HaveWorkers : ℕ → List WorkSeatValue → Type 0
 HaveWorkers count seats = (n : ℕ) → n < count → Any (λ s. s.number ≡ n) seats
 
--- the seat's stream: it has the seat's chain, and as many of its frames were accepted and collected as the
--- seat tells
+-- the seat's stream: it is served with what the seat tells, and as many of its frames were accepted and
+-- collected as the seat tells
 pub record IsStreamOf (seat : StreamSeatValue) (stream : KeptStream) : Type 0 where
-  pub chain : stream.state.spec.chain ≡ seat.chain
+  pub spec : stream.state.spec ≡ spec_told seat
   pub accepted : stream.state.accepted ≡ seat.accepted
   pub collected : stream.state.collected ≡ collected_by seat
 

@@ -6,3 +6,4 @@ pub mod Seats
 pub mod Calls
 pub mod Ends
 pub mod Retired
+pub mod Ticked

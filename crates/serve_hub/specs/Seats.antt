@@ -28,8 +28,13 @@ pub record StreamSeatValue : Type 0 where
   pub calls : CallsValue
   -- what is done to its frames
   pub chain : ChainValue
-  -- how many of its frames may be unfinished, and how many it may accept at all
+  -- Q and T of its stream's account
+  pub maximum : ℕ
+  pub period : ℕ
+  -- how many of its frames may be unfinished, how many finished ones uncollected, and how many it may accept at
+  -- all
   pub queue : ℕ
+  pub outbox : ℕ
   pub frames : ℕ
   -- how many were accepted in all epochs, and when the first and the latest of this one were offered, if any
   -- was
@@ -49,11 +54,26 @@ abbrev pub moments_with : Option Moments → ℕ → Moments
 moments_with None at = record { first = at; latest = at }
 moments_with (Some before) at = record before { latest = at }
 
+-- what a seat's stream is served with, as the seat tells it: its frames are of the size that its chain is for
+abbrev pub spec_told : StreamSeatValue → StreamSpec
+spec_told seat = record {
+  geometry = seat.chain.geometry;
+  chain = seat.chain;
+  maximum = seat.maximum;
+  period = seat.period;
+  queue = seat.queue;
+  outbox = seat.outbox;
+  frames = seat.frames;
+}
+
 -- what the seat of a stream leaves for that of the next epoch
 pub record StreamRest : Type 0 where
   pub number : ℕ
   pub chain : ChainValue
+  pub maximum : ℕ
+  pub period : ℕ
   pub queue : ℕ
+  pub outbox : ℕ
   pub frames : ℕ
   -- how many frames were accepted, and how many images collected, in all epochs
   pub accepted : ℕ
@@ -114,7 +134,10 @@ abbrev pub left_by : StreamSeatValue → StreamRest
 left_by seat = record {
   number = seat.number;
   chain = seat.chain;
+  maximum = seat.maximum;
+  period = seat.period;
   queue = seat.queue;
+  outbox = seat.outbox;
   frames = seat.frames;
   accepted = seat.accepted;
   collected = collected_by seat;
@@ -130,7 +153,10 @@ seat_over limit rest = record {
   number = rest.number;
   calls = no_calls limit;
   chain = rest.chain;
+  maximum = rest.maximum;
+  period = rest.period;
   queue = rest.queue;
+  outbox = rest.outbox;
   frames = rest.frames;
   accepted = rest.accepted;
   moments = None;
@@ -146,7 +172,10 @@ abbrev pub opened_rest : (number : ℕ) → StreamSpec → StreamRest
 opened_rest number spec = record {
   number = number;
   chain = spec.chain;
+  maximum = spec.maximum;
+  period = spec.period;
   queue = spec.queue;
+  outbox = spec.outbox;
   frames = spec.frames;
   accepted = 0;
   collected = 0;

@@ -9,6 +9,7 @@ ghost use Rattle.serve_core.specs.Reached.{IsReached};
 ghost use Rattle.serve_core.specs.Retired.{retired_schedule, staying};
 ghost use Rattle.serve_core.specs.Schedule.{opened_schedule};
 ghost use Rattle.serve_core.specs.Sound.{Sound};
+ghost use Rattle.serve_core.specs.Ticked.{at_moment};
 ghost use Rattle.serve_hub.specs.Books.{IsBook, IsLimit, being_ended, book_transcript, opened_book};
 ghost use Rattle.serve_hub.specs.Books.{opening_of, reserved};
 ghost use Rattle.serve_hub.specs.Books as rules;
@@ -21,7 +22,8 @@ mod offers;
 
 use crate::entry::{Act, Entry, Seat};
 use crate::error::HubError;
-use crate::limits::{MOST_ENTRIES, is_limit};
+use crate::limits::is_limit;
+use cbs_account::limits::{LAST_MOMENT, MOST_ENTRIES};
 use lease::JobSpec;
 use serve_core::{Desk, Setup};
 use std::alloc::Global;
@@ -133,6 +135,28 @@ impl Book {
         (book, past)
     }
 
+    /// A book of the same desk, whose clock went on to a moment, unless it was past that. The book has no
+    /// entries.
+    pub(crate) fn tick(self, at: u64) -> Book
+        requires moment { at ≤ LAST_MOMENT }
+        requires reached { IsReached measures_any is_any_image (desk_state self.desk) }
+        ensures book { result ≡ opened_book (at_moment at self.desk) self.limit }
+        ensures reached { IsReached measures_any is_any_image (desk_state result.desk) }
+    {
+        let Book {
+            mut desk,
+            mut journal,
+            limit,
+            taken,
+            units,
+            ..
+        } = self;
+        let taken = taken - journal.len();
+        journal.clear();
+        desk.tick(at);
+        book_over(desk, journal, limit, taken, units)
+    }
+
     /// What was accepted, the oldest first.
     pub fn journal(&self) -> &[Entry]
         ensures past { reverse result.now ≡ self.now.past }
@@ -175,6 +199,13 @@ impl Book {
         ensures { self.new ≡ being_ended self.old }
     {
         self.is_ending = true;
+    }
+
+    /// Whether the epoch is being ended.
+    pub(crate) fn is_ending(&self) -> bool
+        ensures { result ≡ self.now.is_ending }
+    {
+        self.is_ending
     }
 
     /// The desk, which has at least the streams that the book opened with.

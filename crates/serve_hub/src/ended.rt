@@ -13,6 +13,7 @@ ghost use Rattle.serve_hub.specs.Books.{opened_book, opening_of, room};
 ghost use Rattle.serve_hub.specs.Ends.{AreFree, IsOpening};
 ghost use Rattle.serve_hub.specs.Journal.{bands_of, units_from};
 ghost use Rattle.serve_hub.specs.Retired.{rests_kept, retired_end};
+ghost use Rattle.serve_hub.specs.Ticked.{ticked_end};
 
 use crate::book::Book;
 use crate::entry::Entry;
@@ -21,8 +22,7 @@ use crate::rest::SeatRest;
 use crate::stream_seat::StreamSeat;
 use crate::unlocked::Unlocked;
 use crate::work_seat::WorkSeat;
-use cbs_account::limits::MOST_WORKERS;
-use edf_pool::limits::MOST_STREAMS;
+use cbs_account::limits::{LAST_MOMENT, MOST_STREAMS, MOST_WORKERS};
 use serve_core::{Counts, Desk, StreamSpec};
 use std::alloc::Global;
 use std::marker::Model;
@@ -86,6 +86,25 @@ impl Ended {
         let Ended { book, streams } = self;
         let (book, past) = book.reopen(journal, limit);
         (book, streams, past)
+    }
+
+    /// Lets the clock go on to a moment, unless it is past that, and drops the journal. Nothing else of the
+    /// streams changes. So a stream that is over is released, and its share free, when its deadline has passed,
+    /// whether or not a frame was offered since. The end that comes back has no entries, so each worker's bands
+    /// and units are counted anew from 0. It is refused, and all stays as it is, where the moment is past the
+    /// end of the clock.
+    pub fn tick(self, at: u64) -> Result<Ended, Ended>
+        ensures ended { IfOk result (λ ended. ended ≡ ticked_end at self) }
+        ensures within { IfOk result (λ _. at ≤ LAST_MOMENT) }
+        ensures refused { IfErr result (λ _. LAST_MOMENT < at) }
+        ensures returns_ended { IfErr result (λ ended. ended ≡ self) }
+    {
+        if at <= LAST_MOMENT {
+            let Ended { book, streams } = self;
+            Ok(Ended::new(book.tick(at), streams))
+        } else {
+            Err(self)
+        }
     }
 
     /// Takes the released streams out, with the journal, so that the next epoch opens with the others alone.

@@ -1,6 +1,6 @@
 //! A book that threads share.
-ghost use Rattle.std.specs.Prelude.{◌≡◌, ◌≤◌, ◌↔◌, All, IfErr, IfOk, IsErrOf, IsFalse, IsTrue};
-ghost use Rattle.std.specs.Prelude.{length, map, vec_len};
+ghost use Rattle.std.specs.Prelude.{◌≡◌, ◌≤◌, ◌↔◌, All, IfErr, IfNone, IfOk, IfSome, IsErrOf, IsFalse};
+ghost use Rattle.std.specs.Prelude.{IsTrue, length, map, vec_len};
 ghost use Rattle.std.specs.List.{range_with_len};
 ghost use Rattle.serve_core.specs.Schedule.{opened_schedule};
 ghost use Rattle.serve_core.specs.Setup.{IsWithinLimits};
@@ -18,15 +18,17 @@ use crate::book::Book;
 use crate::ended::{Ended, Fault, Mismatch};
 use crate::epoch::Epoch;
 use crate::error::HubError;
+use crate::hub_load::HubLoad;
 use crate::limits::{MOST_SEATS, is_limit};
 use crate::rest::SeatRest;
 use crate::room::Room;
 use crate::room_left::RoomLeft;
 use crate::shared::Shared;
+use crate::stream_deadline::StreamDeadline;
 use crate::stream_seat::StreamSeat;
 use crate::unlocked::Unlocked;
 use crate::work_seat::WorkSeat;
-use edf_pool::limits::MOST_STREAMS;
+use cbs_account::limits::MOST_STREAMS;
 pub use epochs::{ReopenRefused, Reopened};
 use serve_core::{Setup, StreamSpec};
 use std::alloc::{AllocError, Global};
@@ -43,11 +45,11 @@ use std::sync::{Condvar, Mutex, Wait};
 ///
 /// Each accepted call wakes those whom it may help. One that may make a stream ready wakes a worker: a frame
 /// that is accepted where no other of its stream is unfinished, a settlement that leaves its stream a frame
-/// that isn't finished, and a collection from a full outbox where there is such a frame. By other offers and
-/// collections no stream becomes ready: a worker was woken for its first unfinished frame, or has it, or the
-/// outbox is full, or there is none. A frame that is finished wakes the client of its stream. All workers
-/// wake at a close, at an admission and where nothing is left to lease, and all who wait where the journal is
-/// full or the epoch is being ended.
+/// that isn't finished and isn't leased with it, and a collection from a full outbox where there is such a
+/// frame. By other offers and collections no stream becomes ready: a worker was woken for its first
+/// unfinished frame, or has it, or the outbox is full, or there is none. A frame that is finished wakes the
+/// client of its stream. All workers wake at a close, at an admission and where nothing is left to lease, and
+/// all who wait where the journal is full or the epoch is being ended.
 #[derive(Drop)]
 pub struct Hub<L: Epoch> {
     shared: Mutex<Shared<L>>,
@@ -121,7 +123,7 @@ impl<L: Epoch> Hub<L> {
     /// with the seats, and without its lock, so that its book tells which seats there are. [`Unlocked::lock`]
     /// makes it a hub again.
     ///
-    /// No contract can name what is under a lock, so what the end tells of the streams' chains and of their
+    /// No contract can name what is under a lock, so what the end tells of the streams' specs and of their
     /// counts is compared with the seats here, the journal's clock with the seats' first moments, and its
     /// limit with the hub's. What the hub opened from is a part of its name.
     pub fn finish(
@@ -169,24 +171,24 @@ impl<L: Epoch> Hub<L> {
         RoomLeft::of(&shared)
     }
 
-    /// The deadline of a stream, and the moment of the clock, or `None` where the hub has no such stream. It
-    /// waits for the lock alone.
-    ///
-    /// No contract can name what is under a lock, so none promises anything of the answer.
-    pub fn deadline(&self, rt: &impl Wait, stream: u32) -> Option<(u64, u64)> {
+    /// The deadline of a stream, if there is such a stream, and the moment of the clock, as the book under the
+    /// lock tells them. It waits for the lock alone.
+    pub fn deadline(&self, rt: &impl Wait, stream: u32) -> StreamDeadline<L>
+        ensures { result.stream ≡ stream }
+    {
         let shared = self.shared.lock(rt);
-        let desk = shared.book.desk();
-        let (_, deadline) = desk.account(stream)?;
-        Some((deadline, desk.clock()))
+        StreamDeadline::of(&shared, stream)
     }
 
-    /// Ends the epoch: from now on an offer, a collection, a lease and an admission are answered
-    /// `HistoryFull` where they would be accepted, as where the journal is full. Who waits is woken. Closes
-    /// and settlements are as ever. It waits for the lock alone.
-    ///
-    /// No contract can name what is under a lock, so what the mark does is said of
-    /// [`Book::end_epoch`](crate::book::Book::end_epoch), and of the book that is left.
-    pub fn end_epoch(&self, rt: &impl Wait) {
+    /// How many streams aren't over, and how many workers there are, as the book under the lock tells. It
+    /// waits for the lock alone.
+    pub fn load(&self, rt: &impl Wait) -> HubLoad<L> {
+        let shared = self.shared.lock(rt);
+        HubLoad::of(&shared)
+    }
+
+    /// Ends the epoch, for its owner ([`EpochOwner::end_epoch`](crate::owner::EpochOwner::end_epoch)).
+    pub(crate) fn end_epoch(&self, rt: &impl Wait) {
         let mut shared = self.shared.lock(rt);
         shared.book.end_epoch();
         drop(shared);

@@ -1,18 +1,11 @@
-//! How many seats a hub has, and how many entries a journal.
+//! How many seats a hub has, and what its journal may be limited to.
 ghost use Rattle.std.specs.Prelude.{◌↔◌, ◌≤◌, IsTrue};
 ghost use Rattle.serve_hub.specs.Books.{IsLimit};
 
-use cbs_account::limits::MOST_WORKERS;
-use edf_pool::limits::MOST_STREAMS;
+use cbs_account::limits::{FEWEST_ENTRIES, MOST_ENTRIES, MOST_STREAMS, MOST_WORKERS};
 
 /// The most seats of a hub, those of its streams and of its workers. A ledger has a part for each.
 pub const MOST_SEATS: u64 = MOST_STREAMS as u64 + MOST_WORKERS;
-
-/// The fewest entries that a journal may be limited to.
-pub const FEWEST_ENTRIES: usize = 16;
-
-/// The most entries that a journal may be limited to.
-pub const MOST_ENTRIES: usize = 1 << 20;
 
 /// Whether the journal of so many streams may have so many entries at most.
 pub(crate) fn is_limit(streams: usize, limit: usize) -> bool

@@ -4,7 +4,6 @@ ghost use Rattle.serve_core.specs.Setup.{IsWithinLimits};
 ghost use Rattle.serve_hub.specs.Seats.{opened_rest};
 
 use frame_view::Frame;
-use lease::JobSpec;
 use serve_core::StreamSpec;
 use std::alloc::{AllocError, Global};
 use std::collections::VecDeque;
@@ -16,9 +15,7 @@ use std::sync::Arc;
 #[derive(Drop)]
 pub(crate) struct SeatRest {
     pub(crate) number: u32,
-    pub(crate) spec: Arc<JobSpec>,
-    pub(crate) queue: u64,
-    pub(crate) frames: u64,
+    pub(crate) spec: StreamSpec,
     pub(crate) accepted: u64,
     pub(crate) collected: u64,
     pub(crate) is_closed: bool,
@@ -28,8 +25,7 @@ pub(crate) struct SeatRest {
 
 impl Model for SeatRest {
     ghost use Rattle.y4m_header.specs.declared.limits.TheConstants.{MOST_FRAMES};
-    ghost use Rattle.std.specs.Prelude.{◌≤◌};
-    ghost use Rattle.std.specs.Arc.{arc_value};
+    ghost use Rattle.std.specs.Prelude.{◌≡◌, ◌≤◌};
     ghost use Rattle.std.specs.VecDeque.{deque_capacity};
     ghost use Rattle.serve_hub.specs.Seats.{AreSized, StreamRest, kept_in};
 
@@ -37,9 +33,12 @@ impl Model for SeatRest {
 
     ghost view = { λ a. record {
       number = a.number;
-      chain = arc_value a.spec;
-      queue = a.queue;
-      frames = a.frames;
+      chain = a.spec.chain;
+      maximum = a.spec.maximum;
+      period = a.spec.period;
+      queue = a.spec.queue;
+      outbox = a.spec.outbox;
+      frames = a.spec.frames;
       accepted = a.accepted;
       collected = a.collected;
       is_closed = a.is_closed;
@@ -48,8 +47,9 @@ impl Model for SeatRest {
       torn = a.torn;
     } };
 
-    ghost invariant = { λ a. AreSized (arc_value a.spec).geometry (kept_in a.kept.items)
-        × (a.frames ≤ MOST_FRAMES) × (a.collected ≤ MOST_FRAMES) };
+    ghost invariant = { λ a. AreSized a.spec.chain.geometry (kept_in a.kept.items)
+        × (a.spec.frames ≤ MOST_FRAMES) × (a.collected ≤ MOST_FRAMES)
+        × (a.spec.geometry ≡ a.spec.chain.geometry) };
 }
 
 impl SeatRest {
@@ -65,9 +65,7 @@ impl SeatRest {
         let places = stream.queue() + stream.outbox();
         Ok(SeatRest {
             number,
-            spec: Arc::try_clone(stream.job())?,
-            queue: stream.queue(),
-            frames: stream.frames(),
+            spec: stream.try_clone()?,
             accepted: 0,
             collected: 0,
             is_closed: false,

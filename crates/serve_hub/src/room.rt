@@ -14,8 +14,7 @@ use crate::rest::SeatRest;
 use crate::shared::Shared;
 use crate::stream_seat::StreamSeat;
 use crate::work_seat::WorkSeat;
-use cbs_account::limits::MOST_WORKERS;
-use edf_pool::limits::MOST_STREAMS;
+use cbs_account::limits::{MOST_STREAMS, MOST_WORKERS};
 use std::alloc::{AllocError, Global};
 use std::sync::ledger::{Blank, Book as Total, Share};
 

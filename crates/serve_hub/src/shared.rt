@@ -29,7 +29,7 @@ use crate::refused::AdmitRefused;
 use crate::rest::SeatRest;
 use crate::stream_seat::StreamSeat;
 use crate::work_seat::WorkSeat;
-use edf_pool::limits::MOST_STREAMS;
+use cbs_account::limits::MOST_STREAMS;
 use serve_core::Newcomer;
 use std::marker::Model;
 use std::sync::ledger::{Book as Total, Share};
@@ -51,7 +51,7 @@ pub(crate) struct Shared<L: Epoch> {
 
 impl<L: Epoch> Model for Shared<L> {
     ghost use Rattle.std.specs.Prelude.{◌≡◌, ◌+◌, ◌≤◌, [], length, vec_capacity};
-    ghost use Rattle.edf_pool.specs.declared.limits.TheConstants.{MOST_STREAMS};
+    ghost use Rattle.cbs_account.specs.declared.limits.TheConstants.{MOST_STREAMS};
     ghost use Rattle.serve_hub.specs.declared.limits.TheConstants.{MOST_SEATS};
     ghost use Rattle.serve_hub.specs.Ends.{IsOpening};
     ghost use Rattle.serve_hub.specs.Seats.{SharedValue};

@@ -8,7 +8,8 @@ ghost use Rattle.serve_hub.specs.declared.refusal.Came.TheVariants.{NoPlace};
 ghost use Rattle.serve_hub.specs.declared.refusal.Refusal.TheVariants.{Torn};
 ghost use Rattle.serve_hub.specs.Calls.{IsCloseTold, IsCollectTold, IsOfferTold, noted};
 ghost use Rattle.serve_hub.specs.Ends.{IsStreamOf};
-ghost use Rattle.serve_hub.specs.Seats.{collected_by, left_by, no_calls, seat_over, torn_at, with_call};
+ghost use Rattle.serve_hub.specs.Seats.{collected_by, left_by, no_calls, seat_over, spec_told, torn_at};
+ghost use Rattle.serve_hub.specs.Seats.{with_call};
 
 mod images;
 mod offers;
@@ -22,8 +23,9 @@ use crate::moments::Moments;
 use crate::refusal::{Came, Refusal};
 use crate::rest::SeatRest;
 use crate::shared::Shared;
-use lease::{JobSpec, is_same_spec};
+use lease::JobSpec;
 pub(crate) use offers::Entrant;
+use serve_core::StreamSpec;
 use std::marker::Model;
 use std::sync::ledger::{Book as Total, Share};
 
@@ -108,6 +110,14 @@ impl<L: Epoch> StreamSeat<L> {
     pub fn spec(&self) -> &JobSpec
         ensures { result.now ≡ self.now.chain }
     {
+        self.rest.spec.job()
+    }
+
+    /// What its stream is served with.
+    #[tactic(auto, using(crate::proofs::Specs::of_its_chain))]
+    pub fn stream_spec(&self) -> &StreamSpec
+        ensures { result.now ≡ spec_told self.now }
+    {
         &self.rest.spec
     }
 
@@ -191,7 +201,7 @@ impl<L: Epoch> StreamSeat<L> {
         ensures value { result ≡ self.now.frames }
         ensures most { result ≤ MOST_FRAMES }
     {
-        self.rest.frames
+        self.rest.spec.frames()
     }
 
     /// Its calls that were accepted, the oldest first.
@@ -201,14 +211,15 @@ impl<L: Epoch> StreamSeat<L> {
         &self.calls.list
     }
 
-    /// Whether the book has its stream, with its chain, and as many frames accepted and collected as the seat
-    /// tells.
+    /// Whether the book has its stream, served with what the seat tells, and as many frames accepted and
+    /// collected as the seat tells.
+    #[tactic(auto, using(crate::proofs::Specs::of_its_chain))]
     pub(crate) fn has_its_stream(&self, book: &Book) -> bool
         ensures { IsTrue result ↔ HasStream book.now.desk self.now.number (IsStreamOf self.now) }
     {
         let desk = book.desk();
         let (Some(spec), Some(counts)) = (
-            desk.spec(self.rest.number),
+            desk.stream_spec(self.rest.number),
             desk.counts(self.rest.number),
         ) else {
             return false;
@@ -216,7 +227,7 @@ impl<L: Epoch> StreamSeat<L> {
         counts.accepted == self.rest.accepted
             && self.rest.collected <= counts.collected
             && counts.collected - self.rest.collected == self.calls.collections()
-            && is_same_spec(spec, &self.rest.spec)
+            && spec.is_same(&self.rest.spec)
     }
 
     /// What contradicts the seat whatever it calls, if anything does: the book has no such stream, or another
@@ -237,6 +248,6 @@ impl<L: Epoch> StreamSeat<L> {
         if self.calls.limit != shared.limit {
             return Some(Came::Limit(shared.limit));
         }
-        other_part(spec, &self.rest.spec).map(Came::Chain)
+        other_part(spec, self.rest.spec.job()).map(Came::Chain)
     }
 }

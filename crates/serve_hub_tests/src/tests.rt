@@ -17,6 +17,7 @@ mod seated;
 mod seats;
 mod soon;
 mod steps;
+mod telling;
 mod threads;
 mod twins;
 mod waking;

@@ -4,7 +4,8 @@ use Rattle.std.specs.Prelude.{Option, Some, None, option_and_then}
 use Rattle.std.specs.Option.{option_map}
 use Rattle.std.specs.Str.{bytes_eq}
 use Rattle.serve_script.specs.ScriptCommand.{word_number}
-use Rattle.serve_script.specs.SessionWords.{behind_word, cut_at_spaces, first_word, is_hex, is_name}
+use Rattle.serve_script.specs.SessionWords.{behind_word, cut_at_spaces, first_word, is_hex}
+use Rattle.y4m_header.specs.Text.{is_name}
 use Rattle.serve_script.specs.SessionWords.{name_of, worker_of}
 use Rattle.serve_script.specs.declared.session.run_command.RunCommand.{RunCommand}
 use Rattle.serve_script.specs.declared.session.run_command.RunCommand.TheVariants as run

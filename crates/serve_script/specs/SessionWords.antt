@@ -1,12 +1,11 @@
 -- The words of a session script's lines.
 use Rattle.std.specs.Prelude.{ℕ, zero, suc, ◌%◌, ◌^◌, Bool, ◌&&◌, ◌||◌, ◌==◌, nat_le, nat_lt}
 use Rattle.std.specs.Prelude.{if◌then◌else◌, List, [], ◌∷◌, length, Option, Some, None, option_and_then}
-use Rattle.std.specs.Char.{is_ascii_alphanumeric, is_ascii_hexdigit}
+use Rattle.std.specs.Char.{is_ascii_hexdigit}
 use Rattle.std.specs.List.{before_first, list_all}
 use Rattle.std.specs.Option.{option_map_or}
-use Rattle.y4m_header.specs.Text.{text_after}
+use Rattle.y4m_header.specs.Text.{is_name, text_after}
 use Rattle.serve_script.specs.ScriptCommand.{word_number}
-use Rattle.serve_script.specs.declared.session.word.TheConstants.{NAME_LIMIT}
 
 -- what stands before a text's first space, or all of it
 abbrev pub first_word : List ℕ → List ℕ
@@ -20,13 +19,6 @@ behind_word text = text_after 32 text
 abbrev pub cut_at_spaces : ℕ → List ℕ → List (List ℕ)
 cut_at_spaces zero text = text ∷ []
 cut_at_spaces (suc n) text = first_word text ∷ option_map_or (cut_at_spaces n) (behind_word text) []
-
-abbrev pub is_name_byte : ℕ → Bool
-is_name_byte byte = is_ascii_alphanumeric byte || byte == 95 || byte == 45
-
--- letters, digits, `_` or `-`: one at least, and as many as a name may have
-abbrev pub is_name : List ℕ → Bool
-is_name text = nat_le 1 (length text) && nat_le (length text) NAME_LIMIT && list_all is_name_byte text
 
 -- one or more pairs of hexadecimal digits, of either case
 abbrev pub is_hex : List ℕ → Bool

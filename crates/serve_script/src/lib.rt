@@ -71,7 +71,6 @@ mod session;
 
 pub use self::fault::ReplayFault;
 pub use self::session::line::{push_reply, push_state};
-pub use self::session::word::is_name;
 
 /// The longest script, in bytes.
 pub const SCRIPT_LIMIT: usize = 1_048_576;

@@ -1,7 +1,7 @@
 //! What watches a run: it is asked about terminals, and told of the frames of each stream, of what clients
 //! do, and of leases.
 use crate::trace::Doing;
-use serve_work::Stint;
+use lease::LeaseReport;
 
 /// A watch is asked about the terminals of a run, and told of its frames as they go by. It changes no byte of
 /// them. One that says nothing of its own sees no terminal, and is told nothing.
@@ -60,7 +60,7 @@ pub trait Watch {
         &self,
         _worker: u32,
         _stream: usize,
-        _stint: Stint,
+        _report: LeaseReport,
         _deadline: Option<(u64, u64)>,
     ) {}
 }

@@ -6,10 +6,7 @@ use Rattle.std.specs.Str.{bytes_eq}
 use Rattle.std.specs.Str.Parse.{IsNumeral, digits_value, without_leading_plus}
 use Rattle.clap.specs.Values.{bool_text}
 use Rattle.clap.specs.Walk.{Row, Text, first_of, one_of}
-use Rattle.cbs_account.specs.declared.limits.TheConstants.{MOST_WORKERS}
-use Rattle.edf_pool.specs.declared.limits.TheConstants.{MOST_STREAMS}
-use Rattle.serve_core.specs.declared.limits.TheConstants.{MOST_QUANTUM}
-use Rattle.serve_hub.specs.declared.limits.TheConstants.{MOST_ENTRIES}
+use Rattle.cbs_account.specs.declared.limits.TheConstants.{MOST_ENTRIES, MOST_QUANTUM, MOST_STREAMS, MOST_WORKERS}
 use Rattle.serve_words.specs.KnownWords.{ServeOptions, ToFilter, ToServe}
 use Rattle.serve_words.specs.Options.{HasFilterOptions, HasServeOptions, IsFlagOf, IsKeptOf, IsNumberIn, IsNumberOf}
 use Rattle.serve_words.specs.Options.{IsRequestOf, text_of, texts_of}

@@ -1,6 +1,6 @@
 -- The command, its subcommands and their options, as clap reads them.
 use Rattle.std.specs.Prelude.{ℕ, ◌+◌, ◌≡◌, pos, true, false, List, [], ◌∷◌, Some, codes}
-use Rattle.cbs_account.specs.declared.limits.TheConstants.{MOST_WORKERS}
+use Rattle.cbs_account.specs.declared.limits.TheConstants.{MOST_ENTRIES, MOST_QUANTUM, MOST_STREAMS, MOST_WORKERS}
 use Rattle.clap.specs.Lexer.{usize_max}
 use Rattle.clap.specs.Simple.{App, app_of, new_rule, new_shape}
 use Rattle.clap.specs.Walk.{Rule, Text, rule_of}
@@ -10,10 +10,7 @@ use Rattle.clap.specs.declared.builder.command.Command.TheViews.{out-Command}
 use Rattle.clap.specs.declared.builder.action.ArgAction.TheVariants.{Append, Set, SetTrue}
 use Rattle.clap.specs.declared.builder.value_parser.ValueParser.{ValueParser}
 use Rattle.clap.specs.declared.builder.value_parser.ValueParser.TheVariants.{Signed}
-use Rattle.edf_pool.specs.declared.limits.TheConstants.{MOST_STREAMS}
 use Rattle.row_bands.specs.declared.limits.TheConstants.{FEWEST_BAND_ROWS, MOST_BAND_ROWS}
-use Rattle.serve_core.specs.declared.limits.TheConstants.{MOST_QUANTUM}
-use Rattle.serve_hub.specs.declared.limits.TheConstants.{MOST_ENTRIES}
 use Rattle.serve_words.specs.declared.request.TheConstants.{MOST_MICROSECONDS}
 
 -- an option that takes a value

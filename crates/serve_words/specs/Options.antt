@@ -9,10 +9,7 @@ use Rattle.clap.specs.Matches.{found_of}
 use Rattle.clap.specs.Simple.{subcommand_of}
 use Rattle.clap.specs.Walk.{Row, all_of, first_of, one_of, rows_of}
 use Rattle.clap.specs.declared.parser.matches.ArgMatches.{ArgMatches}
-use Rattle.cbs_account.specs.declared.limits.TheConstants.{MOST_WORKERS}
-use Rattle.edf_pool.specs.declared.limits.TheConstants.{MOST_STREAMS}
-use Rattle.serve_core.specs.declared.limits.TheConstants.{MOST_QUANTUM}
-use Rattle.serve_hub.specs.declared.limits.TheConstants.{MOST_ENTRIES}
+use Rattle.cbs_account.specs.declared.limits.TheConstants.{MOST_ENTRIES, MOST_QUANTUM, MOST_STREAMS, MOST_WORKERS}
 use Rattle.serve_words.specs.CommandLine.{y4mserve}
 use Rattle.serve_words.specs.StreamWords.{words_asked}
 use Rattle.serve_words.specs.declared.request.FilterWords.{FilterWords}

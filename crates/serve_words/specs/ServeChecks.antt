@@ -9,7 +9,7 @@ use Rattle.cbs_account.specs.Admission.{Fits, Load, load_of, with_share}
 use Rattle.cbs_account.specs.Balance.{IsBandwidth}
 use Rattle.cbs_account.specs.declared.admission.AdmissionError.{AdmissionError}
 use Rattle.cbs_account.specs.declared.admission.AdmissionError.TheVariants as shares
-use Rattle.edf_pool.specs.declared.limits.TheConstants.{MOST_STREAMS}
+use Rattle.cbs_account.specs.declared.limits.TheConstants.{MOST_STREAMS}
 use Rattle.filters.specs.OpsText.{ops_of}
 use Rattle.filters.specs.declared.error.FilterError.{FilterError}
 use Rattle.filters.specs.declared.error.FilterError.TheVariants as filter

@@ -5,9 +5,8 @@ use Rattle.std.specs.Borrow.{Bor}
 use Rattle.std.specs.List.{before_first}
 use Rattle.std.specs.Option.{option_map, option_map_or}
 use Rattle.std.specs.Str.{bytes_eq}
-use Rattle.y4m_header.specs.Text.{number_of, text_after}
+use Rattle.y4m_header.specs.Text.{is_name, number_of, text_after}
 use Rattle.y4m_header.specs.declared.limits.TheConstants.{MOST_DIGITS}
-use Rattle.serve_script.specs.SessionWords.{is_name}
 use Rattle.serve_words.specs.declared.stream_word.StreamWord.{StreamWord}
 use Rattle.serve_words.specs.declared.stream_word.WordParts.{WordParts}
 

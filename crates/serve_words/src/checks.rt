@@ -9,9 +9,8 @@ ghost use Rattle.serve_words.specs.StreamWords.{words_asked};
 
 use crate::request::ServeWords;
 use crate::stream_word::{StreamWord, parse_word_beside};
-use cbs_account::limits::MOST_WORKERS;
+use cbs_account::limits::{MOST_STREAMS, MOST_WORKERS};
 use cbs_account::{Admission, AdmissionError};
-use edf_pool::limits::MOST_STREAMS;
 use filters::{FilterError, Op, parse_ops};
 use row_bands::BandHeight;
 use std::alloc::{AllocFailed, Global};

@@ -6,12 +6,10 @@ ghost use Rattle.serve_words.specs.CommandLine.{IsArgument, IsCommand};
 
 use crate::help;
 use crate::request::{FEWEST_JOURNAL, MOST_MICROSECONDS};
-use cbs_account::limits::MOST_WORKERS;
+use cbs_account::limits::{MOST_ENTRIES, MOST_QUANTUM, MOST_WORKERS};
 use clap::builder::ValueParser;
 use clap::{Arg, ArgAction, Command, value_parser};
 use row_bands::{FEWEST_BAND_ROWS, MOST_BAND_ROWS};
-use serve_core::limits::MOST_QUANTUM;
-use serve_hub::limits::MOST_ENTRIES;
 use std::alloc::{AllocError, Global};
 
 /// An option that takes a number.

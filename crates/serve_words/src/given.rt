@@ -6,10 +6,8 @@ ghost use Rattle.serve_words.specs.Options.{IsNumberOf, found_in, text_of, texts
 ghost use Rattle.serve_words.specs.StreamWords.{words_asked};
 
 use crate::request::{FEWEST_JOURNAL, FilterWords, ServeWords};
-use cbs_account::limits::MOST_WORKERS;
+use cbs_account::limits::{MOST_ENTRIES, MOST_QUANTUM, MOST_WORKERS};
 use clap::ArgMatches;
-use serve_core::limits::MOST_QUANTUM;
-use serve_hub::limits::MOST_ENTRIES;
 use std::alloc::{AllocError, Global};
 
 /// The words that name the streams.

@@ -1,12 +1,9 @@
 //! What the words of the command line ask for.
 ghost use Rattle.std.specs.Prelude.{◌+◌, ◌≡◌, ◌≤◌};
-ghost use Rattle.cbs_account.specs.declared.limits.TheConstants.{MOST_WORKERS};
-ghost use Rattle.edf_pool.specs.declared.limits.TheConstants.{MOST_STREAMS};
-ghost use Rattle.serve_core.specs.declared.limits.TheConstants.{MOST_QUANTUM};
-ghost use Rattle.serve_hub.specs.declared.limits.TheConstants.{MOST_ENTRIES};
+ghost use Rattle.cbs_account.specs.declared.limits.TheConstants.{MOST_ENTRIES, MOST_QUANTUM, MOST_STREAMS, MOST_WORKERS};
 ghost use Rattle.serve_words.specs.declared.request.NoRequest.TheVariants.{NoMemory};
 
-use edf_pool::limits::MOST_STREAMS;
+use cbs_account::limits::MOST_STREAMS;
 use std::alloc::AllocError;
 
 /// The fewest entries of a journal: one for each stream that may be served, and two.

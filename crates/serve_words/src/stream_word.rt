@@ -7,8 +7,7 @@ ghost use Rattle.y4m_header.specs.Text.{text_after};
 ghost use Rattle.serve_words.specs.StreamWords.{cut_at_colons, parts_of, stream_beside, stream_of};
 ghost use Rattle.serve_words.specs.StreamWords.{stream_told};
 
-use serve_script::is_name;
-use y4m_header::text::{MOST_DIGITS, decimal_number};
+use y4m_header::text::{MOST_DIGITS, decimal_number, is_name};
 
 /// Where standard input is found.
 const INPUT: &str = "/dev/stdin";

@@ -1,10 +1,13 @@
 pub mod Allowing
 pub mod Crossing
+pub mod Distinct
 pub mod Ending
 pub mod Finishing
 pub mod Fronts
 pub mod GivingUp
 pub mod Hands
+pub mod Histories
+pub mod HubLives
 pub mod Intervals
 pub mod Journals
 pub mod Living

@@ -1,9 +1,11 @@
 -- A stream stands where it stood where its seats have another number.
-use Rattle.std.specs.Prelude.{IsSomeAnd, IsTrue}
-use Rattle.std.proofs.Common.{ℕ, zero, suc, ◌⊎◌, ◌++◌, List, Option, None, Some, inl, inr, refl, ap, ◌∙◌, subst}
+use Rattle.std.specs.Prelude.{IsSomeAnd, IsTrue, filter, take}
+use Rattle.std.proofs.Common.{ℕ, zero, suc, ◌≡◌, ◌⊎◌, ◌++◌, Bool, true, false, not, if◌then◌else◌, List, [], ◌∷◌, Option, None, Some}
+use Rattle.std.proofs.Common.{inl, inr, length, refl, ap, ◌∙◌, subst}
 use Rattle.y4m_header.specs.StreamText.{FrameText}
 use Rattle.y4m_stream.specs.Reader.{ReaderState, data_len_of}
 use Rattle.y4m_stream.specs.Writer.{WriterState}
+use Rattle.serve_core.specs.Released.{is_released}
 use Rattle.serve_core.specs.Retired.{new_number, retired_schedule, stays}
 use Rattle.serve_core.specs.Schedule.{HasStream, ScheduleValue}
 use Rattle.serve_core.specs.Streams.{KeptStream}
@@ -15,7 +17,7 @@ use Rattle.serve_work.specs.Clients.{ClientEnds, ClientOutcome, ClientStart, Cli
 use Rattle.serve_work.specs.Clients.{WroteNothing}
 use Rattle.serve_work.specs.ClientInside.{Feeds, HasInHand, IsUseful, Moves, Passes, StopsReading}
 use Rattle.serve_work.specs.Hands.{with_kept}
-use Rattle.serve_work.specs.Live.{IsKeptOver, numbered}
+use Rattle.serve_work.specs.Live.{IsKept, numbered}
 use Rattle.serve_work.specs.Rests.{Begun, CourseValue, Discarding, Draining, Feeding, Holding, IsAt, IsFresh}
 use Rattle.serve_work.specs.Rests.{IsRestOf, RestValue, Unbegun, as_open}
 use Rattle.serve_work.specs.SessionInside.{StandsAt}
@@ -265,22 +267,63 @@ module _ (n : ℕ) where
   stands_numbered start past seat (Waiting rest) a = rest_numbered start past seat rest a
   stands_numbered start past seat (Over outcome) a = end_numbered start past seat outcome a
 
--- a stream that is kept over was there before, and the same holds of it
-pub stream_before : (times : ℕ) (last : ScheduleValue) (old : ℕ) (opening : ScheduleValue) (number : ℕ) (P : KeptStream → Type 0)
-    → IsKeptOver times last old opening number → HasStream opening number P → HasStream last old P
-stream_before zero last old opening number P k has =
+-- what is picked twice is picked once
+
+module _ {A : Type 0} (test : A → Bool) where
+  twice_picked : (b : Bool) (x : A) (xs : List A) → test x ≡ b → filter test xs ≡ xs
+      → filter test (if b then x ∷ xs else xs) ≡ (if b then x ∷ xs else xs)
+  twice_picked true x xs e h = rw e (ap (λ (ys : List A). x ∷ ys) h)
+  twice_picked false x xs e h = h
+
+  filter_twice : (xs : List A) → filter test (filter test xs) ≡ filter test xs
+  filter_twice [] = refl
+  filter_twice (x ∷ xs) = twice_picked (test x) x (filter test xs) refl (filter_twice xs)
+
+  count_picked : (b : Bool) (x : A) (front ys : List A) → test x ≡ b
+      → length (filter test (take (length front) ys)) ≡ length front
+      → length (filter test (take (length (if b then x ∷ front else front)) (if b then x ∷ ys else ys)))
+      ≡ length (if b then x ∷ front else front)
+  count_picked true x front ys e h = rw e (ap suc h)
+  count_picked false x front ys e h = h
+
+  count_twice : (s : ℕ) (xs : List A)
+      → length (filter test (take (length (filter test (take s xs))) (filter test xs))) ≡ length (filter test (take s xs))
+  count_twice zero [] = refl
+  count_twice zero (x ∷ xs) = refl
+  count_twice (suc s) [] = refl
+  count_twice (suc s) (x ∷ xs) = count_picked (test x) x (filter test (take s xs)) (filter test xs) refl (count_twice s xs)
+
+abbrev test_at : ScheduleValue → KeptStream → Bool
+test_at x stream = not (is_released x.clock stream.state)
+
+pub retired_twice : (x : ScheduleValue) → retired_schedule (retired_schedule x) ≡ retired_schedule x
+retired_twice x = ap (λ (streams : List KeptStream). record x { streams = streams }) (filter_twice (test_at x) x.streams)
+
+number_twice : (x : ScheduleValue) (s : ℕ) → new_number (retired_schedule x) (new_number x s) ≡ new_number x s
+number_twice x s = count_twice (test_at x) s x.streams
+
+-- a stream that is kept was there before, and the same holds of it
+pub stream_before : (last : ScheduleValue) (old : ℕ) (opening : ScheduleValue) (number : ℕ) (P : KeptStream → Type 0)
+    → IsKept last old opening number → HasStream opening number P → HasStream last old P
+stream_before last old opening number P (inl k) has =
     subst (λ (x : ScheduleValue). HasStream x old P) k.0 (subst (λ (n : ℕ). HasStream opening n P) k.1 has)
-stream_before (suc times) last old opening number P k has =
-    subst (λ (o : Option KeptStream). IsSomeAnd o P) (number_is last old k.0)
-    (stream_before times (retired_schedule last) (new_number last old) opening number P k.1 has)
+stream_before last old opening number P (inr k) has =
+    subst (λ (o : Option KeptStream). IsSomeAnd o P) (number_is last old k.1)
+    (subst (λ (x : ScheduleValue). HasStream x (new_number last old) P) k.0 (subst (λ (n : ℕ). HasStream opening n P) k.2 has))
 
 -- and where they are taken out once more, and it stays
-pub once_more : (times : ℕ) (last : ScheduleValue) (old : ℕ) (opening : ScheduleValue) (number : ℕ)
-    → IsKeptOver times last old opening number → IsTrue (stays opening number)
-    → IsKeptOver (suc times) last old (retired_schedule opening) (new_number opening number)
-once_more zero last old opening number k e = (
-  subst (λ (n : ℕ). IsTrue (stays last n)) k.1 (subst (λ (x : ScheduleValue). IsTrue (stays x number)) k.0 e),
-  (ap retired_schedule k.0, ap (λ (x : ScheduleValue). new_number x number) k.0 ∙ ap (new_number last) k.1),
-)
-once_more (suc times) last old opening number k e =
-    (k.0, once_more times (retired_schedule last) (new_number last old) opening number k.1 e)
+pub once_more : (last : ScheduleValue) (old : ℕ) (opening : ScheduleValue) (number : ℕ)
+    → IsKept last old opening number → IsTrue (stays opening number)
+    → IsKept last old (retired_schedule opening) (new_number opening number)
+once_more last old opening number (inl k) e =
+    inr (
+      ap retired_schedule k.0,
+      subst (λ (n : ℕ). IsTrue (stays last n)) k.1 (subst (λ (x : ScheduleValue). IsTrue (stays x number)) k.0 e),
+      ap (λ (x : ScheduleValue). new_number x number) k.0 ∙ ap (new_number last) k.1,
+    )
+once_more last old opening number (inr k) e =
+    inr (
+      ap retired_schedule k.0 ∙ retired_twice last,
+      k.1,
+      ap (λ (x : ScheduleValue). new_number x number) k.0 ∙ ap (new_number (retired_schedule last)) k.2 ∙ number_twice last old,
+    )

@@ -6,23 +6,37 @@ use Rattle.std.proofs.Common.{append-nil, append_assoc, get_or, inl, inr}
 use Rattle.std.proofs.Common.{true, false, if◌then◌else◌, refl, sym, ap, ◌∙◌, subst, arith}
 use Rattle.serve_core.specs.Retired.{new_number, retired_schedule, staying, stays}
 use Rattle.serve_core.specs.Schedule.{HasStream, ScheduleValue}
+use Rattle.serve_core.specs.Setup.{StreamSpec}
 use Rattle.serve_core.specs.Streams.{KeptStream}
 use Rattle.serve_core.proofs.Schedules.Retiring.{number_is}
 use Rattle.serve_hub.specs.Ends.{AreStreamsOf, EndedValue, IsCharged, IsStreamOf}
 use Rattle.serve_hub.specs.Retired.{renumbered, rests_kept, retired_end}
 use Rattle.serve_hub.specs.Seats.{StreamRest, StreamSeatValue, left_by}
 use Rattle.serve_work.specs.declared.live.guests.Guest.{Guest}
-use Rattle.serve_work.specs.Live.{IsOfSpec, RequestValue, Waiting, numbered, start_with}
+use Rattle.serve_work.specs.History.{EpochValue, IsLeftBy, Terms}
+use Rattle.serve_work.specs.Live.{IsBehind, IsOfSpec, RequestValue, Waiting, numbered, start_with}
 use Rattle.serve_work.specs.LiveInside.{AllAt, AreGuests, AreToldBut, IsGuestAt, Stood, at_marks}
 use Rattle.serve_work.specs.StreamInside.{StreamValue}
-use Rattle.serve_work.proofs.Renumbered.{once_more, stands_numbered}
+use Rattle.serve_work.proofs.Renumbered.{once_more, retired_twice, stands_numbered}
 
 -- one stream that stays
-retired_one : (limit : ℕ) (times : ℕ
-    → Type 0) (desk : ScheduleValue) (request : RequestValue) (stream : StreamValue) (seat : StreamSeatValue)
-    → Stood limit times desk request stream seat → IsTrue (stays desk seat.number)
-    → Stood limit times (retired_schedule desk) request stream (numbered (new_number desk seat.number) seat)
-retired_one limit times desk request stream seat s e =
+kept_on : (terms : Terms) (spec : StreamSpec) (es : List EpochValue) (number : ℕ) (before : List ℕ) (desk : ScheduleValue) (now : ℕ)
+    → IsBehind terms spec (number ∷ before) es desk now → IsTrue (stays desk now)
+    → IsBehind terms spec (number ∷ before) es (retired_schedule desk) (new_number desk now)
+kept_on terms spec [] number before desk now behind e = absurd behind
+kept_on terms spec (epoch ∷ es) number before desk now behind e =
+    once_more epoch.last number desk now behind e
+
+-- and a schedule without the released streams
+left_on : (es : List EpochValue) (desk : ScheduleValue) → IsLeftBy es desk → IsLeftBy es (retired_schedule desk)
+left_on [] desk left = absurd left
+left_on (epoch ∷ es) desk (inl e) = inr (ap retired_schedule e)
+left_on (epoch ∷ es) desk (inr e) = inr (ap retired_schedule e ∙ retired_twice epoch.last)
+
+retired_one : (terms : Terms) (times : ℕ → Type 0) (es : List EpochValue) (desk : ScheduleValue) (ticket : ℕ)
+    (request : RequestValue) (stream : StreamValue) (seat : StreamSeatValue) → Stood terms times es desk ticket request stream seat
+    → IsTrue (stays desk seat.number) → Stood terms times es (retired_schedule desk) ticket request stream (numbered (new_number desk seat.number) seat)
+retired_one terms times es desk ticket request stream seat s e =
     let n = new_number desk seat.number in
     record {
       is_request = s.is_request;
@@ -37,10 +51,10 @@ retired_one limit times desk request stream seat s e =
         torn = s.is_new.torn;
       };
       past = s.past;
-      part = s.part;
+      number = s.number;
       before = s.before;
-      are = s.are;
-      behind = (suc s.behind.0, once_more s.behind.0 s.part.last s.part.number desk seat.number s.behind.1 e);
+      had = s.had;
+      behind = kept_on terms request.spec es s.number s.before desk seat.number s.behind e;
       stands = stands_numbered n (start_with request s.first) s.past seat stream s.stands;
       calls = s.calls;
       stop = s.stop;
@@ -56,7 +70,7 @@ retired_seat : (desk : ScheduleValue) (seat : StreamSeatValue) → HasStream des
 retired_seat desk seat has e =
     let n = new_number desk seat.number in
     some_and (IsStreamOf seat) (IsStreamOf (numbered n seat)) (slice_get (staying desk) n)
-    (λ x is. record { chain = is.chain; accepted = is.accepted; collected = is.collected })
+    (λ x is. record { spec = is.spec; accepted = is.accepted; collected = is.collected })
     (subst (λ (o : Option KeptStream). IsSomeAnd o (IsStreamOf seat)) (sym (number_is desk seat.number e)) has)
 
 -- lists of what stays
@@ -168,50 +182,52 @@ some_is_there x e = cc
 abbrev marks_at : ScheduleValue → List StreamSeatValue → List Bool
 marks_at desk seats = map (λ rest. stays desk rest.number) (map left_by seats)
 
-module _ {R W : Type 0} (limit : ℕ) (times : ℕ → Type 0) (desk : ScheduleValue) where
+module _ {R W : Type 0} (terms : Terms) (times : ℕ → Type 0) (es : List EpochValue) (desk : ScheduleValue) where
   guests_kept : (guests : List (Option (Guest R W))) (seats : List StreamSeatValue) (ws : List Waiting)
-      → AllAt (IsGuestAt limit times desk) guests seats ws → AreToldBut (marks_at desk seats) guests
-      → AllAt (IsGuestAt limit times (retired_schedule desk)) (at_marks (marks_at desk seats) guests) (seats_kept desk seats) ws
+      → AllAt (IsGuestAt terms times es desk) guests seats ws → AreToldBut (marks_at desk seats) guests
+      → AllAt (IsGuestAt terms times es (retired_schedule desk)) (at_marks (marks_at desk seats) guests) (seats_kept desk seats) ws
   guests_kept [] seats [] p told = tt
   guests_kept [] seats (w ∷ ws) p told = absurd p
   guests_kept (guest ∷ guests) [] ws p told = absurd p
   guests_kept (None ∷ guests) (seat ∷ seats) ws p told =
-      none_picked (IsGuestAt limit times (retired_schedule desk)) (stays desk seat.number)
+      none_picked (IsGuestAt terms times es (retired_schedule desk)) (stays desk seat.number)
       (numbered (new_number desk seat.number) seat) (at_marks (marks_at desk seats) guests) (seats_kept desk seats) ws
       (guests_kept guests seats ws p (λ k. told (suc k)))
   guests_kept (Some guest ∷ guests) (seat ∷ seats) [] p told = absurd p
   guests_kept (Some guest ∷ guests) (seat ∷ seats) (w ∷ ws) p told =
-      some_picked (IsGuestAt limit times (retired_schedule desk)) (stays desk seat.number) guest
+      some_picked (IsGuestAt terms times es (retired_schedule desk)) (stays desk seat.number) guest
       (numbered (new_number desk seat.number) seat) w (at_marks (marks_at desk seats) guests) (seats_kept desk seats) ws
       (λ e. some_is_there guest (told 0 (Some guest) (ap Some e) refl))
       (λ e. (
         p.0.0,
-        retired_one limit times desk w.request guest.stream seat p.0.1 e,
+        retired_one terms times es desk w.ticket w.request guest.stream seat p.0.1 e,
         subst (λ (o : Option KeptStream). IsSomeAnd o (IsOfSpec w.request.spec)) (sym (number_is desk seat.number e)) p.0.2,
       ))
       (guests_kept guests seats ws p.1 (λ k. told (suc k)))
 
 -- the streams between two epochs, without those that are released, each of which was told
-module _ {R W : Type 0} (limit : ℕ) (times : ℕ → Type 0) (ended : EndedValue) (ws : List Waiting) where
+module _ {R W : Type 0} (terms : Terms) (times : ℕ → Type 0) (es : List EpochValue) (ended : EndedValue) (ws : List Waiting) where
   pub guests_retired : (guests : List (Option (Guest R W)))
-      → AreGuests limit times ended ws guests
+      → AreGuests terms times es ended ws guests
       → AreToldBut (map (λ rest. stays ended.book.desk rest.number) ended.streams) guests
-      → AreGuests limit times (retired_end ended) ws
+      → AreGuests terms times es (retired_end ended) ws
       (at_marks (map (λ rest. stays ended.book.desk rest.number) ended.streams) guests)
   guests_retired guests a told =
       let desk = ended.book.desk in
       let f = λ (rest : StreamRest). stays desk rest.number in
       record {
+        history = a.history;
+        left_here = left_on es desk a.left_here;
         seats = seats_kept desk a.seats;
         rests = ap (rests_kept desk) a.rests ∙ rests_are desk a.seats;
         few = omega (arith, a.few, few_kept desk a.seats);
         kept = streams_kept desk a.seats a.kept;
         charges = all_filtered IsCharged _ desk.streams a.charges;
         of_limit = a.of_limit;
-        each = subst (λ (rests : List StreamRest). AllAt (IsGuestAt limit times (retired_schedule desk))
+        each = subst (λ (rests : List StreamRest). AllAt (IsGuestAt terms times es (retired_schedule desk))
             (at_marks (map f rests) guests)
             (seats_kept desk a.seats) ws) (sym a.rests)
-            (guests_kept limit times desk guests a.seats ws a.each
+            (guests_kept terms times es desk guests a.seats ws a.each
             (subst (λ (rests : List StreamRest). AreToldBut (map f rests) guests) a.rests told));
       }
 

@@ -10,12 +10,13 @@ use Rattle.serve_hub.specs.Ends.{IsStreamOf}
 use Rattle.serve_hub.specs.Seats.{StreamSeatValue}
 use Rattle.serve_work.specs.declared.request.Standing.{Standing}
 use Rattle.serve_work.specs.Clients.{ClientStart, collections_in, offers_in}
+use Rattle.serve_work.specs.History.{EpochValue, IsHistory, Terms}
 use Rattle.serve_work.specs.Live.{IsOfSpec, IsStanding, IsStandingOf, RequestValue, start_with}
 use Rattle.serve_work.specs.LiveInside.{Stood}
 use Rattle.serve_work.specs.Rests.{Begun, IsRestOf, RestValue, Unbegun}
 use Rattle.serve_work.specs.SessionInside.{StandsAt}
 use Rattle.serve_work.specs.StreamInside.{Over, StreamValue, Waiting, is_waiting}
-use Rattle.serve_work.proofs.Renumbered.{stream_before}
+use Rattle.serve_work.proofs.Living.{at_end}
 use Rattle.serve_work.proofs.SessionCharges.{stream_at}
 use Rattle.serve_work.proofs.Tallying.{collections_both, collections_counted}
 
@@ -63,25 +64,27 @@ rest_left (Waiting rest) start past seat e stands = (rest, stands)
 rest_left (Over outcome) start past seat e stands = absurd (cc)
 
 -- a stream that isn't over is shown as it stands
-pub can_show : (limit : ℕ) (times : ℕ → Type 0) (desk : ScheduleValue) (request : RequestValue) (stream : StreamValue)
-    (seat : StreamSeatValue) (standing : Standing) → Stood limit times desk request stream seat
+pub can_show : (terms : Terms) (times : ℕ → Type 0) (es : List EpochValue) (desk : ScheduleValue) (ticket : ℕ)
+    (request : RequestValue) (stream : StreamValue) (seat : StreamSeatValue) (standing : Standing) → IsHistory terms times es
+    → Stood terms times es desk ticket request stream seat
     → is_waiting stream ≡ true → HasStream desk seat.number (IsStreamOf seat) → HasStream desk seat.number (IsOfSpec request.spec)
-    → HasStream desk seat.number (IsStandingOf standing) → IsStanding limit times request standing
-can_show limit times desk request stream seat standing s waits of asked has =
+    → HasStream desk seat.number (IsStandingOf standing) → IsStanding terms times es ticket request standing
+can_show terms times es desk ticket request stream seat standing history s waits of asked has =
     let start = start_with request s.first in
     let rest = rest_left stream start s.past seat waits s.stands in
     let count = counted start s.past seat rest.0 rest.1 in
     let at = stream_at desk seat.number (IsStreamOf seat) (IsStandingOf standing) of has in
     record {
+      history = history;
       first = s.first;
       is_new = s.is_new;
       past = s.past;
       seat = seat;
       rest = rest.0;
       left = rest.1;
-      part = s.part;
+      number = s.number;
       before = s.before;
-      parts = s.are;
+      numbers = s.had;
       calls = s.calls;
       accepted = at.second.accepted ∙ at.first.accepted ∙ sym count.offers;
       collected = omega (
@@ -93,6 +96,6 @@ can_show limit times desk request stream seat standing s waits of asked has =
         collections_both s.past seat.calls.list,
         collections_counted seat.calls.list,
       );
-      stream = stream_before s.behind.0 s.part.last s.part.number desk seat.number (IsStandingOf standing) s.behind.1 has;
-      spec = stream_before s.behind.0 s.part.last s.part.number desk seat.number (IsOfSpec request.spec) s.behind.1 asked;
+      stream = at_end terms request.spec es s.number s.before desk seat.number (IsStandingOf standing) s.behind has;
+      spec = at_end terms request.spec es s.number s.before desk seat.number (IsOfSpec request.spec) s.behind asked;
     }

@@ -1,15 +1,16 @@
 -- What a worker adds to its seat's calls.
 use Rattle.std.proofs.Common.{◌≡◌, ◌≢◌, ℕ, Bool, true, List, [], ◌∷◌, ◌++◌, Option, Some, None, MatchOption, refl}
-use Rattle.std.proofs.Common.{ap, ◌∙◌, append_assoc, inl, inr, subst, sym}
+use Rattle.std.proofs.Common.{ap, ◌∙◌, append-nil, append_assoc, inl, inr, subst, sym}
 use Rattle.std.specs.Prelude.{IfSome}
 use Rattle.lease.specs.Lease.{LeaseValue}
 use Rattle.serve_core.specs.declared.refusal.Refusal.TheVariants as cores
 use Rattle.serve_hub.specs.declared.entry.Act.{Act}
 use Rattle.serve_hub.specs.declared.entry.Act.TheVariants.{Admitted, Closed, Collected, Leased, Offered, Settled}
+use Rattle.serve_hub.specs.declared.entry.Settled as code
 use Rattle.serve_hub.specs.declared.refusal.Came.TheVariants as came
 use Rattle.serve_hub.specs.declared.refusal.Refusal.{Refusal}
 use Rattle.serve_hub.specs.declared.refusal.Refusal.TheVariants.{Core, HistoryFull, StrayLease, Torn}
-use Rattle.serve_hub.specs.Calls.{FinishesOther, IsEndOfLeases, IsSettleRefusal}
+use Rattle.serve_hub.specs.Calls.{FinishesOther, IsEndOfLeases, IsSettleRefusal, Leases, Settles, SettlesAndLeases}
 use Rattle.serve_hub.specs.Seats.{WorkSeatValue}
 use Rattle.serve_work.specs.Workers.{AreSpent, Works, adding}
 
@@ -96,3 +97,92 @@ works_refused seat s0 s1 s2 added stream number grant lease e None spent p q r w
     record { added = more.0; seat = more.2; ends = inr (inr (more.1, other.1)) }
 works_refused seat s0 s1 s2 added stream number grant lease e (Some back) spent p q r why used =
     works_last seat s0 s1 s2 added stream number grant e spent p q r.1 why
+
+-- the seat has this lease, of which no band is done, behind spent ones
+pub record HasNext (seat now : WorkSeatValue) (lease : LeaseValue) : Type 0 where
+  pub added : List Act
+  pub spent : AreSpent added
+  pub leased : Leases lease (adding added seat) now
+  pub unused : lease.used ≡ 0
+
+adding_none : (seat : WorkSeatValue) → adding [] seat ≡ seat
+adding_none seat =
+    let with_list : List Act → WorkSeatValue = λ list. record seat { calls = record seat.calls { list = list } } in
+    ap with_list (append-nil seat.calls.list)
+
+-- a worker's first lease
+pub first_lease : (seat now : WorkSeatValue) (lease : LeaseValue) → Leases lease seat now → lease.used ≡ 0
+    → HasNext seat now lease
+first_lease seat now lease leased unused = record {
+  added = [];
+  spent = tt;
+  leased = subst (λ (s : WorkSeatValue). Leases lease s now) (sym (adding_none seat)) leased;
+  unused = unused;
+}
+
+-- all bands of its lease were done
+abbrev pub IsDone : (old new : LeaseValue) → Type 0
+IsDone old new = new ≡ record old { job = new.job; used = old.granted }
+
+-- its lease is settled whole
+settled_whole : (seat s1 s2 : WorkSeatValue) (lease gone : LeaseValue) (done : code.Settled) → HasNext seat s1 lease
+    → IsDone lease gone → Settles gone done s1 s2 → (more : List Act) × AreSpent more × (s2 ≡ adding more seat)
+settled_whole seat s1 s2 lease gone done has spent settles =
+    works_on seat (adding has.added seat) s1 s2 has.added _ _ _ _ _ has.spent refl has.leased settles
+    (ap (λ (l : LeaseValue). l.used) spent)
+
+-- and it gets the next one at once
+pub next_at_once : (seat s1 s2 : WorkSeatValue) (lease gone next : LeaseValue) (done : code.Settled)
+    (told : Option LeaseValue) → HasNext seat s1 lease → IsDone lease gone → SettlesAndLeases gone done told s1 s2
+    → IfSome told (λ next. next.used ≡ 0) → told ≡ Some next → HasNext seat s2 next
+next_at_once seat s1 s2 lease gone next done told has spent both unused some =
+    let more = settled_whole seat s1 both.mid lease gone done has spent both.settles in
+    let leases = subst (λ (x : Option LeaseValue). MatchOption x (s2 ≡ both.mid) (λ next. Leases next both.mid s2)) some
+    both.leases in
+    record {
+      added = more.0;
+      spent = more.1;
+      leased = subst (λ (s : WorkSeatValue). Leases next s s2) more.2 leases;
+      unused = subst (λ (x : Option LeaseValue). IfSome x (λ next. next.used ≡ 0)) some unused;
+    }
+
+-- and it gets none at once
+settled_alone : (seat s1 s2 : WorkSeatValue) (lease gone : LeaseValue) (done : code.Settled) (told : Option LeaseValue)
+    → HasNext seat s1 lease → IsDone lease gone → SettlesAndLeases gone done told s1 s2 → told ≡ None
+    → (more : List Act) × AreSpent more × (s2 ≡ adding more seat)
+settled_alone seat s1 s2 lease gone done told has spent both none =
+    let more = settled_whole seat s1 both.mid lease gone done has spent both.settles in
+    let same = subst (λ (x : Option LeaseValue). MatchOption x (s2 ≡ both.mid) (λ next. Leases next both.mid s2)) none
+    both.leases in
+    (more.0, more.1, same ∙ more.2)
+
+-- but later
+pub next_later : (seat s1 s2 s3 : WorkSeatValue) (lease gone next : LeaseValue) (done : code.Settled)
+    (told : Option LeaseValue) → HasNext seat s1 lease → IsDone lease gone → SettlesAndLeases gone done told s1 s2
+    → told ≡ None → Leases next s2 s3 → next.used ≡ 0 → HasNext seat s3 next
+next_later seat s1 s2 s3 lease gone next done told has spent both none leased unused =
+    let more = settled_alone seat s1 s2 lease gone done told has spent both none in
+    record {
+      added = more.0;
+      spent = more.1;
+      leased = subst (λ (s : WorkSeatValue). Leases next s s3) more.2 leased;
+      unused = unused;
+    }
+
+-- or never
+pub next_never : (seat s1 s2 s3 : WorkSeatValue) (lease gone : LeaseValue) (done : code.Settled)
+    (told : Option LeaseValue) (e : Refusal) → HasNext seat s1 lease → IsDone lease gone
+    → SettlesAndLeases gone done told s1 s2 → told ≡ None → s3 ≡ s2 → IsEndOfLeases s2 e → e ≢ Core cores.NoneReady
+    → Works seat s3 e
+next_never seat s1 s2 s3 lease gone done told e has spent both none same why waited =
+    let more = settled_alone seat s1 s2 lease gone done told has spent both none in
+    works_to_end seat s2 s3 more.0 e more.1 more.2 same why waited
+
+-- its lease isn't settled, or comes back as another's
+pub last_refused : (seat s1 s2 : WorkSeatValue) (lease gone : LeaseValue) (e : Refusal) (back : Option LeaseValue)
+    → HasNext seat s1 lease → IsDone lease gone
+    → MatchOption back (FinishesOther gone e s1 s2) (λ back. (back ≡ gone) × (s2 ≡ s1))
+    → IfSome back (λ _. IsSettleRefusal s1 e) → Works seat s2 e
+last_refused seat s1 s2 lease gone e back has spent r why =
+    works_refused seat (adding has.added seat) s1 s2 has.added _ _ _ gone e back has.spent refl has.leased r why
+    (ap (λ (l : LeaseValue). l.used) spent)

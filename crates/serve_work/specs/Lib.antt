@@ -2,6 +2,8 @@ pub mod Clients
 pub mod ClientInside
 pub mod Epochs
 pub mod Hands
+pub mod History
+pub mod HistoryLaws
 pub mod Holding
 pub mod Intervals
 pub mod Laws

@@ -1,35 +1,29 @@
 -- What is told of the streams of a session that come and go.
-use Rattle.std.specs.Prelude.{ℕ, zero, suc, IsTrue, ◌+◌, ◌≡◌, ◌≤◌, ◌⊎◌, ◌++◌, ⊤, false, List, [], ◌∷◌, Option}
-use Rattle.std.specs.Prelude.{None, length, reverse}
-use Rattle.cbs_account.specs.declared.limits.TheConstants.{MOST_WORKERS}
+use Rattle.std.specs.Prelude.{ℕ, IsTrue, ◌≡◌, ◌≤◌, ◌⊎◌, ◌++◌, ⊤, false, List, [], ◌∷◌, Option}
+use Rattle.std.specs.Prelude.{None, Some, length, reverse}
+use Rattle.cbs_account.specs.declared.limits.TheConstants.{MOST_ENTRIES, MOST_QUANTUM, MOST_WORKERS}
 use Rattle.y4m_stream.specs.declared.reader.Phase.TheVariants.{Open}
 use Rattle.y4m_stream.specs.Reader.{IsOfHeader, ReaderState}
 use Rattle.serve_core.specs.declared.refusal.Refusal.TheVariants as cores
-use Rattle.serve_core.specs.declared.limits.TheConstants.{MOST_QUANTUM}
-use Rattle.serve_core.specs.Desk.{desk_state}
 use Rattle.serve_core.specs.Retired.{new_number, retired_schedule, stays}
-use Rattle.serve_core.specs.Schedule.{HasStream, ScheduleValue, opened_schedule}
-use Rattle.serve_core.specs.Setup.{Setup, StreamSpec}
+use Rattle.serve_core.specs.Schedule.{HasStream, ScheduleValue}
+use Rattle.serve_core.specs.Setup.{StreamSpec}
 use Rattle.serve_core.specs.Streams.{KeptStream}
 use Rattle.serve_hub.specs.declared.entry.Act.{Act}
-use Rattle.serve_hub.specs.declared.limits.TheConstants.{MOST_ENTRIES}
-use Rattle.serve_hub.specs.declared.entry.Entry.{Entry}
 use Rattle.serve_hub.specs.declared.entry.Seat.TheVariants.{Stream}
 use Rattle.serve_hub.specs.declared.refusal.Refusal.{Refusal}
 use Rattle.serve_hub.specs.declared.refusal.Refusal.TheVariants.{Core}
-use Rattle.serve_hub.specs.Books.{specs_of}
 use Rattle.serve_hub.specs.Calls.{AllowsAdmission}
-use Rattle.serve_hub.specs.Ends.{AreFree, acts_of}
-use Rattle.serve_hub.specs.Journal.{IsJournal}
+use Rattle.serve_hub.specs.Ends.{acts_of}
 use Rattle.serve_hub.specs.Seats.{StreamSeatValue}
 use Rattle.serve_work.specs.declared.request.Answer.{Answer}
 use Rattle.serve_work.specs.declared.request.Answer.TheVariants as answers
 use Rattle.serve_work.specs.declared.request.Request.{Request}
 use Rattle.serve_work.specs.declared.request.Standing.{Standing}
 use Rattle.serve_work.specs.Clients.{AllowsStop, ClientStart, collections_in, offers_in}
+use Rattle.serve_work.specs.History.{EpochValue, IsHistory, OpensBehind, OpensFor, Terms}
 use Rattle.serve_work.specs.Rests.{IsRestOf, RestValue}
-use Rattle.serve_work.specs.Sessions.{AreTimed, IsServed, IsStreamTold, ServedValue, open_streams}
-use Rattle.serve_work.specs.Workers.{HaveSpent}
+use Rattle.serve_work.specs.Sessions.{IsServed, IsStreamTold, ServedValue}
 
 -- a stream that is to be served: what it is served with, its reader, and what is known of its writer
 pub record RequestValue : Type 0 where
@@ -86,84 +80,68 @@ start_with request seat = record {
   failures = request.failures;
 }
 
--- an epoch in which a stream had this number: where it opened, its journal, the latest entry first, and where
--- it ended
-pub record PartValue : Type 0 where
-  pub number : ℕ
-  pub opening : ScheduleValue
-  pub journal : List Entry
-  pub last : ScheduleValue
+-- what the stream did that had these numbers in the latest of these epochs, the latest first
+abbrev pub acts_by : List ℕ → List EpochValue → List Act
+acts_by [] epochs = []
+acts_by (number ∷ numbers) [] = []
+acts_by (number ∷ numbers) (epoch ∷ epochs) =
+    acts_by numbers epochs ++ acts_of (Stream number) (reverse epoch.journal)
 
--- what the stream did in it
-abbrev pub acts_in_part : PartValue → List Act
-acts_in_part part = acts_of (Stream part.number) (reverse part.journal)
-
--- and in epochs, the latest first
-abbrev pub acts_in_parts : List PartValue → List Act
-acts_in_parts [] = []
-acts_in_parts (part ∷ before) = acts_in_parts before ++ acts_in_part part
-
--- the epoch's journal leads from where it opened to where it ended; each lease was settled with its whole
--- grant, and the journal has room for a close of each open stream. Each entry of a frame of the stream is at
--- one of these times
-pub record IsPart (limit : ℕ) (times : ℕ → Type 0) (part : PartValue) : Type 0 where
-  pub leads : IsJournal (specs_of part.last) (desk_state part.opening) part.journal (desk_state part.last)
-  pub free : AreFree part.last.workers
-  pub spent : HaveSpent (length part.last.workers) part.journal
-  pub fits : length part.journal + open_streams (desk_state part.last) ≤ limit
-  pub timed : AreTimed times part.number (specs_of part.last) (desk_state part.opening) part.journal
-
--- the released streams were taken out of a schedule so many times, and the stream of this number, which was
--- never one of them, has this number then
-abbrev pub IsKeptOver : (times : ℕ) (last : ScheduleValue) (old : ℕ) (opening : ScheduleValue) (number : ℕ)
-    → Type 0
-IsKeptOver zero last old opening number = (opening ≡ last) × (number ≡ old)
-IsKeptOver (suc times) last old opening number =
-    IsTrue (stays last old) × IsKeptOver times (retired_schedule last) (new_number last old) opening number
-
--- a hub opens here, for a stream of this spec alone
-pub record OpensFor (spec : StreamSpec) (number : ℕ) (opening : ScheduleValue) : Type 0 where
-  pub setup : Setup
-  pub streams : setup.streams ≡ spec ∷ []
-  pub opened : opening ≡ opened_schedule setup
-  pub first : number ≡ 0
+-- a stream that had the old number where an epoch ended has this one where another opens: the same, or where
+-- the released streams were taken out, of which it was none, its number then
+abbrev pub IsKept : (last : ScheduleValue) (old : ℕ) (opening : ScheduleValue) (number : ℕ) → Type 0
+IsKept last old opening number =
+    ((opening ≡ last) × (number ≡ old))
+    ⊎ ((opening ≡ retired_schedule last) × IsTrue (stays last old) × (number ≡ new_number last old))
 
 -- a stream of this spec is new in the epoch that opens here: its hub opens for it, or it has a number that no
 -- stream has there
-abbrev pub IsNewIn : StreamSpec → (number : ℕ) (opening : ScheduleValue) → Type 0
-IsNewIn spec number opening = OpensFor spec number opening ⊎ (length opening.streams ≤ number)
+abbrev pub IsNewIn : Terms → StreamSpec → (opening : ScheduleValue) (number : ℕ) → Type 0
+IsNewIn terms spec opening number =
+    (OpensFor terms spec opening × (number ≡ 0)) ⊎ (length opening.streams ≤ number)
 
--- the stream is new in the first of its epochs. Each other one opens where the one before it ended, perhaps
--- without the streams that were released there, and the stream keeps its number, but for these
-abbrev pub IsBehind : StreamSpec → (number : ℕ) (opening : ScheduleValue) → List PartValue → Type 0
-IsBehind spec number opening [] = IsNewIn spec number opening
-IsBehind spec number opening (part ∷ before) =
-    (times : ℕ) × IsKeptOver times part.last part.number opening number
+-- the stream that had these numbers in the latest of these epochs has this one where another opens: it is new
+-- there, or was there, and keeps its number, but for streams that were released
+abbrev pub IsBehind : Terms → StreamSpec → List ℕ → List EpochValue → (opening : ScheduleValue) (number : ℕ)
+    → Type 0
+IsBehind terms spec [] epochs opening number = IsNewIn terms spec opening number
+IsBehind terms spec (old ∷ numbers) [] opening number = ⊥
+IsBehind terms spec (old ∷ numbers) (epoch ∷ epochs) opening number =
+    IsKept epoch.last old opening number
 
-abbrev pub AreParts : StreamSpec → (limit : ℕ) (times : ℕ → Type 0) → List PartValue → Type 0
-AreParts spec limit times [] = ⊤
-AreParts spec limit times (part ∷ before) =
-    IsPart limit times part × IsBehind spec part.number part.opening before
-    × AreParts spec limit times before
+-- the stream of the request with this ticket was new in the first of its epochs, which are the latest of these,
+-- and had these numbers there
+abbrev pub HadNumbers : Terms → (ticket : ℕ) → StreamSpec → List ℕ → List EpochValue → Type 0
+HadNumbers terms ticket spec [] epochs = ⊤
+HadNumbers terms ticket spec (number ∷ numbers) [] = ⊥
+HadNumbers terms ticket spec (number ∷ numbers) (epoch ∷ epochs) =
+    (epoch.whose number ≡ Some ticket) × IsBehind terms spec numbers epochs epoch.opening number
+    × HadNumbers terms ticket spec numbers epochs
+
+-- at the end of the latest of these epochs a stream of this number is there, and so it is
+abbrev pub HasAtEnd : List EpochValue → ℕ → (KeptStream → Type 0) → Type 0
+HasAtEnd [] number P = ⊥
+HasAtEnd (epoch ∷ epochs) number P = HasStream epoch.last number P
 
 -- the stream is served with this: its chain, its share, its places and its frames
 abbrev pub IsOfSpec : StreamSpec → KeptStream → Type 0
 IsOfSpec spec stream = stream.state.spec ≡ spec
 
--- the stream of this request was served with what it asked for, in epochs from its admission on, by its
--- calls in their journals, and is told as it stood at the end of the last. A clock that gives these times
--- allows its stop
-pub record IsServedSince (limit : ℕ) (times : ℕ → Type 0) (request : RequestValue) (served : ServedValue)
-    : Type 0 where
+-- these are the session's epochs until now, and in the latest of them the stream of this request was served
+-- with what it asked for, from its admission on, by its calls in their journals. It is told as it stood at the
+-- end of the last. A clock that gives these times allows its stop
+pub record IsServedSince (terms : Terms) (times : ℕ → Type 0) (epochs : List EpochValue) (ticket : ℕ)
+    (request : RequestValue) (served : ServedValue) : Type 0 where
+  pub history : IsHistory terms times epochs
   pub seat : StreamSeatValue
   pub is_new : IsSeatFor request.spec seat
   pub is_served : IsServed (start_with request seat) served
-  pub part : PartValue
-  pub before : List PartValue
-  pub parts : AreParts request.spec limit times (part ∷ before)
-  pub calls : is_served.past ++ is_served.seat.calls.list ≡ acts_in_parts (part ∷ before)
-  pub stream : HasStream part.last part.number (IsStreamTold served)
-  pub spec : HasStream part.last part.number (IsOfSpec request.spec)
+  pub number : ℕ
+  pub before : List ℕ
+  pub numbers : HadNumbers terms ticket request.spec (number ∷ before) epochs
+  pub calls : is_served.past ++ is_served.seat.calls.list ≡ acts_by (number ∷ before) epochs
+  pub stream : HasAtEnd epochs number (IsStreamTold served)
+  pub spec : HasAtEnd epochs number (IsOfSpec request.spec)
   pub stop : AllowsStop times served.outcome.stop
 
 -- as the stream stands, it is shown
@@ -175,25 +153,27 @@ pub record IsStandingOf (standing : Standing) (stream : KeptStream) : Type 0 whe
   pub budget : standing.budget ≡ stream.state.account.budget
   pub deadline : standing.deadline ≡ stream.state.account.deadline
 
--- something is left to do of the stream of this request, which was served with what it asked for, in epochs
--- from its admission on, by its calls in their journals, and is shown as it stood at the end of the last. As
--- many of its frames are shown as accepted as these calls offered, and as collected as they collected
-pub record IsStanding (limit : ℕ) (times : ℕ → Type 0) (request : RequestValue) (standing : Standing)
-    : Type 0 where
+-- these are the session's epochs until now. Something is left to do of the stream of this request, which was
+-- served with what it asked for, in the latest of them, from its admission on, by its calls in their journals,
+-- and is shown as it stood at the end of the last. As many of its frames are shown as accepted as these calls
+-- offered, and as collected as they collected
+pub record IsStanding (terms : Terms) (times : ℕ → Type 0) (epochs : List EpochValue) (ticket : ℕ)
+    (request : RequestValue) (standing : Standing) : Type 0 where
+  pub history : IsHistory terms times epochs
   pub first : StreamSeatValue
   pub is_new : IsSeatFor request.spec first
   pub past : List Act
   pub seat : StreamSeatValue
   pub rest : RestValue
   pub left : IsRestOf (start_with request first) past seat rest
-  pub part : PartValue
-  pub before : List PartValue
-  pub parts : AreParts request.spec limit times (part ∷ before)
-  pub calls : past ++ seat.calls.list ≡ acts_in_parts (part ∷ before)
+  pub number : ℕ
+  pub before : List ℕ
+  pub numbers : HadNumbers terms ticket request.spec (number ∷ before) epochs
+  pub calls : past ++ seat.calls.list ≡ acts_by (number ∷ before) epochs
   pub accepted : standing.accepted ≡ offers_in (past ++ seat.calls.list)
   pub collected : standing.collected ≡ collections_in (past ++ seat.calls.list)
-  pub stream : HasStream part.last part.number (IsStandingOf standing)
-  pub spec : HasStream part.last part.number (IsOfSpec request.spec)
+  pub stream : HasAtEnd epochs number (IsStandingOf standing)
+  pub spec : HasAtEnd epochs number (IsOfSpec request.spec)
 
 -- how many entries an epoch's journal may have: a close of each of 64 streams, an admission of each, and a
 -- lease with its settlement
@@ -212,12 +192,21 @@ pub record IsForm (workers quantum : ℕ) : Type 0 where
 abbrev pub AllowsRefusal : StreamSpec → Refusal → Type 0
 AllowsRefusal spec e = AllowsAdmission spec e ⊎ (e ≡ Core cores.NoMemory)
 
--- what is told of a request: that the stream isn't served, whose reader and writer come back as they were, or
--- what it came to
-abbrev pub IsAnswer : {R W : Type 0} (contents : W → Option (List ℕ)) (failures : W → ℕ) (limit : ℕ)
-    (times : ℕ → Type 0) → RequestValue → Answer R W → Type 0
-IsAnswer contents failures limit times request (answers.Refused e reader writer) =
+-- a stream of this spec is new in an epoch that opens behind these: its hub opens for it, where no other request
+-- waits, or it has a number that no stream has there
+pub record IsAdmitted (terms : Terms) (epochs : List EpochValue) (others : List Waiting) (spec : StreamSpec)
+    : Type 0 where
+  pub opening : ScheduleValue
+  pub opens : OpensBehind terms epochs opening
+  pub number : ℕ
+  pub is_new : (OpensFor terms spec opening × (number ≡ 0) × (others ≡ [])) ⊎ (length opening.streams ≤ number)
+
+-- what is told of a request, behind these epochs: that the stream isn't served, whose reader and writer come
+-- back as they were, or what it came to
+abbrev pub IsAnswer : {R W : Type 0} (contents : W → Option (List ℕ)) (failures : W → ℕ) (terms : Terms)
+    (times : ℕ → Type 0) (epochs : List EpochValue) (ticket : ℕ) → RequestValue → Answer R W → Type 0
+IsAnswer contents failures terms times epochs ticket request (answers.Refused e reader writer) =
     AllowsRefusal request.spec e × (reader ≡ request.reader) × (contents writer ≡ request.before)
     × (failures writer ≡ request.failures)
-IsAnswer contents failures limit times request (answers.Ended served) =
-    IsServedSince limit times request served
+IsAnswer contents failures terms times epochs ticket request (answers.Ended served) =
+    IsServedSince terms times epochs ticket request served

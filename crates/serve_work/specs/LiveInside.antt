@@ -1,13 +1,14 @@
 -- What contracts inside the crate say of the streams of a session that come and go.
 use Rattle.std.specs.Prelude.{ℕ, ◌+◌, ◌≡◌, ◌≤◌, ◌<◌, ◌++◌, ⊤, All, Bool, false, List, [], ◌∷◌, Option, Some}
 use Rattle.std.specs.Prelude.{None, IfSome, IsSomeAnd, if◌then◌else◌, length, map, slice_get}
-use Rattle.std.specs.List.{AllZip}
+use Rattle.std.specs.List.{AllByRecursion, AllZip}
 use Rattle.std.specs.Vec.{vec_capacity, vec_len}
-use Rattle.edf_pool.specs.declared.limits.TheConstants.{MOST_STREAMS}
+use Rattle.cbs_account.specs.declared.limits.TheConstants.{MOST_STREAMS}
 use Rattle.serve_core.specs.declared.refusal.Refusal.TheVariants as cores
 use Rattle.serve_core.specs.declared.setup.SetupError.{SetupError}
 use Rattle.serve_core.specs.declared.setup.SetupError.TheVariants as setups
 use Rattle.serve_core.specs.Schedule.{HasStream, ScheduleValue}
+use Rattle.serve_core.specs.Setup.{IsSetup, setup_of}
 use Rattle.serve_hub.specs.declared.entry.Act.{Act}
 use Rattle.serve_hub.specs.declared.refusal.Refusal.{Refusal}
 use Rattle.serve_hub.specs.declared.refusal.Refusal.TheVariants.{Core}
@@ -19,47 +20,51 @@ use Rattle.serve_work.specs.declared.live.guests.Ticket.{Ticket}
 use Rattle.serve_work.specs.declared.live.opening.FirstStream.{FirstStream}
 use Rattle.serve_work.specs.declared.live.opening.Hall.{Hall}
 use Rattle.serve_work.specs.Clients.{AllowsStop, offers_in}
-use Rattle.serve_work.specs.Intervals.{ArePlacesFor}
-use Rattle.serve_work.specs.Live.{AreParts, IsBehind, IsOfSpec, IsRequest, IsSeatFor, PartValue, RequestValue}
-use Rattle.serve_work.specs.Live.{Waiting, acts_in_parts, start_with}
+use Rattle.serve_work.specs.History.{EpochValue, IsHistory, IsLeftBy, OpensBehind, Terms}
+use Rattle.serve_work.specs.Intervals.{ArePlacesFor, HasNoCalls}
+use Rattle.serve_work.specs.Live.{HadNumbers, IsBehind, IsOfSpec, IsRequest, IsSeatFor, RequestValue}
+use Rattle.serve_work.specs.Live.{Waiting, acts_by, start_with}
 use Rattle.serve_work.specs.SessionInside.{HeldValue, StandsAt, held_at}
 use Rattle.serve_work.specs.StreamInside.{StreamValue, stream_stop}
 
--- where the stream of this request stands with its seat where an epoch opens: the seat has offered no frame
-pub record Begins (limit : ℕ) (times : ℕ → Type 0) (opening : ScheduleValue) (request : RequestValue)
-    (stream : StreamValue) (seat : StreamSeatValue) : Type 0 where
+-- where the stream of this request stands with its seat where an epoch opens behind these: the seat has
+-- offered no frame
+pub record Begins (terms : Terms) (times : ℕ → Type 0) (epochs : List EpochValue) (opening : ScheduleValue)
+    (ticket : ℕ) (request : RequestValue) (stream : StreamValue) (seat : StreamSeatValue) : Type 0 where
   pub is_request : IsRequest request
   pub first : StreamSeatValue
   pub is_new : IsSeatFor request.spec first
-  pub parts : List PartValue
-  pub are : AreParts request.spec limit times parts
-  pub behind : IsBehind request.spec seat.number opening parts
-  pub stands : StandsAt stream (start_with request first) (acts_in_parts parts) seat
+  pub numbers : List ℕ
+  pub had : HadNumbers terms ticket request.spec numbers epochs
+  pub behind : IsBehind terms request.spec numbers epochs opening seat.number
+  pub stands : StandsAt stream (start_with request first) (acts_by numbers epochs) seat
   pub no_offers : offers_in seat.calls.list ≡ 0
   pub no_moments : seat.moments ≡ None
   pub stop : IfSome (stream_stop stream) (AllowsStop times)
 
--- and where it came to an end here, perhaps before the released streams were taken out
-pub record Stood (limit : ℕ) (times : ℕ → Type 0) (last : ScheduleValue) (request : RequestValue)
-    (stream : StreamValue) (seat : StreamSeatValue) : Type 0 where
+-- and where the latest of them came to an end here, perhaps before the released streams were taken out
+pub record Stood (terms : Terms) (times : ℕ → Type 0) (epochs : List EpochValue) (last : ScheduleValue)
+    (ticket : ℕ) (request : RequestValue) (stream : StreamValue) (seat : StreamSeatValue) : Type 0 where
   pub is_request : IsRequest request
   pub first : StreamSeatValue
   pub is_new : IsSeatFor request.spec first
   pub past : List Act
-  pub part : PartValue
-  pub before : List PartValue
-  pub are : AreParts request.spec limit times (part ∷ before)
-  pub behind : IsBehind request.spec seat.number last (part ∷ before)
+  pub number : ℕ
+  pub before : List ℕ
+  pub had : HadNumbers terms ticket request.spec (number ∷ before) epochs
+  pub behind : IsBehind terms request.spec (number ∷ before) epochs last seat.number
   pub stands : StandsAt stream (start_with request first) past seat
-  pub calls : past ++ seat.calls.list ≡ acts_in_parts (part ∷ before)
+  pub calls : past ++ seat.calls.list ≡ acts_by (number ∷ before) epochs
   pub stop : IfSome (stream_stop stream) (AllowsStop times)
 
 -- the stream of a request that waits, with its seat, where an epoch opens, and where it came to its end
-abbrev pub HasTurn : (limit : ℕ) (times : ℕ → Type 0) (opening : ScheduleValue) → Waiting → HeldValue → Type 0
-HasTurn limit times opening w held = Begins limit times opening w.request held.stream held.seat
+abbrev pub HasTurn : (terms : Terms) (times : ℕ → Type 0) (epochs : List EpochValue) (opening : ScheduleValue)
+    → Waiting → HeldValue → Type 0
+HasTurn terms times epochs opening w held = Begins terms times epochs opening w.ticket w.request held.stream held.seat
 
-abbrev pub HadTurn : (limit : ℕ) (times : ℕ → Type 0) (last : ScheduleValue) → Waiting → HeldValue → Type 0
-HadTurn limit times last w held = Stood limit times last w.request held.stream held.seat
+abbrev pub HadTurn : (terms : Terms) (times : ℕ → Type 0) (epochs : List EpochValue) (last : ScheduleValue)
+    → Waiting → HeldValue → Type 0
+HadTurn terms times epochs last w held = Stood terms times epochs last w.ticket w.request held.stream held.seat
 
 -- what is kept of a request beside its stream
 abbrev pub ticket_of : Waiting → Ticket
@@ -67,16 +72,16 @@ ticket_of w = record { number = w.ticket; spec = w.request.spec }
 
 -- the stream of a request that waits, with its seat of the epoch that ended, and of the next one. It is
 -- served with what the request asked for
-abbrev pub IsGuestAt : {R W : Type 0} (limit : ℕ) (times : ℕ → Type 0) (last : ScheduleValue) → Guest R W
-    → StreamSeatValue → Waiting → Type 0
-IsGuestAt limit times last guest seat w =
-    (guest.ticket ≡ ticket_of w) × Stood limit times last w.request guest.stream seat
+abbrev pub IsGuestAt : {R W : Type 0} (terms : Terms) (times : ℕ → Type 0) (epochs : List EpochValue)
+    (last : ScheduleValue) → Guest R W → StreamSeatValue → Waiting → Type 0
+IsGuestAt terms times epochs last guest seat w =
+    (guest.ticket ≡ ticket_of w) × Stood terms times epochs last w.ticket w.request guest.stream seat
     × HasStream last seat.number (IsOfSpec w.request.spec)
 
-abbrev pub IsGuestIn : {R W : Type 0} (limit : ℕ) (times : ℕ → Type 0) (opening : ScheduleValue) → Guest R W
-    → StreamSeatValue → Waiting → Type 0
-IsGuestIn limit times opening guest seat w =
-    (guest.ticket ≡ ticket_of w) × Begins limit times opening w.request guest.stream seat
+abbrev pub IsGuestIn : {R W : Type 0} (terms : Terms) (times : ℕ → Type 0) (epochs : List EpochValue)
+    (opening : ScheduleValue) → Guest R W → StreamSeatValue → Waiting → Type 0
+IsGuestIn terms times epochs opening guest seat w =
+    (guest.ticket ≡ ticket_of w) × Begins terms times epochs opening w.ticket w.request guest.stream seat
 
 -- each place has a seat, and each stream a request, in the same order
 abbrev pub AllAt : {A B C : Type 0} (P : A → B → C → Type 0) → List (Option A) → List B → List C → Type 0
@@ -126,34 +131,37 @@ abbrev pub nobody : {R W : Type 0} → List StreamSeatValue → List (Option (Gu
 nobody [] = []
 nobody (seat ∷ idle) = None ∷ nobody idle
 
--- the streams of a session between two epochs, by the seats of the one that ended, and their requests, which
--- wait
-pub record AreGuests {R W : Type 0} (limit : ℕ) (times : ℕ → Type 0) (ended : EndedValue) (ws : List Waiting)
-    (guests : List (Option (Guest R W))) : Type 0 where
+-- the streams of a session behind these epochs, by the seats of the latest, and their requests, which wait
+pub record AreGuests {R W : Type 0} (terms : Terms) (times : ℕ → Type 0) (epochs : List EpochValue)
+    (ended : EndedValue) (ws : List Waiting) (guests : List (Option (Guest R W))) : Type 0 where
+  pub history : IsHistory terms times epochs
+  pub left_here : IsLeftBy epochs ended.book.desk
   pub seats : List StreamSeatValue
   pub rests : ended.streams ≡ map left_by seats
   pub few : length seats ≤ MOST_STREAMS
   pub kept : AreStreamsOf ended.book.desk seats
   pub charges : All IsCharged ended.book.desk.streams
-  pub of_limit : ended.book.limit ≡ limit
-  pub each : AllAt (IsGuestAt limit times ended.book.desk) guests seats ws
+  pub of_limit : ended.book.limit ≡ terms.limit
+  pub each : AllAt (IsGuestAt terms times epochs ended.book.desk) guests seats ws
 
--- the same, whatever requests these are that wait
-abbrev pub HaveWaited : {R W : Type 0} (waits : List Waiting → Type 0) (limit : ℕ) (times : ℕ → Type 0)
-    → EndedValue → List (Option (Guest R W)) → Type 0
-HaveWaited waits limit times ended guests =
-    (ws : List Waiting) × waits ws × AreGuests limit times ended ws guests
+-- the same, whatever epochs and requests these are
+abbrev pub HaveWaited : {R W : Type 0} (stands : List EpochValue → List Waiting → Type 0) (terms : Terms)
+    (times : ℕ → Type 0) → EndedValue → List (Option (Guest R W)) → Type 0
+HaveWaited stands terms times ended guests =
+    (epochs : List EpochValue) × (ws : List Waiting) × stands epochs ws
+    × AreGuests terms times epochs ended ws guests
 
-abbrev pub IsLiveInterval : {R W : Type 0} (waits : List Waiting → Type 0) (limit : ℕ) (times : ℕ → Type 0)
-    → Interval R W → Type 0
-IsLiveInterval waits limit times now = HaveWaited waits limit times now.ended now.guests.items
+abbrev pub IsLiveInterval : {R W : Type 0} (stands : List EpochValue → List Waiting → Type 0) (terms : Terms)
+    (times : ℕ → Type 0) → Interval R W → Type 0
+IsLiveInterval stands terms times now = HaveWaited stands terms times now.ended now.guests.items
 
 -- the stream whose seat was handed over at this place can be told, and its request is this one
-pub record CanTell {R W : Type 0} (limit : ℕ) (times : ℕ → Type 0) (ended : EndedValue) (place : ℕ)
-    (guest : Guest R W) (w : Waiting) : Type 0 where
+pub record CanTell {R W : Type 0} (terms : Terms) (times : ℕ → Type 0) (epochs : List EpochValue)
+    (ended : EndedValue) (place : ℕ) (guest : Guest R W) (w : Waiting) : Type 0 where
+  pub history : IsHistory terms times epochs
   pub ticket : guest.ticket ≡ ticket_of w
   pub seat : StreamSeatValue
-  pub stood : Stood limit times ended.book.desk w.request guest.stream seat
+  pub stood : Stood terms times epochs ended.book.desk w.ticket w.request guest.stream seat
   pub asked : HasStream ended.book.desk seat.number (IsOfSpec w.request.spec)
   pub here : slice_get ended.streams place ≡ Some (left_by seat)
   pub kept : HasStream ended.book.desk seat.number (IsStreamOf seat)
@@ -190,22 +198,27 @@ tickets_of (seat ∷ seats) (Some guest ∷ guests) = guest.ticket ∷ tickets_o
 tickets_of (seat ∷ seats) (None ∷ guests) = tickets_of seats guests
 tickets_of seats guests = []
 
--- the streams of an epoch that opens, with their seats, and their requests, which wait
-pub record AreSeated {L R W : Type 0} (limit : ℕ) (times : ℕ → Type 0) (opening : ScheduleValue)
-    (ws : List Waiting) (hall : Hall L R W) : Type 0 where
+-- the streams of an epoch that opens behind these, with their seats, and their requests, which wait. The seats
+-- without a stream have made no call
+pub record AreSeated {L R W : Type 0} (terms : Terms) (times : ℕ → Type 0) (epochs : List EpochValue)
+    (opening : ScheduleValue) (ws : List Waiting) (hall : Hall L R W) : Type 0 where
+  pub history : IsHistory terms times epochs
+  pub opens : OpensBehind terms epochs opening
+  pub idle : AllByRecursion HasNoCalls hall.idle.items
   pub places : HasPlaces hall
   pub few : vec_len hall.room.turns + vec_len hall.idle ≤ MOST_STREAMS
   pub helds : List HeldValue
   pub turns : hall.room.turns.items ≡ map Some helds
   pub tickets : hall.tickets.items ≡ map ticket_of ws
-  pub each : AllZip (HasTurn limit times opening) ws helds
+  pub each : AllZip (HasTurn terms times epochs opening) ws helds
 
 -- the first stream of a hub is that of this request
-pub record IsFirst {R W : Type 0} (contents : W → Option (List ℕ)) (failures : W → ℕ) (w : Waiting)
-    (stream : FirstStream R W) : Type 0 where
+pub record IsFirst {R W : Type 0} (contents : W → Option (List ℕ)) (failures : W → ℕ) (terms : Terms)
+    (w : Waiting) (stream : FirstStream R W) : Type 0 where
   pub ticket : stream.ticket ≡ ticket_of w
   pub is_request : IsRequest w.request
-  pub streams : stream.setup.streams ≡ w.request.spec ∷ []
+  pub setup : stream.setup ≡ setup_of terms.workers terms.quantum (w.request.spec ∷ [])
+  pub is_setup : IsSetup stream.setup
   pub reader : stream.reader ≡ w.request.reader
   pub before : contents stream.writer ≡ w.request.before
   pub failures_of : failures stream.writer ≡ w.request.failures

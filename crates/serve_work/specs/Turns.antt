@@ -1,7 +1,8 @@
 -- What a client comes to in an epoch.
-use Rattle.std.specs.Prelude.{ℕ, ◌<◌, ⊤, Bool, List, Option, Some}
+use Rattle.std.specs.Prelude.{ℕ, ⊤, Bool, List, Option, Some}
 use Rattle.y4m_stream.specs.Reader.{ReaderState}
 use Rattle.serve_hub.specs.declared.entry.Act.{Act}
+use Rattle.serve_hub.specs.Books.{IsFull}
 use Rattle.serve_hub.specs.Seats.{StreamSeatValue}
 use Rattle.serve_work.specs.declared.clients.ClientTurn.{ClientTurn}
 use Rattle.serve_work.specs.declared.clients.ClientTurn.TheVariants as turns
@@ -38,7 +39,8 @@ abbrev pub Turns : {L R W : Type 0} → ClientStart → List Act → ClientTurn 
 Turns start past (turns.Ended end) = ClientEnds start past end.seat end.outcome
 Turns start past (turns.Paused seat rest told) = IsRestOf start past seat rest
 
--- where it paused, its hub had told that the journal had no place for another lease and its settlement
+-- where it paused, its hub had told that the epoch was being ended, or that the journal had no place for another
+-- lease and its settlement
 abbrev pub PausesAtFull : {L R W : Type 0} → ClientTurn L R W → Type 0
 PausesAtFull (turns.Ended end) = ⊤
-PausesAtFull (turns.Paused seat rest told) = told < 2
+PausesAtFull (turns.Paused seat rest told) = IsFull told

@@ -10,7 +10,7 @@ ghost use Rattle.serve_work.specs.Hands.{IsPairOf, counted_with, image_at};
 ghost use Rattle.serve_work.specs.Rests.{CanDrain};
 
 use crate::hand::finish;
-use crate::input::most_ahead;
+use crate::input::{most_ahead, most_kept};
 use crate::pipeline::Pipeline;
 use crate::stop::Halt;
 use serve_core::{Collected, Refusal as Core};
@@ -54,7 +54,10 @@ fn collect_early<L: Epoch, T: Wait>(
     ensures given { IfOk result (λ pair. Gives pair seat.old seat.new) }
     ensures refused { IfErr result (λ e. IsCollectRefused e seat.old seat.new) }
 {
-    if reads_ahead && seat.kept() < most_ahead(seat) {
+    let kept = seat.kept();
+    if kept > 0 && kept >= most_kept(rt, hub, seat) {
+        hub.collect(rt, seat)
+    } else if reads_ahead && kept < most_ahead(seat) {
         hub.try_collect(rt, seat)
     } else {
         hub.collect_soon(rt, seat)

@@ -1,18 +1,7 @@
 //! What a session asks of its surroundings.
 ghost use Rattle.std.specs.Prelude.{ℕ};
 
-/// What a worker did under a lease that it settled.
-#[derive(Clone, Copy)]
-pub struct Stint {
-    pub stream: u32,
-    /// The frame's number in its stream.
-    pub number: u64,
-    /// The bands that were done, and the units that they cost.
-    pub bands: u32,
-    pub units: u32,
-    /// They were the last ones of the frame.
-    pub is_finished: bool,
-}
+use lease::LeaseReport;
 
 /// What is told of the work, band by band, from the threads of the workers. It decides how a band is done.
 ///
@@ -40,7 +29,7 @@ pub trait Gate {
 
     /// Worker `worker` has settled its lease, having done this. The hub then told the stream's deadline and
     /// the moment of its clock.
-    fn lease_ends(&self, _worker: u32, _stint: Stint, _deadline: Option<(u64, u64)>) {}
+    fn lease_ends(&self, _worker: u32, _report: LeaseReport, _deadline: Option<(u64, u64)>) {}
 }
 
 /// What tells the moments at which frames are offered.

@@ -14,6 +14,9 @@ const GLANCE: u64 = 1;
 /// its work.
 const SMALL: usize = 1 << 20;
 
+/// The bytes of a frame of which several, with their images, stay in a processor's cache.
+const CACHED: usize = 1 << 18;
+
 /// What a client finds that is about to read.
 #[derive(Clone, Copy, Debug, PartialEq, Eq)]
 pub(crate) enum Input {
@@ -55,6 +58,21 @@ pub(crate) fn reads_ahead<L: Epoch, R: Source + Drop>(
 /// How many frames it keeps before it waits for an image, where it reads ahead.
 pub(crate) fn most_ahead<L: Epoch>(seat: &StreamSeat<L>) -> usize {
     if is_small(seat) { seat.places() } else { 2 }
+}
+
+/// How many frames it keeps before it waits for an image, whether or not that comes soon. Where a worker has
+/// no stream of its own, more are read beside the work. Where all have one, the processors are busy anyway,
+/// and a frame that is read early has left the caches when its turn comes. The hub is asked, under its lock,
+/// only where several frames don't stay in a cache.
+pub(crate) fn most_kept<L: Epoch, T: Wait>(rt: &T, hub: &Hub<L>, seat: &StreamSeat<L>) -> usize {
+    let chain = seat.spec().chain();
+    if chain.geometry().bytes() <= CACHED || hub.load(rt).has_spare_workers() {
+        seat.places()
+    } else if chain.steps() < chain.cost() {
+        2
+    } else {
+        1
+    }
 }
 
 fn is_small<L: Epoch>(seat: &StreamSeat<L>) -> bool {

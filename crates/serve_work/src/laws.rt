@@ -1,6 +1,9 @@
 //! What follows from the definitions alone.
 ghost use Rattle.serve_work.specs.Epochs.{NewStreamIsUnbegun, StreamsCross};
+ghost use Rattle.serve_work.specs.HistoryLaws.{EarliestLaw, EpochDemandLaw, HubDemandLaw, TakenOutLaw};
 ghost use Rattle.serve_work.specs.Laws.{AFrontWentOut, InputFaultIsTold, InputIsServed};
+
+use serve_core::laws::charges::{life_demand_law, whole_demand_law};
 
 /// Where a reader was opened on an input and a client has ended, or its stream was given up, a stream text of
 /// the accepted frames stands at the front of the input. Where the stop is `Whole`, that is the whole input,
@@ -31,3 +34,26 @@ pub fn a_new_stream_is_unbegun()
 pub fn streams_cross()
     ensures { StreamsCross }
 {}
+
+/// Over the epochs of a session whose streams come and go each lease went to a stream with an earliest deadline
+/// of those that were ready.
+pub fn each_lease_is_earliest()
+    ensures { EarliestLaw }
+{}
+
+/// In each of its epochs, what the streams were charged that are there, and whose deadline is at most a moment,
+/// is at most that moment, once for each worker of the session.
+pub fn epochs_keep_demand()
+    ensures { EpochDemandLaw }
+{
+    whole_demand_law();
+}
+
+/// So it is of all the streams that there ever were since a hub opened: what was charged of those that were
+/// taken out between two of its epochs counts for ever.
+pub fn a_hub_keeps_demand()
+    ensures taken_out { TakenOutLaw }
+    ensures demand { HubDemandLaw }
+{
+    life_demand_law();
+}

@@ -32,7 +32,7 @@ pub mod workers;
 
 pub use clients::{ClientEnd, ClientTurn, client};
 pub use door::{Bell, Door};
-pub use gate::{Clock, Gate, Stint};
+pub use gate::{Clock, Gate};
 pub use live::serve_live;
 pub use request::{Answer, Request, Standing};
 pub use rest::ClientRest;

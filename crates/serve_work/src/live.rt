@@ -3,7 +3,8 @@
 //! It goes from epoch to epoch. Where a request is at the door, or a question of how the streams stand, or
 //! where a stream is over, the epoch is ended. Then the streams that are over are told, those that are left
 //! are shown if it was asked, and those that came are admitted before the next epoch begins.
-ghost use Rattle.std.specs.Prelude.{ℕ, ◌≡◌, ◌↔◌, ◌⊎◌, [], ◌∷◌, IfErr, IfOk, IsErrOf};
+ghost use Rattle.std.specs.Prelude.{ℕ, ◌≡◌, ◌↔◌, ◌⊎◌, List, [], ◌∷◌, IfErr, IfOk, IsErrOf};
+ghost use Rattle.serve_work.specs.History.{EpochValue, IsHistory, terms_of};
 ghost use Rattle.serve_work.specs.Live.{IsForm, IsLiveLimit, waiting_of};
 ghost use Rattle.serve_work.specs.Sessions.{IsInput};
 ghost use Rattle.serve_work.specs.LiveInside.{IsLiveInterval};
@@ -22,11 +23,12 @@ use crate::gate::{Clock, Gate};
 use crate::request::Request;
 use crate::session::SessionFault;
 use crate::setting::Setting;
+use cbs_account::limits::MOST_ENTRIES;
 use epochs::{first_epoch, next_epoch};
 use form::Form;
 use guests::{Interval, show_guests, show_none, tell_guests};
 use retirement::retire_released;
-use serve_hub::limits::{MOST_ENTRIES, MOST_SEATS};
+use serve_hub::limits::MOST_SEATS;
 use std::alloc::Global;
 use std::marker::Brand;
 use std::sync::Wait;
@@ -45,12 +47,14 @@ fn serve_from<R: SentSource, W: SentSink, D: LentDoor<R, W>, G: LentGate, K: Len
     request: Request<R, W>,
     door: &mut D,
 ) -> Result<(), SessionFault>
-    requires limit { form.limit ≡ D.limit }
+    requires terms { terms_of form.workers form.quantum form.limit ≡ D.terms }
     requires times { (at : ℕ) → K.gives setting.clock.now at → D.times at }
-    requires waits { D.waits door.old (waiting_of W.contents W.failures request ∷ []) }
+    requires waits { (es : List EpochValue) × IsHistory D.terms D.times es
+        × D.stands door.old es (waiting_of W.contents W.failures request ∷ []) }
     requires input { IsInput request.spec (request.reader, request.writer) }
     ensures fault { IfErr result (λ e. e ≡ SessionFault.Mismatch) }
-    ensures answered { IfOk result (λ _. D.waits door.new []) }
+    ensures answered { IfOk result (λ _. (es : List EpochValue) × IsHistory D.terms D.times es
+        × D.stands door.new es []) }
 {
     let Some(stream) = opening::set_up(setting.alloc, form, request, door) else {
         return Ok(());
@@ -69,9 +73,10 @@ fn go_on<R: SentSource, W: SentSink, D: LentDoor<R, W>, G: LentGate, K: LentCloc
     door: &mut D,
 ) -> Result<(), SessionFault>
     requires times { (at : ℕ) → K.gives setting.clock.now at → D.times at }
-    requires guests { IsLiveInterval (D.waits door.old) D.limit D.times interval }
+    requires guests { IsLiveInterval (D.stands door.old) D.terms D.times interval }
     ensures fault { IfErr result (λ e. e ≡ SessionFault.Mismatch) }
-    ensures answered { IfOk result (λ _. D.waits door.new []) }
+    ensures answered { IfOk result (λ _. (es : List EpochValue) × IsHistory D.terms D.times es
+        × D.stands door.new es []) }
 {
     let mut interval = interval;
     for _ in setting.rt.forever() {
@@ -109,10 +114,11 @@ pub fn serve_live<
     clock: &K,
 ) -> Result<(), SessionFault>
     requires form { IsForm workers quantum }
-    requires limit { limit ≡ D.limit }
+    requires terms { terms_of workers quantum limit ≡ D.terms }
     requires times { (at : ℕ) → K.gives clock.now at → D.times at }
-    requires nobody { D.waits door.old [] }
-    ensures answered { IfOk result (λ _. D.waits door.new []) }
+    requires nobody { (es : List EpochValue) × IsHistory D.terms D.times es × D.stands door.old es [] }
+    ensures answered { IfOk result (λ _. (es : List EpochValue) × IsHistory D.terms D.times es
+        × D.stands door.new es []) }
     ensures over { IfOk result (λ _. D.is_over door.new) }
     ensures bad_limit { IsErrOf result SessionFault.BadLimit ↔ ¬ IsLiveLimit limit }
     ensures fault { IfErr result (λ e. (e ≡ SessionFault.BadLimit) ⊎ (e ≡ SessionFault.Mismatch)) }

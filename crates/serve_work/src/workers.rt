@@ -4,8 +4,8 @@ ghost use Rattle.lease.specs.Lease.{spent_of};
 ghost use Rattle.filters.specs.Steps.{steps_of};
 ghost use Rattle.serve_work.specs.Workers.{Works};
 
-use crate::gate::{Gate, Stint};
-use lease::Lease;
+use crate::gate::Gate;
+use lease::{Lease, LeaseReport};
 use serve_hub::{Epoch, Hub, LeaseRefused, Refusal, WorkSeat};
 use std::sync::Wait;
 use std::thread::Threads;
@@ -35,27 +35,18 @@ fn spend<G: Gate + Sync, T: Threads>(rt: &T, worker: u32, lease: &mut Lease, gat
     }
 }
 
-/// What is done under a lease.
-fn stint_of(lease: &Lease) -> Stint
-    ensures frame { (result.stream ≡ lease.now.stream) × (result.number ≡ lease.now.number) }
-    ensures bands { result.bands ≡ lease.now.used }
-    ensures units { result.units ≡ spent_of lease.now }
-    ensures last { IsTrue result.is_finished ↔ (lease.now.job.done ≡ steps_of lease.now.job.chain) }
-{
-    Stint {
-        stream: lease.stream(),
-        number: lease.number(),
-        bands: lease.used(),
-        units: lease.spent(),
-        is_finished: lease.done() == lease.spec().chain().steps(),
-    }
-}
-
 /// Tells a gate that follows leases of one that was settled.
-fn tell<L: Epoch, G: Gate, T: Wait>(rt: &T, hub: &Hub<L>, worker: u32, stint: Stint, gate: &G) {
+fn tell<L: Epoch, G: Gate, T: Wait>(
+    rt: &T,
+    hub: &Hub<L>,
+    worker: u32,
+    report: LeaseReport,
+    gate: &G,
+) {
     if gate.follows_leases() {
-        let deadline = hub.deadline(rt, stint.stream);
-        gate.lease_ends(worker, stint, deadline);
+        let told = hub.deadline(rt, report.stream);
+        let deadline = told.deadline().map(|deadline| (deadline, told.clock()));
+        gate.lease_ends(worker, report, deadline);
     }
 }
 
@@ -84,20 +75,29 @@ pub fn work<L: Epoch, G: Gate + Sync, T: Threads + Wait>(
     ensures { Works seat result.0 result.1 }
 {
     let mut seat = seat;
+    let mut lease = match hub.lease(rt, &mut seat) {
+        Ok(lease) => lease,
+        Err(refusal) => return (seat, refusal),
+    };
     for _ in rt.forever() {
-        let mut lease = match hub.lease(rt, &mut seat) {
-            Ok(lease) => lease,
-            Err(refusal) => return (seat, refusal),
-        };
         if gate.follows_leases() {
             gate.lease_begins(seat.worker());
         }
         spend(rt, seat.worker(), &mut lease, gate);
-        let stint = stint_of(&lease);
-        if let Err(refused) = hub.settle(rt, &mut seat, lease) {
-            return (seat, drop_lease(refused));
-        }
-        tell(rt, hub, seat.worker(), stint, gate);
+        let report = lease.report();
+        let next = match hub.settle_and_lease(rt, &mut seat, lease) {
+            Ok((_, next)) => next,
+            Err(refused) => return (seat, drop_lease(refused)),
+        };
+        tell(rt, hub, seat.worker(), report, gate);
+        lease = match next {
+            Some(next) => next,
+            None => match hub.lease(rt, &mut seat) {
+                Ok(next) => next,
+                Err(refusal) => return (seat, refusal),
+            },
+        };
     }
+    let _job = lease.into_job();
     unreachable!()
 }

@@ -1,13 +1,16 @@
-//! Texts of bytes: their parts round a separator, and the decimal numbers that they write.
+//! Texts of bytes: their parts round a separator, the decimal numbers that they write, and names.
 ghost use Rattle.std.specs.Prelude.{◌≡◌, ◌<◌, ◌≤◌, ◌∷◌, ◌^◌, ◌==◌, All, IsTrue, IfSome, IfNone, length};
 ghost use Rattle.std.specs.Prelude.{position};
 ghost use Rattle.std.specs.Char.{IsAsciiDigit, is_ascii_digit};
 ghost use Rattle.std.specs.List.{before_first, list_all};
 ghost use Rattle.std.specs.Option.{option_copied};
 ghost use Rattle.std.specs.Str.Parse.{digits_value};
-ghost use Rattle.y4m_header.specs.Text.{number_of, parts, parts_left, text_after};
+ghost use Rattle.y4m_header.specs.Text.{is_name, is_name_byte, number_of, parts, parts_left, text_after};
 
 pub use crate::limits::MOST_DIGITS;
+
+/// The longest name of a stream, in bytes.
+const LONGEST_NAME: usize = 32;
 
 /// The index of the first byte of this value.
 pub fn place_of(byte: u8, text: &[u8]) -> Option<usize>
@@ -64,4 +67,23 @@ pub(crate) fn digits_value(digits: &[u8]) -> u64
         value = 10 * value + u64::from(*digit - b'0');
     }
     value
+}
+
+/// Whether a text is the name that a user may give a stream: 1 to 32 letters, digits, `_` or `-`.
+pub fn is_name(text: &[u8]) -> bool
+    ensures { result ≡ is_name text.now }
+{
+    !text.is_empty() && text.len() <= LONGEST_NAME && are_name_bytes(text)
+}
+
+fn are_name_bytes(text: &[u8]) -> bool
+    ensures { result ≡ list_all is_name_byte text.now }
+{
+    text.iter().all(|byte| is_name_byte(*byte))
+}
+
+fn is_name_byte(byte: u8) -> bool
+    ensures { result ≡ is_name_byte byte }
+{
+    byte.is_ascii_alphanumeric() || byte == b'_' || byte == b'-'
 }

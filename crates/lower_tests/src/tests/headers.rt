@@ -5,6 +5,7 @@ use crate::tests::same;
 use std::alloc::Global;
 use std::process::Abort;
 use std::test::Fail;
+use y4m_header::text::is_name;
 use y4m_header::{Chroma, Header, HeaderError, check_frame_line};
 
 /// The columns, the rows and the form of a picture.
@@ -206,4 +207,30 @@ fn an_error_is_printed_as_its_name(rt: HostRuntime) -> Result<(), Fail> {
         same(&rt, (case.0, text.as_str()), *case);
     }
     Ok(())
+}
+
+/// A text, and whether it is a stream's name.
+const STREAM_NAMES: &[(&str, bool)] = &[
+    ("a", true),
+    ("Z", true),
+    ("0", true),
+    ("_", true),
+    ("-", true),
+    ("camera_2-left", true),
+    ("abcdefghijklmnopqrstuvwxyz_-0123", true),
+    ("abcdefghijklmnopqrstuvwxyz_-01234", false),
+    ("", false),
+    ("é", false),
+    ("a b", false),
+    ("a:b", false),
+    ("../a", false),
+    ("a\n", false),
+];
+
+#[test]
+fn a_name_has_1_to_32_letters_digits_and_dashes(rt: HostRuntime) {
+    for case in STREAM_NAMES {
+        let (text, want) = *case;
+        same(&rt, (text, is_name(text.as_bytes())), (text, want));
+    }
 }

@@ -8,7 +8,7 @@ ghost use Rattle.lease.specs.Canvases.{IsScratch};
 use crate::tests::{fails, same, same_at, same_frame, same_list};
 use filters::{Chain, parse_ops};
 use frame_view::{Frame, Geometry};
-use lease::{GrantSpent, Job, JobRefused, JobSpec, Lease, OverRefused, Scratch};
+use lease::{GrantSpent, Job, JobRefused, JobSpec, Lease, LeaseReport, OverRefused, Scratch};
 use row_bands::BandHeight;
 use std::alloc::Global;
 use std::process::Abort;
@@ -233,6 +233,48 @@ fn tells_what_it_is(rt: &impl Abort, job: Job)
     }
     same(rt, told(&lease), (6, 16, 6));
     same(rt, lease.into_job().done(), 6);
+}
+
+/// Six of ten steps are done under a lease. The others are done under the next, and finish the frame.
+#[test]
+fn a_lease_reports_what_is_done_under_it(rt: HostRuntime) -> Result<(), Fail> {
+    let spec = spec_of(rt.alloc(), "blur:2+hflip", COLUMN)?;
+    let job = job_of(rt.alloc(), &spec, b"FRAME", &[5; 10])?;
+    reports_what_is_done(&rt, job);
+    Ok(())
+}
+
+fn reports_what_is_done(rt: &impl Abort, job: Job)
+    requires { IsSome job.scratch }
+{
+    same_steps(rt, &job, 0, 10);
+    let job = reported(rt, Lease::new(job, 6, 70, 7), 6, report_of(6, 16, false));
+    same_steps(rt, &job, 6, 10);
+    let job = reported(rt, Lease::new(job, 6, 70, 4), 4, report_of(4, 4, true));
+    same_steps(rt, &job, 10, 10);
+}
+
+/// The report of frame 70 of stream 6.
+fn report_of(bands: u32, units: u32, is_finished: bool) -> LeaseReport {
+    LeaseReport {
+        stream: 6,
+        number: 70,
+        bands,
+        units,
+        is_finished,
+    }
+}
+
+/// Does so many steps under a lease, and compares what it reports then.
+fn reported(rt: &impl Abort, lease: Lease, steps: u32, want: LeaseReport) -> Job
+    ensures { IsSome result.scratch }
+{
+    let mut lease = lease;
+    for _ in 0..steps {
+        same(rt, lease.step(), Ok(()));
+    }
+    same(rt, lease.report(), want);
+    lease.into_job()
 }
 
 /// A frame's line and samples, and its image's.

@@ -10,19 +10,18 @@ use Rattle.serve_core.specs.Counts.{Came}
 use Rattle.serve_core.specs.Desk.{IsFreshFor, LeadsDesk, bare_frames, desk_state, offered, ticked}
 use Rattle.serve_core.specs.DeskInside.{IsDesk}
 use Rattle.serve_core.specs.Events.{Accepted, Arrive, Reply, Start, Then, Tick, Ticked}
+use Rattle.serve_core.specs.Reached.{IsReached}
 use Rattle.serve_core.specs.Rules.{Allows, AllowsArrive, arrival_refusal, tick_reply}
 use Rattle.serve_core.specs.Schedule.{HasStream, ScheduleValue, stream_by, stream_offered, with_stream_at}
 use Rattle.serve_core.specs.States.{StreamState, did}
 use Rattle.serve_core.specs.Streams.{HasPlace, IsFresh, KeptStream}
+use Rattle.serve_core.specs.Ticked.{at_moment}
 use Rattle.serve_core.proofs.Calls.Desks.{away_set, blanks_more, desk_on, led_then, stream_sound, with_frames}
 use Rattle.serve_core.proofs.Events.Changes.{after_tick}
 use Rattle.serve_core.proofs.Events.Soundness.{one_item}
 use Rattle.serve_core.proofs.Items.Options.{some_and}
 use Rattle.serve_core.proofs.Schedules.Lifts.{led_arrive, stream_here}
-
--- the clock is at a moment, or later
-abbrev pub at_moment : ℕ → ScheduleValue → ScheduleValue
-at_moment at x = record x { clock = max x.clock at }
+use Rattle.serve_core.proofs.Transcripts.Reached.{over_is, reached_is}
 
 no_less : (a b : ℕ) → nat_lt a b ≡ true → nat_lt b a ≡ false
 no_less a b h = grind (arith, nat_tests)
@@ -54,8 +53,16 @@ ticked_by x at true l e =
     )
 ticked_by x at false l e = (tt, ap desk_state (at_clock x x.clock (max x.clock at) (sym (sooner x.clock at e))))
 
-moment_led : (x : ScheduleValue) (at : ℕ) → at ≤ LAST_MOMENT → LeadsDesk x (ticked x.clock at) (at_moment at x)
+pub moment_led : (x : ScheduleValue) (at : ℕ) → at ≤ LAST_MOMENT → LeadsDesk x (ticked x.clock at) (at_moment at x)
 moment_led x at l = ticked_by x at (nat_lt x.clock at) l refl
+
+-- what is reached is reached where the clock goes on
+pub moment_reached : (x : ScheduleValue) (at : ℕ) → at ≤ LAST_MOMENT → IsReached measures_any is_any_image (desk_state x)
+    → IsReached measures_any is_any_image (desk_state (at_moment at x))
+moment_reached x at l r =
+    reached_is measures_any is_any_image (desk_state x) (desk_state (at_moment at x)) (ticked x.clock at)
+    ((over_is measures_any is_any_image (desk_state x) (desk_state (at_moment at x)) (ticked x.clock at)).1
+    (r, moment_led x at l))
 
 not_equal : (a b : ℕ) → a < b → nat_eq a b ≡ false
 not_equal a b h = grind (arith, nat_tests)

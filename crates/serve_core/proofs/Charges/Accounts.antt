@@ -115,7 +115,7 @@ paid_kept spec t n c a l h =
       paid = λ _. h.paid l;
     }
 
-zero_or : (n : ℕ) → (n ≡ 0) ⊎ (1 ≤ n)
+pub zero_or : (n : ℕ) → (n ≡ 0) ⊎ (1 ≤ n)
 zero_or n = grind arith
 
 -- a recharge where the moment is late enough

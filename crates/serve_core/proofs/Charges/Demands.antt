@@ -60,7 +60,7 @@ zero_or : (n : ℕ) → (n ≡ 0) ⊎ (1 ≤ n)
 zero_or n = grind arith
 
 module _ {F : Type 0} where
-  none_charged : (t : ℕ) (x : StreamState F) → IsSound t x → x.accepted ≡ 0 → x.charged ≡ 0
+  pub none_charged : (t : ℕ) (x : StreamState F) → IsSound t x → x.accepted ≡ 0 → x.charged ≡ 0
   none_charged t x h z =
       let n : x.finished ≡ 0 = omega (arith, h.finished) in
       let d : x.done ≡ 0 = h.idle (n ∙ sym z) in

@@ -1,5 +1,5 @@
 -- A stream that is released stays so, and the shares of the others fit.
-use Rattle.std.proofs.Common.{ℕ, zero, suc, ◌+◌, ◌*◌, ◌≡◌, ◌≤◌, Bool, true, false, ◌&&◌, nat_eq, nat_le}
+use Rattle.std.proofs.Common.{ℕ, suc, ◌+◌, ◌*◌, ◌≡◌, ◌≤◌, Bool, true, false, ◌&&◌, nat_eq, nat_le}
 use Rattle.std.proofs.Common.{if◌then◌else◌, refl, sym, ◌∙◌, ap, subst, arith, List, [], ◌∷◌, ◌++◌, length, map}
 use Rattle.std.proofs.Common.{replicate, sum_by, Option, Some, None, slice_get, IsSomeAnd, IsTrue}
 use Rattle.std.proofs.lemmas.Bool.Decides.{nat_tests}
@@ -25,6 +25,7 @@ use Rattle.serve_core.proofs.Events.Summary.{summary_more}
 use Rattle.serve_core.proofs.Events.Turns.{tested_eq}
 use Rattle.serve_core.proofs.Items.Lists.{length_map_at}
 use Rattle.serve_core.proofs.Items.Options.{and_some, some_and}
+use Rattle.serve_core.proofs.Items.Sums.{sum_changed}
 use Rattle.serve_core.proofs.Transcripts.Openings.{legal_sound}
 
 four : (a b c d : Bool) → (a && (b && (c && d))) ≡ true → (a ≡ true) × (b ≡ true) × (c ≡ true) × (d ≡ true)
@@ -124,19 +125,6 @@ module _ {F : Type 0} where
       (share (did_any x o).spec.maximum (did_any x o).spec.period) (share x.spec.maximum x.spec.period)
       (ap (λ (spec : StreamSpec). share spec.maximum spec.period) (same_spec x o)) (released_did t u x o l h c)
 
-  shares_less : (g k : StreamState F → ℕ) (f : ℕ → StreamState F → StreamState F) (i : ℕ)
-      (xs : List (StreamState F))
-      → ((s : ℕ) (x : StreamState F) → slice_get xs s ≡ Some x → k (f (s + i) x) ≤ g x)
-      → sum_by k (map_at i f xs) ≤ sum_by g xs
-  shares_less g k f i [] h = omega arith
-  shares_less g k f i (x ∷ xs) h =
-      let first : 0 + i ≡ i = omega arith in
-      let head : k (f i x) ≤ g x = subst (λ (n : ℕ). k (f n x) ≤ g x) first (h zero x refl) in
-      let tail = shares_less g k f (suc i) xs (λ s y e.
-      let place : suc s + i ≡ s + suc i = omega arith in
-      subst (λ (n : ℕ). k (f n y) ≤ g y) place (h (suc s) y e)) in
-      rw (sum_by-cons k (f i x) (map_at (suc i) f xs), sum_by-cons g x xs) (omega (arith, head, tail))
-
 opened_shares : (F : Type 0) (i : ℕ) (xs : List StreamSpec)
     → sum_by (held_share 0) (map_at i (λ s spec. new_stream {F = F} spec) xs)
     ≡ sum_by share_of (map reservation_of xs)
@@ -159,7 +147,7 @@ module _ {F G : Type 0} (measures : StreamSpec → F → Bool → Type 0)
   quiet_fits m e r h a f =
       let t = clock_after m.clock e r in
       let later = (rises measures is_image m e r h.clock a).0 in
-      let less = shares_less (held_share m.clock) (held_share t)
+      let less = sum_changed (held_share m.clock) (held_share t)
       (λ s x. did_any x (deed s m.clock (held_at m.workers) e r)) 0 m.streams
       (λ s x k.
       let same : s ≡ s + 0 = omega arith in

@@ -11,8 +11,7 @@ use Rattle.filters.specs.declared.limits.TheConstants.{MOST_COST}
 use Rattle.filters.specs.Chain.{format_of}
 use Rattle.filters.proofs.ChainGeometry.{same_geometry}
 use Rattle.stream_queue.specs.declared.limits.TheConstants.{MOST_PLACES}
-use Rattle.cbs_account.specs.declared.limits.TheConstants.{LONGEST_PERIOD}
-use Rattle.edf_pool.specs.declared.limits.TheConstants.{MOST_STREAMS}
+use Rattle.cbs_account.specs.declared.limits.TheConstants.{LONGEST_PERIOD, MOST_STREAMS}
 use Rattle.edf_pool.specs.Earliest.{IsEarliest, IsReady, NoneReady}
 use Rattle.serve_core.specs.declared.held.Held.{Held}
 use Rattle.y4m_header.specs.declared.limits.TheConstants.{MOST_FRAMES}

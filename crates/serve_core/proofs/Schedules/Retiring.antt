@@ -19,13 +19,14 @@ use Rattle.serve_core.proofs.Items.Picks.{passed_first, picked_at, picked_filter
 use Rattle.serve_core.proofs.Items.Picks.{true_or}
 use Rattle.serve_core.proofs.Transcripts.Alone.{retire_is}
 
--- an item that passed a test was there
-filter_from : {X : Type 0} (test : X → Bool) (xs : List X) (t : ℕ) (x : X) → slice_get (filter test xs) t ≡ Some x
-    → (s : ℕ) × (slice_get xs s ≡ Some x)
+-- an item that passed a test was there, and passes it
+pub filter_from : {X : Type 0} (test : X → Bool) (xs : List X) (t : ℕ) (x : X)
+    → slice_get (filter test xs) t ≡ Some x
+    → (s : ℕ) × (slice_get xs s ≡ Some x) × (test x ≡ true)
 filter_from test xs t x e =
     let found = subst (λ ys. slice_get ys t ≡ Some x) (sym (picked_filter test xs)) e in
     let h = picked_from (map test xs) xs t x found in
-    (h.0, h.1)
+    (h.0, h.1, sym (picked_at test xs h.0 x h.1) ∙ h.2)
 
 filter_in : {X : Type 0} (test : X → Bool) (x : X) (xs : List X) → test x ≡ true
     → filter test (x ∷ xs) ≡ x ∷ filter test xs
@@ -36,7 +37,7 @@ filter_out : {X : Type 0} (test : X → Bool) (x : X) (xs : List X) → test x �
 filter_out test x xs e = rw e refl
 
 -- what passes among mapped items
-filter_mapped : {X Y : Type 0} (f : X → Y) (test : Y → Bool) (xs : List X)
+pub filter_mapped : {X Y : Type 0} (f : X → Y) (test : Y → Bool) (xs : List X)
     → filter test (map f xs) ≡ map f (filter (λ x. test (f x)) xs)
 filter_mapped f test [] = refl
 filter_mapped f test (x ∷ xs) =
@@ -60,7 +61,7 @@ module _ {F : Type 0} where
       state_is x.clock x.quantum _ _ _ _
       (sym (filter_mapped (stream_by frames) (λ y. not (is_released x.clock y)) x.streams)) refl
 
-  sound_retired : (m : State F) → Sound m → AreFree m.workers → Sound (retired m)
+  pub sound_retired : (m : State F) → Sound m → AreFree m.workers → Sound (retired m)
   sound_retired m h free =
       let test = λ (x : StreamState F). not (is_released m.clock x) in
       record {

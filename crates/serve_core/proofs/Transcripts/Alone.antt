@@ -23,7 +23,7 @@ use Rattle.serve_core.specs.States.{State, StreamState, after, map_at}
 use Rattle.serve_core.specs.States.{new_stream, state_of, stream_of}
 use Rattle.serve_core.proofs.Events.Kept.{sound}
 use Rattle.serve_core.proofs.Events.Releases.{fits_is}
-use Rattle.serve_core.proofs.Events.Steps.{state, state_is}
+use Rattle.serve_core.proofs.Events.Steps.{state_is}
 use Rattle.serve_core.proofs.Events.Newcomers.{length_admitted}
 use Rattle.serve_core.proofs.Events.Summary.{below_no, next_new, summary_more}
 use Rattle.serve_core.proofs.Items.Lists.{length_map_at}

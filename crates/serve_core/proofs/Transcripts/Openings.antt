@@ -1,14 +1,29 @@
 -- Transcripts from any opening state.
-use Rattle.std.proofs.Common.{◌≡◌, Bool, refl, sym, ◌∙◌, ap, subst}
+use Rattle.std.proofs.Common.{◌≡◌, Bool, length, refl, sym, ◌∙◌, ap, subst}
+use Rattle.serve_core.specs.Counts.{held_after}
 use Rattle.serve_core.specs.Events.{Event, Reply, Start, Then, Transcript, joined}
 use Rattle.serve_core.specs.Leads.{GoingOnLaw, IsLegalFrom, JoinLaw, Leads, LeadsOn, OpeningLaw, SoundFromLaw, StepLaw}
-use Rattle.serve_core.specs.Leads.{opening_state, state_from}
+use Rattle.serve_core.specs.Leads.{UnchangedLaw, opening_state, state_from}
 use Rattle.serve_core.specs.Rules.{Allows, IsLegal}
 use Rattle.serve_core.specs.Setup.{Setup, StreamSpec}
 use Rattle.serve_core.specs.Sound.{Sound}
 use Rattle.serve_core.specs.States.{State, after, state_of}
 use Rattle.serve_core.proofs.Events.Kept.{step_sound}
 use Rattle.serve_core.proofs.Events.Summary.{summary_more}
+use Rattle.serve_core.proofs.Items.Lists.{length_map_at}
+
+module _ (F G : Type 0) where
+  same_quantum : (m : State F) (p : Transcript F G) → (state_from m p).quantum ≡ m.quantum
+  same_quantum m Start = refl
+  same_quantum m (Then p e r) = same_quantum m p
+
+  same_workers : (m : State F) (p : Transcript F G) → length (state_from m p).workers ≡ length m.workers
+  same_workers m Start = refl
+  same_workers m (Then p e r) =
+      length_map_at (λ w h. held_after w h e r) 0 (state_from m p).workers ∙ same_workers m p
+
+  pub unchanged_is : UnchangedLaw F G
+  unchanged_is m p = (same_quantum m p, same_workers m p)
 
 module _ {F G : Type 0} where
   pub from_opening : (setup : Setup) (p : Transcript F G)

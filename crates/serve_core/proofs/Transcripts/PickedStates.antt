@@ -1,12 +1,11 @@
 -- Some of a state's streams alone: what is ready, and what is admitted, among them.
-use Rattle.std.proofs.Common.{ℕ, ◌≡◌, ◌≤◌, inl, inr, Bool, true, false, not}
+use Rattle.std.proofs.Common.{ℕ, ◌≡◌, ◌≤◌, inl, inr, Bool, true, false}
 use Rattle.std.proofs.Common.{if◌then◌else◌, refl, sym, ◌∙◌, ap, subst, List, [], ◌∷◌, ◌++◌, length, map}
 use Rattle.std.proofs.Common.{Option, Some, None, option_map, slice_get, slice_set}
-use Rattle.std.proofs.Common.{MatchOption, ◌+◌, append_assoc}
+use Rattle.std.proofs.Common.{MatchOption, append_assoc}
 use Rattle.std.proofs.lemmas.Option.{slice_get-map}
 use Rattle.edf_pool.specs.Earliest.{IsEarliest, IsReady}
 use Rattle.serve_core.specs.declared.held.Held.{Held}
-use Rattle.serve_core.specs.Counts.{specs}
 use Rattle.serve_core.specs.Events.{Admit, Admitted, Event}
 use Rattle.serve_core.specs.Events.{Reply}
 use Rattle.serve_core.specs.Events.{with_admitted}

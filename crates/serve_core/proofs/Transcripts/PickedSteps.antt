@@ -26,7 +26,6 @@ use Rattle.serve_core.proofs.Events.Turns.{lease_inv}
 use Rattle.serve_core.proofs.Items.Lists.{map_at_same}
 use Rattle.serve_core.proofs.Items.Options.{and_some, some_and}
 use Rattle.serve_core.proofs.Items.Picks.{is_picked}
-use Rattle.serve_core.proofs.Items.Picks.{picked}
 use Rattle.serve_core.proofs.Items.Picks.{place}
 use Rattle.serve_core.proofs.Items.Picks.{place_lt, place_test, true_or}
 use Rattle.serve_core.proofs.Transcripts.PickedStates.{admit_alone, alone, earliest_in, free_to, held_of}

@@ -4,6 +4,7 @@ ghost use Rattle.serve_core.specs.Bare.{measures_any, is_any_image};
 ghost use Rattle.serve_core.specs.Frames.{measures, is_image};
 ghost use Rattle.serve_core.specs.Grants.{GrantLaw};
 ghost use Rattle.serve_core.specs.Laws.{ChargeLaw, DelayLaw, DemandLaw, WholeDemandLaw};
+ghost use Rattle.serve_core.specs.Life.{LifeDemandLaw};
 
 use cbs_account::bandwidth;
 
@@ -42,9 +43,16 @@ pub fn demand_law()
 pub fn whole_demand_law()
     ensures of_frames { WholeDemandLaw measures is_image }
     ensures bare { WholeDemandLaw measures_any is_any_image }
-{
-    bandwidth();
-}
+{}
+
+/// So it is over a whole life, in which transcripts follow one another and the released streams are taken out
+/// between them: what was charged of those that were taken out counts for ever.
+///
+/// A clock that goes on between two of the transcripts is a tick of the later one.
+pub fn life_demand_law()
+    ensures of_frames { LifeDemandLaw measures is_image }
+    ensures bare { LifeDemandLaw measures_any is_any_image }
+{}
 
 /// Bands that are charged one by one lead to where their sum leads at once.
 pub fn at_once_law()

@@ -1,7 +1,8 @@
 //! How transcripts lead from one state to another.
-ghost use Rattle.serve_core.specs.Bare.{BareFromLaw, BareLaw, measures_any, is_any_image};
+ghost use Rattle.filters.specs.ChainImage.{FrameValue};
+ghost use Rattle.serve_core.specs.Bare.{BareFromLaw, BareLaw, Blank, measures_any, is_any_image};
 ghost use Rattle.serve_core.specs.Frames.{measures, is_image};
-ghost use Rattle.serve_core.specs.Leads.{GoingOnLaw, JoinLaw, OpeningLaw, StepLaw};
+ghost use Rattle.serve_core.specs.Leads.{GoingOnLaw, JoinLaw, OpeningLaw, StepLaw, UnchangedLaw};
 ghost use Rattle.serve_core.specs.Reached.{FewLaw, OverJoinLaw, OverLaw, ReachedLaw};
 
 /// One more event with a right reply leads a legal transcript on to another, whose state is what the event
@@ -29,6 +30,12 @@ pub fn going_on_law()
 pub fn join_law()
     ensures of_frames { JoinLaw measures is_image }
     ensures bare { JoinLaw measures_any is_any_image }
+{}
+
+/// No transcript changes the quantum, or how many workers there are.
+pub fn unchanged_law()
+    ensures of_frames { UnchangedLaw FrameValue FrameValue }
+    ensures bare { UnchangedLaw Blank Blank }
 {}
 
 /// A legal transcript without its frames is a legal bare transcript, which leads to the state without its

@@ -250,3 +250,28 @@ fn what_streams_are_served_with_is_compared(rt: HostRuntime) -> Result<(), Fail>
     }
     Ok(())
 }
+
+#[test]
+fn what_a_stream_is_served_with_is_told(rt: HostRuntime) -> Result<(), Fail> {
+    let served = Served {
+        size: Pair,
+        account: (3, 7),
+        queue: 5,
+        outbox: 6,
+        frames: 9,
+        ..PLAIN
+    };
+    let spec = spec_of(rt.alloc(), &served)?;
+    same(&rt, spec.geometry(), geometry_of(Pair));
+    same(&rt, (spec.maximum(), spec.period()), (3, 7));
+    same(&rt, (spec.queue(), spec.outbox(), spec.frames()), (5, 6, 9));
+    Ok(())
+}
+
+#[test]
+fn what_a_machine_is_made_for_is_told(rt: HostRuntime) -> Result<(), Fail> {
+    let setup = Setup::new(2, 5, specs_of(rt.alloc(), &[PLAIN, THIRD])?)?;
+    let told = (setup.workers(), setup.quantum(), setup.streams().len());
+    same(&rt, told, (2, 5, 2));
+    Ok(())
+}

@@ -9,7 +9,7 @@ use crate::epoch::Epoch;
 use crate::refused::AdmitRefused;
 use crate::rest::SeatRest;
 use crate::stream_seat::StreamSeat;
-use edf_pool::limits::MOST_STREAMS;
+use cbs_account::limits::MOST_STREAMS;
 use serve_core::{Newcomer, StreamSpec};
 use std::alloc::Global;
 use std::sync::Wait;

@@ -17,7 +17,8 @@ use std::alloc::Global;
 use std::sync::ledger::Blank;
 
 /// The next epoch of a hub, with its seats, and the journal of the epoch that ended, the oldest entry first.
-/// The journal is empty where [`Ended::retire`] made the end: it was handed out there.
+/// The journal is empty where [`Ended::retire`] made the end, which handed it out, or [`Ended::tick`], which
+/// dropped it.
 #[derive(Drop)]
 pub struct Reopened<L: Epoch> {
     pub hub: Hub<L>,

@@ -3,7 +3,7 @@ ghost use Rattle.std.specs.Prelude.{◌≡◌, ◌≢◌, IfErr, IfOk, IfSome, O
 ghost use Rattle.serve_core.specs.declared.refusal.Refusal.TheVariants.{NoneReady};
 ghost use Rattle.serve_hub.specs.declared.refusal.Refusal.TheVariants.{Core};
 ghost use Rattle.serve_hub.specs.Calls.{HasNumber, IsEndOfLeases, IsLeaseRefusal, IsOutcome};
-ghost use Rattle.serve_hub.specs.Calls.{IsSettleRefusal, IsSettleRefused, Leases, Settles};
+ghost use Rattle.serve_hub.specs.Calls.{IsSettleRefusal, IsSettleRefused, Leases, Settles, SettlesAndLeases};
 
 use super::Hub;
 use crate::entry::Settled;
@@ -92,5 +92,50 @@ impl<L: Epoch> Hub<L> {
         }
         self.wake_if_full(is_full);
         answer
+    }
+
+    /// The worker gives its lease back, as by [`Hub::settle`], and gets the next one, as by
+    /// [`Hub::try_lease`], under the lock once. Where it gets none, a lease that is asked for tells why.
+    ///
+    /// Another worker is woken only where the stream is left with a frame and this one goes on with another's.
+    pub fn settle_and_lease(
+        &self,
+        rt: &impl Wait,
+        seat: &mut WorkSeat<L>,
+        lease: Lease,
+    ) -> Result<(Settled, Option<Lease>), LeaseRefused>
+        ensures settled { IfOk result (λ ans. SettlesAndLeases lease ans.0 ans.1 seat.old seat.new) }
+        ensures outcome { IfOk result (λ ans. IsOutcome lease ans.0 × HasNumber lease ans.0) }
+        ensures unused { IfOk result (λ ans. IfSome ans.1 (λ next. next.used ≡ 0)) }
+        ensures refused { IfErr result (λ e. IsSettleRefused lease e seat.old seat.new) }
+        ensures refusals { IfErr result (λ e. IfSome e.lease (λ _. IsSettleRefusal seat.old e.refusal)) }
+    {
+        let stream = lease.stream();
+        let mut shared = self.shared.lock(rt);
+        let settled = match seat.settle(&mut shared, lease) {
+            Ok(settled) => settled,
+            Err(refused) => {
+                drop(shared);
+                self.wake_all();
+                return Err(refused);
+            }
+        };
+        let next = seat.lease(&mut shared).ok();
+        let (is_full, is_over) = (shared.is_full(), shared.book.desk().is_over());
+        let is_left = match &next {
+            Some(next) => next.stream() != stream && shared.has_work(stream),
+            None => false,
+        };
+        drop(shared);
+        if settled != Settled::Returned {
+            self.for_stream(stream).notify_all();
+        }
+        if is_over {
+            self.for_workers.notify_all();
+        } else if is_left && !is_full {
+            self.for_workers.notify_one();
+        }
+        self.wake_if_full(is_full);
+        Ok((settled, next))
     }
 }

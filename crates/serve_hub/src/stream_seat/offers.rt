@@ -49,7 +49,8 @@ impl<L: Epoch> StreamSeat<L> {
         ensures returns_frame { IfErr result (λ back. back.0 ≡ frame) }
         ensures memory { IfErr result (λ back. ReturnsMemory self.now.chain memory back.1) }
     {
-        let (Ok(spec), Ok(kept)) = (Arc::try_clone(&self.rest.spec), Arc::try_clone(&frame)) else {
+        let (Ok(spec), Ok(kept)) = (Arc::try_clone(self.rest.spec.job()), Arc::try_clone(&frame))
+        else {
             return Err((frame, memory));
         };
         match memory {
@@ -147,7 +148,8 @@ impl<L: Epoch> StreamSeat<L> {
     fn has_place(&self) -> bool
         ensures { IsTrue result ↔ HasPlace self.now }
     {
-        self.rest.kept.len() < self.rest.kept.capacity() && self.rest.accepted < self.rest.frames
+        self.rest.kept.len() < self.rest.kept.capacity()
+            && self.rest.accepted < self.rest.spec.frames()
     }
 
     /// Keeps a frame that was accepted, and tells the number that it should have.
@@ -212,13 +214,13 @@ impl<L: Epoch> StreamSeat<L> {
     fn allows_offer(&self, at: u64, geometry: Geometry, refusal: Core) -> bool
         ensures { IsTrue result ↔ AllowsOffer self.now at geometry refusal }
     {
-        let is_sized = self.rest.spec.fits(geometry);
+        let is_sized = self.rest.spec.job().fits(geometry);
         match refusal {
             Core::ClockEnd => at > LAST_MOMENT,
             Core::Closed => self.rest.is_closed,
             Core::WrongSize => !is_sized,
-            Core::TooManyFrames => self.rest.accepted == self.rest.frames,
-            Core::Full => self.rest.kept.len() as u64 >= self.rest.queue,
+            Core::TooManyFrames => self.rest.accepted == self.rest.spec.frames(),
+            Core::Full => self.rest.kept.len() as u64 >= self.rest.spec.queue(),
             Core::NoMemory => is_sized,
             _ => false,
         }

@@ -20,7 +20,7 @@ use std::sync::ledger::Blank;
 use std::test::Fail;
 
 /// Half of a worker.
-const HALF: Served<'static> = Served {
+pub(super) const HALF: Served<'static> = Served {
     account: (1, 2),
     queue: 4,
     ..PLAIN

@@ -207,11 +207,11 @@ fn over_image<L: Epoch>(
     s: u32,
     frame: Arc<Frame>,
 ) -> Result<Result<u64, OfferRefused>, Refusal> {
-    let Seated { hub, streams, .. } = seated;
+    let Seated { owner, streams, .. } = seated;
     let Some(seat) = streams.get_mut(s as usize) else {
         return Err(Refusal::Core(Core::NoStream));
     };
-    match hub.try_collect(rt, seat) {
+    match owner.hub().try_collect(rt, seat) {
         Ok(pair) => {
             let memory = Some(pair.image);
             let offer = serve_hub::Offer {
@@ -219,7 +219,7 @@ fn over_image<L: Epoch>(
                 frame,
                 memory,
             };
-            Ok(hub.offer(rt, alloc, seat, offer))
+            Ok(owner.hub().offer(rt, alloc, seat, offer))
         }
         Err(refused) => Err(refused.refusal),
     }

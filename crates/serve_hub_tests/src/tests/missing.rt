@@ -8,7 +8,7 @@ use super::steps::Call::Admit;
 use super::steps::Step;
 use super::{PLAIN, same, setup_of};
 use serve_core::Setup;
-use serve_hub::{Ended, Epoch, Fault};
+use serve_hub::{Ended, Epoch, EpochOwner, Fault};
 use std::alloc::Global;
 use std::marker::Brand;
 use std::process::Abort;
@@ -71,7 +71,7 @@ fn not_ended<L: Epoch, R: Abort>(rt: &R, seated: Seated<L>) -> Seated<L> {
             let told = (mismatch.fault, mismatch.streams.len(), streams);
             same(rt, told, (Fault::SeatMissing, 1, 2));
             Seated {
-                hub: mismatch.unlocked.lock(),
+                owner: EpochOwner::new(mismatch.unlocked.lock()),
                 streams: mismatch.streams,
                 workers: mismatch.workers,
             }

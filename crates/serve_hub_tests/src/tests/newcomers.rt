@@ -189,15 +189,15 @@ fn served<L: Epoch + Send + Sync, R: Threads + Wait + Abort + Sync>(
     entrants: Vec<Entrant>,
 ) -> Seated<L> {
     let Seated {
-        hub,
+        owner,
         streams,
         workers,
     } = seated;
     let pairs = pairs_of(rt, alloc, streams, entrants);
-    let (workers, pairs) = run(rt, &hub, workers, pairs);
+    let (workers, pairs) = run(rt, owner.hub(), workers, pairs);
     let streams = seats_of(rt, alloc, pairs);
     Seated {
-        hub,
+        owner,
         streams,
         workers,
     }

@@ -40,14 +40,14 @@ fn offered_at_nine<L: Epoch>(
     alloc: Global,
     seated: &mut Seated<L>,
 ) -> Result<(), Fail> {
-    let Seated { hub, streams, .. } = seated;
+    let Seated { owner, streams, .. } = seated;
     let seat = streams.get_mut(1).ok_or("no seat")?;
     let offer = serve_hub::Offer {
         at: 9,
         frame: frame_of(alloc, &[0x10])?,
         memory: None,
     };
-    match hub.offer(rt, alloc, seat, offer) {
+    match owner.hub().offer(rt, alloc, seat, offer) {
         Ok(_) => Ok(()),
         Err(refused) => Err(refused.refusal.into()),
     }
@@ -141,6 +141,79 @@ fn the_only_stream_stays(rt: HostRuntime) -> Result<(), Fail> {
         }
     }
 }
+
+/// What a hub of two streams leaves, the first of which is over, with its deadline at 8.
+fn over<L: Epoch, R: Wait + Abort>(
+    rt: &R,
+    alloc: Global,
+    blank: Blank,
+    setup: Setup,
+) -> Result<Ended, Fail>
+    requires name { blank.name ≡ L.name }
+    requires parts { blank.parts ≡ L.parts }
+    requires enough { blank.parts ≡ 80 }
+    requires opening { opened_schedule setup ≡ L.opening }
+{
+    let seated = seated_after::<L, _>(rt, alloc, blank, setup, OVER_CALLS)?;
+    Ok(seated.ended(rt))
+}
+
+/// What is left where the clock goes on, and how: the moment, the entries, and whether the first stream stays.
+fn ticked(ended: Ended, at: u64) -> Result<(Ended, (u64, usize, bool)), Fail> {
+    match ended.tick(at) {
+        Err(_) => Err("the clock has ended".into()),
+        Ok(ended) => {
+            let stands = (ended.clock(), ended.journal().len(), ended.stays(0));
+            Ok((ended, stands))
+        }
+    }
+}
+
+/// A stream is released where the clock comes to its deadline, though no frame was offered.
+#[test]
+fn the_clock_goes_on_between_epochs(rt: HostRuntime) -> Result<(), Fail> {
+    let alloc = rt.alloc();
+    let setup = setup_of(alloc, 1, &[PLAIN, PLAIN])?;
+    let ended = over::<Brand, _>(&rt, alloc, Blank::new(80), setup)?;
+    same(
+        &rt,
+        (ended.clock(), ended.journal().len(), ended.stays(0)),
+        (0, 5, true),
+    );
+    let (ended, stands) = ticked(ended, 7)?;
+    same(&rt, stands, (7, 0, true));
+    let (ended, stands) = ticked(ended, 8)?;
+    same(&rt, stands, (8, 0, false));
+    let (ended, stands) = ticked(ended, 3)?;
+    same(&rt, stands, (8, 0, false));
+    same(
+        &rt,
+        state_of(ended.account(0), ended.counts(0)),
+        Some([1, 8, 1, 1, 1, 1]),
+    );
+    match ended.tick((1 << 60) + 1) {
+        Ok(_) => Err("past the end of the clock".into()),
+        Err(ended) => {
+            same(&rt, (ended.clock(), ended.limit()), (8, 16));
+            match ended.retire(alloc) {
+                Err(_) => Err("not retired".into()),
+                Ok(retired) => {
+                    same(&rt, retired.ended.clock(), 8);
+                    same(&rt, retired.ended.spec(1).is_none(), true);
+                    Ok(())
+                }
+            }
+        }
+    }
+}
+
+/// The first stream is over.
+const OVER_CALLS: &[Step] = &[
+    (Offer(0, 5), Accepted(0)),
+    (Work(0, 1), Worked((0, 0, 1), Settled::Finished(0))),
+    (Close(0), Closed),
+    (Collect(0), Given(Some(5), Some(250))),
+];
 
 /// The second stream has had no frame yet.
 const FIRST_CALLS: &[Step] = &[

@@ -7,10 +7,10 @@ use super::steps::{Answer, Call, Step, closed};
 use super::{Core, Served, came_back, frame_of, same, same_at, stepped, stream_spec_of, told};
 use frame_view::Frame;
 use lease::Lease;
-use serve_core::{Collected, Setup};
+use serve_core::{Collected, Setup, StreamSpec};
 use serve_hub::{
-    AdmitRefused, CollectRefused, Ended, Epoch, Hub, LeaseRefused, Mismatch, Moments, Offer,
-    OfferRefused, Refusal, Reopened, Settled, StreamSeat, WorkSeat,
+    AdmitRefused, CollectRefused, Ended, Epoch, EpochOwner, Hub, LeaseRefused, Mismatch, Moments,
+    Offer, OfferRefused, Refusal, Reopened, Settled, StreamSeat, WorkSeat,
 };
 use std::alloc::Global;
 use std::process::Abort;
@@ -25,7 +25,7 @@ const NO_WORKER: Refusal = Refusal::Core(Core::NoWorker);
 /// A hub with its seats, which are called by their numbers, at moment 0.
 #[derive(Drop)]
 pub(super) struct Seated<L: Epoch> {
-    pub(super) hub: Hub<L>,
+    pub(super) owner: EpochOwner<L>,
     pub(super) streams: Vec<StreamSeat<L>>,
     pub(super) workers: Vec<WorkSeat<L>>,
 }
@@ -44,7 +44,7 @@ pub(super) fn seated_of<L: Epoch>(
 {
     let (hub, streams, workers) = Hub::<L>::new(alloc, blank, setup, limit)?;
     Ok(Seated {
-        hub,
+        owner: EpochOwner::new(hub),
         streams,
         workers,
     })
@@ -78,7 +78,7 @@ impl<L: Epoch> Seated<L> {
             journal: _,
         } = reopened;
         Seated {
-            hub,
+            owner: EpochOwner::new(hub),
             streams,
             workers,
         }
@@ -130,8 +130,11 @@ impl<L: Epoch> Seated<L> {
             Call::Collect(s) => Ok(given(self.try_collect(rt, s))),
             Call::CollectSoon(s) => Ok(given(self.collect_soon(rt, s))),
             Call::Close(s) => Ok(closed(self.close(rt, s))),
-            Call::IsFull => Ok(Answer::Full(self.hub.is_full(rt))),
+            Call::IsFull => Ok(Answer::Full(self.owner.hub().is_full(rt))),
+            Call::RoomLeft => Ok(self.room_left(rt)),
             Call::EndEpoch => Ok(self.end_epoch(rt)),
+            Call::Deadline(s) => Ok(self.deadline(rt, s)),
+            Call::Load => Ok(self.load(rt)),
         }
     }
 
@@ -154,14 +157,14 @@ impl<L: Epoch> Seated<L> {
         at: u64,
         frame: Arc<Frame>,
     ) -> Result<u64, OfferRefused> {
-        let Seated { hub, streams, .. } = self;
+        let Seated { owner, streams, .. } = self;
         let offer = Offer {
             at,
             frame,
             memory: None,
         };
         match streams.get_mut(s as usize) {
-            Some(seat) => hub.offer(rt, alloc, seat, offer),
+            Some(seat) => owner.hub().offer(rt, alloc, seat, offer),
             None => Err(OfferRefused {
                 refusal: NO_STREAM,
                 offer: Some(offer),
@@ -208,17 +211,27 @@ impl<L: Epoch> Seated<L> {
         alloc: Global,
         served: &Served<'_>,
     ) -> Result<Answer, Fail> {
-        let spec = stream_spec_of(alloc, served)?;
-        let answer = self.hub.admit(rt, alloc, spec);
-        Ok(self.taken(rt, answer))
+        let (spec, asked) = (
+            stream_spec_of(alloc, served)?,
+            stream_spec_of(alloc, served)?,
+        );
+        let answer = self.owner.hub().admit(rt, alloc, spec);
+        Ok(self.taken(rt, answer, &asked))
     }
 
-    /// The seat of a stream that was admitted comes behind the others. Its admission is its one call.
-    fn taken(&mut self, rt: &impl Abort, answer: Result<StreamSeat<L>, AdmitRefused>) -> Answer {
+    /// The seat of a stream that was admitted comes behind the others. Its admission is its one call, and its
+    /// stream is served with what was asked.
+    fn taken(
+        &mut self,
+        rt: &impl Abort,
+        answer: Result<StreamSeat<L>, AdmitRefused>,
+        asked: &StreamSpec,
+    ) -> Answer {
         match answer {
             Ok(seat) => {
                 let number = seat.number();
                 same(rt, seat.calls().len(), 1);
+                same(rt, seat.stream_spec().is_same(asked), true);
                 self.streams
                     .push(seat)
                     .expect(rt, "was the memory of a place refused?");
@@ -230,15 +243,30 @@ impl<L: Epoch> Seated<L> {
         }
     }
 
+    fn room_left(&self, rt: &impl Wait) -> Answer {
+        let left = self.owner.hub().room_left(rt);
+        Answer::Room(left.entries(), left.is_ending(), left.is_full())
+    }
+
     fn end_epoch(&self, rt: &impl Wait) -> Answer {
-        self.hub.end_epoch(rt);
-        Answer::Full(self.hub.is_full(rt))
+        self.owner.end_epoch(rt);
+        Answer::Full(self.owner.hub().is_full(rt))
+    }
+
+    fn deadline(&self, rt: &impl Wait, s: u32) -> Answer {
+        let told = self.owner.hub().deadline(rt, s);
+        Answer::Due(told.stream(), told.deadline(), told.clock())
+    }
+
+    fn load(&self, rt: &impl Wait) -> Answer {
+        let load = self.owner.hub().load(rt);
+        Answer::Loaded(load.streams(), load.workers(), load.has_spare_workers())
     }
 
     pub(super) fn close(&mut self, rt: &impl Wait, s: u32) -> Result<(), Refusal> {
-        let Seated { hub, streams, .. } = self;
+        let Seated { owner, streams, .. } = self;
         match streams.get_mut(s as usize) {
-            Some(seat) => hub.close(rt, seat),
+            Some(seat) => owner.hub().close(rt, seat),
             None => Err(NO_STREAM),
         }
     }
@@ -248,9 +276,9 @@ impl<L: Epoch> Seated<L> {
         rt: &impl Wait,
         s: u32,
     ) -> Result<Collected, CollectRefused> {
-        let Seated { hub, streams, .. } = self;
+        let Seated { owner, streams, .. } = self;
         match streams.get_mut(s as usize) {
-            Some(seat) => hub.try_collect(rt, seat),
+            Some(seat) => owner.hub().try_collect(rt, seat),
             None => Err(CollectRefused {
                 refusal: NO_STREAM,
                 pair: None,
@@ -259,9 +287,9 @@ impl<L: Epoch> Seated<L> {
     }
 
     fn collect_soon(&mut self, rt: &impl Wait, s: u32) -> Result<Collected, CollectRefused> {
-        let Seated { hub, streams, .. } = self;
+        let Seated { owner, streams, .. } = self;
         match streams.get_mut(s as usize) {
-            Some(seat) => hub.collect_soon(rt, seat),
+            Some(seat) => owner.hub().collect_soon(rt, seat),
             None => Err(CollectRefused {
                 refusal: NO_STREAM,
                 pair: None,
@@ -275,17 +303,17 @@ impl<L: Epoch> Seated<L> {
     }
 
     pub(super) fn lease<R: Wait>(&mut self, rt: &R, w: u32) -> Result<Lease, Refusal> {
-        let Seated { hub, workers, .. } = self;
+        let Seated { owner, workers, .. } = self;
         match workers.get_mut(w as usize) {
-            Some(seat) => hub.lease(rt, seat),
+            Some(seat) => owner.hub().lease(rt, seat),
             None => Err(NO_WORKER),
         }
     }
 
     pub(super) fn try_lease(&mut self, rt: &impl Wait, w: u32) -> Result<Lease, Refusal> {
-        let Seated { hub, workers, .. } = self;
+        let Seated { owner, workers, .. } = self;
         match workers.get_mut(w as usize) {
-            Some(seat) => hub.try_lease(rt, seat),
+            Some(seat) => owner.hub().try_lease(rt, seat),
             None => Err(NO_WORKER),
         }
     }
@@ -297,11 +325,11 @@ impl<L: Epoch> Seated<L> {
         w: u32,
         lease: Lease,
     ) -> Result<Settled, (Refusal, Option<Lease>)> {
-        let Seated { hub, workers, .. } = self;
+        let Seated { owner, workers, .. } = self;
         let Some(seat) = workers.get_mut(w as usize) else {
             return Err((NO_WORKER, Some(lease)));
         };
-        match hub.settle(rt, seat, lease) {
+        match owner.hub().settle(rt, seat, lease) {
             Ok(done) => Ok(done),
             Err(refused) => {
                 let LeaseRefused { refusal, lease } = refused;
@@ -322,6 +350,30 @@ impl<L: Epoch> Seated<L> {
             Err((refusal, None)) => Err(refusal),
             Err((refusal, Some(lease))) => {
                 let _job = lease.into_job();
+                Err(refusal)
+            }
+        }
+    }
+
+    /// Settles a lease and gets the next one. A refused one ends.
+    pub(super) fn settled_and_leased(
+        &mut self,
+        rt: &impl Wait,
+        w: u32,
+        lease: Lease,
+    ) -> Result<(Settled, Option<Lease>), Refusal> {
+        let Seated { owner, workers, .. } = self;
+        let Some(seat) = workers.get_mut(w as usize) else {
+            let _job = lease.into_job();
+            return Err(NO_WORKER);
+        };
+        match owner.hub().settle_and_lease(rt, seat, lease) {
+            Ok(answer) => Ok(answer),
+            Err(refused) => {
+                let LeaseRefused { refusal, lease } = refused;
+                if let Some(lease) = lease {
+                    let _job = lease.into_job();
+                }
                 Err(refusal)
             }
         }
@@ -353,11 +405,11 @@ impl<L: Epoch> Seated<L> {
 
     pub(super) fn finish(self) -> Result<Ended, Mismatch<L>> {
         let Seated {
-            hub,
+            owner,
             streams,
             workers,
         } = self;
-        hub.finish(streams, workers)
+        owner.into_hub().finish(streams, workers)
     }
 
     /// The end of a hub whose seats are all here, with no lease out.

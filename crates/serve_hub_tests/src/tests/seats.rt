@@ -8,7 +8,7 @@ use super::steps::{Answer, Call, Step};
 use super::{Core, PLAIN, Served, job_spec_of, same, setup_of, stepped, told};
 use lease::{JobSpec, Lease, is_same_spec};
 use serve_core::{Collected, Setup};
-use serve_hub::{Came, CollectRefused, Ended, Epoch, Fault, Refusal, Settled};
+use serve_hub::{Came, CollectRefused, Ended, Epoch, EpochOwner, Fault, Refusal, Settled};
 use std::alloc::Global;
 use std::marker::Brand;
 use std::process::Abort;
@@ -53,7 +53,7 @@ fn not_ended<L: Epoch, R: Abort>(rt: &R, seated: Seated<L>, fault: Fault) -> Sea
         Err(mismatch) => {
             same(rt, mismatch.fault, fault);
             Seated {
-                hub: mismatch.unlocked.lock(),
+                owner: EpochOwner::new(mismatch.unlocked.lock()),
                 streams: mismatch.streams,
                 workers: mismatch.workers,
             }

@@ -1,7 +1,7 @@
 //! Images that clients wait for where they come soon, and journals that are full.
 use super::ends::{again_after, ended_after, left_after};
-use super::steps::Answer::{Accepted, Closed, Full, Given, Refused, Worked};
-use super::steps::Call::{Close, CollectSoon, EndEpoch, IsFull, Offer, Work};
+use super::steps::Answer::{Accepted, Closed, Full, Given, Refused, Room, Worked};
+use super::steps::Call::{Close, CollectSoon, EndEpoch, IsFull, Offer, RoomLeft, Work};
 use super::steps::{Step, TWELVE_FRAMES};
 use super::threads::{Plan, serve, serve_whole};
 use super::{Core, PLAIN, same};
@@ -63,10 +63,13 @@ fn fourteen_frames_fill_a_journal(rt: HostRuntime) -> Result<(), Fail> {
 
 const THREE_MORE: &[Step] = &[
     (IsFull, Full(false)),
+    (RoomLeft, Room(3, false, false)),
     (Offer(0, 12), Accepted(12)),
     (IsFull, Full(false)),
+    (RoomLeft, Room(2, false, false)),
     (Offer(0, 13), Accepted(13)),
     (IsFull, Full(true)),
+    (RoomLeft, Room(1, false, true)),
     (Offer(0, 14), Accepted(14)),
     (IsFull, Full(true)),
 ];
@@ -117,7 +120,9 @@ const ONE_IMAGE: &[Step] = &[
 
 const ENDING: &[Step] = &[
     (IsFull, Full(false)),
+    (RoomLeft, Room(11, false, false)),
     (EndEpoch, Full(true)),
+    (RoomLeft, Room(11, true, true)),
     (Offer(0, 2), Refused(Refusal::HistoryFull)),
     (CollectSoon(0), Refused(Refusal::HistoryFull)),
     (Work(0, 1), Refused(Refusal::HistoryFull)),
@@ -125,6 +130,7 @@ const ENDING: &[Step] = &[
 
 const AFTER_ALL: &[Step] = &[
     (IsFull, Full(false)),
+    (RoomLeft, Room(15, false, false)),
     (CollectSoon(0), Given(Some(0), Some(255))),
     (Work(0, 1), Worked((0, 1, 1), Settled::Finished(1))),
     (CollectSoon(0), Given(Some(1), Some(254))),

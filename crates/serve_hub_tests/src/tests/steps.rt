@@ -32,8 +32,14 @@ pub(super) enum Call {
     Admit(&'static Served<'static>),
     /// A hub tells whether its journal is full.
     IsFull,
-    /// A hub ends its epoch, and tells whether its journal is full.
+    /// A hub tells the room that its journal has left.
+    RoomLeft,
+    /// The owner of a hub ends its epoch, and tells whether its journal is full.
     EndEpoch,
+    /// A hub tells the deadline of the stream.
+    Deadline(u32),
+    /// A hub tells how many streams it serves with how many workers.
+    Load,
 }
 
 /// What a call answers.
@@ -59,6 +65,12 @@ pub(super) enum Answer {
     SpecBack(Refusal, u64, u64),
     /// Whether the journal is full.
     Full(bool),
+    /// How many entries are left, whether the epoch is being ended, and whether the room is told as full.
+    Room(usize, bool, bool),
+    /// The stream's number, its deadline, if there is such a stream, and the moment of the clock.
+    Due(u32, Option<u64>, u64),
+    /// How many streams aren't over, how many workers there are, and whether those are more.
+    Loaded(usize, usize, bool),
 }
 
 /// A call, and the answer that is wanted.

@@ -131,15 +131,15 @@ fn offered_all<L: Epoch + Send + Sync, R: Threads + Wait + Abort + Sync>(
     requires opening { opened_schedule setup ≡ L.opening }
 {
     let Seated {
-        hub,
+        owner,
         streams,
         workers,
     } = seated_of::<L>(alloc, blank, setup, plan.limit)?;
     let clients = clients_of(rt, alloc, streams, frames, plan);
-    let clients = feed_each(rt, &hub, clients, plan.frames);
+    let clients = feed_each(rt, owner.hub(), clients, plan.frames);
     let streams = seats_of(rt, alloc, clients, plan);
     Ok(Seated {
-        hub,
+        owner,
         streams,
         workers,
     }
@@ -203,7 +203,7 @@ fn session<L: Epoch + Send + Sync, R: Threads + Wait + Abort + Sync>(
 {
     let seated = seated_of::<L>(alloc, blank, setup, plan.limit)?;
     let seated = served(rt, alloc, seated, frames, plan);
-    same(rt, seated.hub.is_full(rt), plan.outcome.is_err());
+    same(rt, seated.owner.hub().is_full(rt), plan.outcome.is_err());
     Ok(seated.ended(rt))
 }
 
@@ -216,15 +216,15 @@ fn served<L: Epoch + Send + Sync, R: Threads + Wait + Abort + Sync>(
     plan: Plan,
 ) -> Seated<L> {
     let Seated {
-        hub,
+        owner,
         streams,
         workers,
     } = seated;
     let clients = clients_of(rt, alloc, streams, frames, plan);
-    let (workers, clients) = run(rt, &hub, workers, clients, plan);
+    let (workers, clients) = run(rt, owner.hub(), workers, clients, plan);
     let streams = seats_of(rt, alloc, clients, plan);
     Seated {
-        hub,
+        owner,
         streams,
         workers,
     }

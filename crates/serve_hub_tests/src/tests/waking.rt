@@ -54,19 +54,19 @@ fn handed_over<L: Epoch + Send + Sync, R: Threads + Wait + Abort + Clock + Sync>
     requires opening { opened_schedule setup ≡ L.opening }
 {
     let Seated {
-        hub,
+        owner,
         mut streams,
         mut workers,
     } = seated_after::<L, R>(rt, alloc, blank, setup, TALL_FRAME)?;
     let stream = streams.pop().expect(rt, "a stream");
     let second = workers.pop().expect(rt, "a worker");
     let first = workers.pop().expect(rt, "a worker");
-    let (stream, first, second) = helped(rt, &hub, stream, first, second);
+    let (stream, first, second) = helped(rt, owner.hub(), stream, first, second);
     streams.push(stream).expect(rt, "a place");
     workers.push(first).expect(rt, "a place");
     workers.push(second).expect(rt, "a place");
     let seated = Seated {
-        hub,
+        owner,
         streams,
         workers,
     };
@@ -138,17 +138,17 @@ fn narrow_end<L: Epoch + Send + Sync, R: Threads + Wait + Abort + Clock + Sync>(
     requires opening { opened_schedule setup ≡ L.opening }
 {
     let Seated {
-        hub,
+        owner,
         mut streams,
         mut workers,
     } = seated_after::<L, R>(rt, alloc, blank, setup, THREE_FRAMES)?;
     let stream = streams.pop().expect(rt, "a stream");
     let worker = workers.pop().expect(rt, "a worker");
-    let (stream, worker) = serve_three(rt, &hub, stream, worker);
+    let (stream, worker) = serve_three(rt, owner.hub(), stream, worker);
     streams.push(stream).expect(rt, "a place");
     workers.push(worker).expect(rt, "a place");
     let seated = Seated {
-        hub,
+        owner,
         streams,
         workers,
     };

@@ -1,5 +1,6 @@
 //! The door of a run whose streams come and go.
-ghost use Rattle.std.specs.Prelude.{ℕ, ⊤, ◌≡◌, ◌++◌, [], ◌∷◌, IfNone, IfOk, IfSome, map};
+ghost use Rattle.std.specs.Prelude.{⊤, ◌≡◌, ◌++◌, [], ◌∷◌, IfNone, IfOk, IfSome, map};
+ghost use Rattle.serve_work.specs.History.{Terms, terms_of};
 ghost use Rattle.serve_work.specs.Sessions.{IsInput};
 ghost use Rattle.serve_report.specs.Moments.{IsMoment};
 
@@ -7,6 +8,7 @@ use super::answer::{Said, Standing};
 use super::lobby::Lobby;
 use super::tickets::Tickets;
 use super::{AdmitFault, StreamRow, StreamStop};
+use serve_hub::Ended;
 use serve_work::{Answer, Bell, Clock as Moments, Door, Request, Standing as Stood};
 use std::alloc::{AllocError, Global};
 use std::io::Write;
@@ -15,15 +17,15 @@ use std::sync::{CondvarTimeouts, Wait};
 use std::time::{Clock, Duration};
 use y4m_stream::{ReadFault, Sink, Source};
 
-/// The most entries of an epoch's journal, for contracts alone.
+/// What a session serves by, for contracts alone.
 ///
 /// A door's type tells it. Who calls a function that is generic in it, at `Brand`, picks it there.
-pub trait Limit {
-    ghost limit: { ℕ };
+pub trait HasTerms {
+    ghost terms: { Terms };
 }
 
-impl Limit for Brand {
-    ghost limit = { 0 };
+impl HasTerms for Brand {
+    ghost terms = { terms_of 0 0 0 };
 }
 
 /// The door to a lobby. It gives the streams that wait there, one after the other.
@@ -38,16 +40,14 @@ pub struct Doorway<
     E: Write,
     K: Moments,
     T,
-    L: Limit,
+    L: HasTerms,
 > {
     rt: &'l T,
     lobby: &'l Lobby<'o, R, W, S, O, E>,
     clock: &'l K,
     /// Those of the streams that were given and aren't told yet.
     tickets: Tickets,
-    /// That of the last one, where it isn't known yet whether it is admitted.
-    last: Option<u64>,
-    limit: PhantomData<L>,
+    terms: PhantomData<L>,
 }
 
 impl<'l, 'o, R, W, S, O, E, K, T, L> Doorway<'l, 'o, R, W, S, O, E, K, T, L>
@@ -59,7 +59,7 @@ where
     E: Write,
     K: Moments,
     T: Wait,
-    L: Limit,
+    L: HasTerms,
 {
     /// Nothing was given yet.
     pub fn new(
@@ -75,23 +75,8 @@ where
             lobby,
             clock,
             tickets: Tickets::new(alloc)?,
-            last: None,
-            limit: PhantomData,
+            terms: PhantomData,
         })
-    }
-
-    /// Tells that the last one is admitted, where that wasn't known yet.
-    fn say_admitted(&mut self)
-        ensures { self.new.tickets ≡ self.old.tickets }
-    {
-        let Some(ticket) = self.last.take() else {
-            return;
-        };
-        let mut voice = self.lobby.voice.lock(self.rt);
-        let table = self.lobby.table.lock(self.rt);
-        if let Some(entry) = table.entry_under(ticket) {
-            voice.say(&Said::Admitted(&entry.order.name));
-        }
     }
 
     /// The next one that waits, under its ticket.
@@ -187,7 +172,7 @@ where
     E: Write,
     K: Moments,
     T: Wait + Clock,
-    L: Limit,
+    L: HasTerms,
 {
     ghost is_over = { λ _. ⊤ };
 
@@ -222,29 +207,32 @@ where
     E: Write,
     K: Moments,
     T: Wait + Clock,
-    L: Limit,
+    L: HasTerms,
 {
-    ghost limit = { L.limit };
+    ghost terms = { L.terms };
 
     ghost times = { IsMoment };
 
-    ghost waits = { λ door ws. map (λ w. w.ticket) ws ≡ door.tickets };
+    ghost stands = { λ door es ws. map (λ w. w.ticket) ws ≡ door.tickets };
 
     fn next(&mut self) -> Option<Request<R, W>> {
-        self.say_admitted();
-        let request = self.take_ready()?;
-        self.last = Some(request.ticket);
-        Some(request)
+        self.take_ready()
     }
+
+    fn admitted(&mut self, ticket: u64) {
+        let mut voice = self.lobby.voice.lock(self.rt);
+        let table = self.lobby.table.lock(self.rt);
+        if let Some(entry) = table.entry_under(ticket) {
+            voice.say(&Said::Admitted(&entry.order.name));
+        }
+    }
+
+    fn epoch_ended(&mut self, _ended: &Ended) {}
 
     fn tell(&mut self, ticket: u64, answer: &mut Option<Answer<R, W>>) {
         let Some(answer) = answer.take() else {
             unreachable!()
         };
-        if matches!(answer, Answer::Refused(..)) && self.last == Some(ticket) {
-            self.last = None;
-        }
-        self.say_admitted();
         let course = Course::of(answer);
         self.tickets.take(ticket);
         self.say_ended(ticket, course);
@@ -255,7 +243,6 @@ where
     }
 
     fn show(&mut self, ticket: u64, standing: Stood) {
-        self.say_admitted();
         let mut voice = self.lobby.voice.lock(self.rt);
         let table = self.lobby.table.lock(self.rt);
         if let Some(entry) = table.entry_under(ticket) {
@@ -264,7 +251,6 @@ where
     }
 
     fn end_show(&mut self, moment: Option<u64>) {
-        self.say_admitted();
         let moment = match moment {
             Some(moment) => moment,
             None => self.clock.moment(),

@@ -11,10 +11,10 @@ ghost use Rattle.serve_words.specs.StreamWords.{stream_told};
 
 use cbs_account::{Account, BadBandwidth};
 use filters::{FilterError, parse_ops};
-use serve_script::is_name;
 use serve_words::{Asked, StreamWord, parse_word_beside};
 use std::alloc::Global;
 use std::fmt;
+use y4m_header::text::is_name;
 
 /// What a line asks for.
 #[derive(Clone, Copy)]

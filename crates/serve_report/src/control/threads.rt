@@ -3,10 +3,11 @@
 ghost use Rattle.std.specs.Prelude.{ℕ, ◌≡◌};
 ghost use Rattle.std.specs.Thread.{IsSend, IsSync};
 ghost use Rattle.serve_report.specs.Moments.{IsMoment};
+ghost use Rattle.serve_work.specs.History.{terms_of};
 ghost use Rattle.serve_work.specs.Live.{IsForm};
 
 use super::crew::Wants;
-use super::door::{Doorway, Limit};
+use super::door::{Doorway, HasTerms};
 use super::errand::{Bidding, Bids, Errand};
 use super::lobby::Lobby;
 use crate::serve::{PlainGate, RunClock};
@@ -242,7 +243,7 @@ where
     serve_door::<R, W, S, O, E, RunClock<'_, T>, T, Brand>(session, lobby)
 }
 
-/// Serves those who come, by a door whose type tells the most entries of a journal.
+/// Serves those who come, by a door whose type tells what is served by.
 fn serve_door<R, W, S, O, E, K, T, L>(
     session: Session<'_, '_, K, T>,
     lobby: &Lobby<'_, R, W, S, O, E>,
@@ -255,9 +256,9 @@ where
     E: Write + Send,
     K: Moments + Sync,
     T: Threads + Wait + Clock + Sync,
-    L: Limit + Sync,
+    L: HasTerms + Sync,
     requires form { IsForm session.form.workers session.form.quantum }
-    requires limit { session.form.journal ≡ L.limit }
+    requires terms { terms_of session.form.workers session.form.quantum session.form.journal ≡ L.terms }
     requires times { (at : ℕ) → K.gives session.clock.now at → IsMoment at }
 {
     let Session {

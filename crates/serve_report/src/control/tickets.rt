@@ -2,7 +2,7 @@
 ghost use Rattle.std.specs.Prelude.{ℕ, ◌≡◌, ◌≢◌, ◌<◌, ◌++◌, ◌∷◌, [], All, List, IfOk, MatchOption};
 ghost use Rattle.std.specs.Prelude.{length, slice_index};
 
-use edf_pool::limits::MOST_STREAMS;
+use cbs_account::limits::MOST_STREAMS;
 use std::alloc::{AllocError, Global};
 use std::marker::Model;
 

@@ -1,8 +1,9 @@
 //! The gates of a run.
 
 use super::opening::Entrant;
+use lease::LeaseReport;
 use serve_watch::Watch;
-use serve_work::{Gate, Stint};
+use serve_work::Gate;
 use std::alloc::{AllocError, Global};
 
 /// A gate that notes nothing. Each band is done by one thread.
@@ -78,9 +79,9 @@ impl<'w, V: Watch> Gate for WatchedGate<'w, V> {
         }
     }
 
-    fn lease_ends(&self, worker: u32, stint: Stint, deadline: Option<(u64, u64)>) {
-        if let (Some(watch), Some(place)) = (self.watch, self.places.get(stint.stream as usize)) {
-            watch.lease_ends(worker, *place, stint, deadline);
+    fn lease_ends(&self, worker: u32, report: LeaseReport, deadline: Option<(u64, u64)>) {
+        if let (Some(watch), Some(place)) = (self.watch, self.places.get(report.stream as usize)) {
+            watch.lease_ends(worker, *place, report, deadline);
         }
     }
 }

@@ -4,9 +4,9 @@ ghost use Rattle.std.specs.Option.{option_map};
 ghost use Rattle.serve_script.specs.SessionCommand.{HasHex, arrival_of, run_of, run_told, run_with};
 
 use super::stream_command::{StreamCommand, parse_stream};
-use super::word::{is_hex, is_name, parse_name, parse_worker};
+use super::word::{is_hex, parse_name, parse_worker};
 use crate::command::parse_number;
-use y4m_header::text::cut;
+use y4m_header::text::{cut, is_name};
 
 /// A command that a session script may have after its `start`.
 #[derive(Clone, Copy)]

@@ -5,9 +5,8 @@ ghost use Rattle.std.specs.Option.{option_map};
 ghost use Rattle.serve_script.specs.SessionCommand.{parts_of, stream_of, stream_told};
 ghost use Rattle.serve_script.specs.SessionWords.{cut_at_spaces};
 
-use super::word::is_name;
 use crate::command::parse_number;
-use y4m_header::text::cut;
+use y4m_header::text::{cut, is_name};
 
 /// `NAME Q T QUEUE OUTBOX OPS HEADER`: one more stream, of maximum budget `q` and period `t`.
 ///

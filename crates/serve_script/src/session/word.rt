@@ -3,31 +3,10 @@ ghost use Rattle.std.specs.Prelude.{◌≡◌};
 ghost use Rattle.std.specs.List.{list_all};
 ghost use Rattle.std.specs.Char.{is_ascii_hexdigit};
 ghost use Rattle.std.specs.Option.{option_copied};
-ghost use Rattle.serve_script.specs.SessionWords.{is_hex, is_name, is_name_byte, name_of, worker_of};
+ghost use Rattle.serve_script.specs.SessionWords.{is_hex, name_of, worker_of};
 
 use crate::command::parse_number;
-
-/// The longest name, in bytes.
-const NAME_LIMIT: usize = 32;
-
-/// Whether a word is 1 to 32 letters, digits, `_` or `-`.
-pub fn is_name(word: &[u8]) -> bool
-    ensures { result ≡ is_name word.now }
-{
-    !word.is_empty() && word.len() <= NAME_LIMIT && are_name_bytes(word)
-}
-
-fn are_name_bytes(word: &[u8]) -> bool
-    ensures { result ≡ list_all is_name_byte word.now }
-{
-    word.iter().all(|byte| is_name_byte(*byte))
-}
-
-fn is_name_byte(byte: u8) -> bool
-    ensures { result ≡ is_name_byte byte }
-{
-    byte.is_ascii_alphanumeric() || byte == b'_' || byte == b'-'
-}
+use y4m_header::text::is_name;
 
 /// Whether a word is one or more pairs of hexadecimal digits, of either case.
 pub fn is_hex(word: &[u8]) -> bool

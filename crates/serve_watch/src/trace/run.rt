@@ -6,7 +6,7 @@ use super::spool::Spool;
 use super::stream::StreamLane;
 use super::worker::WorkerLane;
 use crate::watch::Watch;
-use serve_work::Stint;
+use lease::LeaseReport;
 use std::alloc::{AllocError, Global};
 use std::io::Write;
 use std::sync::atomic::{AtomicBool, AtomicU64, Ordering};
@@ -170,7 +170,13 @@ impl<'t, 'n, 'w, W: Write + Drop, V: Watch, T: Wait + Clock> Watch for Trace<'t,
         }
     }
 
-    fn lease_ends(&self, worker: u32, stream: usize, stint: Stint, deadline: Option<(u64, u64)>) {
+    fn lease_ends(
+        &self,
+        worker: u32,
+        stream: usize,
+        report: LeaseReport,
+        deadline: Option<(u64, u64)>,
+    ) {
         let (Some(lane), Some(stream)) = (
             self.workers.get(worker as usize),
             self.streams.get(stream),
@@ -182,6 +188,6 @@ impl<'t, 'n, 'w, W: Write + Drop, V: Watch, T: Wait + Clock> Watch for Trace<'t,
         };
         let epoch = self.epochs.load(Ordering::SeqCst);
         lane.lock(self.spool.rt())
-            .end(&self.spool, stream, stint, deadline, epoch, now);
+            .end(&self.spool, stream, report, deadline, epoch, now);
     }
 }

@@ -4,7 +4,7 @@ use super::lane::Lane;
 use super::record::{Frames, Lead, Leads, Leased, WorkerName};
 use super::spool::Spool;
 use super::stream::StreamLane;
-use serve_work::Stint;
+use lease::LeaseReport;
 use std::fmt::Display;
 use std::io::Write;
 use std::sync::Wait;
@@ -53,7 +53,7 @@ impl WorkerLane {
         &mut self,
         spool: &Spool<'_, W, T>,
         stream: &StreamLane<'_>,
-        stint: Stint,
+        report: LeaseReport,
         deadline: Option<(u64, u64)>,
         epoch: u64,
         now: u64,
@@ -61,15 +61,15 @@ impl WorkerLane {
         let leased = Leased {
             lane: self.lane_number(),
             name: stream.name(),
-            number: stint.number,
+            number: report.number,
             begin: self.since,
             time: now.saturating_sub(self.since),
-            bands: stint.bands,
-            units: stint.units,
+            bands: report.bands,
+            units: report.units,
             epoch,
         };
         self.add(spool, &leased);
-        if stint.is_finished {
+        if report.is_finished {
             stream.finish();
             self.tell_frames(spool, stream.frames(now));
         }

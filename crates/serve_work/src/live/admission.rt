@@ -1,6 +1,7 @@
 //! Streams that are admitted where an epoch opens.
 ghost use Rattle.std.specs.Prelude.{◌≡◌, ◌≤◌, ◌++◌, List, [], ◌∷◌, IfErr, IfOk, length};
 ghost use Rattle.serve_hub.specs.Calls.{Admits};
+ghost use Rattle.serve_work.specs.History.{EpochValue};
 ghost use Rattle.serve_work.specs.Live.{AllowsRefusal, Waiting, waiting_of};
 ghost use Rattle.serve_work.specs.LiveInside.{AreSeated};
 ghost use Rattle.serve_work.specs.Sessions.{IsInput};
@@ -11,7 +12,7 @@ use crate::live::opening::Hall;
 use crate::request::{Answer, Request};
 use crate::session::turn::Stream;
 use crate::setting::Setting;
-use edf_pool::limits::MOST_STREAMS;
+use cbs_account::limits::MOST_STREAMS;
 use serve_core::{Refusal as Core, StreamSpec};
 use serve_hub::{Epoch, Hub, Refusal, StreamSeat};
 use std::alloc::Global;
@@ -48,11 +49,11 @@ fn admit<L: Epoch, R: Source + Drop, W: Sink + Drop, D: Door<R, W>, G, K, T: Wai
     door: &mut D,
 )
     requires input { IsInput request.spec (request.reader, request.writer) }
-    requires seated { (ws : List Waiting)
-        × D.waits door.old (ws ++ waiting_of W.contents W.failures request ∷ [])
-        × AreSeated D.limit D.times L.opening ws hall.old }
-    ensures seated { (ws : List Waiting) × D.waits door.new ws
-        × AreSeated D.limit D.times L.opening ws hall.new }
+    requires seated { (es : List EpochValue) × (ws : List Waiting)
+        × D.stands door.old es (ws ++ waiting_of W.contents W.failures request ∷ [])
+        × AreSeated D.terms D.times es L.opening ws hall.old }
+    ensures seated { (es : List EpochValue) × (ws : List Waiting) × D.stands door.new es ws
+        × AreSeated D.terms D.times es L.opening ws hall.new }
 {
     let Request {
         ticket,
@@ -70,6 +71,7 @@ fn admit<L: Epoch, R: Source + Drop, W: Sink + Drop, D: Door<R, W>, G, K, T: Wai
             let (seat, spec) = made;
             let number = ticket;
             hall.seat(seat, Ticket { number, spec }, Stream::new(reader, writer));
+            door.admitted(ticket);
         }
         Err(refusal) => {
             door.tell(ticket, &mut Some(Answer::Refused(refusal, reader, writer)));
@@ -84,10 +86,10 @@ pub(super) fn admit_all<L: Epoch, R: Source + Drop, W: Sink + Drop, D: Door<R, W
     hall: &mut Hall<L, R, W>,
     door: &mut D,
 )
-    requires seated { (ws : List Waiting) × D.waits door.old ws
-        × AreSeated D.limit D.times L.opening ws hall.old }
-    ensures seated { (ws : List Waiting) × D.waits door.new ws
-        × AreSeated D.limit D.times L.opening ws hall.new }
+    requires seated { (es : List EpochValue) × (ws : List Waiting) × D.stands door.old es ws
+        × AreSeated D.terms D.times es L.opening ws hall.old }
+    ensures seated { (es : List EpochValue) × (ws : List Waiting) × D.stands door.new es ws
+        × AreSeated D.terms D.times es L.opening ws hall.new }
 {
     for _ in 0..MOST_STREAMS {
         match door.next() {

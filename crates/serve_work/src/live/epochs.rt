@@ -4,6 +4,7 @@ ghost use Rattle.std.specs.Prelude.{IfSome, OnOk, vec_capacity, vec_len};
 ghost use Rattle.serve_core.specs.Schedule.{opened_schedule};
 ghost use Rattle.serve_core.specs.Setup.{StreamSpec};
 ghost use Rattle.serve_hub.specs.Ends.{IsEndOf};
+ghost use Rattle.serve_work.specs.History.{EpochValue, IsHistory};
 ghost use Rattle.serve_work.specs.Intervals.{CanName, HasNoCalls};
 ghost use Rattle.serve_work.specs.Live.{IsSeatFor, Waiting};
 ghost use Rattle.serve_work.specs.LiveInside.{AreAsAsked, AreGuests, AreSeated, HasPlaces, IsFirst};
@@ -24,7 +25,7 @@ use crate::session::turn::Stream;
 use crate::setting::Setting;
 use crate::spent::have_spent;
 use serve_core::{Refusal as Core, Setup};
-use serve_hub::{Ended, Epoch, Hub, Refusal, StreamSeat, WorkSeat};
+use serve_hub::{Ended, Epoch, EpochOwner, Hub, Refusal, StreamSeat, WorkSeat};
 use std::alloc::Global;
 use std::sync::ledger::Blank;
 use y4m_stream::{Sink, Source};
@@ -103,12 +104,12 @@ fn epoch<
     opening: Opening<L, R, W>,
     door: &mut D,
 ) -> Result<Interval<R, W>, SessionFault>
-    requires seated { (ws : List Waiting) × D.waits door.old ws
-        × AreSeated D.limit D.times L.opening ws opening.hall }
-    requires limit { opening.hub.limit ≡ D.limit }
+    requires seated { (es : List EpochValue) × (ws : List Waiting) × D.stands door.old es ws
+        × AreSeated D.terms D.times es L.opening ws opening.hall }
+    requires limit { opening.hub.limit ≡ D.terms.limit }
     requires times { (at : ℕ) → K.gives setting.clock.now at → D.times at }
     ensures fault { IfErr result (λ e. e ≡ SessionFault.Mismatch) }
-    ensures guests { IfOk result (IsLiveInterval (D.waits door.new) D.limit D.times) }
+    ensures guests { IfOk result (IsLiveInterval (D.stands door.new) D.terms D.times) }
 {
     let Opening {
         hub,
@@ -131,13 +132,18 @@ fn epoch<
     setting.gate.epoch_begins();
     let workers = work_seats.len();
     fill_slots(&mut slots, work_seats);
-    let (turns, goes_on) = run_threads::<L, R, W, D, G, K, T>(setting, &hub, &slots, turns, &*door);
+    let owner = EpochOwner::new(hub);
+    let (turns, goes_on) = run_threads::<L, R, W, D, G, K, T>(
+        setting, &owner, &slots, turns, &*door,
+    );
+    let hub = owner.into_hub();
     empty_slots(slots, &mut back);
     places.fill(turns);
     let Places { mut seats, streams } = places;
     fill_guests(&mut guests, tickets, streams);
     append_idle(&mut seats, &mut guests, idle);
     let ended = finish(hub, seats, back, &guests)?;
+    door.epoch_ended(&ended);
     Ok(Interval {
         ended,
         guests,
@@ -199,12 +205,14 @@ pub(super) fn first_epoch<
     door: &mut D,
 ) -> Result<Option<Interval<R, W>>, SessionFault>
     requires blank { CanName blank.name blank.parts (opened_schedule stream.setup) L.name L.parts L.opening }
-    requires limit { limit ≡ D.limit }
+    requires limit { limit ≡ D.terms.limit }
     requires times { (at : ℕ) → K.gives setting.clock.now at → D.times at }
-    requires first { (w : Waiting) × D.waits door.old (w ∷ []) × IsFirst W.contents W.failures w stream }
+    requires first { (es : List EpochValue) × IsHistory D.terms D.times es × (w : Waiting)
+        × D.stands door.old es (w ∷ []) × IsFirst W.contents W.failures D.terms w stream }
     ensures fault { IfErr result (λ e. e ≡ SessionFault.Mismatch) }
-    ensures answered { IfOk result (λ o. IfNone o (D.waits door.new [])) }
-    ensures guests { IfOk result (λ o. IfSome o (IsLiveInterval (D.waits door.new) D.limit D.times)) }
+    ensures answered { IfOk result (λ o. IfNone o ((es : List EpochValue)
+        × IsHistory D.terms D.times es × D.stands door.new es [])) }
+    ensures guests { IfOk result (λ o. IfSome o (IsLiveInterval (D.stands door.new) D.terms D.times)) }
 {
     let FirstStream {
         setup,
@@ -223,7 +231,9 @@ pub(super) fn first_epoch<
         }
         Some(made) => {
             let (mut opening, seat) = made;
+            let number = ticket.number;
             opening.hall.seat(seat, ticket, Stream::new(reader, writer));
+            door.admitted(number);
             Ok(Some(epoch(setting, opening, door)?))
         }
     }
@@ -246,9 +256,9 @@ pub(super) fn next_epoch<
 ) -> Result<Interval<R, W>, SessionFault>
     requires blank { CanName blank.name blank.parts interval.ended.book.desk L.name L.parts L.opening }
     requires times { (at : ℕ) → K.gives setting.clock.now at → D.times at }
-    requires guests { IsLiveInterval (D.waits door.old) D.limit D.times interval }
+    requires guests { IsLiveInterval (D.stands door.old) D.terms D.times interval }
     ensures fault { IfErr result (λ e. e ≡ SessionFault.Mismatch) }
-    ensures guests { IfOk result (IsLiveInterval (D.waits door.new) D.limit D.times) }
+    ensures guests { IfOk result (IsLiveInterval (D.stands door.new) D.terms D.times) }
 {
     match open_next::<L, R, W, D>(setting.alloc, blank, interval) {
         Err(interval) => Ok(interval),
@@ -263,11 +273,11 @@ fn open_next<L: Epoch, R: Source + Drop, W: Sink + Drop, D: Door<R, W>>(
     interval: Interval<R, W>,
 ) -> Result<Opening<L, R, W>, Interval<R, W>>
     requires blank { CanName blank.name blank.parts interval.ended.book.desk L.name L.parts L.opening }
-    requires guests { (ws : List Waiting)
-        × AreGuests D.limit D.times interval.ended ws interval.guests.items }
-    ensures seated { (ws : List Waiting)
-        → AreGuests D.limit D.times interval.ended ws interval.guests.items
-        → IfOk result (λ opening. AreSeated D.limit D.times L.opening ws opening.hall) }
+    requires guests { (es : List EpochValue) × (ws : List Waiting)
+        × AreGuests D.terms D.times es interval.ended ws interval.guests.items }
+    ensures seated { (es : List EpochValue) (ws : List Waiting)
+        → AreGuests D.terms D.times es interval.ended ws interval.guests.items
+        → IfOk result (λ opening. AreSeated D.terms D.times es L.opening ws opening.hall) }
     ensures limit { IfOk result (λ opening. opening.hub.limit ≡ interval.ended.book.limit) }
     ensures returns_interval { IfErr result (λ back. (back.ended ≡ interval.ended)
         × (back.guests.items ≡ interval.guests.items)) }

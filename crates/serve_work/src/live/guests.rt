@@ -3,6 +3,7 @@ ghost use Rattle.std.specs.Prelude.{◌≡◌, ◌<◌, ◌++◌, List, [], ◌�
 ghost use Rattle.std.specs.Prelude.{slice_get, slice_set, vec_len, ⊤};
 ghost use Rattle.serve_core.specs.Schedule.{HasStream};
 ghost use Rattle.serve_hub.specs.Seats.{StreamRest};
+ghost use Rattle.serve_work.specs.History.{EpochValue, IsHistory};
 ghost use Rattle.serve_work.specs.Live.{IsStandingOf, Waiting};
 ghost use Rattle.serve_work.specs.LiveInside.{AreAllTold, AreAsAsked, CanTell, HaveWaited, IsAsAsked};
 
@@ -78,13 +79,12 @@ fn tell<R: Source + Drop, W: Sink + Drop, D: Door<R, W>>(
     place: usize,
     guest: Guest<R, W>,
 )
-    requires can { (before : List Waiting) × (w : Waiting) × (after : List Waiting)
-        × D.waits door.old (before ++ w ∷ after)
-        × CanTell D.limit D.times ended.now
-        place guest w }
-    ensures waits_no_longer { (before : List Waiting) (w : Waiting) (after : List Waiting)
-        → D.waits door.old (before ++ w ∷ after) → w.ticket ≡ guest.ticket.number
-        → D.waits door.new (before ++ after) }
+    requires can { (es : List EpochValue) × (before : List Waiting) × (w : Waiting)
+        × (after : List Waiting) × D.stands door.old es (before ++ w ∷ after)
+        × CanTell D.terms D.times es ended.now place guest w }
+    ensures waits_no_longer { (es : List EpochValue) (before : List Waiting) (w : Waiting)
+        (after : List Waiting) → D.stands door.old es (before ++ w ∷ after)
+        → w.ticket ≡ guest.ticket.number → D.stands door.new es (before ++ after) }
 {
     let Guest { ticket, stream } = guest;
     let mut served = stream.into_served();
@@ -105,9 +105,10 @@ pub(super) fn tell_guests<R: Source + Drop, W: Sink + Drop, D: Door<R, W>>(
     guests: &mut Vec<Option<Guest<R, W>>>,
     gives_up: bool,
 ) -> bool
-    requires guests { HaveWaited (D.waits door.old) D.limit D.times ended.now guests.old.items }
-    ensures guests { HaveWaited (D.waits door.new) D.limit D.times ended.now guests.new.items }
-    ensures answered { IsFalse result → D.waits door.new [] }
+    requires guests { HaveWaited (D.stands door.old) D.terms D.times ended.now guests.old.items }
+    ensures guests { HaveWaited (D.stands door.new) D.terms D.times ended.now guests.new.items }
+    ensures answered { IsFalse result → (es : List EpochValue) × IsHistory D.terms D.times es
+        × D.stands door.new es [] }
 {
     for place in 0..guests.len() {
         tell_at(door, ended, guests, place, gives_up);
@@ -124,8 +125,8 @@ fn tell_at<R: Source + Drop, W: Sink + Drop, D: Door<R, W>>(
     gives_up: bool,
 )
     requires within { place < vec_len guests.old }
-    requires guests { HaveWaited (D.waits door.old) D.limit D.times ended.now guests.old.items }
-    ensures guests { HaveWaited (D.waits door.new) D.limit D.times ended.now guests.new.items }
+    requires guests { HaveWaited (D.stands door.old) D.terms D.times ended.now guests.old.items }
+    ensures guests { HaveWaited (D.stands door.new) D.terms D.times ended.now guests.new.items }
     ensures len { vec_len guests.new ≡ vec_len guests.old }
 {
     if !is_due(&guests[place], gives_up) {
@@ -143,8 +144,9 @@ pub(super) fn show_guests<R: Source + Drop, W: Sink + Drop, D: Door<R, W>>(
     ended: &Ended,
     guests: &Vec<Option<Guest<R, W>>>,
 )
-    requires guests { HaveWaited (D.waits door.old) D.limit D.times ended.now guests.now.items }
-    ensures waits { (ws : List Waiting) → D.waits door.old ws → D.waits door.new ws }
+    requires guests { HaveWaited (D.stands door.old) D.terms D.times ended.now guests.now.items }
+    ensures waits { (es : List EpochValue) (ws : List Waiting) → D.stands door.old es ws
+        → D.stands door.new es ws }
 {
     if !door.asks() {
         return;
@@ -157,7 +159,8 @@ pub(super) fn show_guests<R: Source + Drop, W: Sink + Drop, D: Door<R, W>>(
 
 /// Tells the door, if it asks, that no stream is served.
 pub(super) fn show_none<R: Source, W: Sink, D: Door<R, W>>(door: &mut D)
-    ensures waits { (ws : List Waiting) → D.waits door.old ws → D.waits door.new ws }
+    ensures waits { (es : List EpochValue) (ws : List Waiting) → D.stands door.old es ws
+        → D.stands door.new es ws }
 {
     if door.asks() {
         door.end_show(None);
@@ -172,8 +175,9 @@ fn show_at<R: Source + Drop, W: Sink + Drop, D: Door<R, W>>(
     place: usize,
 )
     requires within { place < vec_len guests.now }
-    requires guests { HaveWaited (D.waits door.old) D.limit D.times ended.now guests.now.items }
-    ensures waits { (ws : List Waiting) → D.waits door.old ws → D.waits door.new ws }
+    requires guests { HaveWaited (D.stands door.old) D.terms D.times ended.now guests.now.items }
+    ensures waits { (es : List EpochValue) (ws : List Waiting) → D.stands door.old es ws
+        → D.stands door.new es ws }
 {
     if let Some(guest) = &guests[place] {
         if guest.stream.is_waiting() {

@@ -1,8 +1,11 @@
 //! How a session begins with its first stream, and what an epoch begins with.
-ghost use Rattle.std.specs.Prelude.{◌≡◌, ◌+◌, ◌<◌, ◌≤◌, ◌++◌, [], ◌∷◌, IfErr, IfNone, IfOk, IfSome, Some};
+ghost use Rattle.std.specs.Prelude.{◌≡◌, ◌+◌, ◌<◌, ◌≤◌, ◌++◌, List, [], ◌∷◌, IfErr, IfNone, IfOk, IfSome, Some};
 ghost use Rattle.std.specs.Prelude.{map, vec_len};
 ghost use Rattle.std.specs.List.{AllByRecursion};
 ghost use Rattle.serve_work.specs.Live.{AllowsRefusal, waiting_of};
+ghost use Rattle.serve_core.specs.Setup as setups;
+ghost use Rattle.serve_work.specs.History.{EpochValue};
+ghost use Rattle.serve_work.specs.Intervals.{HasNoCalls};
 ghost use Rattle.serve_work.specs.LiveInside as rules;
 ghost use Rattle.serve_work.specs.LiveInside.{HasPlaces, TakesSeat, helds_of, ticket_of, tickets_of};
 ghost use Rattle.serve_work.specs.SessionInside.{IsReady, held_at};
@@ -13,7 +16,7 @@ use crate::live::guests::{Guest, Ticket};
 use crate::request::{Answer, Request};
 use crate::session::room::Room;
 use crate::session::turn::{Stream, Turn};
-use edf_pool::limits::MOST_STREAMS;
+use cbs_account::limits::MOST_STREAMS;
 use serve_core::{Refusal as Core, Setup, SetupError, StreamSpec};
 use serve_hub::{Epoch, Hub, Refusal, StreamSeat, WorkSeat};
 use std::alloc::{AllocError, Global};
@@ -39,7 +42,9 @@ fn list_of(alloc: Global, spec: StreamSpec) -> Result<Vec<StreamSpec>, AllocErro
 
 /// A setup of one stream, and its spec once more.
 fn setup_of(alloc: Global, form: Form, spec: StreamSpec) -> Result<(Setup, StreamSpec), Refusal>
-    ensures setup { IfOk result (λ made. made.0.streams ≡ spec ∷ []) }
+    ensures setup { IfOk result (λ made.
+        made.0 ≡ setups.setup_of form.workers form.quantum (spec ∷ [])) }
+    ensures is_setup { IfOk result (λ made. setups.IsSetup made.0) }
     ensures same { IfOk result (λ made. made.1 ≡ spec) }
     ensures refused { IfErr result (AllowsRefusal spec) }
 {
@@ -73,13 +78,18 @@ pub(super) fn set_up<R: Source + Drop, W: Sink + Drop, D: Door<R, W>>(
     request: Request<R, W>,
     door: &mut D,
 ) -> Option<FirstStream<R, W>>
-    requires waits { D.waits door.old (waiting_of W.contents W.failures request ∷ []) }
-    ensures stream { IfSome result (λ stream. (stream.setup.streams ≡ request.spec ∷ [])
+    requires waits { (es : List EpochValue)
+        × D.stands door.old es (waiting_of W.contents W.failures request ∷ []) }
+    ensures stream { IfSome result (λ stream.
+        (stream.setup ≡ setups.setup_of form.workers form.quantum (request.spec ∷ []))
         × (stream.ticket ≡ ticket_of (waiting_of W.contents W.failures request))
         × (stream.reader ≡ request.reader)
         × (stream.writer ≡ request.writer)) }
-    ensures waits { IfSome result (λ _. D.waits door.new (waiting_of W.contents W.failures request ∷ [])) }
-    ensures answered { IfNone result (D.waits door.new []) }
+    ensures is_setup { IfSome result (λ stream. setups.IsSetup stream.setup) }
+    ensures waits { IfSome result (λ _. door.new ≡ door.old) }
+    ensures answered { IfNone result ((es : List EpochValue)
+        → D.stands door.old es (waiting_of W.contents W.failures request ∷ [])
+        → D.stands door.new es []) }
 {
     let Request {
         ticket,
@@ -148,6 +158,8 @@ impl<L: Epoch, R: Source + Drop, W: Sink + Drop> Hall<L, R, W> {
         requires room_for_stream { vec_len self.old.room.turns + vec_len self.old.idle < MOST_STREAMS }
         requires tickets_fit { vec_len self.old.tickets ≤ vec_len self.old.room.turns }
         requires ready { AllByRecursion IsReady (helds_of (seat ∷ []) (guest ∷ [])) }
+        requires idle { AllByRecursion HasNoCalls self.old.idle.items }
+        requires no_calls { HasNoCalls seat }
         ensures places { HasPlaces self.new }
         ensures turns { self.new.room.turns.items ≡ self.old.room.turns.items
             ++ map Some (helds_of (seat ∷ []) (guest ∷ [])) }
@@ -156,6 +168,7 @@ impl<L: Epoch, R: Source + Drop, W: Sink + Drop> Hall<L, R, W> {
         ensures one_more { vec_len self.new.room.turns + vec_len self.new.idle
             ≤ vec_len self.old.room.turns + vec_len self.old.idle + 1 }
         ensures tickets_fit { vec_len self.new.tickets ≤ vec_len self.new.room.turns }
+        ensures idle { AllByRecursion HasNoCalls self.new.idle.items }
     {
         match guest {
             Some(guest) => {
@@ -173,10 +186,12 @@ impl<L: Epoch, R: Source + Drop, W: Sink + Drop> Hall<L, R, W> {
             × (self.old.idle.items ≡ []) }
         requires few_seats { vec_len seats ≤ MOST_STREAMS }
         requires ready { AllByRecursion IsReady (helds_of seats.items guests.items) }
+        requires no_calls { AllByRecursion HasNoCalls seats.items }
         ensures places { HasPlaces self.new }
         ensures turns { self.new.room.turns.items ≡ map Some (helds_of seats.items guests.items) }
         ensures tickets { self.new.tickets.items ≡ tickets_of seats.items guests.items }
         ensures turns_within { vec_len self.new.room.turns + vec_len self.new.idle ≤ vec_len seats }
+        ensures idle { AllByRecursion HasNoCalls self.new.idle.items }
     {
         for (seat, guest) in seats.into_iter().zip(guests) {
             self.seat_one(seat, guest);

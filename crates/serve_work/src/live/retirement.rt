@@ -3,6 +3,7 @@ ghost use Rattle.std.specs.Prelude.{◌≡◌, ◌+◌, ◌≤◌, ◌++◌, fal
 ghost use Rattle.std.specs.Prelude.{length, map, take};
 ghost use Rattle.std.specs.Vec.{vec_capacity, vec_len};
 ghost use Rattle.serve_core.specs.Retired.{stays};
+ghost use Rattle.serve_work.specs.History.{EpochValue};
 ghost use Rattle.serve_work.specs.Live.{Waiting};
 ghost use Rattle.serve_work.specs.LiveInside.{AreGuests, AreToldBut, at_marks};
 
@@ -18,9 +19,9 @@ pub(super) fn retire_released<R: Source + Drop, W: Sink + Drop, D: Door<R, W>>(
     alloc: Global,
     interval: Interval<R, W>,
 ) -> Interval<R, W>
-    ensures guests { (ws : List Waiting)
-        → AreGuests D.limit D.times interval.ended ws interval.guests.items
-        → AreGuests D.limit D.times result.ended ws result.guests.items }
+    ensures guests { (es : List EpochValue) (ws : List Waiting)
+        → AreGuests D.terms D.times es interval.ended ws interval.guests.items
+        → AreGuests D.terms D.times es result.ended ws result.guests.items }
 {
     let Some((marks, mut kept)) = marks_and_room(alloc, &interval) else {
         return interval;

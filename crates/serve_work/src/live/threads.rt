@@ -10,8 +10,8 @@ use crate::session::room::Slot;
 use crate::session::threads::work_in;
 use crate::session::turn::Turn;
 use crate::setting::Setting;
-use edf_pool::limits::MOST_STREAMS;
-use serve_hub::{Epoch, Hub};
+use cbs_account::limits::MOST_STREAMS;
+use serve_hub::{Epoch, EpochOwner};
 use std::sync::Wait;
 use std::thread;
 
@@ -21,13 +21,13 @@ const PATIENCE: u64 = 5;
 
 /// Ends the epoch where a request is at the door, or a question of how the streams stand
 /// ([`Bell::is_there`]). The watch is over when the epoch is.
-fn watch<L: Epoch, B: Bell, T: Wait>(rt: &T, hub: &Hub<L>, door: &B) {
+fn watch<L: Epoch, B: Bell, T: Wait>(rt: &T, owner: &EpochOwner<L>, door: &B) {
     for _ in rt.forever() {
-        if hub.is_full(rt) {
+        if owner.hub().is_full(rt) {
             return;
         }
         if door.is_there(PATIENCE) {
-            hub.end_epoch(rt);
+            owner.end_epoch(rt);
             return;
         }
     }
@@ -37,6 +37,7 @@ fn watch<L: Epoch, B: Bell, T: Wait>(rt: &T, hub: &Hub<L>, door: &B) {
 /// Where one is done it ends the epoch.
 fn run_guests<L: Epoch + Send + Sync, R: SentSource, W: SentSink, K: LentClock, T: Host>(
     post: Post<'_, L, K, T>,
+    owner: &EpochOwner<L>,
     turns: &mut [Turn<L, R, W>],
 )
     requires sharing { IsSync T.row × IsSync K.row × IsSync L.row × IsSend L.row }
@@ -45,15 +46,15 @@ fn run_guests<L: Epoch + Send + Sync, R: SentSource, W: SentSink, K: LentClock, 
     let Post {
         rt,
         alloc,
-        hub,
         clock,
+        ..
     } = post;
     let serve = move |_: usize, turn: &mut Turn<L, R, W>|
         ensures { Runs (K.gives clock.entry.now) turn.old turn.new }
     {
-        turn.run(rt, alloc, hub, clock);
+        turn.run(rt, alloc, owner.hub(), clock);
         if turn.is_over() {
-            hub.end_epoch(rt);
+            owner.end_epoch(rt);
         }
     };
     thread::for_each_mut(rt, turns, MOST_STREAMS, &serve);
@@ -62,6 +63,7 @@ fn run_guests<L: Epoch + Send + Sync, R: SentSource, W: SentSink, K: LentClock, 
 /// Runs the clients where a worker runs beside them, and ends the epoch when all are done or paused.
 fn run_beside<L: Epoch + Send + Sync, R: SentSource, W: SentSink, K: LentClock, T: Host>(
     post: Post<'_, L, K, T>,
+    owner: &EpochOwner<L>,
     turns: Vec<Turn<L, R, W>>,
     any_works: bool,
 ) -> Vec<Turn<L, R, W>>
@@ -70,12 +72,12 @@ fn run_beside<L: Epoch + Send + Sync, R: SentSource, W: SentSink, K: LentClock, 
     ensures run { AllRun (K.gives post.entry.clock.now) turns.items result.items }
 {
     if !any_works {
-        post.hub.end_epoch(post.rt);
+        owner.end_epoch(post.rt);
         return turns;
     }
     let mut turns = turns;
-    run_guests(post, &mut turns);
-    post.hub.end_epoch(post.rt);
+    run_guests(post, owner, &mut turns);
+    owner.end_epoch(post.rt);
     turns
 }
 
@@ -92,7 +94,7 @@ pub(super) fn run_threads<
     T: Host,
 >(
     setting: Setting<'_, G, K, T>,
-    hub: &Hub<L>,
+    owner: &EpochOwner<L>,
     slots: &[Slot<L>],
     turns: Vec<Turn<L, R, W>>,
     door: &D,
@@ -106,6 +108,7 @@ pub(super) fn run_threads<
         gate,
         clock,
     } = setting;
+    let hub = owner.hub();
     thread::scope(
         thread::scope_env(),
         rt,
@@ -121,14 +124,14 @@ pub(super) fn run_threads<
                     any_works = true;
                 }
             }
-            let _is_watched = scope.spawn(move || watch(rt, hub, door)).is_ok();
+            let _is_watched = scope.spawn(move || watch(rt, owner, door)).is_ok();
             let post = Post {
                 rt,
                 alloc,
                 hub,
                 clock,
             };
-            (run_beside(post, turns, any_works), any_works)
+            (run_beside(post, owner, turns, any_works), any_works)
         },
     )
 }

@@ -9,7 +9,7 @@ use crate::bounds::{Host, LentClock, LentGate, SentSink, SentSource};
 use crate::post::Post;
 use crate::setting::Setting;
 use crate::workers::work;
-use edf_pool::limits::MOST_STREAMS;
+use cbs_account::limits::MOST_STREAMS;
 use serve_hub::{Epoch, Hub};
 use std::sync::{Mutex, Wait};
 use std::thread;

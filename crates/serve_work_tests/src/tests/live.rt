@@ -1,5 +1,6 @@
 //! Streams that come and go.
-ghost use Rattle.std.specs.Prelude.{⊤};
+ghost use Rattle.std.specs.Prelude.{⊤, ◌≡◌};
+ghost use Rattle.serve_work.specs.History.{Terms, terms_of};
 ghost use Rattle.serve_work.specs.Live.{IsForm};
 ghost use Rattle.serve_work.specs.Sessions.{IsInput};
 
@@ -7,11 +8,11 @@ use super::late::{Late, Pace, Paced, Side, Writer, end_of, opened, twenty};
 use super::sessions::Counting;
 use super::{Open, PLAIN, Still};
 use serve_core::Refusal as Core;
-use serve_hub::Refusal;
+use serve_hub::{Ended, Refusal};
 use serve_work::{Answer, Bell, Clock, Door, Request, Standing, Stop, serve_live};
 use std::alloc::Global;
 use std::collections::VecDeque;
-use std::marker::Model;
+use std::marker::{Brand, Model, PhantomData};
 use std::process::Abort;
 use std::sync::Wait;
 use std::sync::atomic::{AtomicU64, Ordering};
@@ -69,15 +70,28 @@ impl<'a, R: Source, W: Sink> Wanted<'a, R, W> {
     }
 }
 
-/// Requests and questions that come one after the other, and what was told and shown.
+/// What a session serves by, for contracts alone.
+trait HasTerms {
+    ghost terms: { Terms };
+}
+
+impl HasTerms for Brand {
+    ghost terms = { terms_of 0 0 0 };
+}
+
+/// Requests and questions that come one after the other, what was told and shown, who was admitted, and how many
+/// entries the journals of the epochs had.
 #[derive(Drop)]
-struct Sheet<'a, R: Source, W: Sink> {
+struct Sheet<'a, R: Source, W: Sink, L> {
     requests: VecDeque<Wanted<'a, R, W>>,
     questions: VecDeque<Due<'a>>,
     told: VecDeque<Line<R, W>>,
+    admitted: VecDeque<u64>,
+    epochs: VecDeque<usize>,
+    terms: PhantomData<L>,
 }
 
-impl<'a, R: Source, W: Sink> Sheet<'a, R, W> {
+impl<'a, R: Source, W: Sink, L> Sheet<'a, R, W, L> {
     fn has_come(&self) -> bool {
         match self.requests.front() {
             Some(wanted) => wanted.due.has_come(),
@@ -93,7 +107,7 @@ impl<'a, R: Source, W: Sink> Sheet<'a, R, W> {
     }
 }
 
-impl<'a, R: Source, W: Sink> Bell for Sheet<'a, R, W> {
+impl<'a, R: Source, W: Sink, L> Bell for Sheet<'a, R, W, L> {
     ghost is_over = { λ _. ⊤ };
 
     fn wait(&self) -> bool {
@@ -105,12 +119,12 @@ impl<'a, R: Source, W: Sink> Bell for Sheet<'a, R, W> {
     }
 }
 
-impl<'a, R: Source + Drop, W: Sink + Drop> Door<R, W> for Sheet<'a, R, W> {
-    ghost limit = { 256 };
+impl<'a, R: Source + Drop, W: Sink + Drop, L: HasTerms> Door<R, W> for Sheet<'a, R, W, L> {
+    ghost terms = { L.terms };
 
     ghost times = { λ _. ⊤ };
 
-    ghost waits = { λ _ _. ⊤ };
+    ghost stands = { λ _ _ _. ⊤ };
 
     fn next(&mut self) -> Option<Request<R, W>> {
         if !self.has_come() {
@@ -120,6 +134,14 @@ impl<'a, R: Source + Drop, W: Sink + Drop> Door<R, W> for Sheet<'a, R, W> {
             None => None,
             Some(wanted) => Some(wanted.into_request()),
         }
+    }
+
+    fn admitted(&mut self, ticket: u64) {
+        let _ = self.admitted.push_back(ticket);
+    }
+
+    fn epoch_ended(&mut self, ended: &Ended) {
+        let _ = self.epochs.push_back(ended.journal().len());
     }
 
     fn tell(&mut self, ticket: u64, answer: &mut Option<Answer<R, W>>) {
@@ -228,10 +250,27 @@ fn serves<'a, K: Clock + Sync, T: Threads + Wait + Sync>(
 ) -> Result<VecDeque<TheLine<'a>>, Fail>
     requires { IsForm workers 4 }
 {
-    let mut sheet = Sheet {
+    serves_by::<K, T, Brand>(rt, alloc, workers, clock, requests, questions)
+}
+
+fn serves_by<'a, K: Clock + Sync, T: Threads + Wait + Sync, L: HasTerms + Sync>(
+    rt: &T,
+    alloc: Global,
+    workers: u64,
+    clock: &K,
+    requests: VecDeque<TheWanted<'a>>,
+    questions: VecDeque<Due<'a>>,
+) -> Result<VecDeque<TheLine<'a>>, Fail>
+    requires form { IsForm workers 4 }
+    requires terms { terms_of workers 4 256 ≡ L.terms }
+{
+    let mut sheet: Sheet<'a, TheReader<'a>, Writer<'a>, L> = Sheet {
         requests,
         questions,
         told: VecDeque::new(alloc),
+        admitted: VecDeque::new(alloc),
+        epochs: VecDeque::new(alloc),
+        terms: PhantomData,
     };
     serve_live(rt, alloc, workers, 4, 256, &mut sheet, &Open, clock)?;
     let Sheet { told, .. } = sheet;

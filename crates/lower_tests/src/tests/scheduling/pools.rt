@@ -59,8 +59,9 @@ fn the_earliest_deadline_goes_first(rt: HostRuntime) -> Result<(), AllocError> {
 #[test]
 fn one_stream_is_a_pool(rt: HostRuntime) -> Result<(), AllocError> {
     let mut pool = Pool::new(rt.alloc(), 1)?;
-    same(&rt, pool.earliest(), None);
+    same(&rt, (pool.earliest(), pool.any_ready()), (None, false));
     same(&rt, set(&mut pool, 1, 0, Some(0)), Some(0));
+    same(&rt, pool.any_ready(), true);
     Ok(())
 }
 
@@ -71,6 +72,17 @@ fn a_pool_grows_behind_its_streams(rt: HostRuntime) -> Result<(), AllocError> {
     pool.grow();
     same(&rt, pool.earliest(), Some(0));
     same(&rt, set(&mut pool, 2, 1, Some(4)), Some(1));
+    Ok(())
+}
+
+#[test]
+fn a_pool_tells_whether_a_stream_is_ready(rt: HostRuntime) -> Result<(), AllocError> {
+    let mut pool = Pool::new(rt.alloc(), 2)?;
+    same(&rt, pool.any_ready(), false);
+    let earliest = set(&mut pool, 2, 1, Some(4));
+    same(&rt, (earliest, pool.any_ready()), (Some(1), true));
+    let earliest = set(&mut pool, 2, 1, None);
+    same(&rt, (earliest, pool.any_ready()), (None, false));
     Ok(())
 }
 

@@ -37,3 +37,10 @@ returns-then-is_full-clause-turn g c = λ start past at. c.in-Paused.ensures.tur
 pub returns-then-is_full-clause-moments : goal.returns-then-is_full-clause-moments
 returns-then-is_full-clause-moments g c =
     KeepsMoments-trans (g.K.Clock.gives c.args.clock.now) _ _ _ c.loop.invariant.moments c.in-Paused.ensures.moments
+
+pub returns-in-Ended-clause-moments : goal.returns-in-Ended-clause-moments
+returns-in-Ended-clause-moments g c =
+    KeepsMoments-trans (g.K.Clock.gives c.args.clock.now) _ _ _ c.loop.invariant.moments c.in-Ended.ensures.moments
+
+pub returns-then-is_full-clause-full : goal.returns-then-is_full-clause-full
+returns-then-is_full-clause-full g c = c.is_full.ensures.0 c.if-is_full.true

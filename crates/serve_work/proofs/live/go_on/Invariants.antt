@@ -1,4 +1,5 @@
 use Rattle.std.proofs.Common.{List}
+use Rattle.serve_work.specs.History.{EpochValue}
 use Rattle.serve_work.specs.Live.{Waiting}
 use Rattle.serve_work.specs.LiveInside.{AreGuests}
 use Rattle.serve_work.proofs.live.go_on.Given as goal
@@ -12,6 +13,6 @@ ghosts-next_epoch-L-Epoch g a = record { opening = a.interval.ended.book.desk }
 -- the streams that are left stand between two epochs, and their requests wait
 abbrev pub invariant-loop : goal.invariant-loop
 invariant-loop g l = record {
-  guests : (ws : List Waiting) × g.D.Door.waits l.door ws
-      × AreGuests g.D.Door.limit g.D.Door.times l.interval.ended ws l.interval.guests.items;
+  guests : (es : List EpochValue) × (ws : List Waiting) × g.D.Door.stands l.door es ws
+      × AreGuests g.D.Door.terms g.D.Door.times es l.interval.ended ws l.interval.guests.items;
 }

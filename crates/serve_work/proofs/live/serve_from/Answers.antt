@@ -1,4 +1,6 @@
-use Rattle.std.proofs.Common.{ap, refl}
+use Rattle.std.proofs.Common.{◌∙◌, [], ◌∷◌, ap, refl}
+use Rattle.serve_core.specs.Setup.{setup_of}
+use Rattle.serve_work.specs.History.{Terms}
 use Rattle.serve_work.specs.Live.{Waiting, waiting_of}
 use Rattle.serve_work.proofs.live.serve_from.Goals as goal
 
@@ -8,15 +10,22 @@ first_epoch-requires-clause-blank g c κs within = record { name_is = refl; part
 pub first_epoch-requires-clause-first : goal.first_epoch-requires-clause-first
 first_epoch-requires-clause-first g c κs within =
     let w : Waiting = waiting_of g.W.Sink.contents g.W.Sink.failures c.args.request in
+    let at = c.requires.waits in
     let stream = c.in-Some.ensures.stream in (
+      at.0,
+      at.1,
       w,
-      c.in-Some.ensures.waits,
+      rw c.in-Some.ensures.waits at.2,
       record {
         ticket = stream.1;
         is_request = record { header = c.requires.input.header; is_open = c.requires.input.is_open };
-        streams = stream.0;
+        is_setup = c.in-Some.ensures.is_setup;
+        setup = stream.0 ∙ ap (λ (t : Terms). setup_of t.workers t.quantum (w.request.spec ∷ [])) c.requires.terms;
         reader = stream.2;
         before = ap g.W.Sink.contents stream.3;
         failures_of = ap g.W.Sink.failures stream.3;
       },
     )
+
+pub first_epoch-requires-clause-limit : goal.first_epoch-requires-clause-limit
+first_epoch-requires-clause-limit g c κs within = ap (λ (t : Terms). t.limit) c.requires.terms

@@ -1,6 +1,9 @@
-use Rattle.std.proofs.Common.{[]}
+use Rattle.std.proofs.Common.{List, []}
+use Rattle.serve_work.specs.History.{EpochValue, IsHistory}
 use Rattle.serve_work.proofs.live.serve_live.Given as goal
 
 -- no request waits
 abbrev pub invariant-loop : goal.invariant-loop
-invariant-loop g l = record { nobody : g.D.Door.waits l.door [] }
+invariant-loop g l = record {
+  nobody : (es : List EpochValue) × IsHistory g.D.Door.terms g.D.Door.times es × g.D.Door.stands l.door es [];
+}

@@ -3,7 +3,8 @@ use Rattle.serve_core.specs.declared.desk.Desk.TheInside.{Inside}
 use Rattle.serve_core.specs.Desk.{LeadsDesk, offered}
 use Rattle.serve_core.specs.DeskInside.{IsDesk}
 use Rattle.serve_core.specs.Schedule.{ScheduleValue}
-use Rattle.serve_core.proofs.Calls.Offers.{accepted, at_clock, at_moment}
+use Rattle.serve_core.specs.Ticked.{at_moment}
+use Rattle.serve_core.proofs.Calls.Offers.{accepted, at_clock}
 use Rattle.serve_core.proofs.desk.Desk.accept.Goals as goal
 
 gone_on : (c : goal.After-accept) → c.tick.new.self ≡ at_moment c.args.at c.self.inside.schedule

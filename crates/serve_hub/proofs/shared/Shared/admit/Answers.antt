@@ -1,5 +1,5 @@
 use Rattle.std.proofs.Common.{◌<◌, ◌∙◌, arith}
-use Rattle.edf_pool.specs.declared.limits.TheConstants.{MOST_STREAMS}
+use Rattle.cbs_account.specs.declared.limits.TheConstants.{MOST_STREAMS}
 use Rattle.serve_hub.proofs.Admitting.{part_left, refusal_told}
 use Rattle.serve_hub.proofs.shared.Shared.admit.Goals as goal
 

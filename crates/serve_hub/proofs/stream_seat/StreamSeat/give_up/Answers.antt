@@ -1,4 +1,3 @@
-use Rattle.std.specs.Arc.{arc_value}
 use Rattle.serve_hub.proofs.Keeping.{first_sized, sized_rest}
 use Rattle.serve_hub.proofs.stream_seat.StreamSeat.give_up.Goals as goal
 
@@ -6,14 +5,15 @@ pub invariant_of-self-inside : goal.invariant_of-self-inside
 invariant_of-self-inside g c =
     let rest = c.self-inside.inside.0.0 in (
       rw c.pop_front.ensures.rest
-          (sized_rest (arc_value rest.spec).geometry rest.kept.items c.self-inside.invariant.0),
+          (sized_rest rest.spec.chain.geometry rest.kept.items c.self-inside.invariant.0),
       c.self-inside.invariant.1,
       c.self-inside.invariant.2,
+      c.self-inside.invariant.3,
     )
 
 pub returns-clause-size : goal.returns-clause-size
 returns-clause-size g c =
     let rest = c.self-inside.inside.0.0 in
     rw (← c.self.view_is, ← c.self-inside.view_is)
-    (first_sized (arc_value rest.spec).geometry rest.kept.items c.pop_front.new.self.items c.pop_front.result
+    (first_sized rest.spec.chain.geometry rest.kept.items c.pop_front.new.self.items c.pop_front.result
     c.pop_front.ensures.items c.self-inside.invariant.0)

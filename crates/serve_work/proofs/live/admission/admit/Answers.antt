@@ -14,7 +14,7 @@ pub tell-requires : goal.tell-requires
 tell-requires g c =
     let w : Waiting = waiting_of g.W.Sink.contents g.W.Sink.failures c.args.request in
     let at = c.requires.seated in
-    record { answer = (at.0, w, [], at.1, refl, (inl tt, refl, refl, refl)) }
+    record { answer = (at.0, at.1, w, [], at.2, refl, (inl tt, refl, refl, refl)) }
 
 pub returns-then-len-ge-MOST_STREAMS : goal.returns-then-len-ge-MOST_STREAMS
 returns-then-len-ge-MOST_STREAMS g c =
@@ -23,8 +23,9 @@ returns-then-len-ge-MOST_STREAMS g c =
     record {
       seated = (
         at.0,
-        subst (g.D.Door.waits c.tell.new.self) (append-nil at.0) (c.tell.ensures.waits_no_longer at.0 w [] at.1 refl),
-        at.2,
+        at.1,
+        subst (g.D.Door.stands c.tell.new.self at.0) (append-nil at.1) (c.tell.ensures.waits_no_longer at.0 at.1 w [] at.2 refl),
+        at.3,
       );
     }
 
@@ -34,11 +35,11 @@ seat-requires-clause-tickets_fit g c =
     let at = c.requires.seated in
     omega (
       arith,
-      zip_length (HasTurn g.D.Door.limit g.D.Door.times g.L.Epoch.opening) at.0 at.2.helds at.2.each,
-      ap length at.2.tickets,
-      same_length ticket_of at.0,
-      ap length at.2.turns,
-      same_length Some at.2.helds,
+      zip_length (HasTurn g.D.Door.terms g.D.Door.times at.0 g.L.Epoch.opening) at.1 at.3.helds at.3.each,
+      ap length at.3.tickets,
+      same_length ticket_of at.1,
+      ap length at.3.turns,
+      same_length Some at.3.helds,
       hall.tickets.ok.0,
       hall.room.turns.ok.0,
     )
@@ -49,16 +50,38 @@ seat-requires-clause-ready g c =
     let request : RequestValue = request_of g.W.Sink.contents g.W.Sink.failures c.args.request in
     let is : IsRequest request = record { header = c.requires.input.header; is_open = c.requires.input.is_open } in
     let a = admitted c.args.request.spec seat c.in-Ok.ensures.seat in
-    let b = began g.D.Door.limit g.D.Door.times g.L.Epoch.opening request seat is a.0 (inr c.in-Ok.ensures.behind) a.1 a.2 a.3 in
+    let es = c.requires.seated.0 in
+    let b = began g.D.Door.terms g.D.Door.times es g.L.Epoch.opening c.args.request.ticket request seat is a.0 (inr c.in-Ok.ensures.behind) a.1 a.2 a.3 in
     subst (λ (v : StreamValue). IsReadyAt v seat) (sym c.new.ensures)
-    (may_go g.D.Door.limit g.D.Door.times g.L.Epoch.opening request
+    (may_go g.D.Door.terms g.D.Door.times es g.L.Epoch.opening c.args.request.ticket request
     (sessions.Waiting (Unbegun request.reader request.before request.failures)) seat b)
+
+pub admitted-requires : goal.admitted-requires
+admitted-requires g c =
+    let w : Waiting = waiting_of g.W.Sink.contents g.W.Sink.failures c.args.request in
+    let at = c.requires.seated in
+    record {
+      admitted = (
+        at.0,
+        at.1,
+        w,
+        [],
+        at.2,
+        refl,
+        record {
+          opening = g.L.Epoch.opening;
+          opens = at.3.opens;
+          number = c.in-Ok.made.0.number;
+          is_new = inr c.in-Ok.ensures.behind;
+        },
+      );
+    }
 
 pub tell-requires-in-Err : goal.tell-requires-in-Err
 tell-requires-in-Err g c =
     let w : Waiting = waiting_of g.W.Sink.contents g.W.Sink.failures c.args.request in
     let at = c.requires.seated in
-    record { answer = (at.0, w, [], at.1, refl, (c.in-Err.ensures.refused, refl, refl, refl)) }
+    record { answer = (at.0, at.1, w, [], at.2, refl, (c.in-Err.ensures.refused, refl, refl, refl)) }
 
 pub returns-in-Ok : goal.returns-in-Ok
 returns-in-Ok g c =
@@ -66,16 +89,18 @@ returns-in-Ok g c =
     let w : Waiting = waiting_of g.W.Sink.contents g.W.Sink.failures c.args.request in
     let is : IsRequest w.request = record { header = c.requires.input.header; is_open = c.requires.input.is_open } in
     let a = admitted c.args.request.spec seat c.in-Ok.ensures.seat in
-    let b = began g.D.Door.limit g.D.Door.times g.L.Epoch.opening w.request seat is a.0 (inr c.in-Ok.ensures.behind) a.1 a.2 a.3 in
+    let es = c.requires.seated.0 in
+    let b = began g.D.Door.terms g.D.Door.times es g.L.Epoch.opening w.ticket w.request seat is a.0 (inr c.in-Ok.ensures.behind) a.1 a.2 a.3 in
     let held = held_at seat c.new.result in
-    let turn : HasTurn g.D.Door.limit g.D.Door.times g.L.Epoch.opening w held =
-    subst (λ (v : StreamValue). Begins g.D.Door.limit g.D.Door.times g.L.Epoch.opening w.request v seat) (sym c.new.ensures) b in
+    let turn : HasTurn g.D.Door.terms g.D.Door.times es g.L.Epoch.opening w held =
+    subst (λ (v : StreamValue). Begins g.D.Door.terms g.D.Door.times es g.L.Epoch.opening w.ticket w.request v seat) (sym c.new.ensures) b in
     let at = c.requires.seated in
     record {
       seated = (
-        at.0 ++ w ∷ [],
-        at.1,
-        seated_more g.D.Door.limit g.D.Door.times g.L.Epoch.opening at.0 c.args.hall.now c.seat.new.self w held at.2
+        es,
+        at.1 ++ w ∷ [],
+        c.admitted.ensures.waits es (at.1 ++ w ∷ []) at.2,
+        seated_more g.D.Door.terms g.D.Door.times es g.L.Epoch.opening at.1 c.args.hall.now c.seat.new.self w held at.3
             (subst (λ (spec : StreamSpec). TakesSeat (record { number = w.ticket; spec = spec }) held c.args.hall.now c.seat.new.self)
             c.in-Ok.ensures.same c.seat.ensures) turn,
       );
@@ -88,7 +113,9 @@ returns-in-Err g c =
     record {
       seated = (
         at.0,
-        subst (g.D.Door.waits c.tell-in-Err.new.self) (append-nil at.0) (c.tell-in-Err.ensures.waits_no_longer at.0 w [] at.1 refl),
-        at.2,
+        at.1,
+        subst (g.D.Door.stands c.tell-in-Err.new.self at.0) (append-nil at.1)
+            (c.tell-in-Err.ensures.waits_no_longer at.0 at.1 w [] at.2 refl),
+        at.3,
       );
     }

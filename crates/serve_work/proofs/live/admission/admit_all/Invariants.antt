@@ -1,4 +1,5 @@
 use Rattle.std.proofs.Common.{List}
+use Rattle.serve_work.specs.History.{EpochValue}
 use Rattle.serve_work.specs.Live.{Waiting}
 use Rattle.serve_work.specs.LiveInside.{AreSeated}
 use Rattle.serve_work.proofs.live.admission.admit_all.Given as goal
@@ -6,5 +7,6 @@ use Rattle.serve_work.proofs.live.admission.admit_all.Given as goal
 -- those that were admitted so far have their seats, and their requests wait
 abbrev pub invariant-loop : goal.invariant-loop
 invariant-loop g l = record {
-  seated : (ws : List Waiting) × g.D.Door.waits l.door ws × AreSeated g.D.Door.limit g.D.Door.times g.L.Epoch.opening ws l.hall;
+  seated : (es : List EpochValue) × (ws : List Waiting) × g.D.Door.stands l.door es ws
+      × AreSeated g.D.Door.terms g.D.Door.times es g.L.Epoch.opening ws l.hall;
 }

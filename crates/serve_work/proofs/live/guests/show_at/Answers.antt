@@ -17,10 +17,10 @@ standing_at-requires g c =
     let guests = c.args.guests.now.items in
     let here = slice_get_here guests c.args.place c.index.result.now (omega (arith, c.requires.within, c.args.guests.now.ok.0))
     c.index.ensures ∙ ap Some c.in-Some.is in
-    let at = guest_at (IsGuestAt g.D.Door.limit g.D.Door.times desk) guests a.2.seats a.0 c.args.place c.in-Some.guest a.2.each
+    let at = guest_at (IsGuestAt g.D.Door.terms g.D.Door.times a.0 desk) guests a.3.seats a.1 c.args.place c.in-Some.guest a.3.each
     here in
-    let told = can_tell g.D.Door.limit g.D.Door.times
-    c.args.ended.now a.0 guests c.args.place c.in-Some.guest a.2 at in (
+    let told = can_tell g.D.Door.terms g.D.Door.times a.0
+    c.args.ended.now a.1 guests c.args.place c.in-Some.guest a.3 at in (
       left_by told.seat,
       told.here,
       some_and (IsStreamOf told.seat) (λ _. ⊤) (slice_get desk.streams told.seat.number) (λ x is. tt) told.kept,
@@ -33,19 +33,20 @@ show-requires g c =
     let guests = c.args.guests.now.items in
     let here = slice_get_here guests c.args.place c.index.result.now (omega (arith, c.requires.within, c.args.guests.now.ok.0))
     c.index.ensures ∙ ap Some c.in-Some.is in
-    let at = guest_at (IsGuestAt g.D.Door.limit g.D.Door.times desk) guests a.2.seats a.0 c.args.place c.in-Some.guest a.2.each
+    let at = guest_at (IsGuestAt g.D.Door.terms g.D.Door.times a.0 desk) guests a.3.seats a.1 c.args.place c.in-Some.guest a.3.each
     here in
-    let told = can_tell g.D.Door.limit g.D.Door.times
-    c.args.ended.now a.0 guests c.args.place c.in-Some.guest a.2 at in
+    let told = can_tell g.D.Door.terms g.D.Door.times a.0
+    c.args.ended.now a.1 guests c.args.place c.in-Some.guest a.3 at in
     record {
       standing = (
+        a.0,
         at.before,
         at.w,
         at.after,
-        subst (g.D.Door.waits c.args.door.now) at.split a.1,
+        subst (g.D.Door.stands c.args.door.now a.0) at.split a.2,
         sym (ap (λ (t : Ticket). t.number) at.is.0),
-        can_show g.D.Door.limit g.D.Door.times desk
-            at.w.request c.in-Some.guest.stream told.seat c.standing_at.result told.stood
+        can_show g.D.Door.terms g.D.Door.times a.0 desk
+            at.w.ticket at.w.request c.in-Some.guest.stream told.seat c.standing_at.result told.history told.stood
             (sym c.is_waiting.ensures ∙ c.if-is_waiting.true) told.kept told.asked
             (c.standing_at.ensures (left_by told.seat) told.here),
       );

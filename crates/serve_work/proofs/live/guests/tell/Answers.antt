@@ -16,7 +16,7 @@ use Rattle.serve_work.proofs.live.guests.tell.Goals as goal
 pub tell-requires : goal.tell-requires
 tell-requires g c =
     let can = c.requires.can in
-    let told = can.4 in
+    let told = can.5 in
     let desk = c.args.ended.now.book.desk in
     let number : StreamRest → ℕ = λ rest. rest.number in
     let is : Some c.in-Some.number ≡ Some told.seat.number =
@@ -32,10 +32,12 @@ tell-requires g c =
         can.1,
         can.2,
         can.3,
+        can.4,
         sym (ap (λ (t : Ticket). t.number) told.ticket),
-        subst (λ (o : ClientOutcome). IsServedSince g.D.Door.limit g.D.Door.times can.1.request
+        subst (λ (o : ClientOutcome). IsServedSince g.D.Door.terms g.D.Door.times can.0 can.2.ticket can.2.request
             (record { outcome = o; charged = counts.charged })) (sym (ap (λ (s : ServedValue). s.outcome) c.served.view_is))
-            (answered _ _ _ _ _ _ (record { outcome = over.result.outcome; charged = counts.charged }) told.stood over.ensures.ends
+            (answered _ _ _ _ _ _ _ _ (record { outcome = over.result.outcome; charged = counts.charged }) told.history told.stood
+            over.ensures.ends
             told.charges told.kept charged told.asked
             (kept_allowed g.D.Door.times (stream_stop c.args.guest.stream) (Some over.result.outcome.stop) over.ensures.stop
             told.stood.stop)),

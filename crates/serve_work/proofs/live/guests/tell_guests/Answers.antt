@@ -9,8 +9,11 @@ loop-place-preserved g c =
 
 pub returns-clause-answered : goal.returns-clause-answered
 returns-clause-answered g c = λ none.
-    let at = c.loop-place.invariant.guests in
-    subst (g.D.Door.waits c.loop-place.door)
-    (nobody_waits (IsGuestAt g.D.Door.limit g.D.Door.times c.args.ended.now.book.desk) c.loop-place.guests.items
-    at.2.seats at.0 at.2.each
-    (c.any_left.ensures none)) at.1
+    let at = c.loop-place.invariant.guests in (
+      at.0,
+      at.3.history,
+      subst (g.D.Door.stands c.loop-place.door at.0)
+          (nobody_waits (IsGuestAt g.D.Door.terms g.D.Door.times at.0 c.args.ended.now.book.desk) c.loop-place.guests.items
+          at.3.seats at.1 at.3.each
+          (c.any_left.ensures none)) at.2,
+    )

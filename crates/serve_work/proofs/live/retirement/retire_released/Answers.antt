@@ -20,11 +20,11 @@ returns-in-Ok g c =
     let told : AreToldBut (map f ended.streams) guests =
     told_first f ended.streams guests (subst (λ (these : List Bool). AreToldBut these guests) marks c.in-Some.ensures.unmarked_told) in
     record {
-      guests = λ ws at.
+      guests = λ es ws at.
           let there = guests_retired
-          g.D.Door.limit g.D.Door.times ended ws
+          g.D.Door.terms g.D.Door.times es ended ws
           guests at told in
-          subst (λ (gs : List (Option (Guest _ _))). AreGuests g.D.Door.limit g.D.Door.times c.in-Ok.retired.ended ws gs) (sym kept)
-          (subst (λ (e : EndedValue). AreGuests g.D.Door.limit g.D.Door.times e ws (at_marks (map f ended.streams) guests))
+          subst (λ (gs : List (Option (Guest _ _))). AreGuests g.D.Door.terms g.D.Door.times es c.in-Ok.retired.ended ws gs) (sym kept)
+          (subst (λ (e : EndedValue). AreGuests g.D.Door.terms g.D.Door.times es e ws (at_marks (map f ended.streams) guests))
           (sym c.in-Ok.ensures.ended) there);
     }

@@ -1,4 +1,6 @@
-use Rattle.std.proofs.Common.{ap, arith, length}
+use Rattle.std.specs.List.{AllByRecursion}
+use Rattle.std.proofs.Common.{ap, arith, length, subst}
+use Rattle.serve_work.specs.Intervals.{HasNoCalls}
 use Rattle.serve_work.proofs.Seating.{all_made, ready_split, tickets_more, turns_more}
 use Rattle.serve_work.proofs.SessionTurns.{one_empty}
 use Rattle.serve_work.proofs.live.opening.Hall.seat_all.Goals as goal
@@ -12,6 +14,8 @@ seat_one-requires g c =
       room_for_stream = omega (arith, inv.few, steps.0.1, c.requires.few_seats);
       tickets_fit = inv.tickets_fit;
       ready = (ready_split _ _ _ _ _ _ steps.0.0 steps.1.0 inv.ready).0;
+      idle = inv.idle;
+      no_calls = (subst (AllByRecursion HasNoCalls) steps.0.0 inv.no_calls).0;
     }
 
 pub loop-seat-preserved : goal.loop-seat-preserved
@@ -27,6 +31,8 @@ loop-seat-preserved g c =
       guests_left = omega (arith, inv.guests_left, ap length steps.1.0, steps.1.1);
       few = omega (arith, inv.few, steps.0.1, c.seat_one.ensures.one_more);
       tickets_fit = c.seat_one.ensures.tickets_fit;
+      no_calls = (subst (AllByRecursion HasNoCalls) steps.0.0 inv.no_calls).1;
+      idle = c.seat_one.ensures.idle;
     }
 
 pub returns : goal.returns
@@ -34,4 +40,4 @@ returns g c =
     let inv = c.loop-seat.invariant in
     let all = all_made _ _ _ _ _ _ (one_empty _ _ _ _ inv.seats_left inv.guests_left c.in-None.ensures.steps) inv.turns inv.tickets
     in
-    record { places = inv.places; turns = all.0; tickets = all.1; turns_within = omega (arith, inv.few) }
+    record { places = inv.places; turns = all.0; tickets = all.1; turns_within = omega (arith, inv.few); idle = inv.idle }

@@ -3,6 +3,7 @@ use Rattle.std.specs.Iterator.Adapters.{zip_first, zip_second}
 use Rattle.std.specs.List.{AllByRecursion}
 use Rattle.std.specs.Vec.{vec_len}
 use Rattle.std.specs.Vec.Iter.{into_iter_items, into_iter_len}
+use Rattle.serve_work.specs.Intervals.{HasNoCalls}
 use Rattle.serve_work.specs.LiveInside.{HasPlaces, helds_of, tickets_of}
 use Rattle.serve_work.specs.SessionInside.{IsReady}
 use Rattle.serve_work.proofs.live.opening.Hall.seat_all.Given as goal
@@ -22,4 +23,6 @@ invariant-loop-seat g l =
       guests_left : length guests ≡ into_iter_len (zip_second l.seat-iterator);
       few : vec_len l.self.room.turns + vec_len l.self.idle + into_iter_len (zip_first l.seat-iterator) ≤ vec_len l.fn.seats;
       tickets_fit : vec_len l.self.tickets ≤ vec_len l.self.room.turns;
+      no_calls : AllByRecursion HasNoCalls seats;
+      idle : AllByRecursion HasNoCalls l.self.idle.items;
     }

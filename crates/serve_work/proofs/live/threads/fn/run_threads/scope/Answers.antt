@@ -1,6 +1,6 @@
 use denote.Param.Send.{sendable}
 use Rattle.std.proofs.Crossing.{crosses}
-use Rattle.serve_hub.proofs.Sharing.{hub_sync}
+use Rattle.serve_hub.proofs.Sharing.{hub_sync, owner_sync}
 use Rattle.serve_work.proofs.Slots.{slot_sync}
 use Rattle.serve_work.proofs.live.threads.fn.run_threads.scope.Goals as goal
 
@@ -10,4 +10,4 @@ spawn-requires-send-F g c κs within =
 
 pub spawn-requires-2-send-F : goal.spawn-requires-2-send-F
 spawn-requires-2-send-F g c κs within =
-    search (sendable, crosses, hub_sync, c.requires) depth 20
+    search (sendable, crosses, owner_sync, c.requires) depth 20

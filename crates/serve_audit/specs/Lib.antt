@@ -1,0 +1,3 @@
+pub mod Audit
+pub mod EntryText
+pub mod Laws

@@ -1,0 +1,10 @@
+use Rattle.serve_core.specs.Bare.{measures_any, is_any_image}
+use Rattle.serve_core.specs.Frames.{measures, is_image}
+use Rattle.serve_core.proofs.Charges.Lives.{life_demand_is}
+use Rattle.serve_core.proofs.laws.charges.life_demand_law.Goals as goal
+
+pub returns : goal.returns
+returns c = record {
+  of_frames = life_demand_is measures is_image;
+  bare = life_demand_is measures_any is_any_image;
+}
