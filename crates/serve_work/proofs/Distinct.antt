@@ -1,22 +1,11 @@
 -- Numbers that are all different, since each of as many is there.
-use Rattle.std.specs.Prelude.{nat_eq}
-use Rattle.std.proofs.Common.{ℕ, zero, suc, ◌≡◌, ◌≤◌, ◌<◌, ◌+◌, ◌⊎◌, inl, inr, Bool, true, false, List, [], ◌∷◌, ◌++◌}
-use Rattle.std.proofs.Common.{length, append_assoc, length-append, refl, sym, subst, arith}
-use Rattle.std.proofs.lemmas.Bool.Decides.{nat_tests}
+use Rattle.std.proofs.Common.{ℕ, zero, suc, ◌≡◌, ◌≤◌, ◌<◌, ◌+◌, ◌⊎◌, inl, inr, List, [], ◌∷◌, ◌++◌}
+use Rattle.std.proofs.Common.{length, append_assoc, length-append, sym, subst, arith}
 
 -- a number is one of these
 abbrev pub In : ℕ → List ℕ → Type 0
 In m [] = ⊥
 In m (x ∷ xs) = (x ≡ m) ⊎ In m xs
-
-in_front : (m : ℕ) (xs ys : List ℕ) → In m xs → In m (xs ++ ys)
-in_front m [] ys i = absurd i
-in_front m (x ∷ xs) ys (inl e) = inl e
-in_front m (x ∷ xs) ys (inr i) = inr (in_front m xs ys i)
-
-in_back : (m : ℕ) (xs ys : List ℕ) → In m ys → In m (xs ++ ys)
-in_back m [] ys i = i
-in_back m (x ∷ xs) ys i = inr (in_back m xs ys i)
 
 -- one that is there twice is there without the first
 in_others : (m v : ℕ) (xs ys : List ℕ) → In v ys → In m (xs ++ v ∷ ys) → In m (xs ++ ys)
@@ -64,14 +53,3 @@ distinct_from front (x ∷ xs) all = (
   distinct_from (front ++ x ∷ []) xs
       (subst (λ (ys : List ℕ). (m : ℕ) → m < length ys → In m ys) (sym (append_assoc front (x ∷ []) xs)) all),
 )
-
-pub distinct_front : (xs ys : List ℕ) → AreDistinct (xs ++ ys) → AreDistinct xs
-distinct_front [] ys all = tt
-distinct_front (x ∷ xs) ys all = (λ i. all.0 (in_front x xs ys i), distinct_front xs ys all.1)
-
-by_test : (m n : ℕ) (b : Bool) → nat_eq m n ≡ b → (m ≡ n → ⊥) → b ≡ false
-by_test m n true e differs = absurd (differs (grind (arith, nat_tests)))
-by_test m n false e differs = refl
-
-pub not_same : (m n : ℕ) → (m ≡ n → ⊥) → nat_eq m n ≡ false
-not_same m n differs = by_test m n (nat_eq m n) refl differs

@@ -24,7 +24,7 @@ use Rattle.serve_hub.specs.declared.entry.Entry.{Entry}
 use Rattle.serve_hub.specs.declared.entry.Seat.TheVariants.{Worker}
 use Rattle.serve_hub.specs.Books.{specs_of}
 use Rattle.serve_hub.specs.Journal.{entry_of, events_of, transcript_of}
-use Rattle.serve_work.specs.History.{AreEpochsBy, EpochValue, IsEpochBy, OpensBehind, Terms}
+use Rattle.serve_work.specs.History.{AreEpochsBy, EpochValue, IsEpochBy, IsGone, OpensBehind, Terms}
 use Rattle.serve_work.specs.HistoryLaws.{EarliestLaw, EpochDemandLaw, KeepsDemand, LeasesEarliest, state_behind}
 
 -- what came first in a legal transcript is legal
@@ -87,10 +87,14 @@ module _ (m n : State Blank) (q : Transcript Blank Blank) (r : IsReached measure
       (subst (λ (s : State Blank). demand d s.streams ≤ d * r.setup.workers) all.1
       (law r.setup (joined r.past q) d r.is_setup.0 r.is_setup.1 all.0))
 
-workers_left : (last opening : ScheduleValue) → (opening ≡ last) ⊎ (opening ≡ retired_schedule last)
-    → opening.workers ≡ last.workers
-workers_left last opening (inl e) = ap (λ (x : ScheduleValue). x.workers) e
-workers_left last opening (inr e) = ap (λ (x : ScheduleValue). x.workers) e
+workers_left : (gone opening : ScheduleValue) → (opening ≡ gone) ⊎ (opening ≡ retired_schedule gone)
+    → opening.workers ≡ gone.workers
+workers_left gone opening (inl e) = ap (λ (x : ScheduleValue). x.workers) e
+workers_left gone opening (inr e) = ap (λ (x : ScheduleValue). x.workers) e
+
+pub workers_gone : (last gone : ScheduleValue) → IsGone last gone → gone.workers ≡ last.workers
+workers_gone last gone (inl e) = ap (λ (x : ScheduleValue). x.workers) e
+workers_gone last gone (inr g) = ap (λ (x : ScheduleValue). x.workers) g.2
 
 -- each epoch has the session's workers
 workers_are : (terms : Terms) (before : List EpochValue) (opening : ScheduleValue) → AreEpochsBy terms before
@@ -99,7 +103,7 @@ workers_are terms before opening are (inl o) =
     ap (λ (x : ScheduleValue). length x.workers) o.1.opened ∙ length-replicate {A = Option Held} terms.workers None
 workers_are terms [] opening are (inr left) = absurd left
 workers_are terms (epoch ∷ before) opening are (inr left) =
-    ap length (workers_left epoch.last opening left)
+    ap length (workers_left epoch.gone opening left.1 ∙ workers_gone epoch.last epoch.gone are.0.goes_on)
     ∙ workers_on (desk_state epoch.opening) (desk_state epoch.last)
     (transcript_of (specs_of epoch.last) (desk_state epoch.opening) epoch.journal) are.0.reached are.0.leads.leads
     ∙ workers_are terms before epoch.opening are.2 are.1

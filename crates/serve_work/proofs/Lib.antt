@@ -1,4 +1,5 @@
 pub mod Allowing
+pub mod Answering
 pub mod Crossing
 pub mod Distinct
 pub mod Ending
@@ -10,6 +11,7 @@ pub mod Histories
 pub mod HubLives
 pub mod Intervals
 pub mod Journals
+pub mod Left
 pub mod Living
 pub mod Moving
 pub mod Offering

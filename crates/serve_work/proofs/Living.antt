@@ -1,48 +1,41 @@
 -- How the streams of a session go on that come and go.
-use Rattle.std.specs.Prelude.{All, drop, if◌then◌else◌, nat_eq, reverse, slice_get, slice_set}
-use Rattle.std.proofs.lemmas.Bool.Decides.{nat_tests}
+use Rattle.std.specs.Prelude.{drop, reverse, slice_get}
 use Rattle.std.specs.List.{AllByRecursion, AllZip, Any}
 use Rattle.std.specs.Vec.{vec_len}
-use Rattle.std.proofs.Common.{◌≡◌, ℕ, zero, suc, ◌<◌, ◌≤◌, ◌+◌, List, [], ◌∷◌, ◌++◌, length, get_or, map, Option, Some, None}
-use Rattle.std.proofs.Common.{IfSome, false, true, inl, inr, refl, sym, ap, ◌∙◌, subst, arith}
+use Rattle.std.proofs.Common.{◌≡◌, ℕ, zero, suc, ◌<◌, ◌≤◌, ◌+◌, List, [], ◌∷◌, ◌++◌, length, get_or, map, Option, Some, None, IfSome, false}
+use Rattle.std.proofs.Common.{inl, refl, sym, ap, ◌∙◌, subst, arith}
 use Rattle.serve_core.specs.Bare.{measures_any, is_any_image}
 use Rattle.serve_core.specs.Desk.{desk_state}
 use Rattle.serve_core.specs.Reached.{IsReached}
-use Rattle.serve_core.specs.Schedule.{HasStream, ScheduleValue, opened_schedule}
+use Rattle.serve_core.specs.Schedule.{ScheduleValue, opened_schedule}
 use Rattle.serve_core.specs.Setup.{IsSetup, Setup, StreamSpec, setup_of}
-use Rattle.serve_core.specs.Streams.{KeptStream}
 use Rattle.serve_hub.specs.declared.entry.Act.{Act}
 use Rattle.serve_hub.specs.declared.entry.Seat.TheVariants as numbered
 use Rattle.serve_hub.specs.declared.moments.Moments.{Moments}
 use Rattle.serve_hub.specs.Books.{BookValue, IsBook, opening_of, specs_of}
 use Rattle.serve_hub.specs.Calls.{Admits}
-use Rattle.serve_hub.specs.Ends.{AreFree, AreStreamCalls, ClockReached, ClocksReached, EndedValue, HaveStreams, IsCharged, IsStreamOf}
-use Rattle.serve_hub.specs.Ends.{acts_of}
+use Rattle.serve_hub.specs.Ends.{AreFree, AreStreamCalls, ClockReached, ClocksReached, HaveStreams, acts_of}
 use Rattle.serve_hub.specs.Ends as hubs
 use Rattle.serve_hub.specs.Seats.{StreamRest, StreamSeatValue, left_by, opened_rest, seat_over}
 use Rattle.serve_work.specs.declared.live.guests.Guest.{Guest}
 use Rattle.serve_work.specs.declared.live.guests.Ticket.{Ticket}
 use Rattle.serve_work.specs.declared.live.opening.Hall.{Hall}
-use Rattle.serve_work.specs.Clients.{AllowsStop, AreAtMoments, ClientStart, IsUnclosed, StreamEnds, closes_in, offers_in}
+use Rattle.serve_work.specs.Clients.{AreAtMoments, IsUnclosed, closes_in, offers_in}
 use Rattle.serve_work.specs.ClientInside.{KeepsMoments}
-use Rattle.serve_work.specs.History.{EpochValue, IsEpochBy, IsHistory, OpensBehind, OpensFor, Terms}
+use Rattle.serve_work.specs.History.{EpochValue, HasEnded, IsEpochBy, IsGone, IsHistory, OpensBehind, OpensFor, Terms}
 use Rattle.serve_work.specs.Intervals.{HasNoCalls}
-use Rattle.serve_work.specs.Live.{HasAtEnd, IsBehind, IsNewIn, IsOfSpec, IsRequest, IsSeatFor, IsServedSince}
-use Rattle.serve_work.specs.Live.{RequestValue, Waiting, acts_by, start_with}
-use Rattle.serve_work.specs.LiveInside.{AllAt, AreAllTold, AreAsAsked, AreGuests, AreSeated, Begins, CanTell, HadTurn, HasPlaces}
-use Rattle.serve_work.specs.LiveInside.{HasTurn, IsGuestAt, IsGuestIn, Stood, TakesSeat, guests_of, helds_of, nobody, ticket_of, tickets_of}
+use Rattle.serve_work.specs.Live.{IsBehind, IsNewIn, IsRequest, IsSeatFor, RequestValue, Waiting, acts_by, start_with}
+use Rattle.serve_work.specs.LiveInside.{AllAt, AreAsAsked, AreSeated, Begins, HadTurn, HasPlaces, HasTurn, IsGuestAt, IsGuestIn, Stood}
+use Rattle.serve_work.specs.LiveInside.{TakesSeat, guests_of, helds_of, nobody, ticket_of, tickets_of}
 use Rattle.serve_work.specs.Rests.{IsFresh, Unbegun}
-use Rattle.serve_work.specs.Sessions.{AreTimed, IsStreamTold, ServedValue}
+use Rattle.serve_work.specs.Sessions.{AreTimed}
 use Rattle.serve_work.specs.StreamInside as sessions
 use Rattle.serve_work.specs.Workers.{HaveSpent}
 use Rattle.serve_work.specs.SessionInside.{AllGoOn, GoesOn, HeldValue, IsReady, IsReadyAt, StandsAt}
 use Rattle.serve_work.specs.StreamInside.{StreamValue, stream_stop}
 use Rattle.serve_work.proofs.Intervals.{ready_at, reopened, stands_across}
 use Rattle.serve_work.proofs.Journals.{ends_epoch}
-use Rattle.serve_work.proofs.Renumbered.{stream_before}
-use Rattle.serve_work.proofs.SessionCharges.{served_one}
-use Rattle.serve_work.proofs.Distinct.{AreDistinct, In, distinct_from, distinct_front, not_same}
-use Rattle.serve_work.proofs.SessionTurns.{map_more, same_length, seat_number}
+use Rattle.serve_work.proofs.SessionTurns.{map_more, seat_number}
 use Rattle.serve_work.proofs.Staying.{Stays-same}
 use Rattle.serve_work.proofs.Times.{allowed_too, no_offer, timed_too}
 use Rattle.serve_work.proofs.Timing.{timed}
@@ -137,14 +130,15 @@ reached_at opening book h =
 -- times
 module _ (terms : Terms) (times : ℕ → Type 0) (es : List EpochValue) (opening : ScheduleValue) (book : BookValue) (is : IsBook book)
     (reached : IsReached measures_any is_any_image (desk_state book.opening)) (from : book.opening ≡ opening) (of_limit : book.limit ≡ terms.limit) (free : AreFree book.desk.workers)
-    (spent : HaveSpent (length book.desk.workers) book.past) (whose : ℕ → Option ℕ) where
+    (spent : HaveSpent (length book.desk.workers) book.past) (whose : List (Option ℕ)) (gone : ScheduleValue)
+    (goes : IsGone book.desk gone) where
   abbrev this_epoch : EpochValue
-  this_epoch = record { opening = book.opening; journal = book.past; last = book.desk; whose = whose }
+  this_epoch = record { opening = book.opening; journal = book.past; last = book.desk; gone = gone; whose = whose; is_given_up = false }
 
   pub is_epoch : IsEpochBy terms this_epoch
   is_epoch =
       let ends = ends_epoch terms.limit false book is of_limit free spent (λ on. absurd (cc)) in
-      record { reached = reached; leads = is.journal; free = free; spent = spent; fits = ends.fits }
+      record { reached = reached; leads = is.journal; free = free; spent = spent; fits = ends.fits; goes_on = goes }
 
   module _ (Gives : ℕ → Type 0) (given : (at : ℕ) → Gives at → times at) where
     its_times : (old new : HeldValue) → offers_in old.seat.calls.list ≡ 0 → old.seat.moments ≡ None
@@ -172,7 +166,8 @@ module _ (terms : Terms) (times : ℕ → Type 0) (es : List EpochValue) (openin
     went : (ticket : ℕ) (request : RequestValue) (old new : HeldValue)
         → Begins terms times es opening ticket request old.stream old.seat
         → GoesOn Gives old new → acts_of (numbered.Stream new.seat.number) (reverse book.past) ≡ new.seat.calls.list
-        → whose new.seat.number ≡ Some ticket → Stood terms times (this_epoch ∷ es) book.desk ticket request new.stream new.seat
+        → slice_get whose new.seat.number ≡ Some (Some ticket)
+        → Stood terms times (this_epoch ∷ es) gone ticket request new.stream new.seat
     went ticket request old new b on own mine =
         let start = start_with request b.first in
         let past : List Act = acts_by b.numbers es in
@@ -201,8 +196,8 @@ module _ (terms : Terms) (times : ℕ → Type 0) (es : List EpochValue) (openin
     pub all_had : (ws : List Waiting) (helds after : List HeldValue) (idle : List StreamSeatValue)
         → AllZip (HasTurn terms times es opening) ws helds → AllGoOn Gives helds after
         → AreStreamCalls (reverse book.past) (map (λ held. held.seat) after ++ idle)
-        → AllZip (λ w held. whose held.seat.number ≡ Some w.ticket) ws after
-        → AllZip (HadTurn terms times (this_epoch ∷ es) book.desk) ws after
+        → AllZip (λ w held. slice_get whose held.seat.number ≡ Some (Some w.ticket)) ws after
+        → AllZip (HadTurn terms times (this_epoch ∷ es) gone) ws after
     all_had [] [] [] idle p q calls mine = tt
     all_had [] [] (held ∷ after) idle p q calls mine = absurd q
     all_had [] (held ∷ helds) after idle p q calls mine = absurd p
@@ -240,94 +235,21 @@ module _ (terms : Terms) (times : ℕ → Type 0) (es : List EpochValue) (openin
           (λ k d less. reached (suc k) d (omega (arith, less))),
     )
 
-    pub one_epoch_more : (ws : List Waiting) (helds after : List HeldValue) (idle : List StreamSeatValue)
+    pub has_ended : (ws : List Waiting) (helds after : List HeldValue) (idle : List StreamSeatValue)
         → AllZip (HasTurn terms times es opening) ws helds → AllGoOn Gives helds after → AllByRecursion HasNoCalls idle
         → AreStreamCalls (reverse book.past) (map (λ held. held.seat) after ++ idle)
         → ClocksReached book (map (λ held. held.seat) after ++ idle)
         → HaveStreams (length book.desk.streams) (map (λ held. held.seat) after ++ idle)
-        → OpensBehind terms es opening → IsHistory terms times es → IsHistory terms times (this_epoch ∷ es)
-    one_epoch_more ws helds after idle p q none calls reached have opens before =
+        → OpensBehind terms es opening → IsHistory terms times es → HasEnded terms times es this_epoch
+    has_ended ws helds after idle p q none calls reached have opens before =
         let all = all_timed ws helds after idle p q none calls reached in
         record {
-          epochs_are = (is_epoch, subst (OpensBehind terms es) (sym from) opens, before.epochs_are);
-          timed = (
-            λ s less. timed_at (λ n. AreTimed times n (specs_of book.desk) (opening_of book) book.past)
-                (map (λ held. held.seat) after ++ idle) s (have s less) all,
-            before.timed,
-          );
+          before = before;
+          opens = subst (OpensBehind terms es) (sym from) opens;
+          is_epoch = is_epoch;
+          timed = λ s less. timed_at (λ n. AreTimed times n (specs_of book.desk) (opening_of book) book.past)
+              (map (λ held. held.seat) after ++ idle) s (have s less) all;
         }
-
--- the tickets of the requests by the numbers of their streams, which are all different
-abbrev pub whose_of : List Waiting → List ℕ → ℕ → Option ℕ
-whose_of [] numbers n = None
-whose_of (w ∷ ws) [] n = None
-whose_of (w ∷ ws) (number ∷ numbers) n = if nat_eq number n then Some w.ticket else whose_of ws numbers n
-
-abbrev pub numbers_of : List HeldValue → List ℕ
-numbers_of [] = []
-numbers_of (held ∷ helds) = held.seat.number ∷ numbers_of helds
-
-own_number : (n : ℕ) (o p : Option ℕ) → (if nat_eq n n then o else p) ≡ o
-own_number n o p = let same : nat_eq n n ≡ true = grind (arith, nat_tests) in rw same refl
-
-other_number : (m n : ℕ) (o p q : Option ℕ) → (m ≡ n → ⊥) → p ≡ q → (if nat_eq m n then o else p) ≡ q
-other_number m n o p q differs e =
-    let no : nat_eq m n ≡ false = not_same m n differs in rw no e
-
-behind_others : (m : ℕ) (o : Option ℕ) (f : ℕ → Option ℕ) (ws : List Waiting) (helds : List HeldValue)
-    → (In m (numbers_of helds) → ⊥) → AllZip (λ w held. f held.seat.number ≡ Some w.ticket) ws helds
-    → AllZip (λ w held. (if nat_eq m held.seat.number then o else f held.seat.number) ≡ Some w.ticket) ws helds
-behind_others m o f [] [] out all = tt
-behind_others m o f [] (held ∷ helds) out all = absurd all
-behind_others m o f (w ∷ ws) [] out all = absurd all
-behind_others m o f (w ∷ ws) (held ∷ helds) out all = (
-  other_number m held.seat.number o (f held.seat.number) (Some w.ticket) (λ e. out (inl (sym e))) all.0,
-  behind_others m o f ws helds (λ i. out (inr i)) all.1,
-)
-
-pub all_mine : (ws : List Waiting) (helds : List HeldValue) → AllZip (λ (w : Waiting) (held : HeldValue). Unit {0}) ws helds
-    → AreDistinct (numbers_of helds) → AllZip (λ w held. whose_of ws (numbers_of helds) held.seat.number ≡ Some w.ticket) ws helds
-all_mine [] [] p distinct = tt
-all_mine [] (held ∷ helds) p distinct = absurd p
-all_mine (w ∷ ws) [] p distinct = absurd p
-all_mine (w ∷ ws) (held ∷ helds) p distinct = (
-  own_number held.seat.number (Some w.ticket) (whose_of ws (numbers_of helds) held.seat.number),
-  behind_others held.seat.number (Some w.ticket) (whose_of ws (numbers_of helds)) ws helds distinct.0
-      (all_mine ws helds p.1 distinct.1),
-)
-
-pub both_zip : (P : Waiting → HeldValue → Type 0) (Q : HeldValue → HeldValue → Type 0) (ws : List Waiting) (old new : List HeldValue)
-    → AllZip P ws old → AllZip Q old new → AllZip (λ (w : Waiting) (held : HeldValue). Unit {0}) ws new
-both_zip P Q [] [] [] p q = tt
-both_zip P Q [] [] (held ∷ new) p q = absurd q
-both_zip P Q [] (held ∷ old) new p q = absurd p
-both_zip P Q (w ∷ ws) [] new p q = absurd p
-both_zip P Q (w ∷ ws) (held ∷ old) [] p q = absurd q
-both_zip P Q (w ∷ ws) (held ∷ old) (next ∷ new) p q = (tt, both_zip P Q ws old new p.1 q.1)
-
--- there is a seat of each number, and as many seats
-numbers_are : (after : List HeldValue) (idle : List StreamSeatValue)
-    → map (λ seat. seat.number) (map (λ held. held.seat) after ++ idle) ≡ numbers_of after ++ map (λ seat. seat.number) idle
-numbers_are [] idle = refl
-numbers_are (held ∷ after) idle = ap (λ (ns : List ℕ). held.seat.number ∷ ns) (numbers_are after idle)
-
-number_in : (seats : List StreamSeatValue) (n k : ℕ) (seat : StreamSeatValue) → k < length seats → get_or seats k seat ≡ seat
-    → seat.number ≡ n → In n (map (λ seat. seat.number) seats)
-number_in [] n k seat less here is = absurd (omega (arith, less))
-number_in (x ∷ seats) n zero seat less here is = inl (ap (λ (s : StreamSeatValue). s.number) here ∙ is)
-number_in (x ∷ seats) n (suc k) seat less here is = inr (number_in seats n k seat (omega (arith, less)) here is)
-
-pub distinct_seats : (after : List HeldValue) (idle : List StreamSeatValue) (count : ℕ)
-    → length (map (λ held. held.seat) after ++ idle) ≡ count → HaveStreams count (map (λ held. held.seat) after ++ idle)
-    → AreDistinct (numbers_of after)
-distinct_seats after idle count many have =
-    let seats = map (λ (held : HeldValue). held.seat) after ++ idle in
-    let each : length (map (λ (seat : StreamSeatValue). seat.number) seats) ≡ count =
-    same_length (λ (seat : StreamSeatValue). seat.number) seats ∙ many in
-    distinct_front (numbers_of after) (map (λ seat. seat.number) idle)
-    (subst AreDistinct (numbers_are after idle)
-    (distinct_from [] (map (λ (seat : StreamSeatValue). seat.number) seats)
-    (λ m less. let found = have m (omega (arith, less, each)) in number_in seats m found.0 found.1 found.2 found.3 found.4)))
 
 pub all_pushed : {A : Type 0} (P : A → Type 0) (xs : List A) (x : A) → AllByRecursion P xs → P x → AllByRecursion P (xs ++ x ∷ [])
 all_pushed P [] x all p = (p, tt)
@@ -357,39 +279,6 @@ again terms size times es last ticket request stream seat s =
       no_offers = refl;
       no_moments = refl;
       stop = s.stop;
-    }
-
--- what holds of a stream where its latest epoch ended, perhaps without the released streams, held at that end
-pub at_end : (terms : Terms) (spec : StreamSpec) (es : List EpochValue) (number : ℕ) (before : List ℕ) (desk : ScheduleValue) (now : ℕ)
-    (P : KeptStream → Type 0) → IsBehind terms spec (number ∷ before) es desk now → HasStream desk now P → HasAtEnd es number P
-at_end terms spec [] number before desk now P behind has = absurd behind
-at_end terms spec (epoch ∷ es) number before desk now P behind has =
-    stream_before epoch.last number desk now P behind has
-
--- what it came to is told
-pub answered : (terms : Terms) (times : ℕ → Type 0) (es : List EpochValue) (desk : ScheduleValue) (ticket : ℕ)
-    (request : RequestValue) (stream : StreamValue) (seat : StreamSeatValue) (served : ServedValue) → IsHistory terms times es
-    → Stood terms times es desk ticket request stream seat
-    → ((start : ClientStart) (past : List Act) (last : StreamSeatValue) → StandsAt stream start past last
-    → StreamEnds start past last served.outcome)
-    → All IsCharged desk.streams → HasStream desk seat.number (IsStreamOf seat)
-    → HasStream desk seat.number (λ kept. served.charged ≡ kept.state.charged) → HasStream desk seat.number (IsOfSpec request.spec)
-    → AllowsStop times served.outcome.stop → IsServedSince terms times es ticket request served
-answered terms times es desk ticket request stream seat served history s ends all of charged asked stop =
-    let start = start_with request s.first in
-    let one = served_one start s.past seat served desk all (ends start s.past seat s.stands) of charged in
-    record {
-      history = history;
-      seat = s.first;
-      is_new = s.is_new;
-      is_served = one.is_served;
-      number = s.number;
-      before = s.before;
-      numbers = s.had;
-      calls = rw (one.past_of, one.seat_of) s.calls;
-      stream = at_end terms request.spec es s.number s.before desk seat.number (IsStreamTold served) s.behind one.stream;
-      spec = at_end terms request.spec es s.number s.before desk seat.number (IsOfSpec request.spec) s.behind asked;
-      stop = stop;
     }
 
 -- their lists
@@ -477,93 +366,6 @@ one_asked P (y ∷ items) (suc n) item before now is zero x less e = before 0 x 
 one_asked P (y ∷ items) (suc n) item before now is (suc k) x less e =
     one_asked (λ j. P (suc j)) items n item (λ j z l. before (suc j) z (omega (arith, l))) now is k x (omega (arith, less)) e
 
--- a stream at a place, its seat, and its request among those that wait
-pub record At {R W : Type 0} (P : Guest R W → StreamSeatValue → Waiting → Type 0) (guests : List (Option (Guest R W)))
-    (seats : List StreamSeatValue) (ws : List Waiting) (place : ℕ) (guest : Guest R W) : Type 0 where
-  pub before : List Waiting
-  pub w : Waiting
-  pub after : List Waiting
-  pub split : ws ≡ before ++ w ∷ after
-  pub seat : StreamSeatValue
-  pub rest : slice_get (map left_by seats) place ≡ Some (left_by seat)
-  pub within : place < length seats
-  pub here : get_or seats place seat ≡ seat
-  pub is : P guest seat w
-  pub others : AllAt P (slice_set guests place None) seats (before ++ after)
-
-module _ {R W : Type 0} (P : Guest R W → StreamSeatValue → Waiting → Type 0) where
-  pub guest_at : (guests : List (Option (Guest R W))) (seats : List StreamSeatValue) (ws : List Waiting) (place : ℕ) (guest : Guest R W)
-      → AllAt P guests seats ws → slice_get guests place ≡ Some (Some guest) → At P guests seats ws place guest
-  guest_at [] seats ws place guest p e = absurd (cc)
-  guest_at (g ∷ guests) [] ws place guest p e = absurd p
-  guest_at (None ∷ guests) (seat ∷ seats) ws zero guest p e = absurd (cc)
-  guest_at (None ∷ guests) (seat ∷ seats) ws (suc place) guest p e =
-      let at = guest_at guests seats ws place guest p e in
-      record {
-        before = at.before;
-        w = at.w;
-        after = at.after;
-        split = at.split;
-        seat = at.seat;
-        rest = at.rest;
-        within = omega (arith, at.within);
-        here = at.here;
-        is = at.is;
-        others = at.others;
-      }
-  guest_at (Some g ∷ guests) (seat ∷ seats) [] place guest p e = absurd p
-  guest_at (Some g ∷ guests) (seat ∷ seats) (w ∷ ws) zero guest p e =
-      let same : g ≡ guest = cc in
-      record {
-        before = [];
-        w = w;
-        after = ws;
-        split = refl;
-        seat = seat;
-        rest = refl;
-        within = omega arith;
-        here = refl;
-        is = subst (λ (x : Guest R W). P x seat w) same p.0;
-        others = p.1;
-      }
-  guest_at (Some g ∷ guests) (seat ∷ seats) (w ∷ ws) (suc place) guest p e =
-      let at = guest_at guests seats ws place guest p.1 e in
-      record {
-        before = w ∷ at.before;
-        w = at.w;
-        after = at.after;
-        split = ap (λ (vs : List Waiting). w ∷ vs) at.split;
-        seat = at.seat;
-        rest = at.rest;
-        within = omega (arith, at.within);
-        here = at.here;
-        is = at.is;
-        others = (p.0, at.others);
-      }
-
-  -- where there is none, none leaves it
-  pub nobody_leaves : (guests : List (Option (Guest R W))) (seats : List StreamSeatValue) (ws : List Waiting) (place : ℕ)
-      → AllAt P guests seats ws → slice_get guests place ≡ Some None → AllAt P (slice_set guests place None) seats ws
-  nobody_leaves [] seats ws place p e = absurd (cc)
-  nobody_leaves (g ∷ guests) [] ws place p e = absurd p
-  nobody_leaves (None ∷ guests) (seat ∷ seats) ws zero p e = p
-  nobody_leaves (None ∷ guests) (seat ∷ seats) ws (suc place) p e = nobody_leaves guests seats ws place p e
-  nobody_leaves (Some g ∷ guests) (seat ∷ seats) [] place p e = absurd p
-  nobody_leaves (Some g ∷ guests) (seat ∷ seats) (w ∷ ws) zero p e = absurd (cc)
-  nobody_leaves (Some g ∷ guests) (seat ∷ seats) (w ∷ ws) (suc place) p e =
-      (p.0, nobody_leaves guests seats ws place p.1 e)
-
-  -- and where no stream is left, no request waits
-  pub nobody_waits : (guests : List (Option (Guest R W))) (seats : List StreamSeatValue) (ws : List Waiting) → AllAt P guests seats ws
-      → AreAllTold guests → ws ≡ []
-  nobody_waits [] seats [] p all = refl
-  nobody_waits [] seats (w ∷ ws) p all = absurd p
-  nobody_waits (g ∷ guests) [] ws p all = absurd p
-  nobody_waits (None ∷ guests) (seat ∷ seats) ws p all =
-      nobody_waits guests seats ws p (λ k d less. all (suc k) d (omega (arith, less)))
-  nobody_waits (Some g ∷ guests) (seat ∷ seats) ws p all =
-      let none : Some g ≡ None = all 0 (Some g) (omega arith) in absurd (cc)
-
 -- the streams of an epoch that opens
 
 pub seated_more : {L R W : Type 0} (terms : Terms) (times : ℕ → Type 0) (es : List EpochValue) (opening : ScheduleValue) (ws : List Waiting) (old new : Hall L R W) (w : Waiting)
@@ -596,39 +398,3 @@ empty_seated terms times es opening hall places history opens turns tickets idle
   tickets = tickets;
   each = tt;
 }
-
--- the streams between two epochs, of which one was told
-module _ {R W : Type 0} (terms : Terms) (times : ℕ → Type 0) (es : List EpochValue) (ended : EndedValue) where
-  abbrev are_guests : List Waiting → List (Option (Guest R W)) → Type 0
-  are_guests ws guests = AreGuests terms times es ended ws guests
-
-  abbrev is_guest : Guest R W → StreamSeatValue → Waiting → Type 0
-  is_guest = IsGuestAt terms times es ended.book.desk
-
-  pub with_guests : (ws vs : List Waiting) (guests others : List (Option (Guest R W))) (a : are_guests ws guests)
-      → AllAt is_guest others a.seats vs → are_guests vs others
-  with_guests ws vs guests others a each = record {
-    history = a.history;
-    left_here = a.left_here;
-    seats = a.seats;
-    rests = a.rests;
-    few = a.few;
-    kept = a.kept;
-    charges = a.charges;
-    of_limit = a.of_limit;
-    each = each;
-  }
-
-  pub can_tell : (ws : List Waiting) (guests : List (Option (Guest R W))) (place : ℕ) (guest : Guest R W) (a : are_guests ws guests)
-      (at : At is_guest guests a.seats ws place guest)
-      → CanTell terms times es ended place guest at.w
-  can_tell ws guests place guest a at = record {
-    history = a.history;
-    ticket = at.is.0;
-    seat = at.seat;
-    stood = at.is.1;
-    asked = at.is.2;
-    here = subst (λ (rests : List StreamRest). slice_get rests place ≡ Some (left_by at.seat)) (sym a.rests) at.rest;
-    kept = subst (λ (s : StreamSeatValue). HasStream ended.book.desk s.number (IsStreamOf s)) at.here (a.kept place at.seat at.within);
-    charges = a.charges;
-  }

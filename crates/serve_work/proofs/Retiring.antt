@@ -1,9 +1,10 @@
 -- The streams of a session where the released ones are taken out.
-use Rattle.std.specs.Prelude.{All, Bool, IsSomeAnd, IsTrue, filter, is_some, slice_get, take}
+use Rattle.std.specs.Prelude.{All, Bool, IsSomeAnd, IsTrue, drop, filter, is_some, slice_get, slice_set, take}
 use Rattle.std.specs.Option.{option_map}
 use Rattle.std.proofs.Common.{◌≡◌, ◌⊎◌, ℕ, zero, suc, ◌+◌, ◌<◌, ◌≤◌, List, [], ◌∷◌, ◌++◌, length, map, Option, Some, None}
 use Rattle.std.proofs.Common.{append-nil, append_assoc, get_or, inl, inr}
 use Rattle.std.proofs.Common.{true, false, if◌then◌else◌, refl, sym, ap, ◌∙◌, subst, arith}
+use Rattle.std.proofs.lemmas.List.{drop_all}
 use Rattle.serve_core.specs.Retired.{new_number, retired_schedule, staying, stays}
 use Rattle.serve_core.specs.Schedule.{HasStream, ScheduleValue}
 use Rattle.serve_core.specs.Setup.{StreamSpec}
@@ -15,7 +16,8 @@ use Rattle.serve_hub.specs.Seats.{StreamRest, StreamSeatValue, left_by}
 use Rattle.serve_work.specs.declared.live.guests.Guest.{Guest}
 use Rattle.serve_work.specs.History.{EpochValue, IsLeftBy, Terms}
 use Rattle.serve_work.specs.Live.{IsBehind, IsOfSpec, RequestValue, Waiting, numbered, start_with}
-use Rattle.serve_work.specs.LiveInside.{AllAt, AreGuests, AreToldBut, IsGuestAt, Stood, at_marks}
+use Rattle.serve_work.specs.LiveInside.{AllAt, AreGuests, AreToldBut, IsGuestAt, Stood, at_marks, with_ticket}
+use Rattle.serve_work.specs.LiveInside.{with_ticket_of, with_tickets}
 use Rattle.serve_work.specs.StreamInside.{StreamValue}
 use Rattle.serve_work.proofs.Renumbered.{once_more, retired_twice, stands_numbered}
 
@@ -25,13 +27,13 @@ kept_on : (terms : Terms) (spec : StreamSpec) (es : List EpochValue) (number : �
     → IsBehind terms spec (number ∷ before) es (retired_schedule desk) (new_number desk now)
 kept_on terms spec [] number before desk now behind e = absurd behind
 kept_on terms spec (epoch ∷ es) number before desk now behind e =
-    once_more epoch.last number desk now behind e
+    once_more epoch.gone number desk now behind e
 
 -- and a schedule without the released streams
 left_on : (es : List EpochValue) (desk : ScheduleValue) → IsLeftBy es desk → IsLeftBy es (retired_schedule desk)
 left_on [] desk left = absurd left
-left_on (epoch ∷ es) desk (inl e) = inr (ap retired_schedule e)
-left_on (epoch ∷ es) desk (inr e) = inr (ap retired_schedule e ∙ retired_twice epoch.last)
+left_on (epoch ∷ es) desk (on, inl e) = (on, inr (ap retired_schedule e))
+left_on (epoch ∷ es) desk (on, inr e) = (on, inr (ap retired_schedule e ∙ retired_twice epoch.gone))
 
 retired_one : (terms : Terms) (times : ℕ → Type 0) (es : List EpochValue) (desk : ScheduleValue) (ticket : ℕ)
     (request : RequestValue) (stream : StreamValue) (seat : StreamSeatValue) → Stood terms times es desk ticket request stream seat
@@ -296,3 +298,61 @@ mark_more desk rests place number mark made made' n m e more =
     more ∙ ap (λ (bs : List Bool). bs ++ mark ∷ []) e
     ∙ sym (mark_at desk rests place number mark (slice_get rests place) refl n m)
     ∙ ap (λ (k : ℕ). map f (take k rests)) next
+
+-- tickets that are put to their numbers one by one
+
+no_guests : (R W : Type 0) (rests : List StreamRest) (tickets : List (Option ℕ))
+    → with_tickets {R = R} {W = W} rests [] tickets ≡ tickets
+no_guests R W [] tickets = refl
+no_guests R W (rest ∷ rests) tickets = refl
+
+module _ {R W : Type 0} where
+  pub ticket_more : (rests : List StreamRest) (guests : List (Option (Guest R W))) (tickets tickets' all : List (Option ℕ)) (k : ℕ)
+      (guest : Option (Guest R W)) → slice_get guests k ≡ Some guest → with_tickets (drop k rests) (drop k guests) tickets ≡ all
+      → tickets' ≡ with_ticket_of (slice_get rests k) guest tickets
+      → with_tickets (drop (suc k) rests) (drop (suc k) guests) tickets' ≡ all
+  ticket_more rests [] tickets tickets' all k guest here e is = absurd (cc)
+  ticket_more [] (g ∷ guests) tickets tickets' all zero guest here e is = is ∙ e
+  ticket_more [] (g ∷ guests) tickets tickets' all (suc k) guest here e is = is ∙ e
+  ticket_more (rest ∷ rests) (g ∷ guests) tickets tickets' all zero guest here e is =
+      let same : g ≡ guest = cc in
+      ap (λ (these : List (Option ℕ)). with_tickets rests guests these) is
+      ∙ sym (ap (λ (x : Option (Guest R W)). with_tickets rests guests (with_ticket rest.number x tickets)) same) ∙ e
+  ticket_more (rest ∷ rests) (g ∷ guests) tickets tickets' all (suc k) guest here e is =
+      ticket_more rests guests tickets tickets' all k guest here e is
+
+  pub tickets_made : (rests : List StreamRest) (guests : List (Option (Guest R W))) (tickets all : List (Option ℕ)) (k : ℕ)
+      → length guests ≤ k → with_tickets (drop k rests) (drop k guests) tickets ≡ all → tickets ≡ all
+  tickets_made rests guests tickets all k over e =
+      sym (no_guests R W (drop k rests) tickets)
+      ∙ ap (λ (gs : List (Option (Guest R W))). with_tickets (drop k rests) gs tickets) (sym (drop_all k guests over)) ∙ e
+
+emptied_at : {A : Type 0} (items : List (Option A)) (n : ℕ)
+    → ((k : ℕ) (item : Option A) → k < n → slice_get items k ≡ Some item → item ≡ None)
+    → (k : ℕ) (item : Option A) → k < n + 1 → slice_get (slice_set items n None) k ≡ Some item → item ≡ None
+emptied_at [] n before k item less e = absurd (cc)
+emptied_at (x ∷ items) zero before zero item less e = cc
+emptied_at (x ∷ items) zero before (suc k) item less e = absurd (omega (arith, less))
+emptied_at (x ∷ items) (suc n) before zero item less e = before 0 item (omega arith) e
+emptied_at (x ∷ items) (suc n) before (suc k) item less e =
+    emptied_at items n (λ j y l. before (suc j) y (omega (arith, l))) k item (omega (arith, less)) e
+
+-- one place more is empty, and none is left before it
+pub emptied_more : {A : Type 0} (items items' : List (Option A)) (n : ℕ)
+    → ((k : ℕ) (item : Option A) → k < n → slice_get items k ≡ Some item → item ≡ None) → items' ≡ slice_set items n None
+    → (k : ℕ) (item : Option A) → k < n + 1 → slice_get items' k ≡ Some item → item ≡ None
+emptied_more items items' n before is k item less e =
+    emptied_at items n before k item less (subst (λ these. slice_get these k ≡ Some item) is e)
+
+pub one_item : {A : Type 0} (xs : List A) (k : ℕ) (x y : A) → slice_get xs k ≡ Some x → slice_get xs k ≡ Some y → x ≡ y
+one_item xs k x y e f = let same : Some x ≡ Some y = sym e ∙ f in cc
+
+here_or : {A : Type 0} (xs : List A) (k : ℕ) (d : A) → k < length xs → slice_get xs k ≡ Some (get_or xs k d)
+here_or [] k d less = absurd (omega (arith, less))
+here_or (x ∷ xs) zero d less = refl
+here_or (x ∷ xs) (suc k) d less = here_or xs k d (omega (arith, less))
+
+pub all_emptied : {A : Type 0} (items : List (Option A)) (n : ℕ) → length items ≤ n
+    → ((k : ℕ) (item : Option A) → k < n → slice_get items k ≡ Some item → item ≡ None) → All (λ item. item ≡ None) items
+all_emptied items n over none k d less =
+    none k (get_or items k d) (omega (arith, over, less)) (here_or items k d less)

@@ -1,7 +1,7 @@
 -- How the streams of a session are shown.
 use Rattle.std.specs.Prelude.{IsSomeAnd}
 use Rattle.std.specs.Option.{option_map}
-use Rattle.std.proofs.Common.{ℕ, ◌≡◌, ◌∙◌, ◌+◌, ◌++◌, List, Option, Some, None, true, ap, arith, sym}
+use Rattle.std.proofs.Common.{ℕ, ◌≡◌, ◌∙◌, ◌+◌, ◌++◌, List, [], ◌∷◌, Option, Some, None, inl, inr, true, ap, arith, sym}
 use Rattle.serve_core.specs.declared.counts.Counts.{Counts}
 use Rattle.serve_core.specs.Schedule.{HasStream, ScheduleValue, account_of, counts_of}
 use Rattle.serve_core.specs.Streams.{KeptStream}
@@ -10,13 +10,14 @@ use Rattle.serve_hub.specs.Ends.{IsStreamOf}
 use Rattle.serve_hub.specs.Seats.{StreamSeatValue}
 use Rattle.serve_work.specs.declared.request.Standing.{Standing}
 use Rattle.serve_work.specs.Clients.{ClientStart, collections_in, offers_in}
-use Rattle.serve_work.specs.History.{EpochValue, IsHistory, Terms}
+use Rattle.serve_work.specs.History.{EpochValue, IsHistory, IsLeftBy, Terms}
+use Rattle.serve_work.specs.Live as requests
 use Rattle.serve_work.specs.Live.{IsOfSpec, IsStanding, IsStandingOf, RequestValue, start_with}
 use Rattle.serve_work.specs.LiveInside.{Stood}
 use Rattle.serve_work.specs.Rests.{Begun, IsRestOf, RestValue, Unbegun}
 use Rattle.serve_work.specs.SessionInside.{StandsAt}
 use Rattle.serve_work.specs.StreamInside.{Over, StreamValue, Waiting, is_waiting}
-use Rattle.serve_work.proofs.Living.{at_end}
+use Rattle.serve_work.proofs.Answering.{at_end}
 use Rattle.serve_work.proofs.SessionCharges.{stream_at}
 use Rattle.serve_work.proofs.Tallying.{collections_both, collections_counted}
 
@@ -96,6 +97,15 @@ can_show terms times es desk ticket request stream seat standing history s waits
         collections_both s.past seat.calls.list,
         collections_counted seat.calls.list,
       );
-      stream = at_end terms request.spec es s.number s.before desk seat.number (IsStandingOf standing) s.behind has;
-      spec = at_end terms request.spec es s.number s.before desk seat.number (IsOfSpec request.spec) s.behind asked;
+      stream = at_end terms request.spec es s.number s.before desk seat.number (IsStandingOf standing) history.epochs_are s.behind has;
+      spec = at_end terms request.spec es s.number s.before desk seat.number (IsOfSpec request.spec) history.epochs_are s.behind asked;
     }
+
+-- all are shown by the clock with which their epoch was left
+pub clock_shown : (stands : List EpochValue → List requests.Waiting → Type 0) (es : List EpochValue) (ws : List requests.Waiting)
+    (desk : ScheduleValue) → IsLeftBy es desk → stands es ws
+    → (epoch : EpochValue) × (before : List EpochValue) × (vs : List requests.Waiting) × stands (epoch ∷ before) vs
+    × (desk.clock ≡ epoch.gone.clock)
+clock_shown stands [] ws desk left s = absurd left
+clock_shown stands (epoch ∷ es) ws desk (on, inl e) s = (epoch, es, ws, s, ap (λ (x : ScheduleValue). x.clock) e)
+clock_shown stands (epoch ∷ es) ws desk (on, inr e) s = (epoch, es, ws, s, ap (λ (x : ScheduleValue). x.clock) e)

@@ -1,12 +1,15 @@
 -- What a session did whose streams come and go, from epoch to epoch.
-use Rattle.std.specs.Prelude.{ℕ, ◌+◌, ◌≡◌, ◌≤◌, ◌<◌, ◌⊎◌, ⊤, List, [], ◌∷◌, Option, length}
+use Rattle.std.specs.Prelude.{ℕ, ◌+◌, ◌≡◌, ◌≤◌, ◌<◌, ◌⊎◌, ⊤, Bool, true, false, List, [], ◌∷◌}
+use Rattle.std.specs.Prelude.{IsFalse, IsTrue, Option, length}
 use Rattle.std.specs.List.{AllByRecursion}
+use Rattle.cbs_account.specs.declared.limits.TheConstants.{LAST_MOMENT}
 use Rattle.serve_core.specs.Bare.{measures_any, is_any_image}
 use Rattle.serve_core.specs.Desk.{desk_state}
 use Rattle.serve_core.specs.Reached.{IsReached}
 use Rattle.serve_core.specs.Retired.{retired_schedule}
 use Rattle.serve_core.specs.Schedule.{ScheduleValue, opened_schedule}
 use Rattle.serve_core.specs.Setup.{IsSetup, StreamSpec, setup_of}
+use Rattle.serve_core.specs.Ticked.{at_moment}
 use Rattle.serve_hub.specs.declared.entry.Entry.{Entry}
 use Rattle.serve_hub.specs.Books.{specs_of}
 use Rattle.serve_hub.specs.Ends.{AreFree, EndedValue}
@@ -24,47 +27,90 @@ pub record Terms : Type 0 where
 abbrev pub terms_of : (workers quantum limit : ℕ) → Terms
 terms_of workers quantum limit = record { workers = workers; quantum = quantum; limit = limit }
 
--- an epoch: where it opened, its journal, the latest entry first, where it ended, and of which request the
--- stream of a number was, by its ticket, unless it was told before
+-- an epoch: where it opened, its journal, the latest entry first, where it ended, and how it was left, from
+-- where the next one goes on; of which request the stream of each number was, by its ticket, unless it was
+-- told before; and whether all streams that were left were given up then
 pub record EpochValue : Type 0 where
   pub opening : ScheduleValue
   pub journal : List Entry
   pub last : ScheduleValue
-  pub whose : ℕ → Option ℕ
+  pub gone : ScheduleValue
+  pub whose : List (Option ℕ)
+  pub is_given_up : Bool
 
-abbrev pub epoch_of : EndedValue → (whose : ℕ → Option ℕ) → EpochValue
+-- an epoch that ended just now
+abbrev pub epoch_of : EndedValue → (whose : List (Option ℕ)) → EpochValue
 epoch_of ended whose = record {
   opening = ended.book.opening;
   journal = ended.book.past;
   last = ended.book.desk;
+  gone = ended.book.desk;
   whose = whose;
+  is_given_up = false;
 }
 
+-- the same epoch, left like this
+abbrev pub left_at : ScheduleValue → EpochValue → EpochValue
+left_at gone epoch = record epoch { gone = gone }
+
+-- and left when the clock went on from its end to this moment, unless it was past that
+abbrev pub gone_to : (at : ℕ) → EpochValue → EpochValue
+gone_to at epoch = left_at (at_moment at epoch.last) epoch
+
+-- the same epochs, behind the latest of which all streams that are left are given up
+abbrev pub given_up : List EpochValue → List EpochValue
+given_up [] = []
+given_up (epoch ∷ before) = record epoch { is_given_up = true } ∷ before
+
+-- that is so
+abbrev pub AreGivenUp : List EpochValue → Type 0
+AreGivenUp [] = ⊥
+AreGivenUp (epoch ∷ before) = IsTrue epoch.is_given_up
+
+-- the clock went on from here once, at most
+abbrev pub IsGone : (last gone : ScheduleValue) → Type 0
+IsGone last gone = (gone ≡ last) ⊎ ((at : ℕ) × (at ≤ LAST_MOMENT) × (gone ≡ at_moment at last))
+
+-- and to one of these times, unless it was past that, or that is past the last moment
+abbrev pub IsGoneOn : (times : ℕ → Type 0) (last gone : ScheduleValue) → Type 0
+IsGoneOn times last gone =
+    (at : ℕ) × times at
+    × (((at ≤ LAST_MOMENT) × (gone ≡ at_moment at last)) ⊎ ((LAST_MOMENT < at) × (gone ≡ last)))
+
 -- a legal transcript of some setup led to where the epoch opened. From there its journal leads to where it
--- ended; each lease was settled with its whole grant, and the journal has room for a close of each open stream
+-- ended; each lease was settled with its whole grant, and the journal has room for a close of each open
+-- stream. Then the clock went on
 pub record IsEpochBy (terms : Terms) (epoch : EpochValue) : Type 0 where
   pub reached : IsReached measures_any is_any_image (desk_state epoch.opening)
   pub leads : IsJournal (specs_of epoch.last) (desk_state epoch.opening) epoch.journal (desk_state epoch.last)
   pub free : AreFree epoch.last.workers
   pub spent : HaveSpent (length epoch.last.workers) epoch.journal
   pub fits : length epoch.journal + open_streams (desk_state epoch.last) ≤ terms.limit
+  pub goes_on : IsGone epoch.last epoch.gone
 
 -- each entry of a frame, of whichever stream, is at one of these times
 abbrev pub IsAtTimes : (times : ℕ → Type 0) → EpochValue → Type 0
 IsAtTimes times epoch = (s : ℕ) → s < length epoch.last.streams
     → AreTimed times s (specs_of epoch.last) (desk_state epoch.opening) epoch.journal
 
+-- and to one of them the clock went on then
+pub record IsTimed (times : ℕ → Type 0) (epoch : EpochValue) : Type 0 where
+  pub each : IsAtTimes times epoch
+  pub goes_on : IsGoneOn times epoch.last epoch.gone
+
 -- a hub opens here, for a stream of this spec alone
 pub record OpensFor (terms : Terms) (spec : StreamSpec) (opening : ScheduleValue) : Type 0 where
   pub is_setup : IsSetup (setup_of terms.workers terms.quantum (spec ∷ []))
   pub opened : opening ≡ opened_schedule (setup_of terms.workers terms.quantum (spec ∷ []))
 
--- this is where the latest of these epochs ended, perhaps without the streams that were released there
+-- so the latest of these epochs was left, perhaps without the streams that were released then, and the others
+-- weren't given up
 abbrev pub IsLeftBy : List EpochValue → ScheduleValue → Type 0
 IsLeftBy [] opening = ⊥
-IsLeftBy (epoch ∷ before) opening = (opening ≡ epoch.last) ⊎ (opening ≡ retired_schedule epoch.last)
+IsLeftBy (epoch ∷ before) opening =
+    IsFalse epoch.is_given_up × ((opening ≡ epoch.gone) ⊎ (opening ≡ retired_schedule epoch.gone))
 
--- an epoch opens here behind these: for a stream alone, or where the latest of them ended
+-- an epoch opens here behind these: for a stream alone, or as the latest of them was left
 abbrev pub OpensBehind : Terms → List EpochValue → ScheduleValue → Type 0
 OpensBehind terms before opening =
     ((spec : StreamSpec) × OpensFor terms spec opening) ⊎ IsLeftBy before opening
@@ -75,7 +121,15 @@ AreEpochsBy terms [] = ⊤
 AreEpochsBy terms (epoch ∷ before) =
     IsEpochBy terms epoch × OpensBehind terms before epoch.opening × AreEpochsBy terms before
 
--- and each frame of them was offered at one of these times
+-- each frame of them was offered at one of these times, and behind each of them the clock went on to one
 pub record IsHistory (terms : Terms) (times : ℕ → Type 0) (epochs : List EpochValue) : Type 0 where
   pub epochs_are : AreEpochsBy terms epochs
-  pub timed : AllByRecursion (IsAtTimes times) epochs
+  pub timed : AllByRecursion (IsTimed times) epochs
+
+-- an epoch ended behind these
+pub record HasEnded (terms : Terms) (times : ℕ → Type 0) (epochs : List EpochValue) (epoch : EpochValue)
+    : Type 0 where
+  pub before : IsHistory terms times epochs
+  pub opens : OpensBehind terms epochs epoch.opening
+  pub is_epoch : IsEpochBy terms epoch
+  pub timed : IsAtTimes times epoch

@@ -47,30 +47,30 @@ EpochDemandLaw =
     → AllByRecursion (KeepsDemand terms) epochs
 
 -- a hub opens here, and no stream of it was taken out yet
-abbrev pub OpensAnew : Terms → (opening : ScheduleValue) → (gone : List (StreamState Blank)) → Type 0
-OpensAnew terms opening gone = ((spec : StreamSpec) × OpensFor terms spec opening) × (gone ≡ [])
+abbrev pub OpensAnew : Terms → (opening : ScheduleValue) → (taken : List (StreamState Blank)) → Type 0
+OpensAnew terms opening taken = ((spec : StreamSpec) × OpensFor terms spec opening) × (taken ≡ [])
 
 -- where an epoch opens behind these, these streams were taken out since its hub opened, each as it was then
 abbrev pub WereTakenOut : Terms → List EpochValue → (opening : ScheduleValue)
-    → (gone : List (StreamState Blank)) → Type 0
-WereTakenOut terms [] opening gone = OpensAnew terms opening gone
-WereTakenOut terms (epoch ∷ before) opening gone =
-    OpensAnew terms opening gone
-    ⊎ (((opening ≡ epoch.last) × WereTakenOut terms before epoch.opening gone)
-    ⊎ ((opening ≡ retired_schedule epoch.last)
+    → (taken : List (StreamState Blank)) → Type 0
+WereTakenOut terms [] opening taken = OpensAnew terms opening taken
+WereTakenOut terms (epoch ∷ before) opening taken =
+    OpensAnew terms opening taken
+    ⊎ (((opening ≡ epoch.gone) × WereTakenOut terms before epoch.opening taken)
+    ⊎ ((opening ≡ retired_schedule epoch.gone)
     × ((earlier : List (StreamState Blank)) × WereTakenOut terms before epoch.opening earlier
-    × (gone ≡ earlier ++ released (desk_state epoch.last)))))
+    × (taken ≡ earlier ++ released (desk_state epoch.gone)))))
 
 abbrev pub TakenOutLaw : Type 0
 TakenOutLaw =
     (terms : Terms) (epoch : EpochValue) (before : List EpochValue) → AreEpochsBy terms (epoch ∷ before)
-    → (gone : List (StreamState Blank)) × WereTakenOut terms before epoch.opening gone
+    → (taken : List (StreamState Blank)) × WereTakenOut terms before epoch.opening taken
 
 -- behind each entry, what all the streams were charged that there ever were since the hub opened, those that
 -- were taken out too, and whose deadline is at most d, is at most d for each worker
 abbrev pub HubDemandLaw : Type 0
 HubDemandLaw =
-    (terms : Terms) (epoch : EpochValue) (before : List EpochValue) (gone : List (StreamState Blank))
+    (terms : Terms) (epoch : EpochValue) (before : List EpochValue) (taken : List (StreamState Blank))
     (later earlier : List Entry) (d : ℕ) → AreEpochsBy terms (epoch ∷ before)
-    → WereTakenOut terms before epoch.opening gone → epoch.journal ≡ later ++ earlier
-    → demand d (gone ++ (state_behind epoch earlier).streams) ≤ d * terms.workers
+    → WereTakenOut terms before epoch.opening taken → epoch.journal ≡ later ++ earlier
+    → demand d (taken ++ (state_behind epoch earlier).streams) ≤ d * terms.workers

@@ -1,6 +1,6 @@
 -- What is told of the streams of a session that come and go.
 use Rattle.std.specs.Prelude.{ℕ, IsTrue, ◌≡◌, ◌≤◌, ◌⊎◌, ◌++◌, ⊤, false, List, [], ◌∷◌, Option}
-use Rattle.std.specs.Prelude.{None, Some, length, reverse}
+use Rattle.std.specs.Prelude.{None, Some, length, reverse, slice_get}
 use Rattle.cbs_account.specs.declared.limits.TheConstants.{MOST_ENTRIES, MOST_QUANTUM, MOST_WORKERS}
 use Rattle.y4m_stream.specs.declared.reader.Phase.TheVariants.{Open}
 use Rattle.y4m_stream.specs.Reader.{IsOfHeader, ReaderState}
@@ -20,8 +20,8 @@ use Rattle.serve_work.specs.declared.request.Answer.{Answer}
 use Rattle.serve_work.specs.declared.request.Answer.TheVariants as answers
 use Rattle.serve_work.specs.declared.request.Request.{Request}
 use Rattle.serve_work.specs.declared.request.Standing.{Standing}
-use Rattle.serve_work.specs.Clients.{AllowsStop, ClientStart, collections_in, offers_in}
-use Rattle.serve_work.specs.History.{EpochValue, IsHistory, OpensBehind, OpensFor, Terms}
+use Rattle.serve_work.specs.Clients.{AllowsStop, ClientEnds, ClientStart, collections_in, offers_in}
+use Rattle.serve_work.specs.History.{AreGivenUp, EpochValue, IsHistory, OpensBehind, OpensFor, Terms}
 use Rattle.serve_work.specs.Rests.{IsRestOf, RestValue}
 use Rattle.serve_work.specs.Sessions.{IsServed, IsStreamTold, ServedValue}
 
@@ -87,12 +87,12 @@ acts_by (number ∷ numbers) [] = []
 acts_by (number ∷ numbers) (epoch ∷ epochs) =
     acts_by numbers epochs ++ acts_of (Stream number) (reverse epoch.journal)
 
--- a stream that had the old number where an epoch ended has this one where another opens: the same, or where
--- the released streams were taken out, of which it was none, its number then
-abbrev pub IsKept : (last : ScheduleValue) (old : ℕ) (opening : ScheduleValue) (number : ℕ) → Type 0
-IsKept last old opening number =
-    ((opening ≡ last) × (number ≡ old))
-    ⊎ ((opening ≡ retired_schedule last) × IsTrue (stays last old) × (number ≡ new_number last old))
+-- a stream that had the old number where an epoch was left has this one where another opens: the same, or
+-- where the released streams were taken out, of which it was none, its number then
+abbrev pub IsKept : (gone : ScheduleValue) (old : ℕ) (opening : ScheduleValue) (number : ℕ) → Type 0
+IsKept gone old opening number =
+    ((opening ≡ gone) × (number ≡ old))
+    ⊎ ((opening ≡ retired_schedule gone) × IsTrue (stays gone old) × (number ≡ new_number gone old))
 
 -- a stream of this spec is new in the epoch that opens here: its hub opens for it, or it has a number that no
 -- stream has there
@@ -107,7 +107,7 @@ abbrev pub IsBehind : Terms → StreamSpec → List ℕ → List EpochValue → 
 IsBehind terms spec [] epochs opening number = IsNewIn terms spec opening number
 IsBehind terms spec (old ∷ numbers) [] opening number = ⊥
 IsBehind terms spec (old ∷ numbers) (epoch ∷ epochs) opening number =
-    IsKept epoch.last old opening number
+    IsKept epoch.gone old opening number
 
 -- the stream of the request with this ticket was new in the first of its epochs, which are the latest of these,
 -- and had these numbers there
@@ -115,7 +115,8 @@ abbrev pub HadNumbers : Terms → (ticket : ℕ) → StreamSpec → List ℕ →
 HadNumbers terms ticket spec [] epochs = ⊤
 HadNumbers terms ticket spec (number ∷ numbers) [] = ⊥
 HadNumbers terms ticket spec (number ∷ numbers) (epoch ∷ epochs) =
-    (epoch.whose number ≡ Some ticket) × IsBehind terms spec numbers epochs epoch.opening number
+    (slice_get epoch.whose number ≡ Some (Some ticket))
+    × IsBehind terms spec numbers epochs epoch.opening number
     × HadNumbers terms ticket spec numbers epochs
 
 -- at the end of the latest of these epochs a stream of this number is there, and so it is
@@ -201,12 +202,21 @@ pub record IsAdmitted (terms : Terms) (epochs : List EpochValue) (others : List 
   pub number : ℕ
   pub is_new : (OpensFor terms spec opening × (number ≡ 0) × (others ≡ [])) ⊎ (length opening.streams ≤ number)
 
+-- the stream's client came to its own end, or all streams that were left were given up
+abbrev pub IsNotCut : (terms : Terms) (times : ℕ → Type 0) (epochs : List EpochValue) (ticket : ℕ)
+    (request : RequestValue) (served : ServedValue) → IsServedSince terms times epochs ticket request served
+    → Type 0
+IsNotCut terms times epochs ticket request served since =
+    AreGivenUp epochs
+    ⊎ ClientEnds (start_with request since.seat) since.is_served.past since.is_served.seat served.outcome
+
 -- what is told of a request, behind these epochs: that the stream isn't served, whose reader and writer come
--- back as they were, or what it came to
+-- back as they were, or what it came to, and that it wasn't cut while others go on
 abbrev pub IsAnswer : {R W : Type 0} (contents : W → Option (List ℕ)) (failures : W → ℕ) (terms : Terms)
     (times : ℕ → Type 0) (epochs : List EpochValue) (ticket : ℕ) → RequestValue → Answer R W → Type 0
 IsAnswer contents failures terms times epochs ticket request (answers.Refused e reader writer) =
     AllowsRefusal request.spec e × (reader ≡ request.reader) × (contents writer ≡ request.before)
     × (failures writer ≡ request.failures)
 IsAnswer contents failures terms times epochs ticket request (answers.Ended served) =
-    IsServedSince terms times epochs ticket request served
+    (since : IsServedSince terms times epochs ticket request served)
+    × IsNotCut terms times epochs ticket request served since

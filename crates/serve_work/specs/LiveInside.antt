@@ -1,6 +1,7 @@
 -- What contracts inside the crate say of the streams of a session that come and go.
-use Rattle.std.specs.Prelude.{ℕ, ◌+◌, ◌≡◌, ◌≤◌, ◌<◌, ◌++◌, ⊤, All, Bool, false, List, [], ◌∷◌, Option, Some}
-use Rattle.std.specs.Prelude.{None, IfSome, IsSomeAnd, if◌then◌else◌, length, map, slice_get}
+use Rattle.std.specs.Prelude.{ℕ, ◌+◌, ◌≡◌, ◌≤◌, ◌<◌, ◌++◌, ◌⊎◌, ⊤, All, Bool, true, false, List, []}
+use Rattle.std.specs.Prelude.{◌∷◌, Option, Some}
+use Rattle.std.specs.Prelude.{None, IfSome, IsFalse, IsSomeAnd, if◌then◌else◌, length, map, slice_get, slice_set}
 use Rattle.std.specs.List.{AllByRecursion, AllZip}
 use Rattle.std.specs.Vec.{vec_capacity, vec_len}
 use Rattle.cbs_account.specs.declared.limits.TheConstants.{MOST_STREAMS}
@@ -20,12 +21,13 @@ use Rattle.serve_work.specs.declared.live.guests.Ticket.{Ticket}
 use Rattle.serve_work.specs.declared.live.opening.FirstStream.{FirstStream}
 use Rattle.serve_work.specs.declared.live.opening.Hall.{Hall}
 use Rattle.serve_work.specs.Clients.{AllowsStop, offers_in}
-use Rattle.serve_work.specs.History.{EpochValue, IsHistory, IsLeftBy, OpensBehind, Terms}
+use Rattle.serve_work.specs.History.{EpochValue, IsGoneOn, IsHistory, IsLeftBy, OpensBehind, Terms}
+use Rattle.serve_work.specs.History.{epoch_of, given_up, left_at}
 use Rattle.serve_work.specs.Intervals.{ArePlacesFor, HasNoCalls}
 use Rattle.serve_work.specs.Live.{HadNumbers, IsBehind, IsOfSpec, IsRequest, IsSeatFor, RequestValue}
 use Rattle.serve_work.specs.Live.{Waiting, acts_by, start_with}
 use Rattle.serve_work.specs.SessionInside.{HeldValue, StandsAt, held_at}
-use Rattle.serve_work.specs.StreamInside.{StreamValue, stream_stop}
+use Rattle.serve_work.specs.StreamInside.{StreamValue, is_waiting, stream_stop}
 
 -- where the stream of this request stands with its seat where an epoch opens behind these: the seat has
 -- offered no frame
@@ -42,7 +44,7 @@ pub record Begins (terms : Terms) (times : ℕ → Type 0) (epochs : List EpochV
   pub no_moments : seat.moments ≡ None
   pub stop : IfSome (stream_stop stream) (AllowsStop times)
 
--- and where the latest of them came to an end here, perhaps before the released streams were taken out
+-- and where the latest of them was left here, perhaps before the released streams were taken out
 pub record Stood (terms : Terms) (times : ℕ → Type 0) (epochs : List EpochValue) (last : ScheduleValue)
     (ticket : ℕ) (request : RequestValue) (stream : StreamValue) (seat : StreamSeatValue) : Type 0 where
   pub is_request : IsRequest request
@@ -57,7 +59,7 @@ pub record Stood (terms : Terms) (times : ℕ → Type 0) (epochs : List EpochVa
   pub calls : past ++ seat.calls.list ≡ acts_by (number ∷ before) epochs
   pub stop : IfSome (stream_stop stream) (AllowsStop times)
 
--- the stream of a request that waits, with its seat, where an epoch opens, and where it came to its end
+-- the stream of a request that waits, with its seat, where an epoch opens, and where it was left
 abbrev pub HasTurn : (terms : Terms) (times : ℕ → Type 0) (epochs : List EpochValue) (opening : ScheduleValue)
     → Waiting → HeldValue → Type 0
 HasTurn terms times epochs opening w held = Begins terms times epochs opening w.ticket w.request held.stream held.seat
@@ -131,6 +133,34 @@ abbrev pub nobody : {R W : Type 0} → List StreamSeatValue → List (Option (Gu
 nobody [] = []
 nobody (seat ∷ idle) = None ∷ nobody idle
 
+-- the same tickets by number, with that of a stream that has this number, unless it was told
+abbrev pub with_ticket : {R W : Type 0} → (number : ℕ) → Option (Guest R W) → List (Option ℕ)
+    → List (Option ℕ)
+with_ticket number None tickets = tickets
+with_ticket number (Some guest) tickets = slice_set tickets number (Some guest.ticket.number)
+
+abbrev pub with_ticket_of : {R W : Type 0} → Option StreamRest → Option (Guest R W) → List (Option ℕ)
+    → List (Option ℕ)
+with_ticket_of None guest tickets = tickets
+with_ticket_of (Some rest) guest tickets = with_ticket rest.number guest tickets
+
+-- and with those of the streams whose seats were handed over in this order
+abbrev pub with_tickets : {R W : Type 0} → List StreamRest → List (Option (Guest R W)) → List (Option ℕ)
+    → List (Option ℕ)
+with_tickets (rest ∷ rests) (guest ∷ guests) tickets =
+    with_tickets rests guests (with_ticket rest.number guest tickets)
+with_tickets rests guests tickets = tickets
+
+-- the clock of what is left of a hub went on to one of these times, and so it was told. Nothing else of it
+-- changes
+pub record GoesOn (stands : List EpochValue → List Waiting → Type 0) (times : ℕ → Type 0)
+    (whose : List (Option ℕ)) (epochs : List EpochValue) (ws : List Waiting) (old new : EndedValue)
+    : Type 0 where
+  pub clock : IsGoneOn times old.book.desk new.book.desk
+  pub told : stands (left_at new.book.desk (epoch_of old whose) ∷ epochs) ws
+  pub limit : new.book.limit ≡ old.book.limit
+  pub streams : new.streams ≡ old.streams
+
 -- the streams of a session behind these epochs, by the seats of the latest, and their requests, which wait
 pub record AreGuests {R W : Type 0} (terms : Terms) (times : ℕ → Type 0) (epochs : List EpochValue)
     (ended : EndedValue) (ws : List Waiting) (guests : List (Option (Guest R W))) : Type 0 where
@@ -154,6 +184,15 @@ HaveWaited stands terms times ended guests =
 abbrev pub IsLiveInterval : {R W : Type 0} (stands : List EpochValue → List Waiting → Type 0) (terms : Terms)
     (times : ℕ → Type 0) → Interval R W → Type 0
 IsLiveInterval stands terms times now = HaveWaited stands terms times now.ended now.guests.items
+
+-- these epochs, behind which all streams that are left are perhaps given up
+abbrev pub ended_so : (gives_up : Bool) → List EpochValue → List EpochValue
+ended_so true epochs = given_up epochs
+ended_so false epochs = epochs
+
+-- the stream may be told behind these epochs: it is over, or given up
+abbrev pub MayTell : (epochs told : List EpochValue) → StreamValue → Type 0
+MayTell epochs told stream = (IsFalse (is_waiting stream) × (told ≡ epochs)) ⊎ (told ≡ given_up epochs)
 
 -- the stream whose seat was handed over at this place can be told, and its request is this one
 pub record CanTell {R W : Type 0} (terms : Terms) (times : ℕ → Type 0) (epochs : List EpochValue)

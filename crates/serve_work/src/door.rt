@@ -1,11 +1,11 @@
 //! Where the streams of a session come from that come and go, and where they are told.
-ghost use Rattle.std.specs.Prelude.{ℕ, ◌≡◌, ◌++◌, List, [], ◌∷◌, IfNone, IfSome, IsFalse, IsSomeAnd, Option};
-ghost use Rattle.serve_work.specs.History.{EpochValue, IsHistory, Terms, epoch_of};
+ghost use Rattle.std.specs.Prelude.{◌≡◌, ◌++◌, List, [], ◌∷◌, IfNone, IfSome, IsFalse, IsSomeAnd};
+ghost use Rattle.serve_work.specs.History.{EpochValue};
 ghost use Rattle.serve_work.specs.Live.{IsAdmitted, IsAnswer, IsStanding, Waiting, waiting_of};
 ghost use Rattle.serve_work.specs.Sessions.{IsInput};
 
+use crate::chronicle::Chronicle;
 use crate::request::{Answer, Request, Standing};
-use serve_hub::Ended;
 use y4m_stream::{Sink, Source};
 
 /// What tells whether a request is there, or a question (see [`Door::asks`]).
@@ -21,53 +21,38 @@ pub trait Bell {
     fn is_there(&self, patience: u64) -> bool;
 }
 
-/// Where requests come from, where they are answered, and where it is shown how their streams stand.
-pub trait Door<R: Source, W: Sink>: Bell {
-    /// What the session serves by.
-    ghost terms: { Terms };
-
-    /// The moments that the session's clock may give, by which is told.
-    ghost times: { ℕ → Type 0 };
-
-    /// That it was told of the ends of these epochs, the latest first, and gave these requests, which aren't
-    /// answered yet, the oldest first.
-    ghost stands: { Self → List EpochValue → List Waiting → Type 0 };
-
+/// Where requests come from, where they are answered, and where it is shown how their streams stand. It is
+/// told of streams by the epochs that it was told of as a [`Chronicle`]. The requests that wait are those
+/// that it gave and that aren't answered yet.
+pub trait Door<R: Source, W: Sink>: Bell + Chronicle {
     /// The next request, if one is there. It doesn't wait.
     fn next(&mut self) -> Option<Request<R, W>>
         ensures input { IfSome result (λ r. IsInput r.spec (r.reader, r.writer)) }
         ensures given { IfSome result (λ r. (es : List EpochValue) (ws : List Waiting)
-            → stands self.old es ws
-            → stands self.new es (ws ++ waiting_of W.contents W.failures r ∷ [])) }
+            → Self.stands self.old es ws
+            → Self.stands self.new es (ws ++ waiting_of W.contents W.failures r ∷ [])) }
         ensures none { IfNone result ((es : List EpochValue) (ws : List Waiting)
-            → stands self.old es ws → stands self.new es ws) };
+            → Self.stands self.old es ws → Self.stands self.new es ws) };
 
     /// The door is told that the stream of a request that waits is admitted: it has its seat in the epoch that
     /// opens.
     fn admitted(&mut self, ticket: u64)
         requires admitted { (es : List EpochValue) × (before : List Waiting) × (w : Waiting)
-            × (after : List Waiting) × stands self.old es (before ++ w ∷ after) × (w.ticket ≡ ticket)
-            × IsAdmitted terms es (before ++ after) w.request.spec }
-        ensures waits { (es : List EpochValue) (ws : List Waiting) → stands self.old es ws
-            → stands self.new es ws };
-
-    /// The door is told of an epoch's end, before any of its streams is told or shown.
-    fn epoch_ended(&mut self, ended: &Ended)
-        requires epoch { (es : List EpochValue) × (ws : List Waiting) × stands self.old es ws
-            × (whose : ℕ → Option ℕ) × IsHistory terms times (epoch_of ended.now whose ∷ es) }
-        ensures one_more { (es : List EpochValue) (ws : List Waiting) (whose : ℕ → Option ℕ)
-            → stands self.old es ws → stands self.new (epoch_of ended.now whose ∷ es) ws };
+            × (after : List Waiting) × Self.stands self.old es (before ++ w ∷ after) × (w.ticket ≡ ticket)
+            × IsAdmitted Self.terms es (before ++ after) w.request.spec }
+        ensures waits { (es : List EpochValue) (ws : List Waiting) → Self.stands self.old es ws
+            → Self.stands self.new es ws };
 
     /// The door is told what came of a request that waits. The request waits no longer. The answer is the
     /// door's to take: what it leaves in its place is dropped.
     fn tell(&mut self, ticket: u64, answer: &mut Option<Answer<R, W>>)
         requires answer { (es : List EpochValue) × (before : List Waiting) × (w : Waiting)
-            × (after : List Waiting) × stands self.old es (before ++ w ∷ after) × (w.ticket ≡ ticket)
+            × (after : List Waiting) × Self.stands self.old es (before ++ w ∷ after) × (w.ticket ≡ ticket)
             × IsSomeAnd answer.old
-            (IsAnswer W.contents W.failures terms times es w.ticket w.request) }
+            (IsAnswer W.contents W.failures Self.terms Self.times es w.ticket w.request) }
         ensures waits_no_longer { (es : List EpochValue) (before : List Waiting) (w : Waiting)
-            (after : List Waiting) → stands self.old es (before ++ w ∷ after) → w.ticket ≡ ticket
-            → stands self.new es (before ++ after) };
+            (after : List Waiting) → Self.stands self.old es (before ++ w ∷ after) → w.ticket ≡ ticket
+            → Self.stands self.new es (before ++ after) };
 
     /// Whether it is to be shown how the streams stand.
     fn asks(&self) -> bool;
@@ -76,13 +61,16 @@ pub trait Door<R: Source, W: Sink>: Bell {
     /// aren't over are shown, in the order of their numbers.
     fn show(&mut self, ticket: u64, standing: Standing)
         requires standing { (es : List EpochValue) × (before : List Waiting) × (w : Waiting)
-            × (after : List Waiting) × stands self.old es (before ++ w ∷ after) × (w.ticket ≡ ticket)
-            × IsStanding terms times es w.ticket w.request standing }
-        ensures waits { (es : List EpochValue) (ws : List Waiting) → stands self.old es ws
-            → stands self.new es ws };
+            × (after : List Waiting) × Self.stands self.old es (before ++ w ∷ after) × (w.ticket ≡ ticket)
+            × IsStanding Self.terms Self.times es w.ticket w.request standing }
+        ensures waits { (es : List EpochValue) (ws : List Waiting) → Self.stands self.old es ws
+            → Self.stands self.new es ws };
 
     /// All were shown. The moment is that of their hub's clock, and `None` where no stream is served.
     fn end_show(&mut self, moment: Option<u64>)
-        ensures waits { (es : List EpochValue) (ws : List Waiting) → stands self.old es ws
-            → stands self.new es ws };
+        requires clock { IfSome moment (λ at. (epoch : EpochValue) × (es : List EpochValue)
+            × (ws : List Waiting) × Self.stands self.old (epoch ∷ es) ws × (at ≡ epoch.gone.clock)) }
+        requires nobody { IfNone moment ((es : List EpochValue) × Self.stands self.old es []) }
+        ensures waits { (es : List EpochValue) (ws : List Waiting) → Self.stands self.old es ws
+            → Self.stands self.new es ws };
 }

@@ -8,6 +8,7 @@
 mod begun;
 mod bounds;
 mod buffers;
+pub mod chronicle;
 pub mod clients;
 mod course;
 mod delivery;
@@ -30,6 +31,7 @@ mod spent;
 pub mod stop;
 pub mod workers;
 
+pub use chronicle::Chronicle;
 pub use clients::{ClientEnd, ClientTurn, client};
 pub use door::{Bell, Door};
 pub use gate::{Clock, Gate};

@@ -1,8 +1,9 @@
 //! A session whose streams come and go.
 //!
 //! It goes from epoch to epoch. Where a request is at the door, or a question of how the streams stand, or
-//! where a stream is over, the epoch is ended. Then the streams that are over are told, those that are left
-//! are shown if it was asked, and those that came are admitted before the next epoch begins.
+//! where a stream is over, the epoch is ended. Then the hub's clock goes on to the present moment, the
+//! streams that are over are told, those that are left are shown if it was asked, and those that came are
+//! admitted before the next epoch begins.
 ghost use Rattle.std.specs.Prelude.{ℕ, ◌≡◌, ◌↔◌, ◌⊎◌, List, [], ◌∷◌, IfErr, IfOk, IsErrOf};
 ghost use Rattle.serve_work.specs.History.{EpochValue, IsHistory, terms_of};
 ghost use Rattle.serve_work.specs.Live.{IsForm, IsLiveLimit, waiting_of};
@@ -10,12 +11,14 @@ ghost use Rattle.serve_work.specs.Sessions.{IsInput};
 ghost use Rattle.serve_work.specs.LiveInside.{IsLiveInterval};
 
 mod admission;
+mod clock;
 mod epochs;
 mod form;
 mod guests;
 mod opening;
 mod retirement;
 mod threads;
+mod tickets;
 
 use crate::bounds::{Host, LentClock, LentDoor, LentGate, SentSink, SentSource};
 use crate::door::Door;
@@ -85,7 +88,7 @@ fn go_on<R: SentSource, W: SentSink, D: LentDoor<R, W>, G: LentGate, K: LentCloc
             return Ok(());
         }
         show_guests(door, &interval.ended, &interval.guests);
-        let left = retire_released::<R, W, D>(setting.alloc, interval);
+        let left = retire_released(setting.alloc, interval, door);
         let blank = Blank::new(MOST_SEATS);
         interval = next_epoch::<Brand, R, W, D, G, K, T>(setting, blank, left, door)?;
     }

@@ -1,5 +1,6 @@
 //! Streams of two by two samples that a worker and a client serve, with bytes that were worked out by hand.
 mod clients;
+mod clocks;
 mod epochs;
 mod gates;
 mod given_up;

@@ -9,7 +9,7 @@ use super::lobby::Lobby;
 use super::tickets::Tickets;
 use super::{AdmitFault, StreamRow, StreamStop};
 use serve_hub::Ended;
-use serve_work::{Answer, Bell, Clock as Moments, Door, Request, Standing as Stood};
+use serve_work::{Answer, Bell, Chronicle, Clock as Moments, Door, Request, Standing as Stood};
 use std::alloc::{AllocError, Global};
 use std::io::Write;
 use std::marker::{Brand, PhantomData};
@@ -198,7 +198,7 @@ where
     }
 }
 
-impl<'l, 'o, R, W, S, O, E, K, T, L> Door<R, W> for Doorway<'l, 'o, R, W, S, O, E, K, T, L>
+impl<'l, 'o, R, W, S, O, E, K, T, L> Chronicle for Doorway<'l, 'o, R, W, S, O, E, K, T, L>
 where
     R: Source + Drop,
     W: Sink + Drop,
@@ -215,6 +215,26 @@ where
 
     ghost stands = { λ door es ws. map (λ w. w.ticket) ws ≡ door.tickets };
 
+    fn epoch_ended(&mut self, _ended: &Ended, _tickets: &[Option<u64>]) {}
+
+    fn goes_on(&mut self, _at: u64) {}
+
+    fn gives_up(&mut self) {}
+
+    fn retired(&mut self) {}
+}
+
+impl<'l, 'o, R, W, S, O, E, K, T, L> Door<R, W> for Doorway<'l, 'o, R, W, S, O, E, K, T, L>
+where
+    R: Source + Drop,
+    W: Sink + Drop,
+    S: Drop,
+    O: Write,
+    E: Write,
+    K: Moments,
+    T: Wait + Clock,
+    L: HasTerms,
+{
     fn next(&mut self) -> Option<Request<R, W>> {
         self.take_ready()
     }
@@ -226,8 +246,6 @@ where
             voice.say(&Said::Admitted(&entry.order.name));
         }
     }
-
-    fn epoch_ended(&mut self, _ended: &Ended) {}
 
     fn tell(&mut self, ticket: u64, answer: &mut Option<Answer<R, W>>) {
         let Some(answer) = answer.take() else {

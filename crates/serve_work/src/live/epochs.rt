@@ -14,9 +14,11 @@ ghost use Rattle.serve_work.specs.Workers.{AreSpent};
 use crate::bounds::{Host, LentClock, LentDoor, LentGate, SentSink, SentSource};
 use crate::door::Door;
 use crate::live::admission::admit_all;
+use crate::live::clock::go_to_now;
 use crate::live::guests::{Guest, Interval, Ticket, are_as_asked};
 use crate::live::opening::{FirstStream, Hall, Opening};
 use crate::live::threads::run_threads;
+use crate::live::tickets::tickets_of;
 use crate::request::Answer;
 use crate::session::SessionFault;
 use crate::session::places::Places;
@@ -90,7 +92,7 @@ fn finish<L: Epoch, R: Source, W: Sink>(
 }
 
 /// Admits those who are at the door. Then the streams go on with their seats of this epoch, until it is
-/// ended.
+/// ended, and the clock goes on to the moment then.
 fn epoch<
     L: Epoch + Send + Sync,
     R: SentSource,
@@ -143,9 +145,10 @@ fn epoch<
     fill_guests(&mut guests, tickets, streams);
     append_idle(&mut seats, &mut guests, idle);
     let ended = finish(hub, seats, back, &guests)?;
-    door.epoch_ended(&ended);
+    door.epoch_ended(&ended, &tickets_of(&ended, &guests));
+    let now = go_to_now(setting.clock, ended, door);
     Ok(Interval {
-        ended,
+        ended: now,
         guests,
         workers,
         goes_on,

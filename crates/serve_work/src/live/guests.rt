@@ -1,12 +1,15 @@
 //! The streams that a session serves, from epoch to epoch.
-ghost use Rattle.std.specs.Prelude.{◌≡◌, ◌<◌, ◌++◌, List, [], ◌∷◌, None, Some, IsFalse, IsTrue};
-ghost use Rattle.std.specs.Prelude.{slice_get, slice_set, vec_len, ⊤};
+ghost use Rattle.std.specs.Prelude.{◌≡◌, ◌<◌, ◌⊎◌, ◌++◌, List, [], ◌∷◌, None, Some, IsFalse, IsTrue};
+ghost use Rattle.std.specs.Prelude.{IfSome, slice_get, slice_set, vec_len, ⊤};
 ghost use Rattle.serve_core.specs.Schedule.{HasStream};
 ghost use Rattle.serve_hub.specs.Seats.{StreamRest};
 ghost use Rattle.serve_work.specs.History.{EpochValue, IsHistory};
 ghost use Rattle.serve_work.specs.Live.{IsStandingOf, Waiting};
-ghost use Rattle.serve_work.specs.LiveInside.{AreAllTold, AreAsAsked, CanTell, HaveWaited, IsAsAsked};
+ghost use Rattle.serve_work.specs.LiveInside.{AreAllTold, AreAsAsked, CanTell, HaveWaited};
+ghost use Rattle.serve_work.specs.LiveInside.{IsAsAsked, MayTell, ended_so};
+ghost use Rattle.serve_work.specs.StreamInside.{is_waiting};
 
+use crate::chronicle::Chronicle;
 use crate::door::Door;
 use crate::request::{Answer, Standing};
 use crate::session::turn::Stream;
@@ -79,9 +82,9 @@ fn tell<R: Source + Drop, W: Sink + Drop, D: Door<R, W>>(
     place: usize,
     guest: Guest<R, W>,
 )
-    requires can { (es : List EpochValue) × (before : List Waiting) × (w : Waiting)
-        × (after : List Waiting) × D.stands door.old es (before ++ w ∷ after)
-        × CanTell D.terms D.times es ended.now place guest w }
+    requires can { (es : List EpochValue) × (told : List EpochValue) × (before : List Waiting)
+        × (w : Waiting) × (after : List Waiting) × D.stands door.old told (before ++ w ∷ after)
+        × MayTell es told guest.stream × CanTell D.terms D.times es ended.now place guest w }
     ensures waits_no_longer { (es : List EpochValue) (before : List Waiting) (w : Waiting)
         (after : List Waiting) → D.stands door.old es (before ++ w ∷ after)
         → w.ticket ≡ guest.ticket.number → D.stands door.new es (before ++ after) }
@@ -98,7 +101,8 @@ fn tell<R: Source + Drop, W: Sink + Drop, D: Door<R, W>>(
     door.tell(ticket.number, &mut Some(Answer::Ended(served)));
 }
 
-/// Tells what came of each stream that is over, or of all. Answers whether any is left.
+/// Tells what came of each stream that is over, or of all where they are given up. Answers whether any is
+/// left.
 pub(super) fn tell_guests<R: Source + Drop, W: Sink + Drop, D: Door<R, W>>(
     door: &mut D,
     ended: &Ended,
@@ -106,14 +110,30 @@ pub(super) fn tell_guests<R: Source + Drop, W: Sink + Drop, D: Door<R, W>>(
     gives_up: bool,
 ) -> bool
     requires guests { HaveWaited (D.stands door.old) D.terms D.times ended.now guests.old.items }
-    ensures guests { HaveWaited (D.stands door.new) D.terms D.times ended.now guests.new.items }
+    ensures guests { IsTrue result
+        → HaveWaited (D.stands door.new) D.terms D.times ended.now guests.new.items }
     ensures answered { IsFalse result → (es : List EpochValue) × IsHistory D.terms D.times es
         × D.stands door.new es [] }
 {
+    give_up(door, gives_up);
     for place in 0..guests.len() {
         tell_at(door, ended, guests, place, gives_up);
     }
+    if gives_up {
+        return false;
+    }
     any_left(guests)
+}
+
+/// Tells that all streams are given up, if they are.
+fn give_up<C: Chronicle>(chronicle: &mut C, gives_up: bool)
+    ensures { (es : List EpochValue) (ws : List Waiting) → C.stands chronicle.old es ws
+        → C.stands chronicle.new (ended_so gives_up es) ws }
+{
+    if !gives_up {
+        return;
+    }
+    chronicle.gives_up();
 }
 
 /// Tells what came of the stream at this place, if it is over, or given up.
@@ -125,9 +145,12 @@ fn tell_at<R: Source + Drop, W: Sink + Drop, D: Door<R, W>>(
     gives_up: bool,
 )
     requires within { place < vec_len guests.old }
-    requires guests { HaveWaited (D.stands door.old) D.terms D.times ended.now guests.old.items }
-    ensures guests { HaveWaited (D.stands door.new) D.terms D.times ended.now guests.new.items }
+    requires guests { HaveWaited (λ es. D.stands door.old (ended_so gives_up es)) D.terms D.times
+        ended.now guests.old.items }
+    ensures guests { HaveWaited (λ es. D.stands door.new (ended_so gives_up es)) D.terms D.times
+        ended.now guests.new.items }
     ensures len { vec_len guests.new ≡ vec_len guests.old }
+    ensures told { IsTrue gives_up → guests.new.items ≡ slice_set guests.old.items place None }
 {
     if !is_due(&guests[place], gives_up) {
         return;
@@ -159,6 +182,7 @@ pub(super) fn show_guests<R: Source + Drop, W: Sink + Drop, D: Door<R, W>>(
 
 /// Tells the door, if it asks, that no stream is served.
 pub(super) fn show_none<R: Source, W: Sink, D: Door<R, W>>(door: &mut D)
+    requires nobody { (es : List EpochValue) × D.stands door.old es [] }
     ensures waits { (es : List EpochValue) (ws : List Waiting) → D.stands door.old es ws
         → D.stands door.new es ws }
 {
@@ -226,11 +250,18 @@ fn take_at<R: Source, W: Sink>(
 }
 
 /// Whether a stream is to be told: it is over, or given up.
-fn is_due<R: Source, W: Sink>(guest: &Option<Guest<R, W>>, gives_up: bool) -> bool {
-    match guest {
-        None => false,
-        Some(guest) => gives_up || !guest.stream.is_waiting(),
+fn is_due<R: Source, W: Sink>(guest: &Option<Guest<R, W>>, gives_up: bool) -> bool
+    ensures due { IsTrue result → IfSome guest.now
+        (λ guest. IsTrue gives_up ⊎ IsFalse (is_waiting guest.stream)) }
+    ensures none { IsTrue gives_up → IsFalse result → guest.now ≡ None }
+{
+    let Some(guest) = guest else {
+        return false;
+    };
+    if gives_up {
+        return true;
     }
+    !guest.stream.is_waiting()
 }
 
 /// Whether a stream is left that wasn't told.

@@ -7,21 +7,24 @@ ghost use Rattle.serve_work.specs.History.{EpochValue};
 ghost use Rattle.serve_work.specs.Live.{Waiting};
 ghost use Rattle.serve_work.specs.LiveInside.{AreGuests, AreToldBut, at_marks};
 
-use crate::door::Door;
+use crate::chronicle::Chronicle;
 use crate::live::guests::{Guest, Interval};
 use serve_hub::Ended;
 use std::alloc::Global;
 use y4m_stream::{Sink, Source};
 
-/// Takes the released streams out, if each of them was told. Their numbers are free then, for others. Where
-/// one wasn't, where no stream would be left, or where memory is refused, all stays as it is.
-pub(super) fn retire_released<R: Source + Drop, W: Sink + Drop, D: Door<R, W>>(
+/// Takes the released streams out, if each of them was told, and tells so. Their numbers are free then, for
+/// others. Where one wasn't, where no stream would be left, or where memory is refused, all stays as it is.
+pub(super) fn retire_released<R: Source + Drop, W: Sink + Drop, C: Chronicle>(
     alloc: Global,
     interval: Interval<R, W>,
+    chronicle: &mut C,
 ) -> Interval<R, W>
     ensures guests { (es : List EpochValue) (ws : List Waiting)
-        → AreGuests D.terms D.times es interval.ended ws interval.guests.items
-        → AreGuests D.terms D.times es result.ended ws result.guests.items }
+        → AreGuests C.terms C.times es interval.ended ws interval.guests.items
+        → AreGuests C.terms C.times es result.ended ws result.guests.items }
+    ensures waits { (es : List EpochValue) (ws : List Waiting) → C.stands chronicle.old es ws
+        → C.stands chronicle.new es ws }
 {
     let Some((marks, mut kept)) = marks_and_room(alloc, &interval) else {
         return interval;
@@ -40,7 +43,9 @@ pub(super) fn retire_released<R: Source + Drop, W: Sink + Drop, D: Door<R, W>>(
             goes_on,
         },
         Ok(retired) => {
+            let count = guests.len();
             keep_marked(&mut kept, marks, guests);
+            tell_retired(chronicle, kept.len() < count);
             Interval {
                 ended: retired.ended,
                 guests: kept,
@@ -48,6 +53,16 @@ pub(super) fn retire_released<R: Source + Drop, W: Sink + Drop, D: Door<R, W>>(
                 goes_on,
             }
         }
+    }
+}
+
+/// Tells that streams were taken out, if any was.
+fn tell_retired<C: Chronicle>(chronicle: &mut C, is_any: bool)
+    ensures { (es : List EpochValue) (ws : List Waiting) → C.stands chronicle.old es ws
+        → C.stands chronicle.new es ws }
+{
+    if is_any {
+        chronicle.retired();
     }
 }
 

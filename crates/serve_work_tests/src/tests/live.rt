@@ -9,7 +9,7 @@ use super::sessions::Counting;
 use super::{Open, PLAIN, Still};
 use serve_core::Refusal as Core;
 use serve_hub::{Ended, Refusal};
-use serve_work::{Answer, Bell, Clock, Door, Request, Standing, Stop, serve_live};
+use serve_work::{Answer, Bell, Chronicle, Clock, Door, Request, Standing, Stop, serve_live};
 use std::alloc::Global;
 use std::collections::VecDeque;
 use std::marker::{Brand, Model, PhantomData};
@@ -21,24 +21,25 @@ use std::thread::Threads;
 use test_tools::streams::{ONE, ONE_INVERTED, THREE, THREE_INVERTED};
 use y4m_stream::{OverRead, Sink, Source};
 
-/// When a request comes: where so many bytes were written.
+/// When a request comes: where so many bytes were written, and so much was told.
 #[derive(Clone, Copy)]
-struct Due<'a> {
-    written: &'a AtomicU64,
-    least: u64,
+pub(super) struct Due<'a> {
+    pub(super) written: &'a AtomicU64,
+    pub(super) least: u64,
+    pub(super) told: usize,
 }
 
 impl Due<'_> {
-    fn has_come(self) -> bool {
-        self.written.load(Ordering::SeqCst) >= self.least
+    fn has_come(self, told: usize) -> bool {
+        told >= self.told && self.written.load(Ordering::SeqCst) >= self.least
     }
 }
 
-type TheReader<'a> = Late<'a, OverRead<Paced<'a>>>;
+pub(super) type TheReader<'a> = Late<'a, OverRead<Paced<'a>>>;
 
 /// What was told of a request, or shown.
 #[derive(Drop)]
-enum Line<R: Source, W: Sink> {
+pub(super) enum Line<R: Source, W: Sink> {
     Told(u64, Answer<R, W>),
     Stands(u64, Standing),
     Shown(Option<u64>),
@@ -46,7 +47,7 @@ enum Line<R: Source, W: Sink> {
 
 /// A request, and when it comes. Nothing was read of its frames.
 #[derive(Drop)]
-struct Wanted<'a, R: Source, W: Sink> {
+pub(super) struct Wanted<'a, R: Source, W: Sink> {
     due: Due<'a>,
     request: Request<R, W>,
 }
@@ -71,7 +72,7 @@ impl<'a, R: Source, W: Sink> Wanted<'a, R, W> {
 }
 
 /// What a session serves by, for contracts alone.
-trait HasTerms {
+pub(super) trait HasTerms {
     ghost terms: { Terms };
 }
 
@@ -79,29 +80,38 @@ impl HasTerms for Brand {
     ghost terms = { terms_of 0 0 0 };
 }
 
-/// Requests and questions that come one after the other, what was told and shown, who was admitted, and how many
-/// entries the journals of the epochs had.
+/// What was told of the epochs: whose the first two numbers were where one ended, to which moment the clock
+/// went on, that all were given up, that streams were taken out, and who was admitted.
+#[derive(Clone, Copy, Debug, PartialEq, Eq)]
+pub(super) enum Note {
+    Ended(Option<u64>, Option<u64>),
+    GoesOn(u64),
+    GivesUp,
+    Retired,
+    Admitted(u64),
+}
+
+/// Requests and questions that come one after the other, what was told and shown, and what of the epochs.
 #[derive(Drop)]
 struct Sheet<'a, R: Source, W: Sink, L> {
     requests: VecDeque<Wanted<'a, R, W>>,
     questions: VecDeque<Due<'a>>,
     told: VecDeque<Line<R, W>>,
-    admitted: VecDeque<u64>,
-    epochs: VecDeque<usize>,
+    notes: VecDeque<Note>,
     terms: PhantomData<L>,
 }
 
 impl<'a, R: Source, W: Sink, L> Sheet<'a, R, W, L> {
     fn has_come(&self) -> bool {
         match self.requests.front() {
-            Some(wanted) => wanted.due.has_come(),
+            Some(wanted) => wanted.due.has_come(self.told.len()),
             None => false,
         }
     }
 
     fn is_asked(&self) -> bool {
         match self.questions.front() {
-            Some(due) => due.has_come(),
+            Some(due) => due.has_come(self.told.len()),
             None => false,
         }
     }
@@ -119,13 +129,39 @@ impl<'a, R: Source, W: Sink, L> Bell for Sheet<'a, R, W, L> {
     }
 }
 
-impl<'a, R: Source + Drop, W: Sink + Drop, L: HasTerms> Door<R, W> for Sheet<'a, R, W, L> {
+fn ticket_at(tickets: &[Option<u64>], number: usize) -> Option<u64> {
+    match tickets.get(number) {
+        Some(ticket) => *ticket,
+        None => None,
+    }
+}
+
+impl<'a, R: Source, W: Sink, L: HasTerms> Chronicle for Sheet<'a, R, W, L> {
     ghost terms = { L.terms };
 
     ghost times = { λ _. ⊤ };
 
     ghost stands = { λ _ _ _. ⊤ };
 
+    fn epoch_ended(&mut self, _ended: &Ended, tickets: &[Option<u64>]) {
+        let note = Note::Ended(ticket_at(tickets, 0), ticket_at(tickets, 1));
+        let _ = self.notes.push_back(note);
+    }
+
+    fn goes_on(&mut self, at: u64) {
+        let _ = self.notes.push_back(Note::GoesOn(at));
+    }
+
+    fn gives_up(&mut self) {
+        let _ = self.notes.push_back(Note::GivesUp);
+    }
+
+    fn retired(&mut self) {
+        let _ = self.notes.push_back(Note::Retired);
+    }
+}
+
+impl<'a, R: Source + Drop, W: Sink + Drop, L: HasTerms> Door<R, W> for Sheet<'a, R, W, L> {
     fn next(&mut self) -> Option<Request<R, W>> {
         if !self.has_come() {
             return None;
@@ -137,11 +173,7 @@ impl<'a, R: Source + Drop, W: Sink + Drop, L: HasTerms> Door<R, W> for Sheet<'a,
     }
 
     fn admitted(&mut self, ticket: u64) {
-        let _ = self.admitted.push_back(ticket);
-    }
-
-    fn epoch_ended(&mut self, ended: &Ended) {
-        let _ = self.epochs.push_back(ended.journal().len());
+        let _ = self.notes.push_back(Note::Admitted(ticket));
     }
 
     fn tell(&mut self, ticket: u64, answer: &mut Option<Answer<R, W>>) {
@@ -165,12 +197,12 @@ impl<'a, R: Source + Drop, W: Sink + Drop, L: HasTerms> Door<R, W> for Sheet<'a,
 }
 
 /// A line of what was told of the tests' streams.
-type TheLine<'a> = Line<TheReader<'a>, Writer<'a>>;
+pub(super) type TheLine<'a> = Line<TheReader<'a>, Writer<'a>>;
 
-type TheWanted<'a> = Wanted<'a, TheReader<'a>, Writer<'a>>;
+pub(super) type TheWanted<'a> = Wanted<'a, TheReader<'a>, Writer<'a>>;
 
 /// A request of this number.
-fn wants<'a>(
+pub(super) fn wants<'a>(
     rt: &impl Abort,
     alloc: Global,
     due: Due<'a>,
@@ -188,7 +220,7 @@ fn wants<'a>(
 }
 
 /// A stream whose bytes are all there.
-fn side<'a>(input: &'a [u8], written: &'a AtomicU64) -> Side<'a> {
+pub(super) fn side<'a>(input: &'a [u8], written: &'a AtomicU64) -> Side<'a> {
     Side {
         input,
         pace: Pace {
@@ -211,7 +243,13 @@ fn is_refused(rt: &impl Abort, line: Option<TheLine<'_>>, ticket: u64, refusal: 
     }
 }
 
-fn is_whole(rt: &impl Abort, line: Option<TheLine<'_>>, ticket: u64, frames: u64, images: &[u8]) {
+pub(super) fn is_whole(
+    rt: &impl Abort,
+    line: Option<TheLine<'_>>,
+    ticket: u64,
+    frames: u64,
+    images: &[u8],
+) {
     match line {
         Some(Line::Told(of, Answer::Ended(served))) => {
             let came = end_of(served);
@@ -250,17 +288,21 @@ fn serves<'a, K: Clock + Sync, T: Threads + Wait + Sync>(
 ) -> Result<VecDeque<TheLine<'a>>, Fail>
     requires { IsForm workers 4 }
 {
-    serves_by::<K, T, Brand>(rt, alloc, workers, clock, requests, questions)
+    let (told, _) = serves_by::<K, T, Brand>(rt, alloc, workers, clock, requests, questions)?;
+    Ok(told)
 }
 
-fn serves_by<'a, K: Clock + Sync, T: Threads + Wait + Sync, L: HasTerms + Sync>(
+/// What was told of the requests, and of the epochs.
+pub(super) type Kept<'a> = (VecDeque<TheLine<'a>>, VecDeque<Note>);
+
+pub(super) fn serves_by<'a, K: Clock + Sync, T: Threads + Wait + Sync, L: HasTerms + Sync>(
     rt: &T,
     alloc: Global,
     workers: u64,
     clock: &K,
     requests: VecDeque<TheWanted<'a>>,
     questions: VecDeque<Due<'a>>,
-) -> Result<VecDeque<TheLine<'a>>, Fail>
+) -> Result<Kept<'a>, Fail>
     requires form { IsForm workers 4 }
     requires terms { terms_of workers 4 256 ≡ L.terms }
 {
@@ -268,18 +310,22 @@ fn serves_by<'a, K: Clock + Sync, T: Threads + Wait + Sync, L: HasTerms + Sync>(
         requests,
         questions,
         told: VecDeque::new(alloc),
-        admitted: VecDeque::new(alloc),
-        epochs: VecDeque::new(alloc),
+        notes: VecDeque::new(alloc),
         terms: PhantomData,
     };
     serve_live(rt, alloc, workers, 4, 256, &mut sheet, &Open, clock)?;
-    let Sheet { told, .. } = sheet;
-    Ok(told)
+    let Sheet { told, notes, .. } = sheet;
+    Ok((told, notes))
 }
 
 /// A stream of twenty frames, of which five come first, and the others where so many bytes of the other
 /// streams were written.
-fn long<'a>(frames: &'a [u8], first: &'a AtomicU64, other: &'a AtomicU64, least: u64) -> Side<'a> {
+pub(super) fn long<'a>(
+    frames: &'a [u8],
+    first: &'a AtomicU64,
+    other: &'a AtomicU64,
+    least: u64,
+) -> Side<'a> {
     Side {
         input: frames,
         pace: Pace {
@@ -293,8 +339,13 @@ fn long<'a>(frames: &'a [u8], first: &'a AtomicU64, other: &'a AtomicU64, least:
     }
 }
 
-fn when<'a>(written: &'a AtomicU64, least: u64) -> Due<'a> {
-    Due { written, least }
+pub(super) fn when<'a>(written: &'a AtomicU64, least: u64) -> Due<'a> {
+    let told = 0;
+    Due {
+        written,
+        least,
+        told,
+    }
 }
 
 /// The second stream comes when two images of the first were written, and all of it was written before the

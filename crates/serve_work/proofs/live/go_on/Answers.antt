@@ -6,8 +6,16 @@ next_epoch-requires-clause-blank g c κs within = record { name_is = refl; parts
 
 pub next_epoch-requires-clause-guests : goal.next_epoch-requires-clause-guests
 next_epoch-requires-clause-guests g c κs within =
-    let at = c.tell_guests.ensures.guests in
-    (at.0, at.1, c.show_guests.ensures.waits at.0 at.1 at.2, c.retire_released-left.ensures.guests at.0 at.1 at.3)
+    let at = c.tell_guests.ensures.guests c.if-not-tell_guests.false in
+    let shown = c.show_guests.ensures.waits at.0 at.1 at.2 in (
+      at.0,
+      at.1,
+      c.retire_released-left.ensures.waits at.0 at.1 shown,
+      c.retire_released-left.ensures.guests at.0 at.1 at.3,
+    )
+
+pub show_guests-requires : goal.show_guests-requires
+show_guests-requires g c = record { guests = c.tell_guests.ensures.guests c.if-not-tell_guests.false }
 
 pub returns-then-not-tell_guests-clause-answered : goal.returns-then-not-tell_guests-clause-answered
 returns-then-not-tell_guests-clause-answered g c = c.tell_guests.ensures.answered c.if-not-tell_guests.true

@@ -13,6 +13,6 @@ ghosts-next_epoch-L-Epoch g a = record { opening = a.interval.ended.book.desk }
 -- the streams that are left stand between two epochs, and their requests wait
 abbrev pub invariant-loop : goal.invariant-loop
 invariant-loop g l = record {
-  guests : (es : List EpochValue) × (ws : List Waiting) × g.D.Door.stands l.door es ws
-      × AreGuests g.D.Door.terms g.D.Door.times es l.interval.ended ws l.interval.guests.items;
+  guests : (es : List EpochValue) × (ws : List Waiting) × g.D.Chronicle.stands l.door es ws
+      × AreGuests g.D.Chronicle.terms g.D.Chronicle.times es l.interval.ended ws l.interval.guests.items;
 }

@@ -5,5 +5,5 @@ use Rattle.serve_work.proofs.live.serve_live.Given as goal
 -- no request waits
 abbrev pub invariant-loop : goal.invariant-loop
 invariant-loop g l = record {
-  nobody : (es : List EpochValue) × IsHistory g.D.Door.terms g.D.Door.times es × g.D.Door.stands l.door es [];
+  nobody : (es : List EpochValue) × IsHistory g.D.Chronicle.terms g.D.Chronicle.times es × g.D.Chronicle.stands l.door es [];
 }

@@ -1,5 +1,4 @@
-use Rattle.std.proofs.Common.{None, arith, subst, sym, take_all}
-use Rattle.serve_work.proofs.SpentLeases.{StandSpent, then_leased, then_settled}
+use Rattle.serve_work.proofs.SpentLeases.{then_leased, then_settled}
 use Rattle.serve_work.proofs.spent.are_spent.Goals.{in-None-Leased, in-Some-Settled}
 use Rattle.serve_work.proofs.spent.are_spent.Goals as goal
 

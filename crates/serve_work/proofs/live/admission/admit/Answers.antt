@@ -24,7 +24,7 @@ returns-then-len-ge-MOST_STREAMS g c =
       seated = (
         at.0,
         at.1,
-        subst (g.D.Door.stands c.tell.new.self at.0) (append-nil at.1) (c.tell.ensures.waits_no_longer at.0 at.1 w [] at.2 refl),
+        subst (g.D.Chronicle.stands c.tell.new.self at.0) (append-nil at.1) (c.tell.ensures.waits_no_longer at.0 at.1 w [] at.2 refl),
         at.3,
       );
     }
@@ -35,7 +35,7 @@ seat-requires-clause-tickets_fit g c =
     let at = c.requires.seated in
     omega (
       arith,
-      zip_length (HasTurn g.D.Door.terms g.D.Door.times at.0 g.L.Epoch.opening) at.1 at.3.helds at.3.each,
+      zip_length (HasTurn g.D.Chronicle.terms g.D.Chronicle.times at.0 g.L.Epoch.opening) at.1 at.3.helds at.3.each,
       ap length at.3.tickets,
       same_length ticket_of at.1,
       ap length at.3.turns,
@@ -51,9 +51,9 @@ seat-requires-clause-ready g c =
     let is : IsRequest request = record { header = c.requires.input.header; is_open = c.requires.input.is_open } in
     let a = admitted c.args.request.spec seat c.in-Ok.ensures.seat in
     let es = c.requires.seated.0 in
-    let b = began g.D.Door.terms g.D.Door.times es g.L.Epoch.opening c.args.request.ticket request seat is a.0 (inr c.in-Ok.ensures.behind) a.1 a.2 a.3 in
+    let b = began g.D.Chronicle.terms g.D.Chronicle.times es g.L.Epoch.opening c.args.request.ticket request seat is a.0 (inr c.in-Ok.ensures.behind) a.1 a.2 a.3 in
     subst (λ (v : StreamValue). IsReadyAt v seat) (sym c.new.ensures)
-    (may_go g.D.Door.terms g.D.Door.times es g.L.Epoch.opening c.args.request.ticket request
+    (may_go g.D.Chronicle.terms g.D.Chronicle.times es g.L.Epoch.opening c.args.request.ticket request
     (sessions.Waiting (Unbegun request.reader request.before request.failures)) seat b)
 
 pub admitted-requires : goal.admitted-requires
@@ -90,17 +90,17 @@ returns-in-Ok g c =
     let is : IsRequest w.request = record { header = c.requires.input.header; is_open = c.requires.input.is_open } in
     let a = admitted c.args.request.spec seat c.in-Ok.ensures.seat in
     let es = c.requires.seated.0 in
-    let b = began g.D.Door.terms g.D.Door.times es g.L.Epoch.opening w.ticket w.request seat is a.0 (inr c.in-Ok.ensures.behind) a.1 a.2 a.3 in
+    let b = began g.D.Chronicle.terms g.D.Chronicle.times es g.L.Epoch.opening w.ticket w.request seat is a.0 (inr c.in-Ok.ensures.behind) a.1 a.2 a.3 in
     let held = held_at seat c.new.result in
-    let turn : HasTurn g.D.Door.terms g.D.Door.times es g.L.Epoch.opening w held =
-    subst (λ (v : StreamValue). Begins g.D.Door.terms g.D.Door.times es g.L.Epoch.opening w.ticket w.request v seat) (sym c.new.ensures) b in
+    let turn : HasTurn g.D.Chronicle.terms g.D.Chronicle.times es g.L.Epoch.opening w held =
+    subst (λ (v : StreamValue). Begins g.D.Chronicle.terms g.D.Chronicle.times es g.L.Epoch.opening w.ticket w.request v seat) (sym c.new.ensures) b in
     let at = c.requires.seated in
     record {
       seated = (
         es,
         at.1 ++ w ∷ [],
         c.admitted.ensures.waits es (at.1 ++ w ∷ []) at.2,
-        seated_more g.D.Door.terms g.D.Door.times es g.L.Epoch.opening at.1 c.args.hall.now c.seat.new.self w held at.3
+        seated_more g.D.Chronicle.terms g.D.Chronicle.times es g.L.Epoch.opening at.1 c.args.hall.now c.seat.new.self w held at.3
             (subst (λ (spec : StreamSpec). TakesSeat (record { number = w.ticket; spec = spec }) held c.args.hall.now c.seat.new.self)
             c.in-Ok.ensures.same c.seat.ensures) turn,
       );
@@ -114,7 +114,7 @@ returns-in-Err g c =
       seated = (
         at.0,
         at.1,
-        subst (g.D.Door.stands c.tell-in-Err.new.self at.0) (append-nil at.1)
+        subst (g.D.Chronicle.stands c.tell-in-Err.new.self at.0) (append-nil at.1)
             (c.tell-in-Err.ensures.waits_no_longer at.0 at.1 w [] at.2 refl),
         at.3,
       );

@@ -1,14 +1,19 @@
 use Rattle.std.proofs.Common.{ℕ, ◌≡◌, ◌≤◌, ◌++◌, ◌∷◌, ◌∙◌, List, Option, Some, ap, arith, inl, length, map, refl, subst, sym}
-use Rattle.std.specs.Prelude.{reverse, vec_len}
-use Rattle.std.proofs.Common.{length-append}
-use Rattle.serve_hub.specs.Ends.{AreStreamCalls, AreStreamsOf, ClocksReached, HaveStreams}
+use Rattle.std.specs.Prelude.{All, None, replicate, reverse, slice_get, vec_len}
+use Rattle.std.specs.List.{AllZip}
+use Rattle.std.proofs.Common.{◌<◌, length-append}
+use Rattle.std.proofs.lemmas.List.{length-replicate}
+use Rattle.serve_core.specs.Schedule.{ScheduleValue}
+use Rattle.serve_hub.specs.Ends.{AreStreamCalls, AreStreamsOf, ClocksReached, HaveStreams, IsCharged}
 use Rattle.serve_hub.specs.Seats.{HubValue, StreamRest, StreamSeatValue, left_by}
 use Rattle.serve_work.specs.declared.live.guests.Guest.{Guest}
 use Rattle.serve_work.specs.declared.live.guests.Ticket.{Ticket}
-use Rattle.serve_work.specs.LiveInside.{AllAt, AreAsAsked, IsGuestAt, guests_of, nobody}
+use Rattle.serve_work.specs.Live.{Waiting}
+use Rattle.serve_work.specs.LiveInside.{AllAt, AreAsAsked, IsGuestAt, guests_of, nobody, ticket_of, with_tickets}
 use Rattle.serve_work.specs.SessionInside.{HeldValue}
-use Rattle.serve_work.specs.History.{EpochValue, epoch_of}
-use Rattle.serve_work.proofs.Living.{all_had, all_mine, both_zip, distinct_seats, guests_at, numbers_of, one_epoch_more, reached_at, whose_of}
+use Rattle.serve_work.specs.History.{EpochValue, epoch_of, left_at}
+use Rattle.serve_work.proofs.Left.{all_mine, asked_gone, both_zip, distinct_seats, gone_on, kept_gone, numbers_within, one_epoch_more, rests_within, streams_gone}
+use Rattle.serve_work.proofs.Living.{all_had, guests_at, has_ended, reached_at}
 use Rattle.serve_work.specs.Workers.{HaveSpent}
 use Rattle.serve_work.proofs.SpentLeases.{seats_have_spent}
 use Rattle.serve_work.proofs.SessionTurns.{same_length}
@@ -81,13 +86,43 @@ append_idle-requires g c =
       );
     }
 
+pub tickets_of-requires : goal.tickets_of-requires
+tickets_of-requires g c =
+    let seated = c.admit_all.ensures.seated.3 in
+    let ran = c.run_threads-turns.ensures.run seated.helds seated.turns in
+    let ended = c.in_ok-ended.ended in
+    let end = c.in_ok-ended.ensures.end in
+    let idle : List StreamSeatValue = c.admit_all.new.hall.idle.items in
+    let own = c.append_idle.ensures.seats ∙ ap (λ (seats : List StreamSeatValue). seats ++ idle) (c.fill.ensures.seats ran.0 ran.1) in
+    let seats = map (λ (held : HeldValue). held.seat) ran.0 ++ idle in
+    let within = numbers_within ended.book.desk seats (subst (AreStreamsOf ended.book.desk) own end.agree.kept) in
+    record {
+      within = subst (All (λ (rest : StreamRest). rest.number < 64)) (sym (end.left ∙ ap (map left_by) own))
+          (rests_within 64 seats (λ n i.
+          let less = within n i in
+          omega (
+            arith,
+            less,
+            end.agree.there.0,
+            ap length own,
+            length-append (map (λ (held : HeldValue). held.seat) ran.0) idle,
+            same_length (λ (held : HeldValue). held.seat) ran.0,
+            ap length ran.1,
+            same_length Some ran.0,
+            c.run_threads-turns.result.0.ok.0,
+            c.run_threads-turns.ensures.count,
+            c.admit_all.new.hall.idle.ok.0,
+            seated.few,
+          )));
+    }
+
 pub epoch_ended-requires : goal.epoch_ended-requires
 epoch_ended-requires g c =
     let es = c.admit_all.ensures.seated.0 in
     let ws = c.admit_all.ensures.seated.1 in
     let gives = g.K.Clock.gives c.args.setting.clock.now in
-    let terms = g.D.Door.terms in
-    let times = g.D.Door.times in
+    let terms = g.D.Chronicle.terms in
+    let times = g.D.Chronicle.times in
     let seated = c.admit_all.ensures.seated.3 in
     let ran = c.run_threads-turns.ensures.run seated.helds seated.turns in
     let ended = c.in_ok-ended.ended in
@@ -96,20 +131,29 @@ epoch_ended-requires g c =
     let own = c.append_idle.ensures.seats ∙ ap (λ (seats : List StreamSeatValue). seats ++ idle) (c.fill.ensures.seats ran.0 ran.1) in
     let spent = subst (λ (n : ℕ). HaveSpent n ended.book.past) (sym end.all_workers)
     (seats_have_spent _ ended.book.past _ end.agree.of_workers end.agree.each_worker c.in_ok-ended.ensures.spent) in
-    let whose = whose_of ws (numbers_of ran.0) in
+    let of_limit = end.agree.limit ∙ ap (λ (hub : HubValue). hub.limit) (c.into_hub-hub.ensures ∙ c.new-owner.ensures)
+    ∙ c.requires.limit in
     record {
       epoch = (
         es,
         ws,
         c.admit_all.ensures.seated.2,
-        whose,
-        one_epoch_more terms times es g.L.Epoch.opening ended.book end.is_book (reached_at _ _ end.history) end.history.same
-            (end.agree.limit ∙ ap (λ (hub : HubValue). hub.limit) (c.into_hub-hub.ensures ∙ c.new-owner.ensures) ∙ c.requires.limit) end.agree.free spent whose gives c.requires.times ws seated.helds ran.0 idle seated.each ran.2
-            seated.idle
+        has_ended terms times es g.L.Epoch.opening ended.book end.is_book (reached_at _ _ end.history) end.history.same
+            of_limit end.agree.free spent c.tickets_of.result ended.book.desk (inl refl) gives
+            c.requires.times ws seated.helds ran.0 idle seated.each ran.2 seated.idle
             (subst (AreStreamCalls (reverse ended.book.past)) own end.agree.of_streams)
             (subst (ClocksReached ended.book) own end.agree.clock_reached)
             (subst (HaveStreams (length ended.book.desk.streams)) own end.agree.each_stream) seated.opens seated.history,
       );
+    }
+
+pub go_to_now-now-requires : goal.go_to_now-now-requires
+go_to_now-now-requires g c =
+    let es = c.admit_all.ensures.seated.0 in
+    let ws = c.admit_all.ensures.seated.1 in
+    record {
+      times = c.requires.times;
+      told = (c.tickets_of.result, es, ws, c.epoch_ended.ensures.one_more es ws c.admit_all.ensures.seated.2);
     }
 
 pub returns-clause-guests : goal.returns-clause-guests
@@ -117,63 +161,81 @@ returns-clause-guests g c =
     let es = c.admit_all.ensures.seated.0 in
     let ws = c.admit_all.ensures.seated.1 in
     let gives = g.K.Clock.gives c.args.setting.clock.now in
-    let terms = g.D.Door.terms in
-    let times = g.D.Door.times in
+    let terms = g.D.Chronicle.terms in
+    let times = g.D.Chronicle.times in
     let seated = c.admit_all.ensures.seated.3 in
     let ran = c.run_threads-turns.ensures.run seated.helds seated.turns in
     let ended = c.in_ok-ended.ended in
     let end = c.in_ok-ended.ensures.end in
+    let whose : List (Option ℕ) = c.tickets_of.result in
+    let on = c.go_to_now-now.ensures whose es ws (c.epoch_ended.ensures.one_more es ws c.admit_all.ensures.seated.2) in
+    let desk : ScheduleValue = ended.book.desk in
+    let gone : ScheduleValue = c.go_to_now-now.result.book.desk in
+    let is_gone = gone_on times desk gone on.clock in
+    let same = streams_gone desk gone is_gone in
     let idle : List StreamSeatValue = c.admit_all.new.hall.idle.items in
     let own = c.append_idle.ensures.seats ∙ ap (λ (seats : List StreamSeatValue). seats ++ idle) (c.fill.ensures.seats ran.0 ran.1) in
+    let seats = map (λ (held : HeldValue). held.seat) ran.0 ++ idle in
     let calls = subst (AreStreamCalls (reverse ended.book.past)) own end.agree.of_streams in
     let reached = subst (ClocksReached ended.book) own end.agree.clock_reached in
-    let of_limit = end.agree.limit ∙ ap (λ (hub : HubValue). hub.limit) (c.into_hub-hub.ensures ∙ c.new-owner.ensures) ∙ c.requires.limit in
+    let have = subst (HaveStreams (length desk.streams)) own end.agree.each_stream in
+    let kept = subst (AreStreamsOf desk) own end.agree.kept in
+    let of_limit = end.agree.limit ∙ ap (λ (hub : HubValue). hub.limit) (c.into_hub-hub.ensures ∙ c.new-owner.ensures)
+    ∙ c.requires.limit in
     let spent = subst (λ (n : ℕ). HaveSpent n ended.book.past) (sym end.all_workers)
     (seats_have_spent _ ended.book.past _ end.agree.of_workers end.agree.each_worker c.in_ok-ended.ensures.spent) in
     let from = reached_at _ _ end.history in
-    let whose = whose_of ws (numbers_of ran.0) in
-    let distinct = distinct_seats ran.0 idle (length ended.book.desk.streams) (sym (ap length own) ∙ end.agree.there.0)
-    (subst (HaveStreams (length ended.book.desk.streams)) own end.agree.each_stream) in
-    let is = one_epoch_more terms times es g.L.Epoch.opening ended.book end.is_book from end.history.same of_limit end.agree.free spent
-    whose gives c.requires.times ws seated.helds ran.0 idle seated.each ran.2 seated.idle calls reached
-    (subst (HaveStreams (length ended.book.desk.streams)) own end.agree.each_stream) seated.opens seated.history in
-    let had = all_had terms times es g.L.Epoch.opening ended.book end.is_book from end.history.same of_limit end.agree.free spent whose
-    gives c.requires.times ws seated.helds ran.0 idle seated.each ran.2 calls
-    (all_mine ws ran.0 (both_zip _ _ ws seated.helds ran.0 seated.each ran.2) distinct) in
+    let few : length seats ≤ 64 = omega (
+      arith,
+      length-append (map (λ (held : HeldValue). held.seat) ran.0) idle,
+      same_length (λ (held : HeldValue). held.seat) ran.0,
+      ap length ran.1,
+      same_length Some ran.0,
+      c.run_threads-turns.result.0.ok.0,
+      c.run_threads-turns.ensures.count,
+      c.admit_all.new.hall.idle.ok.0,
+      seated.few,
+    ) in
+    let many : length seats ≡ length desk.streams = sym (ap length own) ∙ end.agree.there.0 in
     let streams = c.fill.new.self.streams.items in
     let guests = c.append_idle.ensures.guests
     ∙ ap (λ (gs : List (Option (Guest _ _))). gs ++ nobody idle) (c.fill_guests.ensures.guests
     ∙ ap (λ (tickets : List Ticket). guests_of tickets streams) seated.tickets) in
     let rests = end.left ∙ ap (map left_by) own in
-    let asked = subst (λ (gs : List (Option (Guest _ _))). AreAsAsked ended.book.desk
-    (map left_by (map (λ (held : HeldValue). held.seat) ran.0 ++ idle)) gs) guests
-    (subst (λ (rests : List StreamRest). AreAsAsked ended.book.desk rests c.append_idle.new.guests.items) rests
-    c.in_ok-ended.ensures.asked) in
-    let now : List EpochValue = epoch_of ended whose ∷ es in (
+    let table : whose ≡ with_tickets (map left_by seats) (guests_of (map ticket_of ws) streams ++ nobody idle) (replicate 64 None) =
+    c.tickets_of.ensures
+    ∙ ap (λ (these : List StreamRest). with_tickets these c.append_idle.new.guests.items (replicate 64 None)) rests
+    ∙ ap (λ (gs : List (Option (Guest _ _))). with_tickets (map left_by seats) gs (replicate 64 None)) guests in
+    let within = numbers_within desk seats kept in
+    let mine = subst (λ (these : List (Option ℕ)). AllZip (λ (w : Waiting) (held : HeldValue).
+    slice_get these held.seat.number ≡ Some (Some w.ticket)) ws ran.0) (sym table)
+    (all_mine _ _ ws streams ran.0 idle (replicate 64 None) (both_zip _ _ ws seated.helds ran.0 seated.each ran.2)
+    (c.fill.ensures.streams ran.0 ran.1) (distinct_seats seats (length desk.streams) many have)
+    (λ n i. let less = within n i in omega (arith, less, many, few, length-replicate {A = Option ℕ} 64 None))) in
+    let is = has_ended terms times es g.L.Epoch.opening ended.book end.is_book from end.history.same of_limit end.agree.free spent
+    whose gone is_gone gives c.requires.times ws seated.helds ran.0 idle seated.each ran.2 seated.idle calls reached
+    have seated.opens seated.history in
+    let had = all_had terms times es g.L.Epoch.opening ended.book end.is_book from end.history.same of_limit end.agree.free spent whose
+    gone is_gone gives c.requires.times ws seated.helds ran.0 idle seated.each ran.2 calls mine in
+    let asked = asked_gone desk gone same (map left_by seats) (guests_of (map ticket_of ws) streams ++ nobody idle)
+    (subst (λ (gs : List (Option (Guest _ _))). AreAsAsked desk (map left_by seats) gs) guests
+    (subst (λ (rests : List StreamRest). AreAsAsked desk rests c.append_idle.new.guests.items) rests
+    c.in_ok-ended.ensures.asked)) in
+    let epoch : EpochValue = left_at gone (epoch_of ended whose) in
+    let now : List EpochValue = epoch ∷ es in (
       now,
       ws,
-      c.epoch_ended.ensures.one_more es ws whose c.admit_all.ensures.seated.2,
+      on.told,
       record {
-        history = is;
-        left_here = inl refl;
-        seats = map (λ (held : HeldValue). held.seat) ran.0 ++ idle;
-        rests = rests;
-        few = omega (
-          arith,
-          length-append (map (λ (held : HeldValue). held.seat) ran.0) idle,
-          same_length (λ (held : HeldValue). held.seat) ran.0,
-          ap length ran.1,
-          same_length Some ran.0,
-          c.run_threads-turns.result.0.ok.0,
-          c.run_threads-turns.ensures.count,
-          c.admit_all.new.hall.idle.ok.0,
-          seated.few,
-        );
-        kept = subst (AreStreamsOf ended.book.desk) own end.agree.kept;
-        charges = end.charges;
-        of_limit = of_limit;
-        each = subst (λ (gs : List (Option (Guest _ _))). AllAt (IsGuestAt terms times now ended.book.desk) gs
-            (map (λ (held : HeldValue). held.seat) ran.0 ++ idle) ws) (sym guests)
-            (guests_at terms times now ended.book.desk ws streams ran.0 idle had (c.fill.ensures.streams ran.0 ran.1) asked);
+        history = one_epoch_more terms times es epoch is on.clock;
+        left_here = (refl, inl refl);
+        seats = seats;
+        rests = on.streams ∙ rests;
+        few = few;
+        kept = kept_gone desk gone same seats kept;
+        charges = subst (All IsCharged) (sym same) end.charges;
+        of_limit = on.limit ∙ of_limit;
+        each = subst (λ (gs : List (Option (Guest _ _))). AllAt (IsGuestAt terms times now gone) gs seats ws) (sym guests)
+            (guests_at terms times now gone ws streams ran.0 idle had (c.fill.ensures.streams ran.0 ran.1) asked);
       },
     )

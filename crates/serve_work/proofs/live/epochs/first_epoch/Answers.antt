@@ -44,11 +44,11 @@ seat-requires g c =
     let new = c.in-Some.ensures.seat request.spec (ap (λ (s : Setup). s.streams) first.setup) in
     let none = ap offers_in new.1.0 in
     let unclosed = ap closes_in new.1.0 in
-    let terms = g.D.Door.terms in
+    let terms = g.D.Chronicle.terms in
     let opens = opens_for terms request.spec c.args.stream.setup g.L.Epoch.opening first.setup first.is_setup
     c.requires.blank.opens in
     let there : IsNewIn terms request.spec g.L.Epoch.opening seat.number = inl (opens, new.2) in
-    let b = began terms g.D.Door.times es g.L.Epoch.opening ticket request seat first.is_request new.0 there none unclosed new.1.1 in
+    let b = began terms g.D.Chronicle.times es g.L.Epoch.opening ticket request seat first.is_request new.0 there none unclosed new.1.1 in
     let rest = sessions.Waiting (Unbegun request.reader request.before request.failures) in
     let is : _ ≡ rest = c.new.ensures ∙ rw (first.reader, first.before, first.failures_of) refl in
     record {
@@ -56,14 +56,14 @@ seat-requires g c =
       room_for_stream = omega (arith, ap length empty.0, ap length empty.2, hall.room.turns.ok.0, hall.idle.ok.0);
       tickets_fit = omega (arith, ap length empty.1, hall.tickets.ok.0);
       ready = subst (λ (v : StreamValue). IsReadyAt v seat) (sym is)
-          (may_go terms g.D.Door.times es g.L.Epoch.opening ticket request rest seat b);
+          (may_go terms g.D.Chronicle.times es g.L.Epoch.opening ticket request rest seat b);
     }
 
 pub epoch-requires-clause-seated : goal.epoch-requires-clause-seated
 epoch-requires-clause-seated g c κs within =
     let es = c.requires.first.0 in
-    let terms = g.D.Door.terms in
-    let times = g.D.Door.times in
+    let terms = g.D.Chronicle.terms in
+    let times = g.D.Chronicle.times in
     let opening = g.L.Epoch.opening in
     let first = c.requires.first.4 in
     let seat = c.in-Some.made.1 in
@@ -98,7 +98,7 @@ admitted-requires g c =
     let at = c.requires.first in
     let request : RequestValue = at.2.request in
     let seat = c.in-Some.made.1 in
-    let terms = g.D.Door.terms in
+    let terms = g.D.Chronicle.terms in
     let opens = opens_for terms request.spec c.args.stream.setup g.L.Epoch.opening at.4.setup at.4.is_setup
     c.requires.blank.opens in
     let new = c.in-Some.ensures.seat request.spec (ap (λ (s : Setup). s.streams) at.4.setup) in

@@ -9,8 +9,8 @@ use Rattle.serve_work.proofs.live.epochs.open_next.Goals as goal
 
 pub seat_all-requires : goal.seat_all-requires
 seat_all-requires g c =
-    let terms = g.D.Door.terms in
-    let times = g.D.Door.times in
+    let terms = g.D.Chronicle.terms in
+    let times = g.D.Chronicle.times in
     let es = c.requires.guests.0 in
     let ws = c.requires.guests.1 in
     let at = c.requires.guests.2 in
@@ -39,8 +39,8 @@ seat_all-requires g c =
 
 pub returns-in-Ok-reopen-clause-seated : goal.returns-in-Ok-reopen-clause-seated
 returns-in-Ok-reopen-clause-seated g c = λ es ws at.
-    let terms = g.D.Door.terms in
-    let times = g.D.Door.times in
+    let terms = g.D.Chronicle.terms in
+    let times = g.D.Chronicle.times in
     let size = c.limit-limit.result in
     let desk = c.args.interval.ended.book.desk in
     let guests = c.args.interval.guests.items in

@@ -5,18 +5,18 @@ use Rattle.serve_core.specs.Schedule.{HasStream}
 use Rattle.serve_hub.specs.Seats.{StreamRest}
 use Rattle.serve_work.specs.declared.live.guests.Ticket.{Ticket}
 use Rattle.serve_work.specs.Clients.{ClientOutcome}
-use Rattle.serve_work.specs.Live.{IsServedSince}
+use Rattle.serve_work.specs.Live.{IsNotCut, IsServedSince}
 use Rattle.serve_work.specs.Sessions.{ServedValue}
 use Rattle.serve_work.specs.StreamInside.{stream_stop}
 use Rattle.serve_work.proofs.Allowing.{kept_allowed}
-use Rattle.serve_work.proofs.Living.{answered}
+use Rattle.serve_work.proofs.Answering.{answered}
 use Rattle.serve_work.proofs.SessionCharges.{charge_told}
 use Rattle.serve_work.proofs.live.guests.tell.Goals as goal
 
 pub tell-requires : goal.tell-requires
 tell-requires g c =
     let can = c.requires.can in
-    let told = can.5 in
+    let told = can.7 in
     let desk = c.args.ended.now.book.desk in
     let number : StreamRest → ℕ = λ rest. rest.number in
     let is : Some c.in-Some.number ≡ Some told.seat.number =
@@ -28,18 +28,19 @@ tell-requires g c =
     let over = c.into_served-served in
     record {
       answer = (
-        can.0,
         can.1,
         can.2,
         can.3,
         can.4,
+        can.5,
         sym (ap (λ (t : Ticket). t.number) told.ticket),
-        subst (λ (o : ClientOutcome). IsServedSince g.D.Door.terms g.D.Door.times can.0 can.2.ticket can.2.request
-            (record { outcome = o; charged = counts.charged })) (sym (ap (λ (s : ServedValue). s.outcome) c.served.view_is))
-            (answered _ _ _ _ _ _ _ _ (record { outcome = over.result.outcome; charged = counts.charged }) told.history told.stood
-            over.ensures.ends
-            told.charges told.kept charged told.asked
-            (kept_allowed g.D.Door.times (stream_stop c.args.guest.stream) (Some over.result.outcome.stop) over.ensures.stop
-            told.stood.stop)),
+        subst (λ (o : ClientOutcome). let s : ServedValue = record { outcome = o; charged = counts.charged } in
+            (since : IsServedSince g.D.Chronicle.terms g.D.Chronicle.times can.1 can.3.ticket can.3.request s)
+            × IsNotCut g.D.Chronicle.terms g.D.Chronicle.times can.1 can.3.ticket can.3.request s since)
+            (sym (ap (λ (s : ServedValue). s.outcome) c.served.view_is))
+            (answered _ _ can.0 can.1 _ _ _ _ _ (record { outcome = over.result.outcome; charged = counts.charged }) told.history
+            told.stood over.ensures.ends over.ensures.own told.charges told.kept charged told.asked
+            (kept_allowed g.D.Chronicle.times (stream_stop c.args.guest.stream) (Some over.result.outcome.stop) over.ensures.stop
+            told.stood.stop) can.6),
       );
     }

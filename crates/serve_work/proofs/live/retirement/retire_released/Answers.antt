@@ -22,9 +22,10 @@ returns-in-Ok g c =
     record {
       guests = λ es ws at.
           let there = guests_retired
-          g.D.Door.terms g.D.Door.times es ended ws
+          g.C.Chronicle.terms g.C.Chronicle.times es ended ws
           guests at told in
-          subst (λ (gs : List (Option (Guest _ _))). AreGuests g.D.Door.terms g.D.Door.times es c.in-Ok.retired.ended ws gs) (sym kept)
-          (subst (λ (e : EndedValue). AreGuests g.D.Door.terms g.D.Door.times es e ws (at_marks (map f ended.streams) guests))
+          subst (λ (gs : List (Option (Guest _ _))). AreGuests g.C.Chronicle.terms g.C.Chronicle.times es c.in-Ok.retired.ended ws gs) (sym kept)
+          (subst (λ (e : EndedValue). AreGuests g.C.Chronicle.terms g.C.Chronicle.times es e ws (at_marks (map f ended.streams) guests))
           (sym c.in-Ok.ensures.ended) there);
+      waits = c.tell_retired.ensures;
     }
