@@ -330,9 +330,10 @@ named on the command line too, or none may";
 pub const MOMENT: &str = "Microseconds of a moment, 1 to 1000000";
 
 /// What `--moment` is, at length.
-pub const MOMENT_LONG: &str = "Microseconds of a moment, 1 to 1000000: the clock is the time since
-the start. Without it a moment passes with each offer of a frame; with
---control it is 30 unless told otherwise";
+pub const MOMENT_LONG: &str = "Microseconds of a moment, 1 to 1000000: the clock tells how many have
+passed since the start, and never goes back. Without it a moment
+passes with each offer of a frame; with --control it is 30 unless told
+otherwise";
 
 /// What `--trace` is.
 pub const TRACE: &str = "File that a trace of the run is written to";
