@@ -11,7 +11,7 @@ use Rattle.serve_hub.specs.Seats.{StreamRest, StreamSeatValue, left_by}
 use Rattle.serve_work.specs.declared.live.guests.Guest.{Guest}
 use Rattle.serve_work.specs.Clients.{AllowsStop, ClientEnds, ClientStart, StreamEnds}
 use Rattle.serve_work.specs.History.{AreEpochsBy, EpochValue, IsHistory, Terms, given_up}
-use Rattle.serve_work.specs.Live.{HasAtEnd, IsBehind, IsNotCut, IsOfSpec, IsServedSince, RequestValue, Waiting, start_with}
+use Rattle.serve_work.specs.Live.{HasAtEnd, IsBehind, IsNotCut, IsOfSpec, IsServedSince, Waiting, start_with}
 use Rattle.serve_work.specs.LiveInside.{AllAt, AreAllTold, AreGuests, CanTell, MayTell, ended_so, IsGuestAt, Stood}
 use Rattle.serve_work.specs.Sessions.{IsStreamTold, ServedValue}
 use Rattle.serve_work.specs.SessionInside.{StandsAt}
@@ -56,12 +56,11 @@ history_so true terms times (epoch ∷ es) h =
 
 -- what it came to is told, that it is its client's end, or that all are given up
 
-since_given_up : (terms : Terms) (times : ℕ → Type 0) (es : List EpochValue) (ticket : ℕ) (request : RequestValue)
-    (served : ServedValue) → IsServedSince terms times es ticket request served
-    → (since : IsServedSince terms times (given_up es) ticket request served)
-    × IsNotCut terms times (given_up es) ticket request served since
-since_given_up terms times [] ticket request served since = absurd since.numbers
-since_given_up terms times (epoch ∷ es) ticket request served since = (
+since_given_up : (terms : Terms) (times : ℕ → Type 0) (es : List EpochValue) (w : Waiting) (served : ServedValue)
+    → IsServedSince terms times es w served
+    → (since : IsServedSince terms times (given_up es) w served) × IsNotCut terms times (given_up es) w served since
+since_given_up terms times [] w served since = absurd since.numbers
+since_given_up terms times (epoch ∷ es) w served since = (
   record {
     history = history_so true terms times (epoch ∷ es) since.history;
     seat = since.seat;
@@ -78,34 +77,32 @@ since_given_up terms times (epoch ∷ es) ticket request served since = (
   inl refl,
 )
 
-told_so : (terms : Terms) (times : ℕ → Type 0) (es told : List EpochValue) (ticket : ℕ) (request : RequestValue)
-    (stream : StreamValue) (served : ServedValue) (since : IsServedSince terms times es ticket request served)
-    → (IsFalse (is_waiting stream) → ClientEnds (start_with request since.seat) since.is_served.past since.is_served.seat served.outcome)
-    → MayTell es told stream
-    → (all : IsServedSince terms times told ticket request served) × IsNotCut terms times told ticket request served all
-told_so terms times es told ticket request stream served since own (inl may) =
-    subst (λ (these : List EpochValue). (all : IsServedSince terms times these ticket request served)
-    × IsNotCut terms times these ticket request served all) (sym may.1) (since, inr (own may.0))
-told_so terms times es told ticket request stream served since own (inr may) =
-    subst (λ (these : List EpochValue). (all : IsServedSince terms times these ticket request served)
-    × IsNotCut terms times these ticket request served all) (sym may)
-    (since_given_up terms times es ticket request served since)
+told_so : (terms : Terms) (times : ℕ → Type 0) (es told : List EpochValue) (w : Waiting) (stream : StreamValue)
+    (served : ServedValue) (since : IsServedSince terms times es w served)
+    → (IsFalse (is_waiting stream) → ClientEnds (start_with w.request since.seat) since.is_served.past since.is_served.seat served.outcome)
+    → MayTell es told stream → (all : IsServedSince terms times told w served) × IsNotCut terms times told w served all
+told_so terms times es told w stream served since own (inl may) =
+    subst (λ (these : List EpochValue). (all : IsServedSince terms times these w served) × IsNotCut terms times these w served all)
+    (sym may.1) (since, inr (own may.0))
+told_so terms times es told w stream served since own (inr may) =
+    subst (λ (these : List EpochValue). (all : IsServedSince terms times these w served) × IsNotCut terms times these w served all)
+    (sym may) (since_given_up terms times es w served since)
 
-pub answered : (terms : Terms) (times : ℕ → Type 0) (es told : List EpochValue) (desk : ScheduleValue) (ticket : ℕ)
-    (request : RequestValue) (stream : StreamValue) (seat : StreamSeatValue) (served : ServedValue) → IsHistory terms times es
-    → Stood terms times es desk ticket request stream seat
+pub answered : (terms : Terms) (times : ℕ → Type 0) (es told : List EpochValue) (desk : ScheduleValue) (w : Waiting)
+    (stream : StreamValue) (seat : StreamSeatValue) (served : ServedValue) → IsHistory terms times es
+    → Stood terms times es desk w stream seat
     → ((start : ClientStart) (past : List Act) (last : StreamSeatValue) → StandsAt stream start past last
     → StreamEnds start past last served.outcome)
     → (IsFalse (is_waiting stream) → (start : ClientStart) (past : List Act) (last : StreamSeatValue)
     → StandsAt stream start past last → ClientEnds start past last served.outcome)
     → All IsCharged desk.streams → HasStream desk seat.number (IsStreamOf seat)
-    → HasStream desk seat.number (λ kept. served.charged ≡ kept.state.charged) → HasStream desk seat.number (IsOfSpec request.spec)
+    → HasStream desk seat.number (λ kept. served.charged ≡ kept.state.charged) → HasStream desk seat.number (IsOfSpec w.request.spec)
     → AllowsStop times served.outcome.stop → MayTell es told stream
-    → (since : IsServedSince terms times told ticket request served) × IsNotCut terms times told ticket request served since
-answered terms times es told desk ticket request stream seat served history s ends own all of charged asked stop may =
-    let start = start_with request s.first in
+    → (since : IsServedSince terms times told w served) × IsNotCut terms times told w served since
+answered terms times es told desk w stream seat served history s ends own all of charged asked stop may =
+    let start = start_with w.request s.first in
     let one = served_one start s.past seat served desk all (ends start s.past seat s.stands) of charged in
-    let since : IsServedSince terms times es ticket request served = record {
+    let since : IsServedSince terms times es w served = record {
       history = history;
       seat = s.first;
       is_new = s.is_new;
@@ -114,13 +111,13 @@ answered terms times es told desk ticket request stream seat served history s en
       before = s.before;
       numbers = s.had;
       calls = rw (one.past_of, one.seat_of) s.calls;
-      stream = at_end terms request.spec es s.number s.before desk seat.number (IsStreamTold served) history.epochs_are s.behind
+      stream = at_end terms w.request.spec es s.number s.before desk seat.number (IsStreamTold served) history.epochs_are s.behind
           one.stream;
-      spec = at_end terms request.spec es s.number s.before desk seat.number (IsOfSpec request.spec) history.epochs_are s.behind
+      spec = at_end terms w.request.spec es s.number s.before desk seat.number (IsOfSpec w.request.spec) history.epochs_are s.behind
           asked;
       stop = stop;
     } in
-    told_so terms times es told ticket request stream served since
+    told_so terms times es told w stream served since
     (λ over. rw (one.past_of, one.seat_of) (own over start s.past seat s.stands)) may
 
 -- a stream that is due may be told

@@ -24,7 +24,7 @@ use Rattle.serve_work.specs.Clients.{AreAtMoments, IsUnclosed, closes_in, offers
 use Rattle.serve_work.specs.ClientInside.{KeepsMoments}
 use Rattle.serve_work.specs.History.{EpochValue, HasEnded, IsEpochBy, IsGone, IsHistory, OpensBehind, OpensFor, Terms}
 use Rattle.serve_work.specs.Intervals.{HasNoCalls}
-use Rattle.serve_work.specs.Live.{IsBehind, IsNewIn, IsRequest, IsSeatFor, RequestValue, Waiting, acts_by, start_with}
+use Rattle.serve_work.specs.Live.{IsBehind, IsNewIn, IsRequest, IsSeatFor, Waiting, acts_by, start_with}
 use Rattle.serve_work.specs.LiveInside.{AllAt, AreAsAsked, AreSeated, Begins, HadTurn, HasPlaces, HasTurn, IsGuestAt, IsGuestIn, Stood}
 use Rattle.serve_work.specs.LiveInside.{TakesSeat, guests_of, helds_of, nobody, ticket_of, tickets_of}
 use Rattle.serve_work.specs.Rests.{IsFresh, Unbegun}
@@ -43,18 +43,18 @@ use Rattle.serve_work.proofs.Timing.{timed}
 -- one stream
 
 -- the stream of a request begins with a new seat
-pub began : (terms : Terms) (times : ℕ → Type 0) (es : List EpochValue) (opening : ScheduleValue) (ticket : ℕ)
-    (request : RequestValue) (seat : StreamSeatValue) → IsRequest request → IsSeatFor request.spec seat → IsNewIn terms request.spec opening seat.number
-    → offers_in seat.calls.list ≡ 0 → IsUnclosed seat.calls.list → seat.moments ≡ None
-    → Begins terms times es opening ticket request (sessions.Waiting (Unbegun request.reader request.before request.failures)) seat
-began terms times es opening ticket request seat is new there none unclosed no_moments =
+pub began : (terms : Terms) (times : ℕ → Type 0) (es : List EpochValue) (opening : ScheduleValue) (w : Waiting)
+    (seat : StreamSeatValue) → length es ≡ w.since → IsRequest w.request → IsSeatFor w.request.spec seat
+    → IsNewIn terms w.request.spec opening seat.number → offers_in seat.calls.list ≡ 0 → IsUnclosed seat.calls.list → seat.moments ≡ None
+    → Begins terms times es opening w (sessions.Waiting (Unbegun w.request.reader w.request.before w.request.failures)) seat
+began terms times es opening w seat given is new there none unclosed no_moments =
     let first : IsFresh seat = record { accepted = new.accepted; kept = new.kept; is_open = new.is_open } in
     record {
       is_request = is;
       first = seat;
       is_new = new;
       numbers = [];
-      had = tt;
+      had = given;
       behind = there;
       stands = record {
         same_reader = refl;
@@ -101,10 +101,10 @@ opens_for terms spec setup opening is good opens =
     record { is_setup = subst IsSetup is good; opened = sym opens ∙ ap opened_schedule is }
 
 -- where it stands, its client may go on
-pub may_go : (terms : Terms) (times : ℕ → Type 0) (es : List EpochValue) (opening : ScheduleValue) (ticket : ℕ)
-    (request : RequestValue) (stream : StreamValue) (seat : StreamSeatValue) → Begins terms times es opening ticket request stream seat → IsReadyAt stream seat
-may_go terms times es opening ticket request stream seat b =
-    ready_at (start_with request b.first) (acts_by b.numbers es) seat stream b.stands
+pub may_go : (terms : Terms) (times : ℕ → Type 0) (es : List EpochValue) (opening : ScheduleValue) (w : Waiting)
+    (stream : StreamValue) (seat : StreamSeatValue) → Begins terms times es opening w stream seat → IsReadyAt stream seat
+may_go terms times es opening w stream seat b =
+    ready_at (start_with w.request b.first) (acts_by b.numbers es) seat stream b.stands
     (rw b.is_new.chain b.is_request.header)
 
 -- the seat of this number is one of those of which this holds
@@ -163,13 +163,12 @@ module _ (terms : Terms) (times : ℕ → Type 0) (es : List EpochValue) (openin
         (subst (λ (o : Option Moments). IfSome o (λ t. Gives t.first)) (sym none.1) tt)
         (subst (AreAtMoments Gives) (sym (own ∙ none.0)) tt))
 
-    went : (ticket : ℕ) (request : RequestValue) (old new : HeldValue)
-        → Begins terms times es opening ticket request old.stream old.seat
+    went : (w : Waiting) (old new : HeldValue) → HasTurn terms times es opening w old
         → GoesOn Gives old new → acts_of (numbered.Stream new.seat.number) (reverse book.past) ≡ new.seat.calls.list
-        → slice_get whose new.seat.number ≡ Some (Some ticket)
-        → Stood terms times (this_epoch ∷ es) gone ticket request new.stream new.seat
-    went ticket request old new b on own mine =
-        let start = start_with request b.first in
+        → slice_get whose new.seat.number ≡ Some (Some w.ticket)
+        → HadTurn terms times (this_epoch ∷ es) gone w new
+    went w old new b on own mine =
+        let start = start_with w.request b.first in
         let past : List Act = acts_by b.numbers es in
         let stands : StandsAt new.stream start past new.seat = on.0 start past b.stands in
         let number : new.seat.number ≡ old.seat.number =
@@ -183,8 +182,8 @@ module _ (terms : Terms) (times : ℕ → Type 0) (es : List EpochValue) (openin
           before = b.numbers;
           had = (
             mine,
-            subst (λ (x : ScheduleValue). IsBehind terms request.spec b.numbers es x new.seat.number) (sym from)
-                (subst (λ (n : ℕ). IsBehind terms request.spec b.numbers es opening n) (sym number) b.behind),
+            subst (λ (x : ScheduleValue). IsBehind terms w.request.spec b.numbers es x new.seat.number) (sym from)
+                (subst (λ (n : ℕ). IsBehind terms w.request.spec b.numbers es opening n) (sym number) b.behind),
             b.had,
           );
           behind = inl (refl, refl);
@@ -204,7 +203,7 @@ module _ (terms : Terms) (times : ℕ → Type 0) (es : List EpochValue) (openin
     all_had (w ∷ ws) [] after idle p q calls mine = absurd p
     all_had (w ∷ ws) (held ∷ helds) [] idle p q calls mine = absurd q
     all_had (w ∷ ws) (held ∷ helds) (next ∷ after) idle p q calls mine = (
-      went w.ticket w.request held next p.0 q.0 (calls 0 next.seat (omega arith)) mine.0,
+      went w held next p.0 q.0 (calls 0 next.seat (omega arith)) mine.0,
       all_had ws helds after idle p.1 q.1 (λ k d less. calls (suc k) d (omega (arith, less))) mine.1,
     )
 
@@ -261,12 +260,12 @@ none_called size [] = tt
 none_called size (rest ∷ rests) = ((refl, refl), none_called size rests)
 
 -- and where an epoch ended it begins again
-pub again : (terms : Terms) (size : ℕ) (times : ℕ → Type 0) (es : List EpochValue) (last : ScheduleValue) (ticket : ℕ)
-    (request : RequestValue) (stream : StreamValue) (seat : StreamSeatValue) → Stood terms times es last ticket request stream seat
-    → Begins terms times es last ticket request stream (seat_over size (left_by seat))
-again terms size times es last ticket request stream seat s =
+pub again : (terms : Terms) (size : ℕ) (times : ℕ → Type 0) (es : List EpochValue) (last : ScheduleValue) (w : Waiting)
+    (stream : StreamValue) (seat : StreamSeatValue) → Stood terms times es last w stream seat
+    → Begins terms times es last w stream (seat_over size (left_by seat))
+again terms size times es last w stream seat s =
     let next : StreamSeatValue = seat_over size (left_by seat) in
-    let start = start_with request s.first in
+    let start = start_with w.request s.first in
     record {
       is_request = s.is_request;
       first = s.first;
@@ -289,7 +288,7 @@ all_ready terms times es opening [] [] p = tt
 all_ready terms times es opening [] (held ∷ helds) p = absurd p
 all_ready terms times es opening (w ∷ ws) [] p = absurd p
 all_ready terms times es opening (w ∷ ws) (held ∷ helds) p =
-    (may_go terms times es opening w.ticket w.request held.stream held.seat p.0, all_ready terms times es opening ws helds p.1)
+    (may_go terms times es opening w held.stream held.seat p.0, all_ready terms times es opening ws helds p.1)
 
 pub one_turn_more : (terms : Terms) (times : ℕ → Type 0) (es : List EpochValue) (opening : ScheduleValue) (ws : List Waiting) (helds : List HeldValue) (w : Waiting) (held : HeldValue)
     → AllZip (HasTurn terms times es opening) ws helds → HasTurn terms times es opening w held
@@ -331,7 +330,7 @@ module _ {R W : Type 0} (terms : Terms) (times : ℕ → Type 0) (es : List Epoc
   guests_in size (None ∷ guests) (seat ∷ seats) ws p = guests_in size guests seats ws p
   guests_in size (Some guest ∷ guests) (seat ∷ seats) [] p = absurd p
   guests_in size (Some guest ∷ guests) (seat ∷ seats) (w ∷ ws) p =
-      ((p.0.0, again terms size times es desk w.ticket w.request guest.stream seat p.0.1), guests_in size guests seats ws p.1)
+      ((p.0.0, again terms size times es desk w guest.stream seat p.0.1), guests_in size guests seats ws p.1)
 
   pub seated_of : (seats : List StreamSeatValue) (guests : List (Option (Guest R W))) (ws : List Waiting)
       → AllAt (IsGuestIn terms times es desk) guests seats ws → AllZip (HasTurn terms times es desk) ws (helds_of seats guests)

@@ -15,7 +15,7 @@ use Rattle.serve_hub.specs.Retired.{renumbered, rests_kept, retired_end}
 use Rattle.serve_hub.specs.Seats.{StreamRest, StreamSeatValue, left_by}
 use Rattle.serve_work.specs.declared.live.guests.Guest.{Guest}
 use Rattle.serve_work.specs.History.{EpochValue, IsLeftBy, Terms}
-use Rattle.serve_work.specs.Live.{IsBehind, IsOfSpec, RequestValue, Waiting, numbered, start_with}
+use Rattle.serve_work.specs.Live.{IsBehind, IsOfSpec, Waiting, numbered, start_with}
 use Rattle.serve_work.specs.LiveInside.{AllAt, AreGuests, AreToldBut, IsGuestAt, Stood, at_marks, with_ticket}
 use Rattle.serve_work.specs.LiveInside.{with_ticket_of, with_tickets}
 use Rattle.serve_work.specs.StreamInside.{StreamValue}
@@ -35,10 +35,10 @@ left_on [] desk left = absurd left
 left_on (epoch ∷ es) desk (on, inl e) = (on, inr (ap retired_schedule e))
 left_on (epoch ∷ es) desk (on, inr e) = (on, inr (ap retired_schedule e ∙ retired_twice epoch.gone))
 
-retired_one : (terms : Terms) (times : ℕ → Type 0) (es : List EpochValue) (desk : ScheduleValue) (ticket : ℕ)
-    (request : RequestValue) (stream : StreamValue) (seat : StreamSeatValue) → Stood terms times es desk ticket request stream seat
-    → IsTrue (stays desk seat.number) → Stood terms times es (retired_schedule desk) ticket request stream (numbered (new_number desk seat.number) seat)
-retired_one terms times es desk ticket request stream seat s e =
+retired_one : (terms : Terms) (times : ℕ → Type 0) (es : List EpochValue) (desk : ScheduleValue) (w : Waiting)
+    (stream : StreamValue) (seat : StreamSeatValue) → Stood terms times es desk w stream seat
+    → IsTrue (stays desk seat.number) → Stood terms times es (retired_schedule desk) w stream (numbered (new_number desk seat.number) seat)
+retired_one terms times es desk w stream seat s e =
     let n = new_number desk seat.number in
     record {
       is_request = s.is_request;
@@ -56,8 +56,8 @@ retired_one terms times es desk ticket request stream seat s e =
       number = s.number;
       before = s.before;
       had = s.had;
-      behind = kept_on terms request.spec es s.number s.before desk seat.number s.behind e;
-      stands = stands_numbered n (start_with request s.first) s.past seat stream s.stands;
+      behind = kept_on terms w.request.spec es s.number s.before desk seat.number s.behind e;
+      stands = stands_numbered n (start_with w.request s.first) s.past seat stream s.stands;
       calls = s.calls;
       stop = s.stop;
     }
@@ -202,7 +202,7 @@ module _ {R W : Type 0} (terms : Terms) (times : ℕ → Type 0) (es : List Epoc
       (λ e. some_is_there guest (told 0 (Some guest) (ap Some e) refl))
       (λ e. (
         p.0.0,
-        retired_one terms times es desk w.ticket w.request guest.stream seat p.0.1 e,
+        retired_one terms times es desk w guest.stream seat p.0.1 e,
         subst (λ (o : Option KeptStream). IsSomeAnd o (IsOfSpec w.request.spec)) (sym (number_is desk seat.number e)) p.0.2,
       ))
       (guests_kept guests seats ws p.1 (λ k. told (suc k)))

@@ -12,7 +12,7 @@ use Rattle.serve_work.specs.declared.request.Standing.{Standing}
 use Rattle.serve_work.specs.Clients.{ClientStart, collections_in, offers_in}
 use Rattle.serve_work.specs.History.{EpochValue, IsHistory, IsLeftBy, Terms}
 use Rattle.serve_work.specs.Live as requests
-use Rattle.serve_work.specs.Live.{IsOfSpec, IsStanding, IsStandingOf, RequestValue, start_with}
+use Rattle.serve_work.specs.Live.{IsOfSpec, IsStanding, IsStandingOf, start_with}
 use Rattle.serve_work.specs.LiveInside.{Stood}
 use Rattle.serve_work.specs.Rests.{Begun, IsRestOf, RestValue, Unbegun}
 use Rattle.serve_work.specs.SessionInside.{StandsAt}
@@ -65,13 +65,13 @@ rest_left (Waiting rest) start past seat e stands = (rest, stands)
 rest_left (Over outcome) start past seat e stands = absurd (cc)
 
 -- a stream that isn't over is shown as it stands
-pub can_show : (terms : Terms) (times : ℕ → Type 0) (es : List EpochValue) (desk : ScheduleValue) (ticket : ℕ)
-    (request : RequestValue) (stream : StreamValue) (seat : StreamSeatValue) (standing : Standing) → IsHistory terms times es
-    → Stood terms times es desk ticket request stream seat
-    → is_waiting stream ≡ true → HasStream desk seat.number (IsStreamOf seat) → HasStream desk seat.number (IsOfSpec request.spec)
-    → HasStream desk seat.number (IsStandingOf standing) → IsStanding terms times es ticket request standing
-can_show terms times es desk ticket request stream seat standing history s waits of asked has =
-    let start = start_with request s.first in
+pub can_show : (terms : Terms) (times : ℕ → Type 0) (es : List EpochValue) (desk : ScheduleValue) (w : requests.Waiting)
+    (stream : StreamValue) (seat : StreamSeatValue) (standing : Standing) → IsHistory terms times es
+    → Stood terms times es desk w stream seat
+    → is_waiting stream ≡ true → HasStream desk seat.number (IsStreamOf seat) → HasStream desk seat.number (IsOfSpec w.request.spec)
+    → HasStream desk seat.number (IsStandingOf standing) → IsStanding terms times es w standing
+can_show terms times es desk w stream seat standing history s waits of asked has =
+    let start = start_with w.request s.first in
     let rest = rest_left stream start s.past seat waits s.stands in
     let count = counted start s.past seat rest.0 rest.1 in
     let at = stream_at desk seat.number (IsStreamOf seat) (IsStandingOf standing) of has in
@@ -97,8 +97,8 @@ can_show terms times es desk ticket request stream seat standing history s waits
         collections_both s.past seat.calls.list,
         collections_counted seat.calls.list,
       );
-      stream = at_end terms request.spec es s.number s.before desk seat.number (IsStandingOf standing) history.epochs_are s.behind has;
-      spec = at_end terms request.spec es s.number s.before desk seat.number (IsOfSpec request.spec) history.epochs_are s.behind asked;
+      stream = at_end terms w.request.spec es s.number s.before desk seat.number (IsStandingOf standing) history.epochs_are s.behind has;
+      spec = at_end terms w.request.spec es s.number s.before desk seat.number (IsOfSpec w.request.spec) history.epochs_are s.behind asked;
     }
 
 -- all are shown by the clock with which their epoch was left

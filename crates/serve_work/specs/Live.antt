@@ -1,5 +1,5 @@
 -- What is told of the streams of a session that come and go.
-use Rattle.std.specs.Prelude.{ℕ, IsTrue, ◌≡◌, ◌≤◌, ◌⊎◌, ◌++◌, ⊤, false, List, [], ◌∷◌, Option}
+use Rattle.std.specs.Prelude.{ℕ, IsTrue, ◌≡◌, ◌≤◌, ◌⊎◌, ◌++◌, false, List, [], ◌∷◌, Option}
 use Rattle.std.specs.Prelude.{None, Some, length, reverse, slice_get}
 use Rattle.cbs_account.specs.declared.limits.TheConstants.{MOST_ENTRIES, MOST_QUANTUM, MOST_WORKERS}
 use Rattle.y4m_stream.specs.declared.reader.Phase.TheVariants.{Open}
@@ -41,15 +41,18 @@ request_of contents failures request = record {
   failures = failures request.writer;
 }
 
--- a request that was given and isn't answered yet, by its number
+-- a request that was given and isn't answered yet, by its number, and how many epochs there were when it was
+-- given
 pub record Waiting : Type 0 where
   pub ticket : ℕ
+  pub since : ℕ
   pub request : RequestValue
 
-abbrev pub waiting_of : {R W : Type 0} (contents : W → Option (List ℕ)) (failures : W → ℕ) → Request R W
-    → Waiting
-waiting_of contents failures request = record {
+abbrev pub waiting_of : {R W : Type 0} (contents : W → Option (List ℕ)) (failures : W → ℕ) (since : ℕ)
+    → Request R W → Waiting
+waiting_of contents failures since request = record {
   ticket = request.ticket;
+  since = since;
   request = request_of contents failures request;
 }
 
@@ -109,15 +112,16 @@ IsBehind terms spec (old ∷ numbers) [] opening number = ⊥
 IsBehind terms spec (old ∷ numbers) (epoch ∷ epochs) opening number =
     IsKept epoch.gone old opening number
 
--- the stream of the request with this ticket was new in the first of its epochs, which are the latest of these,
--- and had these numbers there
-abbrev pub HadNumbers : Terms → (ticket : ℕ) → StreamSpec → List ℕ → List EpochValue → Type 0
-HadNumbers terms ticket spec [] epochs = ⊤
-HadNumbers terms ticket spec (number ∷ numbers) [] = ⊥
-HadNumbers terms ticket spec (number ∷ numbers) (epoch ∷ epochs) =
-    (slice_get epoch.whose number ≡ Some (Some ticket))
-    × IsBehind terms spec numbers epochs epoch.opening number
-    × HadNumbers terms ticket spec numbers epochs
+-- the stream of this request was in each of these epochs since it was given, had these numbers there, the
+-- latest first, and was new in the first. Two that wait at once were both in each epoch since the later one
+-- was given, and each epoch opens for one stream alone or as the one before was left: so they share a hub
+abbrev pub HadNumbers : Terms → Waiting → List ℕ → List EpochValue → Type 0
+HadNumbers terms w [] epochs = length epochs ≡ w.since
+HadNumbers terms w (number ∷ numbers) [] = ⊥
+HadNumbers terms w (number ∷ numbers) (epoch ∷ epochs) =
+    (slice_get epoch.whose number ≡ Some (Some w.ticket))
+    × IsBehind terms w.request.spec numbers epochs epoch.opening number
+    × HadNumbers terms w numbers epochs
 
 -- at the end of the latest of these epochs a stream of this number is there, and so it is
 abbrev pub HasAtEnd : List EpochValue → ℕ → (KeptStream → Type 0) → Type 0
@@ -128,21 +132,21 @@ HasAtEnd (epoch ∷ epochs) number P = HasStream epoch.last number P
 abbrev pub IsOfSpec : StreamSpec → KeptStream → Type 0
 IsOfSpec spec stream = stream.state.spec ≡ spec
 
--- these are the session's epochs until now, and in the latest of them the stream of this request was served
--- with what it asked for, from its admission on, by its calls in their journals. It is told as it stood at the
--- end of the last. A clock that gives these times allows its stop
-pub record IsServedSince (terms : Terms) (times : ℕ → Type 0) (epochs : List EpochValue) (ticket : ℕ)
-    (request : RequestValue) (served : ServedValue) : Type 0 where
+-- these are the session's epochs until now, and the stream of this request was served with what it asked for
+-- in those since it was given, by its calls in their journals. It is told as it stood at the end of the last.
+-- A clock that gives these times allows its stop
+pub record IsServedSince (terms : Terms) (times : ℕ → Type 0) (epochs : List EpochValue) (w : Waiting)
+    (served : ServedValue) : Type 0 where
   pub history : IsHistory terms times epochs
   pub seat : StreamSeatValue
-  pub is_new : IsSeatFor request.spec seat
-  pub is_served : IsServed (start_with request seat) served
+  pub is_new : IsSeatFor w.request.spec seat
+  pub is_served : IsServed (start_with w.request seat) served
   pub number : ℕ
   pub before : List ℕ
-  pub numbers : HadNumbers terms ticket request.spec (number ∷ before) epochs
+  pub numbers : HadNumbers terms w (number ∷ before) epochs
   pub calls : is_served.past ++ is_served.seat.calls.list ≡ acts_by (number ∷ before) epochs
   pub stream : HasAtEnd epochs number (IsStreamTold served)
-  pub spec : HasAtEnd epochs number (IsOfSpec request.spec)
+  pub spec : HasAtEnd epochs number (IsOfSpec w.request.spec)
   pub stop : AllowsStop times served.outcome.stop
 
 -- as the stream stands, it is shown
@@ -155,26 +159,26 @@ pub record IsStandingOf (standing : Standing) (stream : KeptStream) : Type 0 whe
   pub deadline : standing.deadline ≡ stream.state.account.deadline
 
 -- these are the session's epochs until now. Something is left to do of the stream of this request, which was
--- served with what it asked for, in the latest of them, from its admission on, by its calls in their journals,
--- and is shown as it stood at the end of the last. As many of its frames are shown as accepted as these calls
--- offered, and as collected as they collected
-pub record IsStanding (terms : Terms) (times : ℕ → Type 0) (epochs : List EpochValue) (ticket : ℕ)
-    (request : RequestValue) (standing : Standing) : Type 0 where
+-- served with what it asked for in those since it was given, by its calls in their journals, and is shown as
+-- it stood at the end of the last. As many of its frames are shown as accepted as these calls offered, and as
+-- collected as they collected
+pub record IsStanding (terms : Terms) (times : ℕ → Type 0) (epochs : List EpochValue) (w : Waiting)
+    (standing : Standing) : Type 0 where
   pub history : IsHistory terms times epochs
   pub first : StreamSeatValue
-  pub is_new : IsSeatFor request.spec first
+  pub is_new : IsSeatFor w.request.spec first
   pub past : List Act
   pub seat : StreamSeatValue
   pub rest : RestValue
-  pub left : IsRestOf (start_with request first) past seat rest
+  pub left : IsRestOf (start_with w.request first) past seat rest
   pub number : ℕ
   pub before : List ℕ
-  pub numbers : HadNumbers terms ticket request.spec (number ∷ before) epochs
+  pub numbers : HadNumbers terms w (number ∷ before) epochs
   pub calls : past ++ seat.calls.list ≡ acts_by (number ∷ before) epochs
   pub accepted : standing.accepted ≡ offers_in (past ++ seat.calls.list)
   pub collected : standing.collected ≡ collections_in (past ++ seat.calls.list)
   pub stream : HasAtEnd epochs number (IsStandingOf standing)
-  pub spec : HasAtEnd epochs number (IsOfSpec request.spec)
+  pub spec : HasAtEnd epochs number (IsOfSpec w.request.spec)
 
 -- how many entries an epoch's journal may have: a close of each of 64 streams, an admission of each, and a
 -- lease with its settlement
@@ -203,20 +207,18 @@ pub record IsAdmitted (terms : Terms) (epochs : List EpochValue) (others : List 
   pub is_new : (OpensFor terms spec opening × (number ≡ 0) × (others ≡ [])) ⊎ (length opening.streams ≤ number)
 
 -- the stream's client came to its own end, or all streams that were left were given up
-abbrev pub IsNotCut : (terms : Terms) (times : ℕ → Type 0) (epochs : List EpochValue) (ticket : ℕ)
-    (request : RequestValue) (served : ServedValue) → IsServedSince terms times epochs ticket request served
-    → Type 0
-IsNotCut terms times epochs ticket request served since =
+abbrev pub IsNotCut : (terms : Terms) (times : ℕ → Type 0) (epochs : List EpochValue) (w : Waiting)
+    (served : ServedValue) → IsServedSince terms times epochs w served → Type 0
+IsNotCut terms times epochs w served since =
     AreGivenUp epochs
-    ⊎ ClientEnds (start_with request since.seat) since.is_served.past since.is_served.seat served.outcome
+    ⊎ ClientEnds (start_with w.request since.seat) since.is_served.past since.is_served.seat served.outcome
 
 -- what is told of a request, behind these epochs: that the stream isn't served, whose reader and writer come
 -- back as they were, or what it came to, and that it wasn't cut while others go on
 abbrev pub IsAnswer : {R W : Type 0} (contents : W → Option (List ℕ)) (failures : W → ℕ) (terms : Terms)
-    (times : ℕ → Type 0) (epochs : List EpochValue) (ticket : ℕ) → RequestValue → Answer R W → Type 0
-IsAnswer contents failures terms times epochs ticket request (answers.Refused e reader writer) =
-    AllowsRefusal request.spec e × (reader ≡ request.reader) × (contents writer ≡ request.before)
-    × (failures writer ≡ request.failures)
-IsAnswer contents failures terms times epochs ticket request (answers.Ended served) =
-    (since : IsServedSince terms times epochs ticket request served)
-    × IsNotCut terms times epochs ticket request served since
+    (times : ℕ → Type 0) (epochs : List EpochValue) → Waiting → Answer R W → Type 0
+IsAnswer contents failures terms times epochs w (answers.Refused e reader writer) =
+    AllowsRefusal w.request.spec e × (reader ≡ w.request.reader) × (contents writer ≡ w.request.before)
+    × (failures writer ≡ w.request.failures)
+IsAnswer contents failures terms times epochs w (answers.Ended served) =
+    (since : IsServedSince terms times epochs w served) × IsNotCut terms times epochs w served since

@@ -24,7 +24,7 @@ use Rattle.serve_work.specs.Clients.{AllowsStop, offers_in}
 use Rattle.serve_work.specs.History.{EpochValue, IsGoneOn, IsHistory, IsLeftBy, OpensBehind, Terms}
 use Rattle.serve_work.specs.History.{epoch_of, given_up, left_at}
 use Rattle.serve_work.specs.Intervals.{ArePlacesFor, HasNoCalls}
-use Rattle.serve_work.specs.Live.{HadNumbers, IsBehind, IsOfSpec, IsRequest, IsSeatFor, RequestValue}
+use Rattle.serve_work.specs.Live.{HadNumbers, IsBehind, IsOfSpec, IsRequest, IsSeatFor}
 use Rattle.serve_work.specs.Live.{Waiting, acts_by, start_with}
 use Rattle.serve_work.specs.SessionInside.{HeldValue, StandsAt, held_at}
 use Rattle.serve_work.specs.StreamInside.{StreamValue, is_waiting, stream_stop}
@@ -32,41 +32,41 @@ use Rattle.serve_work.specs.StreamInside.{StreamValue, is_waiting, stream_stop}
 -- where the stream of this request stands with its seat where an epoch opens behind these: the seat has
 -- offered no frame
 pub record Begins (terms : Terms) (times : ℕ → Type 0) (epochs : List EpochValue) (opening : ScheduleValue)
-    (ticket : ℕ) (request : RequestValue) (stream : StreamValue) (seat : StreamSeatValue) : Type 0 where
-  pub is_request : IsRequest request
+    (w : Waiting) (stream : StreamValue) (seat : StreamSeatValue) : Type 0 where
+  pub is_request : IsRequest w.request
   pub first : StreamSeatValue
-  pub is_new : IsSeatFor request.spec first
+  pub is_new : IsSeatFor w.request.spec first
   pub numbers : List ℕ
-  pub had : HadNumbers terms ticket request.spec numbers epochs
-  pub behind : IsBehind terms request.spec numbers epochs opening seat.number
-  pub stands : StandsAt stream (start_with request first) (acts_by numbers epochs) seat
+  pub had : HadNumbers terms w numbers epochs
+  pub behind : IsBehind terms w.request.spec numbers epochs opening seat.number
+  pub stands : StandsAt stream (start_with w.request first) (acts_by numbers epochs) seat
   pub no_offers : offers_in seat.calls.list ≡ 0
   pub no_moments : seat.moments ≡ None
   pub stop : IfSome (stream_stop stream) (AllowsStop times)
 
 -- and where the latest of them was left here, perhaps before the released streams were taken out
 pub record Stood (terms : Terms) (times : ℕ → Type 0) (epochs : List EpochValue) (last : ScheduleValue)
-    (ticket : ℕ) (request : RequestValue) (stream : StreamValue) (seat : StreamSeatValue) : Type 0 where
-  pub is_request : IsRequest request
+    (w : Waiting) (stream : StreamValue) (seat : StreamSeatValue) : Type 0 where
+  pub is_request : IsRequest w.request
   pub first : StreamSeatValue
-  pub is_new : IsSeatFor request.spec first
+  pub is_new : IsSeatFor w.request.spec first
   pub past : List Act
   pub number : ℕ
   pub before : List ℕ
-  pub had : HadNumbers terms ticket request.spec (number ∷ before) epochs
-  pub behind : IsBehind terms request.spec (number ∷ before) epochs last seat.number
-  pub stands : StandsAt stream (start_with request first) past seat
+  pub had : HadNumbers terms w (number ∷ before) epochs
+  pub behind : IsBehind terms w.request.spec (number ∷ before) epochs last seat.number
+  pub stands : StandsAt stream (start_with w.request first) past seat
   pub calls : past ++ seat.calls.list ≡ acts_by (number ∷ before) epochs
   pub stop : IfSome (stream_stop stream) (AllowsStop times)
 
 -- the stream of a request that waits, with its seat, where an epoch opens, and where it was left
 abbrev pub HasTurn : (terms : Terms) (times : ℕ → Type 0) (epochs : List EpochValue) (opening : ScheduleValue)
     → Waiting → HeldValue → Type 0
-HasTurn terms times epochs opening w held = Begins terms times epochs opening w.ticket w.request held.stream held.seat
+HasTurn terms times epochs opening w held = Begins terms times epochs opening w held.stream held.seat
 
 abbrev pub HadTurn : (terms : Terms) (times : ℕ → Type 0) (epochs : List EpochValue) (last : ScheduleValue)
     → Waiting → HeldValue → Type 0
-HadTurn terms times epochs last w held = Stood terms times epochs last w.ticket w.request held.stream held.seat
+HadTurn terms times epochs last w held = Stood terms times epochs last w held.stream held.seat
 
 -- what is kept of a request beside its stream
 abbrev pub ticket_of : Waiting → Ticket
@@ -77,13 +77,13 @@ ticket_of w = record { number = w.ticket; spec = w.request.spec }
 abbrev pub IsGuestAt : {R W : Type 0} (terms : Terms) (times : ℕ → Type 0) (epochs : List EpochValue)
     (last : ScheduleValue) → Guest R W → StreamSeatValue → Waiting → Type 0
 IsGuestAt terms times epochs last guest seat w =
-    (guest.ticket ≡ ticket_of w) × Stood terms times epochs last w.ticket w.request guest.stream seat
+    (guest.ticket ≡ ticket_of w) × Stood terms times epochs last w guest.stream seat
     × HasStream last seat.number (IsOfSpec w.request.spec)
 
 abbrev pub IsGuestIn : {R W : Type 0} (terms : Terms) (times : ℕ → Type 0) (epochs : List EpochValue)
     (opening : ScheduleValue) → Guest R W → StreamSeatValue → Waiting → Type 0
 IsGuestIn terms times epochs opening guest seat w =
-    (guest.ticket ≡ ticket_of w) × Begins terms times epochs opening w.ticket w.request guest.stream seat
+    (guest.ticket ≡ ticket_of w) × Begins terms times epochs opening w guest.stream seat
 
 -- each place has a seat, and each stream a request, in the same order
 abbrev pub AllAt : {A B C : Type 0} (P : A → B → C → Type 0) → List (Option A) → List B → List C → Type 0
@@ -200,7 +200,7 @@ pub record CanTell {R W : Type 0} (terms : Terms) (times : ℕ → Type 0) (epoc
   pub history : IsHistory terms times epochs
   pub ticket : guest.ticket ≡ ticket_of w
   pub seat : StreamSeatValue
-  pub stood : Stood terms times epochs ended.book.desk w.ticket w.request guest.stream seat
+  pub stood : Stood terms times epochs ended.book.desk w guest.stream seat
   pub asked : HasStream ended.book.desk seat.number (IsOfSpec w.request.spec)
   pub here : slice_get ended.streams place ≡ Some (left_by seat)
   pub kept : HasStream ended.book.desk seat.number (IsStreamOf seat)
@@ -251,9 +251,10 @@ pub record AreSeated {L R W : Type 0} (terms : Terms) (times : ℕ → Type 0) (
   pub tickets : hall.tickets.items ≡ map ticket_of ws
   pub each : AllZip (HasTurn terms times epochs opening) ws helds
 
--- the first stream of a hub is that of this request
+-- the first stream of a hub is that of this request, which was given behind these epochs
 pub record IsFirst {R W : Type 0} (contents : W → Option (List ℕ)) (failures : W → ℕ) (terms : Terms)
-    (w : Waiting) (stream : FirstStream R W) : Type 0 where
+    (epochs : List EpochValue) (w : Waiting) (stream : FirstStream R W) : Type 0 where
+  pub given : length epochs ≡ w.since
   pub ticket : stream.ticket ≡ ticket_of w
   pub is_request : IsRequest w.request
   pub setup : stream.setup ≡ setup_of terms.workers terms.quantum (w.request.spec ∷ [])

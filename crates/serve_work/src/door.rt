@@ -1,5 +1,5 @@
 //! Where the streams of a session come from that come and go, and where they are told.
-ghost use Rattle.std.specs.Prelude.{◌≡◌, ◌++◌, List, [], ◌∷◌, IfNone, IfSome, IsFalse, IsSomeAnd};
+ghost use Rattle.std.specs.Prelude.{◌≡◌, ◌++◌, List, [], ◌∷◌, IfNone, IfSome, IsFalse, IsSomeAnd, length};
 ghost use Rattle.serve_work.specs.History.{EpochValue};
 ghost use Rattle.serve_work.specs.Live.{IsAdmitted, IsAnswer, IsStanding, Waiting, waiting_of};
 ghost use Rattle.serve_work.specs.Sessions.{IsInput};
@@ -30,7 +30,7 @@ pub trait Door<R: Source, W: Sink>: Bell + Chronicle {
         ensures input { IfSome result (λ r. IsInput r.spec (r.reader, r.writer)) }
         ensures given { IfSome result (λ r. (es : List EpochValue) (ws : List Waiting)
             → Self.stands self.old es ws
-            → Self.stands self.new es (ws ++ waiting_of W.contents W.failures r ∷ [])) }
+            → Self.stands self.new es (ws ++ waiting_of W.contents W.failures (length es) r ∷ [])) }
         ensures none { IfNone result ((es : List EpochValue) (ws : List Waiting)
             → Self.stands self.old es ws → Self.stands self.new es ws) };
 
@@ -49,7 +49,7 @@ pub trait Door<R: Source, W: Sink>: Bell + Chronicle {
         requires answer { (es : List EpochValue) × (before : List Waiting) × (w : Waiting)
             × (after : List Waiting) × Self.stands self.old es (before ++ w ∷ after) × (w.ticket ≡ ticket)
             × IsSomeAnd answer.old
-            (IsAnswer W.contents W.failures Self.terms Self.times es w.ticket w.request) }
+            (IsAnswer W.contents W.failures Self.terms Self.times es w) }
         ensures waits_no_longer { (es : List EpochValue) (before : List Waiting) (w : Waiting)
             (after : List Waiting) → Self.stands self.old es (before ++ w ∷ after) → w.ticket ≡ ticket
             → Self.stands self.new es (before ++ after) };
@@ -62,7 +62,7 @@ pub trait Door<R: Source, W: Sink>: Bell + Chronicle {
     fn show(&mut self, ticket: u64, standing: Standing)
         requires standing { (es : List EpochValue) × (before : List Waiting) × (w : Waiting)
             × (after : List Waiting) × Self.stands self.old es (before ++ w ∷ after) × (w.ticket ≡ ticket)
-            × IsStanding Self.terms Self.times es w.ticket w.request standing }
+            × IsStanding Self.terms Self.times es w standing }
         ensures waits { (es : List EpochValue) (ws : List Waiting) → Self.stands self.old es ws
             → Self.stands self.new es ws };
 

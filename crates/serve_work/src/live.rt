@@ -4,7 +4,7 @@
 //! where a stream is over, the epoch is ended. Then the hub's clock goes on to the present moment, the
 //! streams that are over are told, those that are left are shown if it was asked, and those that came are
 //! admitted before the next epoch begins.
-ghost use Rattle.std.specs.Prelude.{ℕ, ◌≡◌, ◌↔◌, ◌⊎◌, List, [], ◌∷◌, IfErr, IfOk, IsErrOf};
+ghost use Rattle.std.specs.Prelude.{ℕ, ◌≡◌, ◌↔◌, ◌⊎◌, List, [], ◌∷◌, IfErr, IfOk, IsErrOf, length};
 ghost use Rattle.serve_work.specs.History.{EpochValue, IsHistory, terms_of};
 ghost use Rattle.serve_work.specs.Live.{IsForm, IsLiveLimit, waiting_of};
 ghost use Rattle.serve_work.specs.Sessions.{IsInput};
@@ -53,7 +53,7 @@ fn serve_from<R: SentSource, W: SentSink, D: LentDoor<R, W>, G: LentGate, K: Len
     requires terms { terms_of form.workers form.quantum form.limit ≡ D.terms }
     requires times { (at : ℕ) → K.gives setting.clock.now at → D.times at }
     requires waits { (es : List EpochValue) × IsHistory D.terms D.times es
-        × D.stands door.old es (waiting_of W.contents W.failures request ∷ []) }
+        × D.stands door.old es (waiting_of W.contents W.failures (length es) request ∷ []) }
     requires input { IsInput request.spec (request.reader, request.writer) }
     ensures fault { IfErr result (λ e. e ≡ SessionFault.Mismatch) }
     ensures answered { IfOk result (λ _. (es : List EpochValue) × IsHistory D.terms D.times es

@@ -50,7 +50,7 @@ fn admit<L: Epoch, R: Source + Drop, W: Sink + Drop, D: Door<R, W>, G, K, T: Wai
 )
     requires input { IsInput request.spec (request.reader, request.writer) }
     requires seated { (es : List EpochValue) × (ws : List Waiting)
-        × D.stands door.old es (ws ++ waiting_of W.contents W.failures request ∷ [])
+        × D.stands door.old es (ws ++ waiting_of W.contents W.failures (length es) request ∷ [])
         × AreSeated D.terms D.times es L.opening ws hall.old }
     ensures seated { (es : List EpochValue) × (ws : List Waiting) × D.stands door.new es ws
         × AreSeated D.terms D.times es L.opening ws hall.new }

@@ -211,7 +211,7 @@ pub(super) fn first_epoch<
     requires limit { limit ≡ D.terms.limit }
     requires times { (at : ℕ) → K.gives setting.clock.now at → D.times at }
     requires first { (es : List EpochValue) × IsHistory D.terms D.times es × (w : Waiting)
-        × D.stands door.old es (w ∷ []) × IsFirst W.contents W.failures D.terms w stream }
+        × D.stands door.old es (w ∷ []) × IsFirst W.contents W.failures D.terms es w stream }
     ensures fault { IfErr result (λ e. e ≡ SessionFault.Mismatch) }
     ensures answered { IfOk result (λ o. IfNone o ((es : List EpochValue)
         × IsHistory D.terms D.times es × D.stands door.new es [])) }

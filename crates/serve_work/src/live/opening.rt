@@ -1,6 +1,6 @@
 //! How a session begins with its first stream, and what an epoch begins with.
-ghost use Rattle.std.specs.Prelude.{◌≡◌, ◌+◌, ◌<◌, ◌≤◌, ◌++◌, List, [], ◌∷◌, IfErr, IfNone, IfOk, IfSome, Some};
-ghost use Rattle.std.specs.Prelude.{map, vec_len};
+ghost use Rattle.std.specs.Prelude.{ℕ, ◌≡◌, ◌+◌, ◌<◌, ◌≤◌, ◌++◌, List, [], ◌∷◌, IfErr, IfNone, IfOk, IfSome};
+ghost use Rattle.std.specs.Prelude.{Some, length, map, vec_len};
 ghost use Rattle.std.specs.List.{AllByRecursion};
 ghost use Rattle.serve_work.specs.Live.{AllowsRefusal, waiting_of};
 ghost use Rattle.serve_core.specs.Setup as setups;
@@ -79,16 +79,16 @@ pub(super) fn set_up<R: Source + Drop, W: Sink + Drop, D: Door<R, W>>(
     door: &mut D,
 ) -> Option<FirstStream<R, W>>
     requires waits { (es : List EpochValue)
-        × D.stands door.old es (waiting_of W.contents W.failures request ∷ []) }
+        × D.stands door.old es (waiting_of W.contents W.failures (length es) request ∷ []) }
     ensures stream { IfSome result (λ stream.
         (stream.setup ≡ setups.setup_of form.workers form.quantum (request.spec ∷ []))
-        × (stream.ticket ≡ ticket_of (waiting_of W.contents W.failures request))
+        × ((since : ℕ) → stream.ticket ≡ ticket_of (waiting_of W.contents W.failures since request))
         × (stream.reader ≡ request.reader)
         × (stream.writer ≡ request.writer)) }
     ensures is_setup { IfSome result (λ stream. setups.IsSetup stream.setup) }
     ensures waits { IfSome result (λ _. door.new ≡ door.old) }
     ensures answered { IfNone result ((es : List EpochValue)
-        → D.stands door.old es (waiting_of W.contents W.failures request ∷ [])
+        → D.stands door.old es (waiting_of W.contents W.failures (length es) request ∷ [])
         → D.stands door.new es []) }
 {
     let Request {

@@ -1,4 +1,4 @@
-use Rattle.std.proofs.Common.{◌∙◌, [], ◌∷◌, ap, refl}
+use Rattle.std.proofs.Common.{◌∙◌, [], ◌∷◌, ap, length, refl}
 use Rattle.serve_core.specs.Setup.{setup_of}
 use Rattle.serve_work.specs.History.{Terms}
 use Rattle.serve_work.specs.Live.{Waiting, waiting_of}
@@ -9,7 +9,7 @@ first_epoch-requires-clause-blank g c κs within = record { name_is = refl; part
 
 pub first_epoch-requires-clause-first : goal.first_epoch-requires-clause-first
 first_epoch-requires-clause-first g c κs within =
-    let w : Waiting = waiting_of g.W.Sink.contents g.W.Sink.failures c.args.request in
+    let w : Waiting = waiting_of g.W.Sink.contents g.W.Sink.failures (length c.requires.waits.0) c.args.request in
     let at = c.requires.waits in
     let stream = c.in-Some.ensures.stream in (
       at.0,
@@ -17,7 +17,8 @@ first_epoch-requires-clause-first g c κs within =
       w,
       rw c.in-Some.ensures.waits at.2,
       record {
-        ticket = stream.1;
+        given = refl;
+        ticket = stream.1 w.since;
         is_request = record { header = c.requires.input.header; is_open = c.requires.input.is_open };
         is_setup = c.in-Some.ensures.is_setup;
         setup = stream.0 ∙ ap (λ (t : Terms). setup_of t.workers t.quantum (w.request.spec ∷ [])) c.requires.terms;

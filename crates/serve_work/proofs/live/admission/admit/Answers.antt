@@ -1,6 +1,6 @@
 use Rattle.std.proofs.Common.{◌++◌, [], ◌∷◌, Some, append-nil, ap, arith, inl, inr, length, refl, subst, sym}
 use Rattle.serve_core.specs.Setup.{StreamSpec}
-use Rattle.serve_work.specs.Live.{IsRequest, RequestValue, Waiting, request_of, waiting_of}
+use Rattle.serve_work.specs.Live.{IsRequest, Waiting, waiting_of}
 use Rattle.serve_work.specs.LiveInside.{Begins, HasTurn, TakesSeat, ticket_of}
 use Rattle.serve_work.specs.Rests.{Unbegun}
 use Rattle.serve_work.specs.StreamInside as sessions
@@ -12,13 +12,13 @@ use Rattle.serve_work.proofs.live.admission.admit.Goals as goal
 
 pub tell-requires : goal.tell-requires
 tell-requires g c =
-    let w : Waiting = waiting_of g.W.Sink.contents g.W.Sink.failures c.args.request in
+    let w : Waiting = waiting_of g.W.Sink.contents g.W.Sink.failures (length c.requires.seated.0) c.args.request in
     let at = c.requires.seated in
     record { answer = (at.0, at.1, w, [], at.2, refl, (inl tt, refl, refl, refl)) }
 
 pub returns-then-len-ge-MOST_STREAMS : goal.returns-then-len-ge-MOST_STREAMS
 returns-then-len-ge-MOST_STREAMS g c =
-    let w : Waiting = waiting_of g.W.Sink.contents g.W.Sink.failures c.args.request in
+    let w : Waiting = waiting_of g.W.Sink.contents g.W.Sink.failures (length c.requires.seated.0) c.args.request in
     let at = c.requires.seated in
     record {
       seated = (
@@ -47,18 +47,18 @@ seat-requires-clause-tickets_fit g c =
 pub seat-requires-clause-ready : goal.seat-requires-clause-ready
 seat-requires-clause-ready g c =
     let seat = c.in-Ok.made.0 in
-    let request : RequestValue = request_of g.W.Sink.contents g.W.Sink.failures c.args.request in
-    let is : IsRequest request = record { header = c.requires.input.header; is_open = c.requires.input.is_open } in
+    let w : Waiting = waiting_of g.W.Sink.contents g.W.Sink.failures (length c.requires.seated.0) c.args.request in
+    let is : IsRequest w.request = record { header = c.requires.input.header; is_open = c.requires.input.is_open } in
     let a = admitted c.args.request.spec seat c.in-Ok.ensures.seat in
     let es = c.requires.seated.0 in
-    let b = began g.D.Chronicle.terms g.D.Chronicle.times es g.L.Epoch.opening c.args.request.ticket request seat is a.0 (inr c.in-Ok.ensures.behind) a.1 a.2 a.3 in
+    let b = began g.D.Chronicle.terms g.D.Chronicle.times es g.L.Epoch.opening w seat refl is a.0 (inr c.in-Ok.ensures.behind) a.1 a.2 a.3 in
     subst (λ (v : StreamValue). IsReadyAt v seat) (sym c.new.ensures)
-    (may_go g.D.Chronicle.terms g.D.Chronicle.times es g.L.Epoch.opening c.args.request.ticket request
-    (sessions.Waiting (Unbegun request.reader request.before request.failures)) seat b)
+    (may_go g.D.Chronicle.terms g.D.Chronicle.times es g.L.Epoch.opening w
+    (sessions.Waiting (Unbegun w.request.reader w.request.before w.request.failures)) seat b)
 
 pub admitted-requires : goal.admitted-requires
 admitted-requires g c =
-    let w : Waiting = waiting_of g.W.Sink.contents g.W.Sink.failures c.args.request in
+    let w : Waiting = waiting_of g.W.Sink.contents g.W.Sink.failures (length c.requires.seated.0) c.args.request in
     let at = c.requires.seated in
     record {
       admitted = (
@@ -79,21 +79,21 @@ admitted-requires g c =
 
 pub tell-requires-in-Err : goal.tell-requires-in-Err
 tell-requires-in-Err g c =
-    let w : Waiting = waiting_of g.W.Sink.contents g.W.Sink.failures c.args.request in
+    let w : Waiting = waiting_of g.W.Sink.contents g.W.Sink.failures (length c.requires.seated.0) c.args.request in
     let at = c.requires.seated in
     record { answer = (at.0, at.1, w, [], at.2, refl, (c.in-Err.ensures.refused, refl, refl, refl)) }
 
 pub returns-in-Ok : goal.returns-in-Ok
 returns-in-Ok g c =
     let seat = c.in-Ok.made.0 in
-    let w : Waiting = waiting_of g.W.Sink.contents g.W.Sink.failures c.args.request in
+    let w : Waiting = waiting_of g.W.Sink.contents g.W.Sink.failures (length c.requires.seated.0) c.args.request in
     let is : IsRequest w.request = record { header = c.requires.input.header; is_open = c.requires.input.is_open } in
     let a = admitted c.args.request.spec seat c.in-Ok.ensures.seat in
     let es = c.requires.seated.0 in
-    let b = began g.D.Chronicle.terms g.D.Chronicle.times es g.L.Epoch.opening w.ticket w.request seat is a.0 (inr c.in-Ok.ensures.behind) a.1 a.2 a.3 in
+    let b = began g.D.Chronicle.terms g.D.Chronicle.times es g.L.Epoch.opening w seat refl is a.0 (inr c.in-Ok.ensures.behind) a.1 a.2 a.3 in
     let held = held_at seat c.new.result in
     let turn : HasTurn g.D.Chronicle.terms g.D.Chronicle.times es g.L.Epoch.opening w held =
-    subst (λ (v : StreamValue). Begins g.D.Chronicle.terms g.D.Chronicle.times es g.L.Epoch.opening w.ticket w.request v seat) (sym c.new.ensures) b in
+    subst (λ (v : StreamValue). Begins g.D.Chronicle.terms g.D.Chronicle.times es g.L.Epoch.opening w v seat) (sym c.new.ensures) b in
     let at = c.requires.seated in
     record {
       seated = (
@@ -108,7 +108,7 @@ returns-in-Ok g c =
 
 pub returns-in-Err : goal.returns-in-Err
 returns-in-Err g c =
-    let w : Waiting = waiting_of g.W.Sink.contents g.W.Sink.failures c.args.request in
+    let w : Waiting = waiting_of g.W.Sink.contents g.W.Sink.failures (length c.requires.seated.0) c.args.request in
     let at = c.requires.seated in
     record {
       seated = (

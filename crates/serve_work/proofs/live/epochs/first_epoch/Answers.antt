@@ -39,8 +39,8 @@ seat-requires g c =
     let hall = c.in-Some.made.0.hall in
     let empty = c.in-Some.ensures.empty in
     let es = c.requires.first.0 in
-    let ticket = c.requires.first.2.ticket in
-    let request : RequestValue = c.requires.first.2.request in
+    let w : Waiting = c.requires.first.2 in
+    let request : RequestValue = w.request in
     let new = c.in-Some.ensures.seat request.spec (ap (λ (s : Setup). s.streams) first.setup) in
     let none = ap offers_in new.1.0 in
     let unclosed = ap closes_in new.1.0 in
@@ -48,7 +48,7 @@ seat-requires g c =
     let opens = opens_for terms request.spec c.args.stream.setup g.L.Epoch.opening first.setup first.is_setup
     c.requires.blank.opens in
     let there : IsNewIn terms request.spec g.L.Epoch.opening seat.number = inl (opens, new.2) in
-    let b = began terms g.D.Chronicle.times es g.L.Epoch.opening ticket request seat first.is_request new.0 there none unclosed new.1.1 in
+    let b = began terms g.D.Chronicle.times es g.L.Epoch.opening w seat first.given first.is_request new.0 there none unclosed new.1.1 in
     let rest = sessions.Waiting (Unbegun request.reader request.before request.failures) in
     let is : _ ≡ rest = c.new.ensures ∙ rw (first.reader, first.before, first.failures_of) refl in
     record {
@@ -56,7 +56,7 @@ seat-requires g c =
       room_for_stream = omega (arith, ap length empty.0, ap length empty.2, hall.room.turns.ok.0, hall.idle.ok.0);
       tickets_fit = omega (arith, ap length empty.1, hall.tickets.ok.0);
       ready = subst (λ (v : StreamValue). IsReadyAt v seat) (sym is)
-          (may_go terms g.D.Chronicle.times es g.L.Epoch.opening ticket request rest seat b);
+          (may_go terms g.D.Chronicle.times es g.L.Epoch.opening w rest seat b);
     }
 
 pub epoch-requires-clause-seated : goal.epoch-requires-clause-seated
@@ -77,12 +77,12 @@ epoch-requires-clause-seated g c κs within =
     let opens = opens_for terms request.spec c.args.stream.setup opening first.setup first.is_setup
     c.requires.blank.opens in
     let there : IsNewIn terms request.spec opening seat.number = inl (opens, new.2) in
-    let b = began terms times es opening w.ticket request seat first.is_request new.0 there none unclosed new.1.1 in
+    let b = began terms times es opening w seat first.given first.is_request new.0 there none unclosed new.1.1 in
     let rest = sessions.Waiting (Unbegun request.reader request.before request.failures) in
     let is : c.new.result ≡ rest = c.new.ensures ∙ rw (first.reader, first.before, first.failures_of) refl in
     let held = held_at seat c.new.result in
     let turn : HasTurn terms times es opening w held =
-    subst (λ (v : StreamValue). Begins terms times es opening w.ticket request v seat) (sym is) b in
+    subst (λ (v : StreamValue). Begins terms times es opening w v seat) (sym is) b in
     let empty_hall : AreSeated terms times es opening [] hall =
     empty_seated terms times es opening hall c.in-Some.ensures.places c.requires.first.1 (inl (request.spec, opens)) empty.0 empty.1
     empty.2 (omega (arith, ap length empty.0, ap length empty.2, hall.room.turns.ok.0, hall.idle.ok.0)) in (

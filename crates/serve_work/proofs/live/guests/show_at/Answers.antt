@@ -46,7 +46,7 @@ show-requires g c =
         subst (g.D.Chronicle.stands c.args.door.now a.0) at.split a.2,
         sym (ap (λ (t : Ticket). t.number) at.is.0),
         can_show g.D.Chronicle.terms g.D.Chronicle.times a.0 desk
-            at.w.ticket at.w.request c.in-Some.guest.stream told.seat c.standing_at.result told.history told.stood
+            at.w c.in-Some.guest.stream told.seat c.standing_at.result told.history told.stood
             (sym c.is_waiting.ensures ∙ c.if-is_waiting.true) told.kept told.asked
             (c.standing_at.ensures (left_by told.seat) told.here),
       );

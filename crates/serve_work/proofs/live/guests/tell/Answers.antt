@@ -35,10 +35,10 @@ tell-requires g c =
         can.5,
         sym (ap (λ (t : Ticket). t.number) told.ticket),
         subst (λ (o : ClientOutcome). let s : ServedValue = record { outcome = o; charged = counts.charged } in
-            (since : IsServedSince g.D.Chronicle.terms g.D.Chronicle.times can.1 can.3.ticket can.3.request s)
-            × IsNotCut g.D.Chronicle.terms g.D.Chronicle.times can.1 can.3.ticket can.3.request s since)
+            (since : IsServedSince g.D.Chronicle.terms g.D.Chronicle.times can.1 can.3 s)
+            × IsNotCut g.D.Chronicle.terms g.D.Chronicle.times can.1 can.3 s since)
             (sym (ap (λ (s : ServedValue). s.outcome) c.served.view_is))
-            (answered _ _ can.0 can.1 _ _ _ _ _ (record { outcome = over.result.outcome; charged = counts.charged }) told.history
+            (answered _ _ can.0 can.1 _ can.3 _ _ (record { outcome = over.result.outcome; charged = counts.charged }) told.history
             told.stood over.ensures.ends over.ensures.own told.charges told.kept charged told.asked
             (kept_allowed g.D.Chronicle.times (stream_stop c.args.guest.stream) (Some over.result.outcome.stop) over.ensures.stop
             told.stood.stop) can.6),
