@@ -1,6 +1,6 @@
 -- What is told of the streams of a session that come and go.
 use Rattle.std.specs.Prelude.{All, IsSomeAnd, slice_get, slice_set}
-use Rattle.std.proofs.Common.{◌≡◌, ℕ, zero, suc, ◌<◌, List, [], ◌∷◌, ◌++◌, length, get_or, map, Option, Some, None, Bool, IsFalse}
+use Rattle.std.proofs.Common.{◌≡◌, ◌∙◌, ℕ, zero, suc, ◌<◌, List, [], ◌∷◌, ◌++◌, length, get_or, map, Option, Some, None, Bool, IsFalse}
 use Rattle.std.proofs.Common.{IsTrue, ◌⊎◌, false, true, inl, inr, refl, sym, ap, subst, arith}
 use Rattle.serve_core.specs.Schedule.{HasStream, ScheduleValue}
 use Rattle.serve_core.specs.Setup.{StreamSpec}
@@ -19,6 +19,8 @@ use Rattle.serve_work.specs.StreamInside.{StreamValue, is_waiting}
 use Rattle.serve_work.proofs.Renumbered.{stream_before}
 use Rattle.serve_work.proofs.SessionCharges.{served_one}
 use Rattle.serve_work.proofs.Left.{streams_gone}
+use Rattle.serve_work.proofs.Retiring.{some_and}
+use Rattle.serve_work.proofs.SessionTurns.{seat_spec}
 
 -- what holds of a stream where its latest epoch was left, perhaps without the released streams, held at its end
 pub at_end : (terms : Terms) (spec : StreamSpec) (es : List EpochValue) (number : ℕ) (before : List ℕ) (desk : ScheduleValue) (now : ℕ)
@@ -88,6 +90,14 @@ told_so terms times es told w stream served since own (inr may) =
     subst (λ (these : List EpochValue). (all : IsServedSince terms times these w served) × IsNotCut terms times these w served all)
     (sym may) (since_given_up terms times es w served since)
 
+-- a stream is served with what its request asked for: so its seat told it where it was new, and tells it still
+pub as_asked : (terms : Terms) (times : ℕ → Type 0) (es : List EpochValue) (desk : ScheduleValue) (w : Waiting)
+    (stream : StreamValue) (seat : StreamSeatValue) → Stood terms times es desk w stream seat
+    → HasStream desk seat.number (IsStreamOf seat) → HasStream desk seat.number (IsOfSpec w.request.spec)
+as_asked terms times es desk w stream seat s has =
+    some_and (IsStreamOf seat) (IsOfSpec w.request.spec) (slice_get desk.streams seat.number)
+    (λ x of. of.spec ∙ seat_spec (start_with w.request s.first) s.past seat stream s.stands ∙ s.is_new.told) has
+
 pub answered : (terms : Terms) (times : ℕ → Type 0) (es told : List EpochValue) (desk : ScheduleValue) (w : Waiting)
     (stream : StreamValue) (seat : StreamSeatValue) (served : ServedValue) → IsHistory terms times es
     → Stood terms times es desk w stream seat
@@ -96,10 +106,10 @@ pub answered : (terms : Terms) (times : ℕ → Type 0) (es told : List EpochVal
     → (IsFalse (is_waiting stream) → (start : ClientStart) (past : List Act) (last : StreamSeatValue)
     → StandsAt stream start past last → ClientEnds start past last served.outcome)
     → All IsCharged desk.streams → HasStream desk seat.number (IsStreamOf seat)
-    → HasStream desk seat.number (λ kept. served.charged ≡ kept.state.charged) → HasStream desk seat.number (IsOfSpec w.request.spec)
+    → HasStream desk seat.number (λ kept. served.charged ≡ kept.state.charged)
     → AllowsStop times served.outcome.stop → MayTell es told stream
     → (since : IsServedSince terms times told w served) × IsNotCut terms times told w served since
-answered terms times es told desk w stream seat served history s ends own all of charged asked stop may =
+answered terms times es told desk w stream seat served history s ends own all of charged stop may =
     let start = start_with w.request s.first in
     let one = served_one start s.past seat served desk all (ends start s.past seat s.stands) of charged in
     let since : IsServedSince terms times es w served = record {
@@ -114,7 +124,7 @@ answered terms times es told desk w stream seat served history s ends own all of
       stream = at_end terms w.request.spec es s.number s.before desk seat.number (IsStreamTold served) history.epochs_are s.behind
           one.stream;
       spec = at_end terms w.request.spec es s.number s.before desk seat.number (IsOfSpec w.request.spec) history.epochs_are s.behind
-          asked;
+          (as_asked terms times es desk w stream seat s of);
       stop = stop;
     } in
     told_so terms times es told w stream served since
@@ -246,7 +256,6 @@ module _ {R W : Type 0} (terms : Terms) (times : ℕ → Type 0) (es : List Epoc
     ticket = at.is.0;
     seat = at.seat;
     stood = at.is.1;
-    asked = at.is.2;
     here = subst (λ (rests : List StreamRest). slice_get rests place ≡ Some (left_by at.seat)) (sym a.rests) at.rest;
     kept = subst (λ (s : StreamSeatValue). HasStream ended.book.desk s.number (IsStreamOf s)) at.here (a.kept place at.seat at.within);
     charges = a.charges;

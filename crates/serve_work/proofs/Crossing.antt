@@ -19,12 +19,12 @@ use Rattle.serve_work.proofs.Hands.{IsReopened-kept}
 use Rattle.serve_work.specs.Epochs.{IsReopened, NewStreamIsUnbegun, StreamsCross}
 use Rattle.serve_work.specs.Rests.{Begun, CourseValue, Discarding, Draining, Feeding, Holding, IsAt, IsFresh}
 use Rattle.serve_work.specs.Rests.{IsRestOf, Outset, RestValue, Unbegun, as_open, course_image}
-use Rattle.serve_work.proofs.Staying.{Stays-same, Stays-trans}
+use Rattle.serve_work.proofs.Staying.{Stays-same, Stays-trans, same_chain, same_frames}
 use Rattle.serve_work.proofs.Tallying.{collections_both, collections_counted}
 use Rattle.serve_work.proofs.Stopping.{moves_until, read_by, until_moves}
 
 reopened_stays : (old new : StreamSeatValue) → IsReopened old new → Stays old new
-reopened_stays old new r = record { number = r.number; chain = r.chain; frames = r.frames; is_closed = r.is_closed; torn = r.torn }
+reopened_stays old new r = record { number = r.number; spec = r.spec; is_closed = r.is_closed; torn = r.torn }
 
 -- what a stream's seat moved, its seat of the next epoch has moved
 Moves-to : (first old new : StreamSeatValue) (writer writer' : WriterState) (frames : List FrameText) → Stays first new
@@ -69,7 +69,7 @@ module _ (past : List Act) (old new : StreamSeatValue) (r : IsReopened old new) 
     each = a.each;
     taken = a.taken;
     moved = Moves-to first old new writer writer' frames (Stays-trans first old new a.moved.seat_stays (reopened_stays old new r))
-        r.accepted r.kept r.frames
+        r.accepted r.kept (same_frames old new r.spec)
         a.moved;
     header = a.header;
     no_failure = a.no_failure;
@@ -86,8 +86,8 @@ module _ (past : List Act) (old new : StreamSeatValue) (r : IsReopened old new) 
         moved = until_moves stop first (as_open new) writer writer' a.frames useful
             (Moves-to first (as_open old) (as_open new) writer writer' a.frames
             (Stays-trans first (as_open old) (as_open new) moved.seat_stays
-            (record { number = r.number; chain = r.chain; frames = r.frames; is_closed = refl; torn = r.torn }))
-            r.accepted r.kept r.frames moved);
+            (record { number = r.number; spec = r.spec; is_closed = refl; torn = r.torn }))
+            r.accepted r.kept (same_frames old new r.spec) moved);
         count = r.accepted ∙ a.count;
       }
 
@@ -113,7 +113,7 @@ module _ (past : List Act) (old new : StreamSeatValue) (r : IsReopened old new) 
   begun_across : (pair : Collected) (before writer : WriterState) → IsBegunPair old.chain pair before writer
       → IsBegunPair new.chain pair before writer
   begun_across pair before writer begun =
-      subst (λ (chain : ChainValue). IsBegunPair chain pair before writer) (sym r.chain) begun
+      subst (λ (chain : ChainValue). IsBegunPair chain pair before writer) (sym (same_chain old new r.spec)) begun
 
   Serves-across : (stop : Stop) (reader reader' : ReaderState) (first : StreamSeatValue) (writer writer' : WriterState)
       → Serves past stop reader reader' first old writer writer' → Serves more stop reader reader' first new writer writer'
@@ -142,7 +142,7 @@ module _ (past : List Act) (old new : StreamSeatValue) (r : IsReopened old new) 
     frames = a.frames;
     read = a.read;
     count = r.accepted ∙ a.count;
-    most = r.frames ∙ a.most;
+    most = same_frames old new r.spec ∙ a.most;
     is_closed = r.is_closed ∙ a.is_closed;
     torn = λ is. subst IsSome (sym r.torn) (a.torn is);
     sent = a.sent;
@@ -181,7 +181,7 @@ module _ (past : List Act) (old new : StreamSeatValue) (r : IsReopened old new) 
     same_header = a.same_header;
     tally = record {
       number = r.number ∙ a.tally.number;
-      chain = r.chain ∙ a.tally.chain;
+      spec = r.spec ∙ a.tally.spec;
       offers = counted_across past old new r a.tally.offers;
       closes = close_across past old new r a.tally.closes;
       images = omega (arith, a.tally.images, ap collections_in all_same);
@@ -236,7 +236,7 @@ module _ (past : List Act) (old new : StreamSeatValue) (r : IsReopened old new) 
         let all = a.drained is in
         record { closed = rw r.is_closed all.closed; none = r.kept ∙ all.none };
     number = r.number ∙ a.number;
-    chain = r.chain ∙ a.chain;
+    spec = r.spec ∙ a.spec;
     accepted = r.accepted ∙ a.accepted;
     offers = ap offers_in all_same ∙ a.offers;
     collections = omega (arith, a.collections, ap collections_in all_same);

@@ -290,7 +290,7 @@ module _ (start : ClientStart) (end : ClientOutcome) (shown : HeaderValue) (writ
             };
         drained = λ is. (s.whole (whole_flush stop flush end.stop flushes is).0).2;
         number = tally.number;
-        chain = tally.chain;
+        spec = tally.spec;
         accepted = sym accepted;
         offers = tally.offers ∙ sym accepted;
         collections = omega (arith, tally.images, delivered);
@@ -347,7 +347,7 @@ module _ (start : ClientStart) (end : ClientOutcome) where
     whole = λ is. absurd (not_whole out is);
     drained = λ is. absurd (not_whole out is);
     number = tally.number ∙ unbegun.stays.number;
-    chain = tally.chain ∙ unbegun.stays.chain;
+    spec = tally.spec ∙ unbegun.stays.spec;
     accepted = omega (arith, same, unbegun.fresh.accepted, accepted);
     offers = omega (arith, counted_later past seat seat' tally unbegun.offers, same, unbegun.fresh.accepted, accepted);
     collections = omega (arith, delivered_none out);

@@ -35,7 +35,7 @@ fewer : (past : List Act) (first seat : StreamSeatValue) (writer writer' : Write
     → IsTallied past first seat (record writer { frames = writer.frames + 1 }) → IsTallied past first seat writer'
 fewer past first seat writer writer' less a = record {
   number = a.number;
-  chain = a.chain;
+  spec = a.spec;
   offers = a.offers;
   closes = a.closes;
   images = omega (arith, less, a.images);

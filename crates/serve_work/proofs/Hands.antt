@@ -4,7 +4,7 @@ use Rattle.filters.specs.Chain.{ChainValue}
 use Rattle.y4m_stream.specs.Writer.{IsWriterFor, WriterState}
 use Rattle.serve_core.specs.declared.collected.Collected.{Collected}
 use Rattle.serve_core.specs.Streams.{source_in}
-use Rattle.serve_hub.specs.Seats.{StreamSeatValue, collected_by}
+use Rattle.serve_hub.specs.Seats.{StreamSeatValue, collected_by, spec_told}
 use Rattle.serve_work.specs.ClientInside.{GivesUp, Tallies, TalliesSeat}
 use Rattle.serve_work.specs.Epochs.{IsReopened}
 use Rattle.serve_work.specs.Hands.{Behind, CanPutOn, IsBegunPair, IsPairOf, counted_with, with_kept}
@@ -42,7 +42,7 @@ Behind-any (Some pair) seat writer P X f b =
 module _ (seat s : StreamSeatValue) (writer w : WriterState) (stood : StoodBehind seat s writer w) where
   pub stood_tally : TalliesSeat seat s
   stood_tally = TalliesSeat-same seat s (ap (λ (v : StreamSeatValue). v.number) stood.same_seat)
-      (ap (λ (v : StreamSeatValue). v.chain) stood.same_seat) (ap (λ (v : StreamSeatValue). v.before) stood.same_seat)
+      (ap spec_told stood.same_seat) (ap (λ (v : StreamSeatValue). v.before) stood.same_seat)
       (ap (λ (v : StreamSeatValue). v.calls) stood.same_seat) (ap (λ (v : StreamSeatValue). v.accepted) stood.same_seat)
       (ap (λ (v : StreamSeatValue). v.moments) stood.same_seat) (ap (λ (v : StreamSeatValue). v.is_closed) stood.same_seat)
       (ap (λ (v : StreamSeatValue). v.torn) stood.same_seat)
@@ -69,8 +69,7 @@ pub IsReopened-kept : (pair : Collected) (old new : StreamSeatValue) → IsReope
     → IsReopened (with_kept pair old) (with_kept pair new)
 IsReopened-kept pair old new r = record {
   number = r.number;
-  chain = r.chain;
-  frames = r.frames;
+  spec = r.spec;
   accepted = r.accepted;
   is_closed = r.is_closed;
   kept = ap (λ k. source_in pair ∷ k) r.kept;

@@ -183,8 +183,7 @@ all_ready journal (start ∷ starts) (held ∷ helds) p is =
 pub reopened : (limit : ℕ) (seat : StreamSeatValue) → IsReopened seat (seat_over limit (left_by seat))
 reopened limit seat = record {
   number = refl;
-  chain = refl;
-  frames = refl;
+  spec = refl;
   accepted = refl;
   is_closed = refl;
   kept = refl;

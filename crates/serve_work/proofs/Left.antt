@@ -7,11 +7,11 @@ use Rattle.serve_core.specs.Schedule.{ScheduleValue}
 use Rattle.serve_core.specs.Streams.{KeptStream}
 use Rattle.serve_core.proofs.Items.Lists.{slice_get_set_other, slice_get_set_same}
 use Rattle.serve_hub.specs.Ends.{AreStreamsOf, HaveStreams, IsStreamOf}
-use Rattle.serve_hub.specs.Seats.{StreamRest, StreamSeatValue, left_by}
+use Rattle.serve_hub.specs.Seats.{StreamSeatValue, left_by}
 use Rattle.serve_work.specs.declared.live.guests.Guest.{Guest}
 use Rattle.serve_work.specs.History.{EpochValue, HasEnded, IsGone, IsGoneOn, IsHistory, Terms}
-use Rattle.serve_work.specs.Live.{IsOfSpec, Waiting}
-use Rattle.serve_work.specs.LiveInside.{AreAsAsked, IsAsAsked, with_tickets, guests_of, nobody, ticket_of}
+use Rattle.serve_work.specs.Live.{Waiting}
+use Rattle.serve_work.specs.LiveInside.{with_tickets, guests_of, nobody}
 use Rattle.serve_work.specs.SessionInside.{HeldValue}
 use Rattle.serve_work.specs.StreamInside.{StreamValue}
 use Rattle.serve_work.proofs.Distinct.{AreDistinct, In, distinct_from}
@@ -34,16 +34,6 @@ pub streams_gone : (last gone : ScheduleValue) → IsGone last gone → gone.str
 streams_gone last gone (inl e) = ap (λ (x : ScheduleValue). x.streams) e
 streams_gone last gone (inr g) = ap (λ (x : ScheduleValue). x.streams) g.2
 
-module _ {R W : Type 0} (last gone : ScheduleValue) (same : gone.streams ≡ last.streams) (rests : List StreamRest) where
-  asked_at : (place : ℕ) (guest : Option (Guest R W)) → IsAsAsked last rests place guest → IsAsAsked gone rests place guest
-  asked_at place None asked = tt
-  asked_at place (Some guest) asked =
-      subst (λ (streams : List KeptStream). IsSomeAnd (slice_get rests place)
-      (λ rest. IsSomeAnd (slice_get streams rest.number) (IsOfSpec guest.ticket.spec))) (sym same) asked
-
-  pub asked_gone : (guests : List (Option (Guest R W))) → AreAsAsked last rests guests → AreAsAsked gone rests guests
-  asked_gone guests asked place guest here = asked_at place guest (asked place guest here)
-
 pub kept_gone : (last gone : ScheduleValue) → gone.streams ≡ last.streams → (seats : List StreamSeatValue)
     → AreStreamsOf last seats → AreStreamsOf gone seats
 kept_gone last gone same seats kept =
@@ -60,7 +50,7 @@ module _ {R W : Type 0} where
   kept_ticket (seat ∷ seats) (None ∷ guests) tickets n ticket out e =
       kept_ticket seats guests tickets n ticket (λ i. out (inr i)) e
   kept_ticket (seat ∷ seats) (Some guest ∷ guests) tickets n ticket out e =
-      let mine : Option ℕ = Some guest.ticket.number in
+      let mine : Option ℕ = Some guest.ticket in
       kept_ticket seats guests (slice_set tickets seat.number mine) n ticket (λ i. out (inr i))
       (slice_get_set_other tickets seat.number n mine (λ same. out (inl (sym same))) ∙ e)
 
@@ -72,7 +62,7 @@ module _ (R W : Type 0) where
       → AreDistinct (map (λ seat. seat.number) (map (λ held. held.seat) after ++ idle))
       → ((n : ℕ) → In n (map (λ seat. seat.number) (map (λ held. held.seat) after ++ idle)) → n < length tickets)
       → AllZip (λ w held. slice_get (with_tickets (map left_by (map (λ held. held.seat) after ++ idle))
-      (guests_of {R = R} {W = W} (map ticket_of ws) streams ++ nobody idle) tickets) held.seat.number ≡ Some (Some w.ticket)) ws after
+      (guests_of {R = R} {W = W} (map (λ w. w.ticket) ws) streams ++ nobody idle) tickets) held.seat.number ≡ Some (Some w.ticket)) ws after
   all_mine [] streams [] idle tickets p e distinct within = tt
   all_mine [] streams (held ∷ after) idle tickets p e distinct within = absurd p
   all_mine (w ∷ ws) streams [] idle tickets p e distinct within = absurd p
@@ -80,7 +70,7 @@ module _ (R W : Type 0) where
   all_mine (w ∷ ws) (stream ∷ streams) (held ∷ after) idle tickets p e distinct within =
       let n = held.seat.number in
       let next = slice_set tickets n (Some w.ticket) in (
-        kept_ticket (map (λ (h : HeldValue). h.seat) after ++ idle) (guests_of (map ticket_of ws) streams ++ nobody idle) next n
+        kept_ticket (map (λ (h : HeldValue). h.seat) after ++ idle) (guests_of (map (λ w. w.ticket) ws) streams ++ nobody idle) next n
             (Some (Some w.ticket)) distinct.0
             (slice_get_set_same tickets n (Some w.ticket) (within n (inl refl))),
         all_mine ws streams after idle next p.1 (ap (λ (vs : List StreamValue). drop 1 vs) e) distinct.1

@@ -4,6 +4,7 @@ use Rattle.std.specs.List.{AllByRecursion, AllZip, Any}
 use Rattle.std.specs.Vec.{vec_len}
 use Rattle.std.proofs.Common.{◌≡◌, ℕ, zero, suc, ◌<◌, ◌≤◌, ◌+◌, List, [], ◌∷◌, ◌++◌, length, get_or, map, Option, Some, None, IfSome, false}
 use Rattle.std.proofs.Common.{inl, refl, sym, ap, ◌∙◌, subst, arith}
+use Rattle.frame_view.specs.declared.geometry.Geometry.{Geometry}
 use Rattle.serve_core.specs.Bare.{measures_any, is_any_image}
 use Rattle.serve_core.specs.Desk.{desk_state}
 use Rattle.serve_core.specs.Reached.{IsReached}
@@ -16,17 +17,16 @@ use Rattle.serve_hub.specs.Books.{BookValue, IsBook, opening_of, specs_of}
 use Rattle.serve_hub.specs.Calls.{Admits}
 use Rattle.serve_hub.specs.Ends.{AreFree, AreStreamCalls, ClockReached, ClocksReached, HaveStreams, acts_of}
 use Rattle.serve_hub.specs.Ends as hubs
-use Rattle.serve_hub.specs.Seats.{StreamRest, StreamSeatValue, left_by, opened_rest, seat_over}
+use Rattle.serve_hub.specs.Seats.{StreamRest, StreamSeatValue, left_by, opened_rest, seat_over, spec_told}
 use Rattle.serve_work.specs.declared.live.guests.Guest.{Guest}
-use Rattle.serve_work.specs.declared.live.guests.Ticket.{Ticket}
 use Rattle.serve_work.specs.declared.live.opening.Hall.{Hall}
 use Rattle.serve_work.specs.Clients.{AreAtMoments, IsUnclosed, closes_in, offers_in}
 use Rattle.serve_work.specs.ClientInside.{KeepsMoments}
 use Rattle.serve_work.specs.History.{EpochValue, HasEnded, IsEpochBy, IsGone, IsHistory, OpensBehind, OpensFor, Terms}
 use Rattle.serve_work.specs.Intervals.{HasNoCalls}
 use Rattle.serve_work.specs.Live.{IsBehind, IsNewIn, IsRequest, IsSeatFor, Waiting, acts_by, start_with}
-use Rattle.serve_work.specs.LiveInside.{AllAt, AreAsAsked, AreSeated, Begins, HadTurn, HasPlaces, HasTurn, IsGuestAt, IsGuestIn, Stood}
-use Rattle.serve_work.specs.LiveInside.{TakesSeat, guests_of, helds_of, nobody, ticket_of, tickets_of}
+use Rattle.serve_work.specs.LiveInside.{AllAt, AreSeated, Begins, HadTurn, HasPlaces, HasTurn, IsGuestAt, IsGuestIn, Stood}
+use Rattle.serve_work.specs.LiveInside.{TakesSeat, guests_of, helds_of, nobody, tickets_of}
 use Rattle.serve_work.specs.Rests.{IsFresh, Unbegun}
 use Rattle.serve_work.specs.Sessions.{AreTimed}
 use Rattle.serve_work.specs.StreamInside as sessions
@@ -73,12 +73,16 @@ began terms times es opening w seat given is new there none unclosed no_moments 
       stop = tt;
     }
 
-pub admitted : (spec : StreamSpec) (seat : StreamSeatValue) → Admits spec seat
+-- the seat of a stream whose frames are of the size that its chain is for tells what it is served with
+told_by : (limit number : ℕ) (spec : StreamSpec) → spec.chain.geometry ≡ spec.geometry
+    → spec_told (seat_over limit (opened_rest number spec)) ≡ spec
+told_by limit number spec sized = ap (λ (g : Geometry). record spec { geometry = g }) sized
+
+pub admitted : (spec : StreamSpec) (seat : StreamSeatValue) → spec.chain.geometry ≡ spec.geometry → Admits spec seat
     → IsSeatFor spec seat × (offers_in seat.calls.list ≡ 0) × IsUnclosed seat.calls.list × (seat.moments ≡ None)
-admitted spec seat a = (
+admitted spec seat sized a = (
   record {
-    chain = ap (λ (s : StreamSeatValue). s.chain) a;
-    frames = ap (λ (s : StreamSeatValue). s.frames) a;
+    told = ap spec_told a ∙ told_by seat.calls.limit seat.number spec sized;
     accepted = ap (λ (s : StreamSeatValue). s.accepted) a;
     kept = ap (λ (s : StreamSeatValue). s.kept) a;
     is_open = ap (λ (s : StreamSeatValue). s.is_closed) a;
@@ -90,9 +94,10 @@ admitted spec seat a = (
   ap (λ (s : StreamSeatValue). s.moments) a,
 )
 
-pub opened : (limit number : ℕ) (spec : StreamSpec) → IsSeatFor spec (seat_over limit (opened_rest number spec))
-opened limit number spec =
-    record { chain = refl; frames = refl; accepted = refl; kept = refl; is_open = refl; before = refl; torn = refl }
+pub opened : (limit number : ℕ) (spec : StreamSpec) → spec.chain.geometry ≡ spec.geometry
+    → IsSeatFor spec (seat_over limit (opened_rest number spec))
+opened limit number spec sized =
+    record { told = told_by limit number spec sized; accepted = refl; kept = refl; is_open = refl; before = refl; torn = refl }
 
 pub opens_for : (terms : Terms) (spec : StreamSpec) (setup : Setup) (opening : ScheduleValue)
     → setup ≡ setup_of terms.workers terms.quantum (spec ∷ []) → IsSetup setup → opened_schedule setup ≡ opening
@@ -104,8 +109,9 @@ opens_for terms spec setup opening is good opens =
 pub may_go : (terms : Terms) (times : ℕ → Type 0) (es : List EpochValue) (opening : ScheduleValue) (w : Waiting)
     (stream : StreamValue) (seat : StreamSeatValue) → Begins terms times es opening w stream seat → IsReadyAt stream seat
 may_go terms times es opening w stream seat b =
+    let chain : b.first.chain ≡ w.request.spec.chain = ap (λ (spec : StreamSpec). spec.chain) b.is_new.told in
     ready_at (start_with w.request b.first) (acts_by b.numbers es) seat stream b.stands
-    (rw b.is_new.chain b.is_request.header)
+    (rw chain b.is_request.header)
 
 -- the seat of this number is one of those of which this holds
 at_place : {A : Type 0} (P : A → Type 0) (xs : List A) (k : ℕ) (d : A) → AllByRecursion P xs → k < length xs → P (get_or xs k d)
@@ -303,24 +309,23 @@ nobody_at : (R W : Type 0) (terms : Terms) (times : ℕ → Type 0) (es : List E
 nobody_at R W terms times es desk [] = tt
 nobody_at R W terms times es desk (seat ∷ idle) = nobody_at R W terms times es desk idle
 
-module _ {R W : Type 0} (terms : Terms) (times : ℕ → Type 0) (es : List EpochValue) (desk : ScheduleValue) where
+module _ (R W : Type 0) (terms : Terms) (times : ℕ → Type 0) (es : List EpochValue) (desk : ScheduleValue) where
   pub guests_at : (ws : List Waiting) (streams : List StreamValue) (after : List HeldValue) (idle : List StreamSeatValue)
       → AllZip (HadTurn terms times es desk) ws after → streams ≡ map (λ held. held.stream) after
-      → AreAsAsked {R = R} {W = W} desk (map left_by (map (λ held. held.seat) after ++ idle))
-      (guests_of (map ticket_of ws) streams ++ nobody idle)
-      → AllAt (IsGuestAt {R = R} {W = W} terms times es desk) (guests_of (map ticket_of ws) streams ++ nobody idle)
+      → AllAt (IsGuestAt {R = R} {W = W} terms times es desk) (guests_of (map (λ w. w.ticket) ws) streams ++ nobody idle)
       (map (λ held. held.seat) after ++ idle) ws
-  guests_at [] streams [] idle p e asked = nobody_at R W terms times es desk idle
-  guests_at [] streams (held ∷ after) idle p e asked = absurd p
-  guests_at (w ∷ ws) [] [] idle p e asked = absurd p
-  guests_at (w ∷ ws) [] (held ∷ after) idle p e asked = absurd (omega (arith, ap length e))
-  guests_at (w ∷ ws) (stream ∷ streams) [] idle p e asked = absurd p
-  guests_at (w ∷ ws) (stream ∷ streams) (held ∷ after) idle p e asked =
+  guests_at [] streams [] idle p e = nobody_at R W terms times es desk idle
+  guests_at [] streams (held ∷ after) idle p e = absurd p
+  guests_at (w ∷ ws) [] [] idle p e = absurd p
+  guests_at (w ∷ ws) [] (held ∷ after) idle p e = absurd (omega (arith, ap length e))
+  guests_at (w ∷ ws) (stream ∷ streams) [] idle p e = absurd p
+  guests_at (w ∷ ws) (stream ∷ streams) (held ∷ after) idle p e =
       let here : stream ≡ held.stream = ap (λ (vs : List StreamValue). get_or vs 0 stream) e in (
-        (refl, rw here p.0, asked 0 (Some (record { ticket = ticket_of w; stream = stream })) refl),
-        guests_at ws streams after idle p.1 (ap (λ (vs : List StreamValue). drop 1 vs) e) (λ place. asked (suc place)),
+        (refl, rw here p.0),
+        guests_at ws streams after idle p.1 (ap (λ (vs : List StreamValue). drop 1 vs) e),
       )
 
+module _ {R W : Type 0} (terms : Terms) (times : ℕ → Type 0) (es : List EpochValue) (desk : ScheduleValue) where
   pub guests_in : (size : ℕ) (guests : List (Option (Guest R W))) (seats : List StreamSeatValue) (ws : List Waiting)
       → AllAt (IsGuestAt terms times es desk) guests seats ws
       → AllAt (IsGuestIn terms times es desk) guests (map (seat_over size) (map left_by seats)) ws
@@ -343,7 +348,7 @@ module _ {R W : Type 0} (terms : Terms) (times : ℕ → Type 0) (es : List Epoc
   seated_of (seat ∷ seats) (Some guest ∷ guests) (w ∷ ws) p = (p.0.1, seated_of seats guests ws p.1)
 
   pub tickets_are : (seats : List StreamSeatValue) (guests : List (Option (Guest R W))) (ws : List Waiting)
-      → AllAt (IsGuestIn terms times es desk) guests seats ws → tickets_of seats guests ≡ map ticket_of ws
+      → AllAt (IsGuestIn terms times es desk) guests seats ws → tickets_of seats guests ≡ map (λ w. w.ticket) ws
   tickets_are [] [] [] p = refl
   tickets_are (seat ∷ seats) [] [] p = refl
   tickets_are seats [] (w ∷ ws) p = absurd p
@@ -351,24 +356,13 @@ module _ {R W : Type 0} (terms : Terms) (times : ℕ → Type 0) (es : List Epoc
   tickets_are (seat ∷ seats) (None ∷ guests) ws p = tickets_are seats guests ws p
   tickets_are (seat ∷ seats) (Some guest ∷ guests) [] p = absurd p
   tickets_are (seat ∷ seats) (Some guest ∷ guests) (w ∷ ws) p =
-      ap (λ (ticket : Ticket). ticket ∷ tickets_of seats guests) p.0.0
-      ∙ ap (λ (tickets : List Ticket). ticket_of w ∷ tickets) (tickets_are seats guests ws p.1)
-
--- one place more was compared
-pub one_asked : {A : Type 0} (P : ℕ → A → Type 0) (items : List A) (n : ℕ) (item : A)
-    → ((k : ℕ) (x : A) → k < n → slice_get items k ≡ Some x → P k x) → P n item → item ≡ get_or items n item
-    → (k : ℕ) (x : A) → k < n + 1 → slice_get items k ≡ Some x → P k x
-one_asked P [] n item before now is k x less e = absurd (cc)
-one_asked P (y ∷ items) zero item before now is zero x less e = let same : y ≡ x = cc in subst (P 0) (is ∙ same) now
-one_asked P (y ∷ items) zero item before now is (suc k) x less e = absurd (omega (arith, less))
-one_asked P (y ∷ items) (suc n) item before now is zero x less e = before 0 x (omega arith) e
-one_asked P (y ∷ items) (suc n) item before now is (suc k) x less e =
-    one_asked (λ j. P (suc j)) items n item (λ j z l. before (suc j) z (omega (arith, l))) now is k x (omega (arith, less)) e
+      ap (λ (ticket : ℕ). ticket ∷ tickets_of seats guests) p.0.0
+      ∙ ap (λ (tickets : List ℕ). w.ticket ∷ tickets) (tickets_are seats guests ws p.1)
 
 -- the streams of an epoch that opens
 
 pub seated_more : {L R W : Type 0} (terms : Terms) (times : ℕ → Type 0) (es : List EpochValue) (opening : ScheduleValue) (ws : List Waiting) (old new : Hall L R W) (w : Waiting)
-    (held : HeldValue) → AreSeated terms times es opening ws old → TakesSeat (ticket_of w) held old new → HasTurn terms times es opening w held
+    (held : HeldValue) → AreSeated terms times es opening ws old → TakesSeat w.ticket held old new → HasTurn terms times es opening w held
     → AreSeated terms times es opening (ws ++ w ∷ []) new
 seated_more terms times es opening ws old new w held s t turn = record {
   history = s.history;
@@ -378,7 +372,7 @@ seated_more terms times es opening ws old new w held s t turn = record {
   few = omega (arith, t.few, t.len, ap vec_len t.idle);
   helds = s.helds ++ held ∷ [];
   turns = t.turns ∙ ap (λ (ts : List (Option HeldValue)). ts ++ Some held ∷ []) s.turns ∙ sym (map_more Some s.helds held);
-  tickets = t.tickets ∙ ap (λ (tickets : List Ticket). tickets ++ ticket_of w ∷ []) s.tickets ∙ sym (map_more ticket_of ws w);
+  tickets = t.tickets ∙ ap (λ (tickets : List ℕ). tickets ++ w.ticket ∷ []) s.tickets ∙ sym (map_more (λ (v : Waiting). v.ticket) ws w);
   each = one_turn_more terms times es opening ws s.helds w held s.each turn;
 }
 

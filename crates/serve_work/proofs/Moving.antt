@@ -92,7 +92,7 @@ Moves-accept seat seat' writer frame n a = rw a.seat (record {
   frames = omega arith;
   count = refl;
   within = λ _. omega (arith, a.few);
-  seat_stays = record { number = refl; chain = refl; frames = refl; is_closed = refl; torn = refl };
+  seat_stays = record { number = refl; spec = refl; is_closed = refl; torn = refl };
   writer_stays = refl;
 })
 
@@ -117,8 +117,7 @@ Moves-kept seat seat' writer pair given =
       ) few;
       seat_stays = record {
         number = stays.number;
-        chain = stays.chain;
-        frames = stays.frames;
+        spec = stays.spec;
         is_closed = stays.is_closed;
         torn = stays.torn;
       };
@@ -141,7 +140,7 @@ Moves-finish pair seat before writer writer' begun put =
       frames = ap (λ (w : WriterState). w.frames) put.counted;
       count = omega arith;
       within = λ few. few;
-      seat_stays = record { number = refl; chain = refl; frames = refl; is_closed = refl; torn = refl };
+      seat_stays = record { number = refl; spec = refl; is_closed = refl; torn = refl };
       writer_stays = Puts-writes before writer' image put;
     }
 

@@ -43,8 +43,7 @@ module _ (n : ℕ) where
     within = a.within;
     seat_stays = record {
       number = refl;
-      chain = a.seat_stays.chain;
-      frames = a.seat_stays.frames;
+      spec = a.seat_stays.spec;
       is_closed = a.seat_stays.is_closed;
       torn = a.seat_stays.torn;
     };
@@ -147,8 +146,7 @@ module _ (n : ℕ) where
     fresh = Fresh-numbered seat a.fresh;
     stays = record {
       number = refl;
-      chain = a.stays.chain;
-      frames = a.stays.frames;
+      spec = a.stays.spec;
       is_closed = a.stays.is_closed;
       torn = a.stays.torn;
     };
@@ -166,7 +164,7 @@ module _ (n : ℕ) where
     same_header = a.same_header;
     tally = record {
       number = refl;
-      chain = a.tally.chain;
+      spec = a.tally.spec;
       offers = a.tally.offers;
       closes = a.tally.closes;
       images = a.tally.images;
@@ -253,7 +251,7 @@ module _ (n : ℕ) where
         let all = a.drained is in
         record { closed = all.closed; none = all.none };
     number = refl;
-    chain = a.chain;
+    spec = a.spec;
     accepted = a.accepted;
     offers = a.offers;
     collections = a.collections;

@@ -37,6 +37,7 @@ use Rattle.serve_work.proofs.Tallying.{close_shown, collections_both, collection
 use Rattle.serve_work.proofs.Moving.{Accounted-later, Moves-trans, few_of, one_size}
 use Rattle.serve_work.proofs.Moving.{size_later}
 use Rattle.serve_work.proofs.Passing.{FeedsOn-behind}
+use Rattle.serve_work.proofs.Staying.{stays_frames}
 use Rattle.serve_work.proofs.Stopping.{moves_until}
 
 -- what is tallied over the epochs
@@ -45,7 +46,7 @@ pub tallied_later : (past : List Act) (first seat seat' : StreamSeatValue) (writ
     → IsTallied past first seat' writer'
 tallied_later past first seat seat' writer writer' a quiet t = record {
   number = t.seat.number ∙ a.number;
-  chain = t.seat.chain ∙ a.chain;
+  spec = t.seat.spec ∙ a.spec;
   offers = counted_later past seat seat' t.seat a.offers;
   closes = close_shown past seat seat' t.seat a.closes;
   images = omega (arith, a.images, t.images, collections_both past seat.calls.list, collections_both past seat'.calls.list);
@@ -161,7 +162,7 @@ module _ (past : List Act) (o : Outset) (is : IsOutset o) (size : IsWriterFor o.
       let moved = at.passed.moved in
       record {
         is_open = at.is_open;
-        accounted = Accounted-later o.seat seat o.writer writer at.frames moved (first_accounted o seat is most moved.seat_stays.frames);
+        accounted = Accounted-later o.seat seat o.writer writer at.frames moved (first_accounted o seat is most (stays_frames o.seat seat moved.seat_stays));
         size = size_later o.seat seat o.writer writer at.frames moved size;
         memory = memory;
         frame = sized;
@@ -177,7 +178,7 @@ module _ (past : List Act) (o : Outset) (is : IsOutset o) (size : IsWriterFor o.
       let moved : Moves o.seat (as_open seat) o.writer writer at.frames = moves_until stop o.seat (as_open seat) o.writer writer at.frames
       useful at.moved in
       let now : Accounted (as_open seat) writer = Accounted-later o.seat (as_open seat) o.writer writer at.frames moved
-      (first_accounted o seat is most moved.seat_stays.frames) in
+      (first_accounted o seat is most (stays_frames o.seat (as_open seat) moved.seat_stays)) in
       record {
         few = few_of (as_open seat) writer now;
         writing = now.writing;

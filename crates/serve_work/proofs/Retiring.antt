@@ -15,7 +15,7 @@ use Rattle.serve_hub.specs.Retired.{renumbered, rests_kept, retired_end}
 use Rattle.serve_hub.specs.Seats.{StreamRest, StreamSeatValue, left_by}
 use Rattle.serve_work.specs.declared.live.guests.Guest.{Guest}
 use Rattle.serve_work.specs.History.{EpochValue, IsLeftBy, Terms}
-use Rattle.serve_work.specs.Live.{IsBehind, IsOfSpec, Waiting, numbered, start_with}
+use Rattle.serve_work.specs.Live.{IsBehind, Waiting, numbered, start_with}
 use Rattle.serve_work.specs.LiveInside.{AllAt, AreGuests, AreToldBut, IsGuestAt, Stood, at_marks, with_ticket}
 use Rattle.serve_work.specs.LiveInside.{with_ticket_of, with_tickets}
 use Rattle.serve_work.specs.StreamInside.{StreamValue}
@@ -44,8 +44,7 @@ retired_one terms times es desk w stream seat s e =
       is_request = s.is_request;
       first = numbered n s.first;
       is_new = record {
-        chain = s.is_new.chain;
-        frames = s.is_new.frames;
+        told = s.is_new.told;
         accepted = s.is_new.accepted;
         kept = s.is_new.kept;
         is_open = s.is_new.is_open;
@@ -203,7 +202,6 @@ module _ {R W : Type 0} (terms : Terms) (times : ℕ → Type 0) (es : List Epoc
       (λ e. (
         p.0.0,
         retired_one terms times es desk w guest.stream seat p.0.1 e,
-        subst (λ (o : Option KeptStream). IsSomeAnd o (IsOfSpec w.request.spec)) (sym (number_is desk seat.number e)) p.0.2,
       ))
       (guests_kept guests seats ws p.1 (λ k. told (suc k)))
 

@@ -10,7 +10,6 @@ use Rattle.serve_core.specs.Admitted.{IsFault}
 use Rattle.serve_core.specs.Setup.{HasBandwidth, IsWithinLimits, StreamSpec, setup_of}
 use Rattle.serve_hub.specs.Seats.{StreamSeatValue}
 use Rattle.serve_work.specs.declared.live.guests.Guest.{Guest}
-use Rattle.serve_work.specs.declared.live.guests.Ticket.{Ticket}
 use Rattle.serve_work.specs.Live.{AllowsRefusal, IsForm}
 use Rattle.serve_work.specs.LiveInside.{guests_of, helds_of, nobody, refusal_of, tickets_of}
 use Rattle.serve_work.specs.SessionInside.{HeldValue, IsReady}
@@ -48,19 +47,19 @@ refused_alone workers quantum spec (Overload s) form fault =
 
 module _ {R W : Type 0} where
   -- one stream more has its number
-  pub guests_more : (made made' all : List (Option (Guest R W))) (tickets tickets' : List Ticket) (streams streams' : List StreamValue)
-      (ticket : Ticket) (stream : StreamValue) → tickets ≡ ticket ∷ tickets' → streams ≡ stream ∷ streams'
+  pub guests_more : (made made' all : List (Option (Guest R W))) (tickets tickets' : List ℕ) (streams streams' : List StreamValue)
+      (ticket : ℕ) (stream : StreamValue) → tickets ≡ ticket ∷ tickets' → streams ≡ stream ∷ streams'
       → made ++ guests_of tickets streams ≡ all → made' ≡ made ++ Some (record { ticket = ticket; stream = stream }) ∷ []
       → made' ++ guests_of tickets' streams' ≡ all
   guests_more made made' all tickets tickets' streams streams' ticket stream e f told more =
       let one : Guest R W = record { ticket = ticket; stream = stream } in
       let now : made ++ guests_of (ticket ∷ tickets') (stream ∷ streams') ≡ all =
       subst (λ (these : List StreamValue). made ++ guests_of (ticket ∷ tickets') these ≡ all) f
-      (subst (λ (these : List Ticket). made ++ guests_of these streams ≡ all) e told) in
+      (subst (λ (these : List ℕ). made ++ guests_of these streams ≡ all) e told) in
       ap (λ (gs : List (Option (Guest R W))). gs ++ guests_of tickets' streams') more
       ∙ append_assoc made (Some one ∷ []) (guests_of tickets' streams') ∙ now
 
-  pub guests_made : (made all : List (Option (Guest R W))) (tickets : List Ticket) (streams : List StreamValue)
+  pub guests_made : (made all : List (Option (Guest R W))) (tickets : List ℕ) (streams : List StreamValue)
       → (length tickets ≡ 0) ⊎ (length streams ≡ 0) → made ++ guests_of tickets streams ≡ all → made ≡ all
   guests_made made all [] streams p e = sym (append-nil made) ∙ e
   guests_made made all (ticket ∷ tickets) [] p e = sym (append-nil made) ∙ e
@@ -115,18 +114,18 @@ module _ {R W : Type 0} where
       ∙ ap (λ (ts : List (Option HeldValue)). made ++ ts)
       (sym (map-append Some one rest) ∙ ap (map Some) (sym (helds_split seat guest seats' guests'))) ∙ now
 
-  pub tickets_more : (made made' all : List Ticket) (seats seats' : List StreamSeatValue) (seat : StreamSeatValue)
+  pub tickets_more : (made made' all : List ℕ) (seats seats' : List StreamSeatValue) (seat : StreamSeatValue)
       (guests guests' : List (Option (Guest R W))) (guest : Option (Guest R W)) → seats ≡ seat ∷ seats' → guests ≡ guest ∷ guests'
       → made ++ tickets_of seats guests ≡ all → made' ≡ made ++ tickets_of (seat ∷ []) (guest ∷ [])
       → made' ++ tickets_of seats' guests' ≡ all
   tickets_more made made' all seats seats' seat guests guests' guest e f told is =
-      let one : List Ticket = tickets_of (seat ∷ []) (guest ∷ []) in
-      let rest : List Ticket = tickets_of seats' guests' in
+      let one : List ℕ = tickets_of (seat ∷ []) (guest ∷ []) in
+      let rest : List ℕ = tickets_of seats' guests' in
       let now : made ++ tickets_of (seat ∷ seats') (guest ∷ guests') ≡ all =
       subst (λ (gs : List (Option (Guest R W))). made ++ tickets_of (seat ∷ seats') gs ≡ all) f
       (subst (λ (ss : List StreamSeatValue). made ++ tickets_of ss guests ≡ all) e told) in
-      ap (λ (ts : List Ticket). ts ++ rest) is ∙ append_assoc made one rest
-      ∙ ap (λ (ts : List Ticket). made ++ ts) (sym (tickets_split seat guest seats' guests')) ∙ now
+      ap (λ (ts : List ℕ). ts ++ rest) is ∙ append_assoc made one rest
+      ∙ ap (λ (ts : List ℕ). made ++ ts) (sym (tickets_split seat guest seats' guests')) ∙ now
 
   ready_both : (seat : StreamSeatValue) (guest : Option (Guest R W)) (seats : List StreamSeatValue) (guests : List (Option (Guest R W)))
       → AllByRecursion IsReady (helds_of (seat ∷ seats) (guest ∷ guests))
@@ -150,14 +149,14 @@ module _ {R W : Type 0} where
   none_seated (seat ∷ seats) (guest ∷ guests) (inl p) = absurd (omega (arith, p))
   none_seated (seat ∷ seats) (guest ∷ guests) (inr p) = absurd (omega (arith, p))
 
-  pub all_made : (turns all : List (Option HeldValue)) (tickets all_tickets : List Ticket) (seats : List StreamSeatValue)
+  pub all_made : (turns all : List (Option HeldValue)) (tickets all_tickets : List ℕ) (seats : List StreamSeatValue)
       (guests : List (Option (Guest R W))) → (length seats ≡ 0) ⊎ (length guests ≡ 0)
       → turns ++ map Some (helds_of seats guests) ≡ all → tickets ++ tickets_of seats guests ≡ all_tickets
       → (turns ≡ all) × (tickets ≡ all_tickets)
   all_made turns all tickets all_tickets seats guests p e f =
       let none = none_seated seats guests p in (
         sym (append-nil turns) ∙ ap (λ (hs : List HeldValue). turns ++ map Some hs) (sym none.0) ∙ e,
-        sym (append-nil tickets) ∙ ap (λ (ts : List Ticket). tickets ++ ts) (sym none.1) ∙ f,
+        sym (append-nil tickets) ∙ ap (λ (ts : List ℕ). tickets ++ ts) (sym none.1) ∙ f,
       )
 
 pub popped_one : {A : Type 0} (xs rest : List A) (x y : A) → xs ≡ x ∷ [] → xs ≡ rest ++ y ∷ [] → y ≡ x

@@ -52,7 +52,7 @@ cost_between : (start : ClientStart) (past : List Act) (seat : StreamSeatValue) 
     → Charges start end charged
 cost_between start past seat end charged stream ends of same bounds =
     let cost : ℕ = cost_of start.seat.chain in
-    let own : cost_of stream.state.spec.chain ≡ cost = ap cost_of (ap (λ (spec : StreamSpec). spec.chain) of.spec ∙ ends.chain) in
+    let own : cost_of stream.state.spec.chain ≡ cost = ap (λ (spec : StreamSpec). cost_of spec.chain) (of.spec ∙ ends.spec) in
     let least : end.delivered * cost ≤ charged =
     omega (
       arith,

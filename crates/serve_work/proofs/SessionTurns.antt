@@ -20,7 +20,7 @@ use Rattle.serve_hub.specs.declared.moments.Moments.{Moments}
 use Rattle.serve_hub.specs.Books.{specs_of}
 use Rattle.serve_hub.specs.Ends.{AreStreamCalls, ClockReached, acts_of, is_same_seat}
 use Rattle.serve_hub.specs.Journal.{AreEntries, transcript_of}
-use Rattle.serve_hub.specs.Seats.{StreamSeatValue}
+use Rattle.serve_hub.specs.Seats.{StreamSeatValue, spec_told}
 use Rattle.serve_work.specs.declared.session.SessionFault.{SessionFault}
 use Rattle.serve_work.specs.declared.session.SessionFault.TheVariants.{BadLimit, Mismatch, NoMemory}
 use Rattle.serve_work.specs.declared.session.unended.Unended.{Unended}
@@ -35,6 +35,7 @@ use Rattle.serve_work.specs.SessionInside.{GoesOn, HeldValue, IsReady, Runs, Sta
 use Rattle.serve_work.specs.SessionInside.{StandsAt, held_at, held_with, outcomes_of}
 use Rattle.serve_work.specs.Clients.{ClientLeft}
 use Rattle.serve_work.specs.StreamInside.{Over, StreamValue, Waiting}
+use Rattle.serve_work.proofs.Staying.{same_chain}
 use Rattle.serve_work.proofs.Tallying.{KeepsMoments-same}
 use Rattle.serve_work.proofs.Timing.{timed, timed_on}
 
@@ -46,8 +47,8 @@ rest_header start past seat (Begun begun) a = a.same_header
 
 rest_chain : (start : ClientStart) (past : List Act) (seat : StreamSeatValue) (rest : RestValue) → IsRestOf start past seat rest
     → seat.chain ≡ start.seat.chain
-rest_chain start past seat (Unbegun reader contents failures) a = a.stays.chain
-rest_chain start past seat (Begun begun) a = a.tally.chain
+rest_chain start past seat (Unbegun reader contents failures) a = same_chain start.seat seat a.stays.spec
+rest_chain start past seat (Begun begun) a = same_chain start.seat seat a.tally.spec
 
 -- what is left to do of a stream whose frames are those of its chain
 pub rest_sized : (start : ClientStart) (past : List Act) (seat : StreamSeatValue) (rest : RestValue) → IsRestOf start past seat rest
@@ -75,6 +76,13 @@ pub seat_number : (start : ClientStart) (past : List Act) (seat : StreamSeatValu
 seat_number start past seat (Waiting (Unbegun reader contents failures)) a = a.stays.number
 seat_number start past seat (Waiting (Begun begun)) a = a.tally.number
 seat_number start past seat (Over outcome) a = a.number
+
+-- and what it tells of its spec stays
+pub seat_spec : (start : ClientStart) (past : List Act) (seat : StreamSeatValue) (stream : StreamValue) → StandsAt stream start past seat
+    → spec_told seat ≡ spec_told start.seat
+seat_spec start past seat (Waiting (Unbegun reader contents failures)) a = a.stays.spec
+seat_spec start past seat (Waiting (Begun begun)) a = a.tally.spec
+seat_spec start past seat (Over outcome) a = a.spec
 
 -- what a seat did by two journals, one behind the other
 

@@ -17,7 +17,7 @@ use Rattle.serve_work.specs.LiveInside.{Stood}
 use Rattle.serve_work.specs.Rests.{Begun, IsRestOf, RestValue, Unbegun}
 use Rattle.serve_work.specs.SessionInside.{StandsAt}
 use Rattle.serve_work.specs.StreamInside.{Over, StreamValue, Waiting, is_waiting}
-use Rattle.serve_work.proofs.Answering.{at_end}
+use Rattle.serve_work.proofs.Answering.{as_asked, at_end}
 use Rattle.serve_work.proofs.SessionCharges.{stream_at}
 use Rattle.serve_work.proofs.Tallying.{collections_both, collections_counted}
 
@@ -68,9 +68,9 @@ rest_left (Over outcome) start past seat e stands = absurd (cc)
 pub can_show : (terms : Terms) (times : ℕ → Type 0) (es : List EpochValue) (desk : ScheduleValue) (w : requests.Waiting)
     (stream : StreamValue) (seat : StreamSeatValue) (standing : Standing) → IsHistory terms times es
     → Stood terms times es desk w stream seat
-    → is_waiting stream ≡ true → HasStream desk seat.number (IsStreamOf seat) → HasStream desk seat.number (IsOfSpec w.request.spec)
+    → is_waiting stream ≡ true → HasStream desk seat.number (IsStreamOf seat)
     → HasStream desk seat.number (IsStandingOf standing) → IsStanding terms times es w standing
-can_show terms times es desk w stream seat standing history s waits of asked has =
+can_show terms times es desk w stream seat standing history s waits of has =
     let start = start_with w.request s.first in
     let rest = rest_left stream start s.past seat waits s.stands in
     let count = counted start s.past seat rest.0 rest.1 in
@@ -98,7 +98,8 @@ can_show terms times es desk w stream seat standing history s waits of asked has
         collections_counted seat.calls.list,
       );
       stream = at_end terms w.request.spec es s.number s.before desk seat.number (IsStandingOf standing) history.epochs_are s.behind has;
-      spec = at_end terms w.request.spec es s.number s.before desk seat.number (IsOfSpec w.request.spec) history.epochs_are s.behind asked;
+      spec = at_end terms w.request.spec es s.number s.before desk seat.number (IsOfSpec w.request.spec) history.epochs_are s.behind
+          (as_asked terms times es desk w stream seat s of);
     }
 
 -- all are shown by the clock with which their epoch was left

@@ -140,7 +140,7 @@ spoilt_behind stop o in_hand reader mid seat between writer is at moved stays sp
       frames = at.frames;
       read = takes_of o.reader at.before o.seat mid o.writer between at.frames at.passed;
       count = ap (λ (s : StreamSeatValue). s.accepted) stays ∙ at.passed.moved.count;
-      most = ap (λ (s : StreamSeatValue). s.frames) stays ∙ at.passed.moved.seat_stays.frames;
+      most = ap (λ (s : StreamSeatValue). s.frames) stays ∙ stays_frames o.seat mid at.passed.moved.seat_stays;
       is_closed = ap (λ (s : StreamSeatValue). s.is_closed) stays ∙ at.passed.moved.seat_stays.is_closed;
       torn = λ is. stopped_torn stop mid seat between writer [] is moved;
       sent = sent_until o.seat o.writer at.frames is.fresh.kept is.writing stop stop seat writer (λ f e. e) all;

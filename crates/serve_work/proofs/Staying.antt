@@ -4,19 +4,19 @@ use Rattle.y4m_header.specs.StreamText.{FrameText}
 use Rattle.filters.specs.ChainImage.{FrameValue}
 use Rattle.y4m_stream.specs.Writer.{PutsFrame, WriterState}
 use Rattle.serve_core.specs.declared.collected.Collected.{Collected}
+use Rattle.serve_core.specs.Setup.{StreamSpec}
 use Rattle.serve_hub.specs.Calls.{Collects}
-use Rattle.serve_hub.specs.Seats.{StreamSeatValue, torn_at}
+use Rattle.serve_hub.specs.Seats.{StreamSeatValue, spec_told, torn_at}
 use Rattle.serve_work.specs.ClientInside.{GivesUp}
 use Rattle.serve_work.specs.ClientInside.{Stays}
 
 pub Stays-same : (seat : StreamSeatValue) → Stays seat seat
-Stays-same seat = record { number = refl; chain = refl; frames = refl; is_closed = refl; torn = refl }
+Stays-same seat = record { number = refl; spec = refl; is_closed = refl; torn = refl }
 
 pub Stays-trans : (a b c : StreamSeatValue) → Stays a b → Stays b c → Stays a c
 Stays-trans a b c p q = record {
   number = q.number ∙ p.number;
-  chain = q.chain ∙ p.chain;
-  frames = q.frames ∙ p.frames;
+  spec = q.spec ∙ p.spec;
   is_closed = q.is_closed ∙ p.is_closed;
   torn = q.torn ∙ p.torn;
 }
@@ -27,8 +27,7 @@ GivesUp-trans a b c p q = q ∙ ap (λ (v : StreamSeatValue). record v { calls =
 pub Collects-stays : (pair : Collected) (a b : StreamSeatValue) → Collects pair a b → Stays a b
 Collects-stays pair a b p = record {
   number = ap (λ (v : StreamSeatValue). v.number) p.seat;
-  chain = ap (λ (v : StreamSeatValue). v.chain) p.seat;
-  frames = ap (λ (v : StreamSeatValue). v.frames) p.seat;
+  spec = ap spec_told p.seat;
   is_closed = ap (λ (v : StreamSeatValue). v.is_closed) p.seat;
   torn = ap (λ (v : StreamSeatValue). v.torn) p.seat;
 }
@@ -38,11 +37,18 @@ pub GivesUp-torn : (n : ℕ) (old mid new : StreamSeatValue) → GivesUp old mid
 GivesUp-torn n old mid new up is =
     is ∙ ap (torn_at n) up ∙ ap (λ (v : StreamSeatValue). record old { calls = v.calls; kept = v.kept; torn = v.torn }) (sym is)
 
+-- seats that tell one spec have one chain, and as many frames
+pub same_chain : (a b : StreamSeatValue) → spec_told b ≡ spec_told a → b.chain ≡ a.chain
+same_chain a b e = ap (λ (spec : StreamSpec). spec.chain) e
+
+pub same_frames : (a b : StreamSeatValue) → spec_told b ≡ spec_told a → b.frames ≡ a.frames
+same_frames a b e = ap (λ (spec : StreamSpec). spec.frames) e
+
 pub stays_chain : (a b : StreamSeatValue) → Stays a b → b.chain ≡ a.chain
-stays_chain a b p = p.chain
+stays_chain a b p = same_chain a b p.spec
 
 pub stays_frames : (a b : StreamSeatValue) → Stays a b → b.frames ≡ a.frames
-stays_frames a b p = p.frames
+stays_frames a b p = same_frames a b p.spec
 
 pub stays_closed : (a b : StreamSeatValue) → Stays a b → b.is_closed ≡ a.is_closed
 stays_closed a b p = p.is_closed

@@ -104,7 +104,7 @@ pub close_tally : {T : Type 0} (old new : StreamSeatValue) (result : Result T Re
     → IfErr result (λ e. IsCloseTold old e × (new ≡ noted e old)) → TalliesSeat old new
 close_tally old new (Ok t) closed refused = rw closed (record {
   number = refl;
-  chain = refl;
+  spec = refl;
   before = refl;
   added = acts.Closed ∷ [];
   calls = refl;
@@ -142,8 +142,7 @@ Moves-open seat seat' writer writer' frames a = record {
   within = a.within;
   seat_stays = record {
     number = a.seat_stays.number;
-    chain = a.seat_stays.chain;
-    frames = a.seat_stays.frames;
+    spec = a.seat_stays.spec;
     is_closed = refl;
     torn = a.seat_stays.torn;
   };
@@ -189,8 +188,7 @@ Moves-closed seat mid closed writer writer' frames is_open close untorn a =
       within = a.within;
       seat_stays = record {
         number = a.seat_stays.number;
-        chain = a.seat_stays.chain;
-        frames = a.seat_stays.frames;
+        spec = a.seat_stays.spec;
         is_closed = sym is_open;
         torn = untorn ∙ a.seat_stays.torn;
       };

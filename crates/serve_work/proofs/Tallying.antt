@@ -13,7 +13,7 @@ use Rattle.serve_hub.specs.declared.entry.Act.TheVariants as acts
 use Rattle.serve_hub.specs.declared.moments.Moments.{Moments}
 use Rattle.serve_hub.specs.Calls.{Accepts, Collects}
 use Rattle.serve_hub.specs.Journal.{tick_of}
-use Rattle.serve_hub.specs.Seats.{CallsValue, StreamSeatValue, collected_by, first_noted, moments_with, one_collection, torn_at}
+use Rattle.serve_hub.specs.Seats.{CallsValue, StreamSeatValue, collected_by, first_noted, moments_with, one_collection, spec_told, torn_at}
 use Rattle.serve_work.specs.Clients.{AreAtMoments, HasOtherNumber, IsAtMoment, closes_in, collections_in, is_close, is_collection}
 use Rattle.serve_work.specs.Clients.{is_offer, offers_in}
 use Rattle.serve_work.specs.ClientInside.{GivesUp, IsCounted, KeepsMoments, OffersAt, ShowsClose, Tallies, TalliesSeat}
@@ -82,12 +82,12 @@ none_offered : (pair : Collected) (old new : StreamSeatValue) → Collects pair 
 none_offered pair old new c =
     ap (λ (v : StreamSeatValue). offers_in v.calls.list) c.seat ∙ offers_both old.calls.list (acts.Collected c.number ∷ [])
 
-pub TalliesSeat-same : (old new : StreamSeatValue) → new.number ≡ old.number → new.chain ≡ old.chain → new.before ≡ old.before
+pub TalliesSeat-same : (old new : StreamSeatValue) → new.number ≡ old.number → spec_told new ≡ spec_told old → new.before ≡ old.before
     → new.calls ≡ old.calls → new.accepted ≡ old.accepted → new.moments ≡ old.moments → new.is_closed ≡ old.is_closed
     → new.torn ≡ old.torn → TalliesSeat old new
-TalliesSeat-same old new number chain before calls accepted moments closed torn = record {
+TalliesSeat-same old new number spec before calls accepted moments closed torn = record {
   number = number;
-  chain = chain;
+  spec = spec;
   before = before;
   added = [];
   calls = ap (λ (c : CallsValue). c.list) calls ∙ sym (append-nil old.calls.list);
@@ -101,7 +101,7 @@ TalliesSeat-same old new number chain before calls accepted moments closed torn 
 
 pub seat_same : (old new : StreamSeatValue) → new ≡ old → TalliesSeat old new
 seat_same old new same = TalliesSeat-same old new (ap (λ (v : StreamSeatValue). v.number) same)
-    (ap (λ (v : StreamSeatValue). v.chain) same) (ap (λ (v : StreamSeatValue). v.before) same)
+    (ap spec_told same) (ap (λ (v : StreamSeatValue). v.before) same)
     (ap (λ (v : StreamSeatValue). v.calls) same) (ap (λ (v : StreamSeatValue). v.accepted) same)
     (ap (λ (v : StreamSeatValue). v.moments) same) (ap (λ (v : StreamSeatValue). v.is_closed) same)
     (ap (λ (v : StreamSeatValue). v.torn) same)
@@ -120,7 +120,7 @@ collected_more old new before more = omega (
 pub TalliesSeat-trans : (a b c : StreamSeatValue) → TalliesSeat a b → TalliesSeat b c → TalliesSeat a c
 TalliesSeat-trans a b c p q = record {
   number = q.number ∙ p.number;
-  chain = q.chain ∙ p.chain;
+  spec = q.spec ∙ p.spec;
   before = q.before ∙ p.before;
   added = p.added ++ q.added;
   calls = q.calls ∙ ap (λ l. l ++ q.added) p.calls ∙ append_assoc a.calls.list p.added q.added;
@@ -146,7 +146,7 @@ torn_still old new t some = some_later old.torn new.torn t.noted some
 pub TalliesSeat-accept : (frame : FrameValue) (n : ℕ) (old new : StreamSeatValue) → Accepts frame n old new → TalliesSeat old new
 TalliesSeat-accept frame n old new a = rw a.seat (record {
   number = refl;
-  chain = refl;
+  spec = refl;
   before = refl;
   added = acts.Offered a.tick n ∷ [];
   calls = refl;
@@ -161,7 +161,7 @@ TalliesSeat-accept frame n old new a = rw a.seat (record {
 pub TalliesSeat-collect : (pair : Collected) (old new : StreamSeatValue) → Collects pair old new → TalliesSeat old new
 TalliesSeat-collect pair old new c = record {
   number = ap (λ (v : StreamSeatValue). v.number) c.seat;
-  chain = ap (λ (v : StreamSeatValue). v.chain) c.seat;
+  spec = ap spec_told c.seat;
   before = ap (λ (v : StreamSeatValue). v.before) c.seat;
   added = acts.Collected c.number ∷ [];
   calls = ap (λ (v : StreamSeatValue). v.calls.list) c.seat;
@@ -178,7 +178,7 @@ pub TalliesSeat-torn : (n : ℕ) (old mid new : StreamSeatValue) → TalliesSeat
     → new ≡ torn_at n mid → TalliesSeat old new
 TalliesSeat-torn n old mid new t same few is = rw is (record {
   number = t.number;
-  chain = t.chain;
+  spec = t.spec;
   before = t.before;
   added = t.added;
   calls = t.calls;

@@ -26,7 +26,7 @@ use Rattle.serve_hub.specs.declared.offer.Offer.{Offer}
 use Rattle.serve_hub.specs.declared.refusal.Refusal.{Refusal}
 use Rattle.serve_hub.specs.declared.refusal.Refusal.TheVariants.{Core, HistoryFull}
 use Rattle.serve_hub.specs.Calls.{Accepts, Notes}
-use Rattle.serve_hub.specs.Seats.{StreamSeatValue, collected_by, torn_at}
+use Rattle.serve_hub.specs.Seats.{StreamSeatValue, collected_by, spec_told, torn_at}
 use Rattle.serve_work.specs.declared.buffers.Buffers.{Buffers}
 use Rattle.serve_work.specs.declared.feeding.Fed.{Fed}
 use Rattle.serve_work.specs.declared.feeding.Fed.TheVariants as feds
@@ -156,8 +156,7 @@ ShowsClose past seat = seat.is_closed ≡ false → IsUnclosed (past ++ seat.cal
 -- what stays of a stream's seat while its frames move
 pub record Stays (old new : StreamSeatValue) : Type 0 where
   pub number : new.number ≡ old.number
-  pub chain : new.chain ≡ old.chain
-  pub frames : new.frames ≡ old.frames
+  pub spec : spec_told new ≡ spec_told old
   pub is_closed : new.is_closed ≡ old.is_closed
   pub torn : new.torn ≡ old.torn
 
@@ -175,7 +174,7 @@ pub record Accounted (seat : StreamSeatValue) (writer : WriterState) : Type 0 wh
 -- What it noted of a Torn stays; where it is told so first, no fewer images were collected than before
 pub record TalliesSeat (old new : StreamSeatValue) : Type 0 where
   pub number : new.number ≡ old.number
-  pub chain : new.chain ≡ old.chain
+  pub spec : spec_told new ≡ spec_told old
   pub before : new.before ≡ old.before
   pub added : List Act
   pub calls : new.calls.list ≡ old.calls.list ++ added

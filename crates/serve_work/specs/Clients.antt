@@ -17,7 +17,7 @@ use Rattle.y4m_stream.specs.Writer.{CutsShort, FlushesOrFails}
 use Rattle.serve_hub.specs.declared.entry.Act.{Act}
 use Rattle.serve_hub.specs.declared.entry.Act.TheVariants.{Closed, Collected, Offered}
 use Rattle.serve_hub.specs.Journal.{tick_of}
-use Rattle.serve_hub.specs.Seats.{StreamSeatValue}
+use Rattle.serve_hub.specs.Seats.{StreamSeatValue, spec_told}
 use Rattle.serve_work.specs.declared.stop.Cause.TheVariants.{ClockEnd, NoMemory, TooManyFrames}
 use Rattle.serve_work.specs.declared.stop.Stop.{Stop}
 use Rattle.serve_work.specs.declared.stop.Stop.TheVariants.{Whole, Read, Write, Refused, Torn}
@@ -241,7 +241,7 @@ pub record Ends (StopsAt : Stop → ClientProgress → Type 0) (start : ClientSt
   pub drained : end.stop ≡ Whole → IsDrained seat
   -- the seat, and its stream's calls
   pub number : seat.number ≡ start.seat.number
-  pub chain : seat.chain ≡ start.seat.chain
+  pub spec : spec_told seat ≡ spec_told start.seat
   pub accepted : seat.accepted ≡ end.accepted
   pub offers : offers_in (past ++ seat.calls.list) ≡ end.accepted
   pub collections : end.delivered ≤ collections_in (past ++ seat.calls.list)

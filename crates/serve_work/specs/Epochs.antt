@@ -2,15 +2,14 @@
 use Rattle.std.specs.Prelude.{◌≡◌, List, [], ◌++◌}
 use Rattle.y4m_stream.specs.declared.reader.Phase.TheVariants.{Open}
 use Rattle.serve_hub.specs.declared.entry.Act.{Act}
-use Rattle.serve_hub.specs.Seats.{StreamSeatValue, collected_by}
+use Rattle.serve_hub.specs.Seats.{StreamSeatValue, collected_by, spec_told}
 use Rattle.serve_work.specs.Clients.{ClientEnds, ClientOutcome, ClientStart, IsNewSeat}
 use Rattle.serve_work.specs.Rests.{IsRestOf, RestValue, Unbegun}
 
 -- the seat of the same stream in the next epoch: it has made no call
 pub record IsReopened (old new : StreamSeatValue) : Type 0 where
   pub number : new.number ≡ old.number
-  pub chain : new.chain ≡ old.chain
-  pub frames : new.frames ≡ old.frames
+  pub spec : spec_told new ≡ spec_told old
   pub accepted : new.accepted ≡ old.accepted
   pub is_closed : new.is_closed ≡ old.is_closed
   pub kept : new.kept ≡ old.kept

@@ -15,7 +15,7 @@ use Rattle.serve_hub.specs.declared.refusal.Refusal.{Refusal}
 use Rattle.serve_hub.specs.declared.refusal.Refusal.TheVariants.{Core}
 use Rattle.serve_hub.specs.Calls.{AllowsAdmission}
 use Rattle.serve_hub.specs.Ends.{acts_of}
-use Rattle.serve_hub.specs.Seats.{StreamSeatValue}
+use Rattle.serve_hub.specs.Seats.{StreamSeatValue, spec_told}
 use Rattle.serve_work.specs.declared.request.Answer.{Answer}
 use Rattle.serve_work.specs.declared.request.Answer.TheVariants as answers
 use Rattle.serve_work.specs.declared.request.Request.{Request}
@@ -63,8 +63,7 @@ pub record IsRequest (request : RequestValue) : Type 0 where
 
 -- the first seat of a stream of this spec, whatever its number
 pub record IsSeatFor (spec : StreamSpec) (seat : StreamSeatValue) : Type 0 where
-  pub chain : seat.chain ≡ spec.chain
-  pub frames : seat.frames ≡ spec.frames
+  pub told : spec_told seat ≡ spec
   pub accepted : seat.accepted ≡ 0
   pub kept : seat.kept ≡ []
   pub is_open : seat.is_closed ≡ false

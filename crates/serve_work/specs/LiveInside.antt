@@ -1,7 +1,7 @@
 -- What contracts inside the crate say of the streams of a session that come and go.
 use Rattle.std.specs.Prelude.{ℕ, ◌+◌, ◌≡◌, ◌≤◌, ◌<◌, ◌++◌, ◌⊎◌, ⊤, All, Bool, true, false, List, []}
 use Rattle.std.specs.Prelude.{◌∷◌, Option, Some}
-use Rattle.std.specs.Prelude.{None, IfSome, IsFalse, IsSomeAnd, if◌then◌else◌, length, map, slice_get, slice_set}
+use Rattle.std.specs.Prelude.{None, IfSome, IsFalse, if◌then◌else◌, length, map, slice_get, slice_set}
 use Rattle.std.specs.List.{AllByRecursion, AllZip}
 use Rattle.std.specs.Vec.{vec_capacity, vec_len}
 use Rattle.cbs_account.specs.declared.limits.TheConstants.{MOST_STREAMS}
@@ -17,14 +17,13 @@ use Rattle.serve_hub.specs.Ends.{AreStreamsOf, EndedValue, IsCharged, IsStreamOf
 use Rattle.serve_hub.specs.Seats.{StreamRest, StreamSeatValue, left_by}
 use Rattle.serve_work.specs.declared.live.guests.Guest.{Guest}
 use Rattle.serve_work.specs.declared.live.guests.Interval.{Interval}
-use Rattle.serve_work.specs.declared.live.guests.Ticket.{Ticket}
 use Rattle.serve_work.specs.declared.live.opening.FirstStream.{FirstStream}
 use Rattle.serve_work.specs.declared.live.opening.Hall.{Hall}
 use Rattle.serve_work.specs.Clients.{AllowsStop, offers_in}
 use Rattle.serve_work.specs.History.{EpochValue, IsGoneOn, IsHistory, IsLeftBy, OpensBehind, Terms}
 use Rattle.serve_work.specs.History.{epoch_of, given_up, left_at}
 use Rattle.serve_work.specs.Intervals.{ArePlacesFor, HasNoCalls}
-use Rattle.serve_work.specs.Live.{HadNumbers, IsBehind, IsOfSpec, IsRequest, IsSeatFor}
+use Rattle.serve_work.specs.Live.{HadNumbers, IsBehind, IsRequest, IsSeatFor}
 use Rattle.serve_work.specs.Live.{Waiting, acts_by, start_with}
 use Rattle.serve_work.specs.SessionInside.{HeldValue, StandsAt, held_at}
 use Rattle.serve_work.specs.StreamInside.{StreamValue, is_waiting, stream_stop}
@@ -68,22 +67,16 @@ abbrev pub HadTurn : (terms : Terms) (times : ℕ → Type 0) (epochs : List Epo
     → Waiting → HeldValue → Type 0
 HadTurn terms times epochs last w held = Stood terms times epochs last w held.stream held.seat
 
--- what is kept of a request beside its stream
-abbrev pub ticket_of : Waiting → Ticket
-ticket_of w = record { number = w.ticket; spec = w.request.spec }
-
--- the stream of a request that waits, with its seat of the epoch that ended, and of the next one. It is
--- served with what the request asked for
+-- the stream of a request that waits, with its seat of the epoch that ended, and of the next one
 abbrev pub IsGuestAt : {R W : Type 0} (terms : Terms) (times : ℕ → Type 0) (epochs : List EpochValue)
     (last : ScheduleValue) → Guest R W → StreamSeatValue → Waiting → Type 0
 IsGuestAt terms times epochs last guest seat w =
-    (guest.ticket ≡ ticket_of w) × Stood terms times epochs last w guest.stream seat
-    × HasStream last seat.number (IsOfSpec w.request.spec)
+    (guest.ticket ≡ w.ticket) × Stood terms times epochs last w guest.stream seat
 
 abbrev pub IsGuestIn : {R W : Type 0} (terms : Terms) (times : ℕ → Type 0) (epochs : List EpochValue)
     (opening : ScheduleValue) → Guest R W → StreamSeatValue → Waiting → Type 0
 IsGuestIn terms times epochs opening guest seat w =
-    (guest.ticket ≡ ticket_of w) × Begins terms times epochs opening w guest.stream seat
+    (guest.ticket ≡ w.ticket) × Begins terms times epochs opening w guest.stream seat
 
 -- each place has a seat, and each stream a request, in the same order
 abbrev pub AllAt : {A B C : Type 0} (P : A → B → C → Type 0) → List (Option A) → List B → List C → Type 0
@@ -109,21 +102,8 @@ at_marks marks [] = []
 at_marks [] (x ∷ xs) = []
 at_marks (mark ∷ marks) (x ∷ xs) = if mark then x ∷ at_marks marks xs else at_marks marks xs
 
--- the stream at this place, if there is one, is served with what is kept of its request
-abbrev pub IsAsAsked : {R W : Type 0} → ScheduleValue → List StreamRest → (place : ℕ) → Option (Guest R W)
-    → Type 0
-IsAsAsked desk rests place None = ⊤
-IsAsAsked desk rests place (Some guest) =
-    IsSomeAnd (slice_get rests place) (λ rest. HasStream desk rest.number (IsOfSpec guest.ticket.spec))
-
-abbrev pub AreAsAsked : {R W : Type 0} → ScheduleValue → List StreamRest → List (Option (Guest R W))
-    → Type 0
-AreAsAsked {R} {W} desk rests guests =
-    (place : ℕ) (guest : Option (Guest R W)) → slice_get guests place ≡ Some guest
-    → IsAsAsked desk rests place guest
-
--- the streams with what is kept of their requests
-abbrev pub guests_of : {R W : Type 0} → List Ticket → List StreamValue → List (Option (Guest R W))
+-- the streams with the tickets of their requests
+abbrev pub guests_of : {R W : Type 0} → List ℕ → List StreamValue → List (Option (Guest R W))
 guests_of (ticket ∷ tickets) (stream ∷ streams) =
     Some (record { ticket = ticket; stream = stream }) ∷ guests_of tickets streams
 guests_of tickets streams = []
@@ -137,7 +117,7 @@ nobody (seat ∷ idle) = None ∷ nobody idle
 abbrev pub with_ticket : {R W : Type 0} → (number : ℕ) → Option (Guest R W) → List (Option ℕ)
     → List (Option ℕ)
 with_ticket number None tickets = tickets
-with_ticket number (Some guest) tickets = slice_set tickets number (Some guest.ticket.number)
+with_ticket number (Some guest) tickets = slice_set tickets number (Some guest.ticket)
 
 abbrev pub with_ticket_of : {R W : Type 0} → Option StreamRest → Option (Guest R W) → List (Option ℕ)
     → List (Option ℕ)
@@ -198,10 +178,9 @@ MayTell epochs told stream = (IsFalse (is_waiting stream) × (told ≡ epochs)) 
 pub record CanTell {R W : Type 0} (terms : Terms) (times : ℕ → Type 0) (epochs : List EpochValue)
     (ended : EndedValue) (place : ℕ) (guest : Guest R W) (w : Waiting) : Type 0 where
   pub history : IsHistory terms times epochs
-  pub ticket : guest.ticket ≡ ticket_of w
+  pub ticket : guest.ticket ≡ w.ticket
   pub seat : StreamSeatValue
   pub stood : Stood terms times epochs ended.book.desk w guest.stream seat
-  pub asked : HasStream ended.book.desk seat.number (IsOfSpec w.request.spec)
   pub here : slice_get ended.streams place ≡ Some (left_by seat)
   pub kept : HasStream ended.book.desk seat.number (IsStreamOf seat)
   pub charges : All IsCharged ended.book.desk.streams
@@ -216,8 +195,7 @@ pub record HasPlaces {L R W : Type 0} (hall : Hall L R W) : Type 0 where
   pub guests : MOST_STREAMS ≤ vec_capacity hall.guests
 
 -- one stream more has its turn
-pub record TakesSeat {L R W : Type 0} (ticket : Ticket) (held : HeldValue) (old new : Hall L R W)
-    : Type 0 where
+pub record TakesSeat {L R W : Type 0} (ticket : ℕ) (held : HeldValue) (old new : Hall L R W) : Type 0 where
   pub places : HasPlaces new
   pub turns : new.room.turns.items ≡ old.room.turns.items ++ Some held ∷ []
   pub len : vec_len new.room.turns ≡ vec_len old.room.turns + 1
@@ -226,13 +204,13 @@ pub record TakesSeat {L R W : Type 0} (ticket : Ticket) (held : HeldValue) (old 
   pub few : vec_len old.room.turns + vec_len old.idle < MOST_STREAMS
   pub idle : new.idle ≡ old.idle
 
--- the streams with their seats, and what is kept of their requests
+-- the streams with their seats, and the tickets of their requests
 abbrev pub helds_of : {R W : Type 0} → List StreamSeatValue → List (Option (Guest R W)) → List HeldValue
 helds_of (seat ∷ seats) (Some guest ∷ guests) = held_at seat guest.stream ∷ helds_of seats guests
 helds_of (seat ∷ seats) (None ∷ guests) = helds_of seats guests
 helds_of seats guests = []
 
-abbrev pub tickets_of : {R W : Type 0} → List StreamSeatValue → List (Option (Guest R W)) → List Ticket
+abbrev pub tickets_of : {R W : Type 0} → List StreamSeatValue → List (Option (Guest R W)) → List ℕ
 tickets_of (seat ∷ seats) (Some guest ∷ guests) = guest.ticket ∷ tickets_of seats guests
 tickets_of (seat ∷ seats) (None ∷ guests) = tickets_of seats guests
 tickets_of seats guests = []
@@ -248,14 +226,14 @@ pub record AreSeated {L R W : Type 0} (terms : Terms) (times : ℕ → Type 0) (
   pub few : vec_len hall.room.turns + vec_len hall.idle ≤ MOST_STREAMS
   pub helds : List HeldValue
   pub turns : hall.room.turns.items ≡ map Some helds
-  pub tickets : hall.tickets.items ≡ map ticket_of ws
+  pub tickets : hall.tickets.items ≡ map (λ w. w.ticket) ws
   pub each : AllZip (HasTurn terms times epochs opening) ws helds
 
 -- the first stream of a hub is that of this request, which was given behind these epochs
 pub record IsFirst {R W : Type 0} (contents : W → Option (List ℕ)) (failures : W → ℕ) (terms : Terms)
     (epochs : List EpochValue) (w : Waiting) (stream : FirstStream R W) : Type 0 where
   pub given : length epochs ≡ w.since
-  pub ticket : stream.ticket ≡ ticket_of w
+  pub ticket : stream.ticket ≡ w.ticket
   pub is_request : IsRequest w.request
   pub setup : stream.setup ≡ setup_of terms.workers terms.quantum (w.request.spec ∷ [])
   pub is_setup : IsSetup stream.setup

@@ -13,7 +13,7 @@ use Rattle.y4m_stream.specs.Reader.{IsOfHeader, ReaderState}
 use Rattle.y4m_stream.specs.Served.{IsHeaderOfImages}
 use Rattle.y4m_stream.specs.Writer.{IsOpenedFor, IsWriterFor, WriterState}
 use Rattle.serve_hub.specs.declared.entry.Act.{Act}
-use Rattle.serve_hub.specs.Seats.{StreamSeatValue}
+use Rattle.serve_hub.specs.Seats.{StreamSeatValue, spec_told}
 use Rattle.serve_work.specs.declared.buffers.Buffers.{Buffers}
 use Rattle.serve_work.specs.declared.course.Course as code
 use Rattle.serve_work.specs.declared.course.Course.TheVariants as courses
@@ -278,7 +278,7 @@ HasMemoryAt reader writer buffers (steps.Done stop) = ⊤
 -- seat is closed
 pub record IsTallied (past : List Act) (first seat : StreamSeatValue) (writer : WriterState) : Type 0 where
   pub number : seat.number ≡ first.number
-  pub chain : seat.chain ≡ first.chain
+  pub spec : spec_told seat ≡ spec_told first
   pub offers : IsCounted past seat
   pub closes : ShowsClose past seat
   pub images : writer.frames ≤ collections_in (past ++ seat.calls.list)

@@ -1,5 +1,5 @@
 //! Streams that are admitted where an epoch opens.
-ghost use Rattle.std.specs.Prelude.{◌≡◌, ◌≤◌, ◌++◌, List, [], ◌∷◌, IfErr, IfOk, length};
+ghost use Rattle.std.specs.Prelude.{◌≡◌, ◌≤◌, ◌++◌, List, [], ◌∷◌, IfErr, IfOk, OnOk, length};
 ghost use Rattle.serve_hub.specs.Calls.{Admits};
 ghost use Rattle.serve_work.specs.History.{EpochValue};
 ghost use Rattle.serve_work.specs.Live.{AllowsRefusal, Waiting, waiting_of};
@@ -7,7 +7,6 @@ ghost use Rattle.serve_work.specs.LiveInside.{AreSeated};
 ghost use Rattle.serve_work.specs.Sessions.{IsInput};
 
 use crate::door::Door;
-use crate::live::guests::Ticket;
 use crate::live::opening::Hall;
 use crate::request::{Answer, Request};
 use crate::session::turn::Stream;
@@ -19,23 +18,24 @@ use std::alloc::Global;
 use std::sync::Wait;
 use y4m_stream::{Sink, Source};
 
-/// The seat of a stream that is admitted, with its spec once more, or why it isn't.
+/// The seat of a stream that is admitted, or why it isn't.
 fn take_seat<L: Epoch, T: Wait>(
     rt: &T,
     alloc: Global,
     hub: &Hub<L>,
     spec: StreamSpec,
-) -> Result<(StreamSeat<L>, StreamSpec), Refusal>
-    ensures seat { IfOk result (λ made. Admits spec made.0) }
-    ensures behind { IfOk result (λ made. length L.opening.streams ≤ made.0.number) }
-    ensures same { IfOk result (λ made. made.1 ≡ spec) }
+) -> Result<StreamSeat<L>, Refusal>
+    ensures seat { IfOk result (Admits spec) }
+    ensures sized { OnOk result (spec.chain.geometry ≡ spec.geometry) }
+    ensures behind { IfOk result (λ seat. length L.opening.streams ≤ seat.number) }
     ensures refused { IfErr result (AllowsRefusal spec) }
 {
-    let Ok(same) = spec.try_clone() else {
-        return Err(Refusal::Core(Core::NoMemory));
-    };
+    // The hub refuses such a stream too, but its contract doesn't say so of one that it admits.
+    if !spec.job().fits(spec.geometry()) {
+        return Err(Refusal::Core(Core::BadLimits));
+    }
     match hub.admit(rt, alloc, spec) {
-        Ok(seat) => Ok((seat, same)),
+        Ok(seat) => Ok(seat),
         Err(refused) => Err(refused.refusal),
     }
 }
@@ -67,10 +67,8 @@ fn admit<L: Epoch, R: Source + Drop, W: Sink + Drop, D: Door<R, W>, G, K, T: Wai
         return;
     }
     match take_seat(setting.rt, setting.alloc, hub, spec) {
-        Ok(made) => {
-            let (seat, spec) = made;
-            let number = ticket;
-            hall.seat(seat, Ticket { number, spec }, Stream::new(reader, writer));
+        Ok(seat) => {
+            hall.seat(seat, ticket, Stream::new(reader, writer));
             door.admitted(ticket);
         }
         Err(refusal) => {

@@ -2,12 +2,12 @@
 ghost use Rattle.std.specs.Prelude.{ℕ, ◌≡◌, ◌+◌, ◌≤◌, ◌++◌, All, List, [], ◌∷◌, IfErr, IfNone, IfOk};
 ghost use Rattle.std.specs.Prelude.{IfSome, OnOk, vec_capacity, vec_len};
 ghost use Rattle.serve_core.specs.Schedule.{opened_schedule};
-ghost use Rattle.serve_core.specs.Setup.{StreamSpec};
+ghost use Rattle.serve_core.specs.Setup.{IsSetup, StreamSpec};
 ghost use Rattle.serve_hub.specs.Ends.{IsEndOf};
 ghost use Rattle.serve_work.specs.History.{EpochValue, IsHistory};
 ghost use Rattle.serve_work.specs.Intervals.{CanName, HasNoCalls};
 ghost use Rattle.serve_work.specs.Live.{IsSeatFor, Waiting};
-ghost use Rattle.serve_work.specs.LiveInside.{AreAsAsked, AreGuests, AreSeated, HasPlaces, IsFirst};
+ghost use Rattle.serve_work.specs.LiveInside.{AreGuests, AreSeated, HasPlaces, IsFirst};
 ghost use Rattle.serve_work.specs.LiveInside.{IsLiveInterval, guests_of, nobody};
 ghost use Rattle.serve_work.specs.Workers.{AreSpent};
 
@@ -15,7 +15,7 @@ use crate::bounds::{Host, LentClock, LentDoor, LentGate, SentSink, SentSource};
 use crate::door::Door;
 use crate::live::admission::admit_all;
 use crate::live::clock::go_to_now;
-use crate::live::guests::{Guest, Interval, Ticket, are_as_asked};
+use crate::live::guests::{Guest, Interval};
 use crate::live::opening::{FirstStream, Hall, Opening};
 use crate::live::threads::run_threads;
 use crate::live::tickets::tickets_of;
@@ -32,10 +32,10 @@ use std::alloc::Global;
 use std::sync::ledger::Blank;
 use y4m_stream::{Sink, Source};
 
-/// Fills the guests: the streams with what is kept of their requests.
+/// Fills the guests: the streams with the tickets of their requests.
 fn fill_guests<R: Source + Drop, W: Sink + Drop>(
     guests: &mut Vec<Option<Guest<R, W>>>,
-    tickets: Vec<Ticket>,
+    tickets: Vec<u64>,
     streams: Vec<Stream<R, W>>,
 )
     requires none { guests.old.items ≡ [] }
@@ -66,18 +66,15 @@ fn append_idle<L: Epoch, R: Source + Drop, W: Sink + Drop>(
     }
 }
 
-/// The end of an epoch whose workers settled their leases with the whole grants, and whose streams were
-/// served with what their requests asked for.
-fn finish<L: Epoch, R: Source, W: Sink>(
+/// The end of an epoch whose workers settled their leases with the whole grants.
+fn finish<L: Epoch>(
     hub: Hub<L>,
     seats: Vec<StreamSeat<L>>,
     work_seats: Vec<WorkSeat<L>>,
-    guests: &Vec<Option<Guest<R, W>>>,
 ) -> Result<Ended, SessionFault>
     ensures fault { IfErr result (λ e. e ≡ SessionFault.Mismatch) }
     ensures end { IfOk result (IsEndOf L.opening hub seats.items work_seats.items) }
     ensures spent { OnOk result (All (λ s. AreSpent s.calls.list) work_seats.items) }
-    ensures asked { IfOk result (λ ended. AreAsAsked ended.book.desk ended.streams guests.now.items) }
 {
     if !have_spent(&work_seats) {
         return Err(SessionFault::Mismatch);
@@ -85,9 +82,6 @@ fn finish<L: Epoch, R: Source, W: Sink>(
     let Ok(ended) = hub.finish(seats, work_seats) else {
         return Err(SessionFault::Mismatch);
     };
-    if !are_as_asked(&ended, guests) {
-        return Err(SessionFault::Mismatch);
-    }
     Ok(ended)
 }
 
@@ -144,7 +138,7 @@ fn epoch<
     let Places { mut seats, streams } = places;
     fill_guests(&mut guests, tickets, streams);
     append_idle(&mut seats, &mut guests, idle);
-    let ended = finish(hub, seats, back, &guests)?;
+    let ended = finish(hub, seats, back)?;
     door.epoch_ended(&ended, &tickets_of(&ended, &guests));
     let now = go_to_now(setting.clock, ended, door);
     Ok(Interval {
@@ -163,6 +157,7 @@ fn first_seat<L: Epoch, R: Source + Drop, W: Sink + Drop>(
     limit: usize,
 ) -> Option<(Opening<L, R, W>, StreamSeat<L>)>
     requires blank { CanName blank.name blank.parts (opened_schedule setup) L.name L.parts L.opening }
+    requires is_setup { IsSetup setup }
     ensures places { IfSome result (λ made. HasPlaces made.0.hall) }
     ensures empty { IfSome result (λ made. (made.0.hall.room.turns.items ≡ [])
         × (made.0.hall.tickets.items ≡ []) × (made.0.hall.idle.items ≡ [])) }
@@ -226,17 +221,13 @@ pub(super) fn first_epoch<
     match first_seat::<L, R, W>(setting.alloc, blank, setup, limit) {
         None => {
             let refusal = Refusal::Core(Core::NoMemory);
-            door.tell(
-                ticket.number,
-                &mut Some(Answer::Refused(refusal, reader, writer)),
-            );
+            door.tell(ticket, &mut Some(Answer::Refused(refusal, reader, writer)));
             Ok(None)
         }
         Some(made) => {
             let (mut opening, seat) = made;
-            let number = ticket.number;
             opening.hall.seat(seat, ticket, Stream::new(reader, writer));
-            door.admitted(number);
+            door.admitted(ticket);
             Ok(Some(epoch(setting, opening, door)?))
         }
     }

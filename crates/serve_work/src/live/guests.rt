@@ -5,29 +5,20 @@ ghost use Rattle.serve_core.specs.Schedule.{HasStream};
 ghost use Rattle.serve_hub.specs.Seats.{StreamRest};
 ghost use Rattle.serve_work.specs.History.{EpochValue, IsHistory};
 ghost use Rattle.serve_work.specs.Live.{IsStandingOf, Waiting};
-ghost use Rattle.serve_work.specs.LiveInside.{AreAllTold, AreAsAsked, CanTell, HaveWaited};
-ghost use Rattle.serve_work.specs.LiveInside.{IsAsAsked, MayTell, ended_so};
+ghost use Rattle.serve_work.specs.LiveInside.{AreAllTold, CanTell, HaveWaited, MayTell, ended_so};
 ghost use Rattle.serve_work.specs.StreamInside.{is_waiting};
 
 use crate::chronicle::Chronicle;
 use crate::door::Door;
 use crate::request::{Answer, Standing};
 use crate::session::turn::Stream;
-use serve_core::StreamSpec;
 use serve_hub::Ended;
 use y4m_stream::{Sink, Source};
 
-/// What is kept of a request beside its stream: its number, and what the stream is to be served with.
-#[derive(Drop)]
-pub(super) struct Ticket {
-    pub(super) number: u64,
-    pub(super) spec: StreamSpec,
-}
-
-/// A stream with what is kept of its request.
+/// A stream with the ticket of its request.
 #[derive(Drop)]
 pub(super) struct Guest<R: Source, W: Sink> {
-    pub(super) ticket: Ticket,
+    pub(super) ticket: u64,
     pub(super) stream: Stream<R, W>,
 }
 
@@ -43,38 +34,6 @@ pub(super) struct Interval<R: Source, W: Sink> {
     pub(super) goes_on: bool,
 }
 
-/// Whether each stream is served with what its request asked for, as the book tells that is left. No contract
-/// can name what is under a hub's lock, so it is compared here.
-pub(super) fn are_as_asked<R: Source, W: Sink>(
-    ended: &Ended,
-    guests: &Vec<Option<Guest<R, W>>>,
-) -> bool
-    ensures { IsTrue result → AreAsAsked ended.now.book.desk ended.now.streams guests.now.items }
-{
-    for place in 0..guests.len() {
-        if !is_as_asked(ended, place, &guests[place]) {
-            return false;
-        }
-    }
-    true
-}
-
-/// Whether the stream at this place, if there is one, is served with what its request asked for.
-fn is_as_asked<R: Source, W: Sink>(ended: &Ended, place: usize, guest: &Option<Guest<R, W>>) -> bool
-    ensures { IsTrue result → IsAsAsked ended.now.book.desk ended.now.streams place guest.now }
-{
-    let Some(guest) = guest else {
-        return true;
-    };
-    let Some(number) = ended.number(place) else {
-        return false;
-    };
-    match ended.spec(number) {
-        None => false,
-        Some(spec) => spec.is_same(&guest.ticket.spec),
-    }
-}
-
 /// Tells what a stream came to whose seat was handed over at this place.
 fn tell<R: Source + Drop, W: Sink + Drop, D: Door<R, W>>(
     door: &mut D,
@@ -87,7 +46,7 @@ fn tell<R: Source + Drop, W: Sink + Drop, D: Door<R, W>>(
         × MayTell es told guest.stream × CanTell D.terms D.times es ended.now place guest w }
     ensures waits_no_longer { (es : List EpochValue) (before : List Waiting) (w : Waiting)
         (after : List Waiting) → D.stands door.old es (before ++ w ∷ after)
-        → w.ticket ≡ guest.ticket.number → D.stands door.new es (before ++ after) }
+        → w.ticket ≡ guest.ticket → D.stands door.new es (before ++ after) }
 {
     let Guest { ticket, stream } = guest;
     let mut served = stream.into_served();
@@ -98,7 +57,7 @@ fn tell<R: Source + Drop, W: Sink + Drop, D: Door<R, W>>(
         unreachable!()
     };
     served.charged = counts.charged;
-    door.tell(ticket.number, &mut Some(Answer::Ended(served)));
+    door.tell(ticket, &mut Some(Answer::Ended(served)));
 }
 
 /// Tells what came of each stream that is over, or of all where they are given up. Answers whether any is
@@ -205,7 +164,7 @@ fn show_at<R: Source + Drop, W: Sink + Drop, D: Door<R, W>>(
 {
     if let Some(guest) = &guests[place] {
         if guest.stream.is_waiting() {
-            door.show(guest.ticket.number, standing_at(ended, place));
+            door.show(guest.ticket, standing_at(ended, place));
         }
     }
 }

@@ -1,5 +1,5 @@
 //! How a session begins with its first stream, and what an epoch begins with.
-ghost use Rattle.std.specs.Prelude.{ℕ, ◌≡◌, ◌+◌, ◌<◌, ◌≤◌, ◌++◌, List, [], ◌∷◌, IfErr, IfNone, IfOk, IfSome};
+ghost use Rattle.std.specs.Prelude.{◌≡◌, ◌+◌, ◌<◌, ◌≤◌, ◌++◌, List, [], ◌∷◌, IfErr, IfNone, IfOk, IfSome};
 ghost use Rattle.std.specs.Prelude.{Some, length, map, vec_len};
 ghost use Rattle.std.specs.List.{AllByRecursion};
 ghost use Rattle.serve_work.specs.Live.{AllowsRefusal, waiting_of};
@@ -7,12 +7,12 @@ ghost use Rattle.serve_core.specs.Setup as setups;
 ghost use Rattle.serve_work.specs.History.{EpochValue};
 ghost use Rattle.serve_work.specs.Intervals.{HasNoCalls};
 ghost use Rattle.serve_work.specs.LiveInside as rules;
-ghost use Rattle.serve_work.specs.LiveInside.{HasPlaces, TakesSeat, helds_of, ticket_of, tickets_of};
+ghost use Rattle.serve_work.specs.LiveInside.{HasPlaces, TakesSeat, helds_of, tickets_of};
 ghost use Rattle.serve_work.specs.SessionInside.{IsReady, held_at};
 
 use crate::door::Door;
 use crate::live::form::Form;
-use crate::live::guests::{Guest, Ticket};
+use crate::live::guests::Guest;
 use crate::request::{Answer, Request};
 use crate::session::room::Room;
 use crate::session::turn::{Stream, Turn};
@@ -26,7 +26,7 @@ use y4m_stream::{Sink, Source, StreamReader};
 #[derive(Drop)]
 pub(super) struct FirstStream<R: Source, W: Sink> {
     pub(super) setup: Setup,
-    pub(super) ticket: Ticket,
+    pub(super) ticket: u64,
     pub(super) reader: StreamReader<R>,
     pub(super) writer: W,
 }
@@ -40,22 +40,18 @@ fn list_of(alloc: Global, spec: StreamSpec) -> Result<Vec<StreamSpec>, AllocErro
     Ok(specs)
 }
 
-/// A setup of one stream, and its spec once more.
-fn setup_of(alloc: Global, form: Form, spec: StreamSpec) -> Result<(Setup, StreamSpec), Refusal>
-    ensures setup { IfOk result (λ made.
-        made.0 ≡ setups.setup_of form.workers form.quantum (spec ∷ [])) }
-    ensures is_setup { IfOk result (λ made. setups.IsSetup made.0) }
-    ensures same { IfOk result (λ made. made.1 ≡ spec) }
+/// A setup of one stream.
+fn setup_of(alloc: Global, form: Form, spec: StreamSpec) -> Result<Setup, Refusal>
+    ensures setup { IfOk result (λ setup.
+        setup ≡ setups.setup_of form.workers form.quantum (spec ∷ [])) }
+    ensures is_setup { IfOk result setups.IsSetup }
     ensures refused { IfErr result (AllowsRefusal spec) }
 {
-    let Ok(same) = spec.try_clone() else {
-        return Err(Refusal::Core(Core::NoMemory));
-    };
     let Ok(specs) = list_of(alloc, spec) else {
         return Err(Refusal::Core(Core::NoMemory));
     };
     match Setup::new(form.workers, form.quantum, specs) {
-        Ok(setup) => Ok((setup, same)),
+        Ok(setup) => Ok(setup),
         Err(fault) => Err(refusal_of(fault)),
     }
 }
@@ -82,7 +78,7 @@ pub(super) fn set_up<R: Source + Drop, W: Sink + Drop, D: Door<R, W>>(
         × D.stands door.old es (waiting_of W.contents W.failures (length es) request ∷ []) }
     ensures stream { IfSome result (λ stream.
         (stream.setup ≡ setups.setup_of form.workers form.quantum (request.spec ∷ []))
-        × ((since : ℕ) → stream.ticket ≡ ticket_of (waiting_of W.contents W.failures since request))
+        × (stream.ticket ≡ request.ticket)
         × (stream.reader ≡ request.reader)
         × (stream.writer ≡ request.writer)) }
     ensures is_setup { IfSome result (λ stream. setups.IsSetup stream.setup) }
@@ -98,16 +94,12 @@ pub(super) fn set_up<R: Source + Drop, W: Sink + Drop, D: Door<R, W>>(
         writer,
     } = request;
     match setup_of(alloc, form, spec) {
-        Ok(made) => {
-            let (setup, spec) = made;
-            let number = ticket;
-            Some(FirstStream {
-                setup,
-                ticket: Ticket { number, spec },
-                reader,
-                writer,
-            })
-        }
+        Ok(setup) => Some(FirstStream {
+            setup,
+            ticket,
+            reader,
+            writer,
+        }),
         Err(refusal) => {
             door.tell(ticket, &mut Some(Answer::Refused(refusal, reader, writer)));
             None
@@ -119,7 +111,7 @@ pub(super) fn set_up<R: Source + Drop, W: Sink + Drop, D: Door<R, W>>(
 #[derive(Drop)]
 pub(super) struct Hall<L: Epoch, R: Source, W: Sink> {
     pub(super) room: Room<L, R, W>,
-    pub(super) tickets: Vec<Ticket>,
+    pub(super) tickets: Vec<u64>,
     /// The seats whose streams were told.
     pub(super) idle: Vec<StreamSeat<L>>,
     /// The places for the streams at the epoch's end.
@@ -141,7 +133,7 @@ impl<L: Epoch, R: Source + Drop, W: Sink + Drop> Hall<L, R, W> {
     }
 
     /// Seats one stream more.
-    pub(super) fn seat(&mut self, seat: StreamSeat<L>, ticket: Ticket, stream: Stream<R, W>)
+    pub(super) fn seat(&mut self, seat: StreamSeat<L>, ticket: u64, stream: Stream<R, W>)
         requires places { HasPlaces self.old }
         requires room_for_stream { vec_len self.old.room.turns + vec_len self.old.idle < MOST_STREAMS }
         requires tickets_fit { vec_len self.old.tickets ≤ vec_len self.old.room.turns }

@@ -36,6 +36,6 @@ fn put_ticket<R: Source, W: Sink>(
         return;
     };
     if let Some(number) = ended.number(place) {
-        tickets[number as usize] = Some(guest.ticket.number);
+        tickets[number as usize] = Some(guest.ticket);
     }
 }

@@ -9,6 +9,7 @@ use Rattle.y4m_stream.specs.Writer.{CutsShort, IsOpenedFor}
 use Rattle.serve_work.specs.Clients.{AllowsStop, ClientEnds, ClientOutcome, ClientStopsAt}
 use Rattle.serve_work.proofs.Ending.{Ends-unopened, shown_for}
 use Rattle.serve_work.proofs.Resting.{can_begin, feeding_first, opened_size}
+use Rattle.serve_work.proofs.Staying.{stays_chain}
 use Rattle.serve_work.proofs.Tallying.{if_none, none_accepted}
 use Rattle.serve_work.proofs.clients.begin.Goals as goal
 
@@ -36,7 +37,7 @@ returns-in-Err-clause-turn g c = λ start past is.
     c.header.ensures c.header-2.ensures c.shown_header.ensures c.in-Ok.ensures.shown in
     let shown : IsHeaderOfImages start.seat.chain start.reader.header h =
     subst (λ (r : ReaderState). IsHeaderOfImages start.seat.chain r.header h) is.same_reader
-    (subst (λ (chain : ChainValue). IsHeaderOfImages chain c.args.reader.header h) is.stays.chain own) in
+    (subst (λ (chain : ChainValue). IsHeaderOfImages chain c.args.reader.header h) (stays_chain start.seat c.args.seat is.stays) own) in
     let contents = g.W.Sink.contents c.in-Err.writer in
     subst (λ (o : ClientOutcome). ClientEnds start past c.end_unopened-in-Err.result.seat o) (sym u.outcome)
     (Ends-unopened start _ ClientStopsAt past c.args.seat _ _ _ _ is u.tally u.accepted refl
@@ -73,7 +74,7 @@ returns-clause-turn g c = λ start past is.
       shown = h;
       opened = c.in-Ok-open.output;
       header = subst (λ (r : ReaderState). IsHeaderOfImages start.seat.chain r.header h) is.same_reader
-          (subst (λ (chain : ChainValue). IsHeaderOfImages chain c.args.reader.header h) is.stays.chain own);
+          (subst (λ (chain : ChainValue). IsHeaderOfImages chain c.args.reader.header h) (stays_chain start.seat c.args.seat is.stays) own);
       is_opened = subst (λ n. IsOpenedFor h start.before n c.in-Ok-open.output) is.same_failures
           (subst (λ b. IsOpenedFor h b (g.W.Sink.failures c.args.writer) c.in-Ok-open.output) is.same_contents opened);
       first = is.first;
@@ -82,7 +83,7 @@ returns-clause-turn g c = λ start past is.
       same_header = ap (λ (r : ReaderState). r.header) is.same_reader;
       tally = record {
         number = is.stays.number;
-        chain = is.stays.chain;
+        spec = is.stays.spec;
         offers = is.offers;
         closes = is.closes;
         images = omega (arith, opened.frames);

@@ -7,6 +7,7 @@ use Rattle.serve_work.specs.ClientInside.{Holds, text_in}
 use Rattle.serve_work.specs.Holding.{OffersOn}
 use Rattle.serve_work.proofs.Tallying.{KeepsMoments-trans, TalliesSeat-trans, counted_later}
 use Rattle.serve_work.proofs.OfferingOn.{OffersOn-behind}
+use Rattle.serve_work.proofs.Staying.{same_chain}
 use Rattle.serve_work.proofs.holding.hold.Goals as goal
 
 pub returns-in-None-clause-answer : goal.returns-in-None-clause-answer
@@ -22,7 +23,7 @@ offer_on-requires g c = record { size = rw c.in-Some.is at c.requires.frame; unc
 pub hold_on-requires-in-Ok : goal.hold_on-requires-in-Ok
 hold_on-requires-in-Ok g c = record {
   can = record {
-    header = rw c.offer_on.ensures.tally.chain c.requires.can.header;
+    header = rw (same_chain c.args.seat.now c.offer_on.new.seat c.offer_on.ensures.tally.spec) c.requires.can.header;
     is_open = c.requires.can.is_open;
     is_unclosed = c.in-Ok.ensures.unclosed;
   };
@@ -45,7 +46,7 @@ returns-in-Ok-clause-has_held g c =
       tally = TalliesSeat-trans _ _ _ c.offer_on.ensures.tally kept.tally;
       moments = KeepsMoments-trans _ _ _ _ c.offer_on.ensures.moments kept.moments;
       stop = kept.stop;
-      frame = rw c.offer_on.ensures.tally.chain at kept.frame;
+      frame = rw (same_chain c.args.seat.now c.offer_on.new.seat c.offer_on.ensures.tally.spec) at kept.frame;
       header = kept.header;
     }
 

@@ -2,6 +2,7 @@ use Rattle.std.proofs.Common.{◌∙◌, [], refl}
 use Rattle.serve_work.proofs.Tallying.{KeepsMoments-same, KeepsMoments-trans, TalliesSeat-trans, counted_later, seat_same}
 use Rattle.serve_work.proofs.OfferingOn.{OffersOn-behind}
 use Rattle.serve_work.proofs.Passing.{HasPassed-behind, Passes-none}
+use Rattle.serve_work.proofs.Staying.{same_chain}
 use Rattle.serve_work.proofs.holding.hold_on.Goals as goal
 
 pub loop-init : goal.loop-init
@@ -23,7 +24,7 @@ hold_once-requires g c =
     let inv = c.loop.invariant in
     record {
       can = record {
-        header = rw (inv.header, inv.tally.chain) c.requires.can.header;
+        header = rw (inv.header, same_chain c.args.seat.now c.loop.seat inv.tally.spec) c.requires.can.header;
         is_open = inv.is_open;
         is_unclosed = inv.is_unclosed;
       };
@@ -58,7 +59,7 @@ returns-in-Err g c =
         tally = TalliesSeat-trans _ _ _ inv.tally c.hold_once.ensures.tally;
         moments = KeepsMoments-trans _ _ _ _ inv.moments c.hold_once.ensures.moments;
         stop = c.in-Err.ensures.stop;
-        frame = rw inv.tally.chain at c.in-Err.ensures.frame;
+        frame = rw (same_chain c.args.seat.now c.loop.seat inv.tally.spec) at c.in-Err.ensures.frame;
         header = c.hold_once.ensures.header ∙ inv.header;
       };
     }

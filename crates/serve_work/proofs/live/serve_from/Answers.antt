@@ -18,7 +18,7 @@ first_epoch-requires-clause-first g c κs within =
       rw c.in-Some.ensures.waits at.2,
       record {
         given = refl;
-        ticket = stream.1 w.since;
+        ticket = stream.1;
         is_request = record { header = c.requires.input.header; is_open = c.requires.input.is_open };
         is_setup = c.in-Some.ensures.is_setup;
         setup = stream.0 ∙ ap (λ (t : Terms). setup_of t.workers t.quantum (w.request.spec ∷ [])) c.requires.terms;

@@ -1,7 +1,6 @@
 use Rattle.std.proofs.Common.{◌++◌, [], ◌∷◌, Some, append-nil, ap, arith, inl, inr, length, refl, subst, sym}
-use Rattle.serve_core.specs.Setup.{StreamSpec}
 use Rattle.serve_work.specs.Live.{IsRequest, Waiting, waiting_of}
-use Rattle.serve_work.specs.LiveInside.{Begins, HasTurn, TakesSeat, ticket_of}
+use Rattle.serve_work.specs.LiveInside.{Begins, HasTurn}
 use Rattle.serve_work.specs.Rests.{Unbegun}
 use Rattle.serve_work.specs.StreamInside as sessions
 use Rattle.serve_work.specs.SessionInside.{IsReadyAt, held_at}
@@ -37,7 +36,7 @@ seat-requires-clause-tickets_fit g c =
       arith,
       zip_length (HasTurn g.D.Chronicle.terms g.D.Chronicle.times at.0 g.L.Epoch.opening) at.1 at.3.helds at.3.each,
       ap length at.3.tickets,
-      same_length ticket_of at.1,
+      same_length (λ (w : Waiting). w.ticket) at.1,
       ap length at.3.turns,
       same_length Some at.3.helds,
       hall.tickets.ok.0,
@@ -46,10 +45,10 @@ seat-requires-clause-tickets_fit g c =
 
 pub seat-requires-clause-ready : goal.seat-requires-clause-ready
 seat-requires-clause-ready g c =
-    let seat = c.in-Ok.made.0 in
+    let seat = c.in-Ok.seat in
     let w : Waiting = waiting_of g.W.Sink.contents g.W.Sink.failures (length c.requires.seated.0) c.args.request in
     let is : IsRequest w.request = record { header = c.requires.input.header; is_open = c.requires.input.is_open } in
-    let a = admitted c.args.request.spec seat c.in-Ok.ensures.seat in
+    let a = admitted c.args.request.spec seat c.in-Ok.ensures.sized c.in-Ok.ensures.seat in
     let es = c.requires.seated.0 in
     let b = began g.D.Chronicle.terms g.D.Chronicle.times es g.L.Epoch.opening w seat refl is a.0 (inr c.in-Ok.ensures.behind) a.1 a.2 a.3 in
     subst (λ (v : StreamValue). IsReadyAt v seat) (sym c.new.ensures)
@@ -71,7 +70,7 @@ admitted-requires g c =
         record {
           opening = g.L.Epoch.opening;
           opens = at.3.opens;
-          number = c.in-Ok.made.0.number;
+          number = c.in-Ok.seat.number;
           is_new = inr c.in-Ok.ensures.behind;
         },
       );
@@ -85,10 +84,10 @@ tell-requires-in-Err g c =
 
 pub returns-in-Ok : goal.returns-in-Ok
 returns-in-Ok g c =
-    let seat = c.in-Ok.made.0 in
+    let seat = c.in-Ok.seat in
     let w : Waiting = waiting_of g.W.Sink.contents g.W.Sink.failures (length c.requires.seated.0) c.args.request in
     let is : IsRequest w.request = record { header = c.requires.input.header; is_open = c.requires.input.is_open } in
-    let a = admitted c.args.request.spec seat c.in-Ok.ensures.seat in
+    let a = admitted c.args.request.spec seat c.in-Ok.ensures.sized c.in-Ok.ensures.seat in
     let es = c.requires.seated.0 in
     let b = began g.D.Chronicle.terms g.D.Chronicle.times es g.L.Epoch.opening w seat refl is a.0 (inr c.in-Ok.ensures.behind) a.1 a.2 a.3 in
     let held = held_at seat c.new.result in
@@ -101,8 +100,7 @@ returns-in-Ok g c =
         at.1 ++ w ∷ [],
         c.admitted.ensures.waits es (at.1 ++ w ∷ []) at.2,
         seated_more g.D.Chronicle.terms g.D.Chronicle.times es g.L.Epoch.opening at.1 c.args.hall.now c.seat.new.self w held at.3
-            (subst (λ (spec : StreamSpec). TakesSeat (record { number = w.ticket; spec = spec }) held c.args.hall.now c.seat.new.self)
-            c.in-Ok.ensures.same c.seat.ensures) turn,
+            c.seat.ensures turn,
       );
     }
 

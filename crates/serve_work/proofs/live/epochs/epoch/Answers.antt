@@ -7,12 +7,11 @@ use Rattle.serve_core.specs.Schedule.{ScheduleValue}
 use Rattle.serve_hub.specs.Ends.{AreStreamCalls, AreStreamsOf, ClocksReached, HaveStreams, IsCharged}
 use Rattle.serve_hub.specs.Seats.{HubValue, StreamRest, StreamSeatValue, left_by}
 use Rattle.serve_work.specs.declared.live.guests.Guest.{Guest}
-use Rattle.serve_work.specs.declared.live.guests.Ticket.{Ticket}
 use Rattle.serve_work.specs.Live.{Waiting}
-use Rattle.serve_work.specs.LiveInside.{AllAt, AreAsAsked, IsGuestAt, guests_of, nobody, ticket_of, with_tickets}
+use Rattle.serve_work.specs.LiveInside.{AllAt, IsGuestAt, guests_of, nobody, with_tickets}
 use Rattle.serve_work.specs.SessionInside.{HeldValue}
 use Rattle.serve_work.specs.History.{EpochValue, epoch_of, left_at}
-use Rattle.serve_work.proofs.Left.{all_mine, asked_gone, both_zip, distinct_seats, gone_on, kept_gone, numbers_within, one_epoch_more, rests_within, streams_gone}
+use Rattle.serve_work.proofs.Left.{all_mine, both_zip, distinct_seats, gone_on, kept_gone, numbers_within, one_epoch_more, rests_within, streams_gone}
 use Rattle.serve_work.proofs.Living.{all_had, guests_at, has_ended, reached_at}
 use Rattle.serve_work.specs.Workers.{HaveSpent}
 use Rattle.serve_work.proofs.SpentLeases.{seats_have_spent}
@@ -200,9 +199,9 @@ returns-clause-guests g c =
     let streams = c.fill.new.self.streams.items in
     let guests = c.append_idle.ensures.guests
     ∙ ap (λ (gs : List (Option (Guest _ _))). gs ++ nobody idle) (c.fill_guests.ensures.guests
-    ∙ ap (λ (tickets : List Ticket). guests_of tickets streams) seated.tickets) in
+    ∙ ap (λ (tickets : List ℕ). guests_of tickets streams) seated.tickets) in
     let rests = end.left ∙ ap (map left_by) own in
-    let table : whose ≡ with_tickets (map left_by seats) (guests_of (map ticket_of ws) streams ++ nobody idle) (replicate 64 None) =
+    let table : whose ≡ with_tickets (map left_by seats) (guests_of (map (λ (w : Waiting). w.ticket) ws) streams ++ nobody idle) (replicate 64 None) =
     c.tickets_of.ensures
     ∙ ap (λ (these : List StreamRest). with_tickets these c.append_idle.new.guests.items (replicate 64 None)) rests
     ∙ ap (λ (gs : List (Option (Guest _ _))). with_tickets (map left_by seats) gs (replicate 64 None)) guests in
@@ -217,10 +216,6 @@ returns-clause-guests g c =
     have seated.opens seated.history in
     let had = all_had terms times es g.L.Epoch.opening ended.book end.is_book from end.history.same of_limit end.agree.free spent whose
     gone is_gone gives c.requires.times ws seated.helds ran.0 idle seated.each ran.2 calls mine in
-    let asked = asked_gone desk gone same (map left_by seats) (guests_of (map ticket_of ws) streams ++ nobody idle)
-    (subst (λ (gs : List (Option (Guest _ _))). AreAsAsked desk (map left_by seats) gs) guests
-    (subst (λ (rests : List StreamRest). AreAsAsked desk rests c.append_idle.new.guests.items) rests
-    c.in_ok-ended.ensures.asked)) in
     let epoch : EpochValue = left_at gone (epoch_of ended whose) in
     let now : List EpochValue = epoch ∷ es in (
       now,
@@ -236,6 +231,6 @@ returns-clause-guests g c =
         charges = subst (All IsCharged) (sym same) end.charges;
         of_limit = on.limit ∙ of_limit;
         each = subst (λ (gs : List (Option (Guest _ _))). AllAt (IsGuestAt terms times now gone) gs seats ws) (sym guests)
-            (guests_at terms times now gone ws streams ran.0 idle had (c.fill.ensures.streams ran.0 ran.1) asked);
+            (guests_at _ _ terms times now gone ws streams ran.0 idle had (c.fill.ensures.streams ran.0 ran.1));
       },
     )

@@ -1,7 +1,6 @@
-use Rattle.std.proofs.Common.{◌≡◌, ◌∙◌, [], ◌∷◌, ap, arith, inl, inr, length, refl, subst, sym}
+use Rattle.std.proofs.Common.{ℕ, ◌≡◌, ◌∙◌, [], ◌∷◌, ap, arith, inl, inr, length, refl, subst, sym}
 use Rattle.serve_core.specs.Setup.{Setup}
 use Rattle.serve_work.specs.Clients.{closes_in, offers_in}
-use Rattle.serve_work.specs.declared.live.guests.Ticket.{Ticket}
 use Rattle.serve_work.specs.Live.{IsNewIn, RequestValue, Waiting}
 use Rattle.serve_work.specs.LiveInside.{AreSeated, Begins, HasTurn, TakesSeat}
 use Rattle.serve_work.specs.Rests.{Unbegun}
@@ -22,7 +21,7 @@ tell-requires g c =
         at.2,
         [],
         at.3,
-        sym (ap (λ (t : Ticket). t.number) first.ticket),
+        sym first.ticket,
         (inr refl, first.reader, first.before, first.failures_of),
       );
     }
@@ -90,7 +89,7 @@ epoch-requires-clause-seated g c κs within =
       w ∷ [],
       c.admitted.ensures.waits es (w ∷ []) c.requires.first.3,
       seated_more terms times es opening [] hall c.seat.new.self w held empty_hall
-          (subst (λ (t : Ticket). TakesSeat t held hall c.seat.new.self) first.ticket c.seat.ensures) turn,
+          (subst (λ (t : ℕ). TakesSeat t held hall c.seat.new.self) first.ticket c.seat.ensures) turn,
     )
 
 pub admitted-requires : goal.admitted-requires
@@ -109,7 +108,7 @@ admitted-requires g c =
         at.2,
         [],
         at.3,
-        sym (ap (λ (t : Ticket). t.number) at.4.ticket),
+        sym at.4.ticket,
         record {
           opening = g.L.Epoch.opening;
           opens = inl (request.spec, opens);
@@ -127,5 +126,5 @@ returns-in-None-clause-answered g c =
     let at = c.requires.first in (
       at.0,
       at.1,
-      c.tell.ensures.waits_no_longer at.0 [] at.2 [] at.3 (sym (ap (λ (t : Ticket). t.number) at.4.ticket)),
+      c.tell.ensures.waits_no_longer at.0 [] at.2 [] at.3 (sym at.4.ticket),
     )

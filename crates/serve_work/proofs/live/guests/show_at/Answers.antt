@@ -3,7 +3,6 @@ use Rattle.std.specs.Prelude.{slice_get, ⊤}
 use Rattle.serve_core.proofs.Items.Lists.{slice_get_here}
 use Rattle.serve_hub.specs.Ends.{IsStreamOf}
 use Rattle.serve_hub.specs.Seats.{left_by}
-use Rattle.serve_work.specs.declared.live.guests.Ticket.{Ticket}
 use Rattle.serve_work.specs.LiveInside.{IsGuestAt}
 use Rattle.serve_work.proofs.Answering.{can_tell, guest_at}
 use Rattle.serve_work.proofs.Retiring.{some_and}
@@ -44,10 +43,10 @@ show-requires g c =
         at.w,
         at.after,
         subst (g.D.Chronicle.stands c.args.door.now a.0) at.split a.2,
-        sym (ap (λ (t : Ticket). t.number) at.is.0),
+        sym at.is.0,
         can_show g.D.Chronicle.terms g.D.Chronicle.times a.0 desk
             at.w c.in-Some.guest.stream told.seat c.standing_at.result told.history told.stood
-            (sym c.is_waiting.ensures ∙ c.if-is_waiting.true) told.kept told.asked
+            (sym c.is_waiting.ensures ∙ c.if-is_waiting.true) told.kept
             (c.standing_at.ensures (left_by told.seat) told.here),
       );
     }

@@ -3,7 +3,6 @@ use Rattle.std.specs.Prelude.{slice_get}
 use Rattle.std.specs.Option.{option_map}
 use Rattle.serve_core.specs.Schedule.{HasStream}
 use Rattle.serve_hub.specs.Seats.{StreamRest}
-use Rattle.serve_work.specs.declared.live.guests.Ticket.{Ticket}
 use Rattle.serve_work.specs.Clients.{ClientOutcome}
 use Rattle.serve_work.specs.Live.{IsNotCut, IsServedSince}
 use Rattle.serve_work.specs.Sessions.{ServedValue}
@@ -33,13 +32,13 @@ tell-requires g c =
         can.3,
         can.4,
         can.5,
-        sym (ap (λ (t : Ticket). t.number) told.ticket),
+        sym told.ticket,
         subst (λ (o : ClientOutcome). let s : ServedValue = record { outcome = o; charged = counts.charged } in
             (since : IsServedSince g.D.Chronicle.terms g.D.Chronicle.times can.1 can.3 s)
             × IsNotCut g.D.Chronicle.terms g.D.Chronicle.times can.1 can.3 s since)
             (sym (ap (λ (s : ServedValue). s.outcome) c.served.view_is))
             (answered _ _ can.0 can.1 _ can.3 _ _ (record { outcome = over.result.outcome; charged = counts.charged }) told.history
-            told.stood over.ensures.ends over.ensures.own told.charges told.kept charged told.asked
+            told.stood over.ensures.ends over.ensures.own told.charges told.kept charged
             (kept_allowed g.D.Chronicle.times (stream_stop c.args.guest.stream) (Some over.result.outcome.stop) over.ensures.stop
             told.stood.stop) can.6),
       );

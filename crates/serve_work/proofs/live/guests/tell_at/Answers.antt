@@ -1,6 +1,5 @@
 use Rattle.std.proofs.Common.{◌≡◌, ◌⊎◌, ◌∙◌, ◌++◌, IfSome, IsFalse, IsTrue, List, None, Option, Some, ap, arith, slice_get, subst, sym}
 use Rattle.serve_work.specs.declared.live.guests.Guest.{Guest}
-use Rattle.serve_work.specs.declared.live.guests.Ticket.{Ticket}
 use Rattle.serve_work.specs.LiveInside.{AreGuests, IsGuestAt, ended_so}
 use Rattle.serve_work.specs.StreamInside.{is_waiting}
 use Rattle.serve_core.proofs.Items.Lists.{slice_get_here}
@@ -46,7 +45,7 @@ returns-in-Some-clause-guests g c =
     a.3.each (c.take_at.ensures.taken ∙ ap Some c.in-Some.is) in
     let told = c.tell.ensures.waits_no_longer (ended_so c.args.gives_up a.0) at.before at.w at.after
     (subst (g.D.Chronicle.stands c.args.door.now (ended_so c.args.gives_up a.0)) at.split a.2)
-    (sym (ap (λ (t : Ticket). t.number) at.is.0)) in (
+    (sym at.is.0) in (
       a.0,
       at.before ++ at.after,
       told,

@@ -11,5 +11,5 @@ returns-in-Err-clause-refused c =
     let form = c.args.form in
     subst (AllowsRefusal c.args.spec) (sym c.refusal_of.ensures)
     (refused_alone form.workers form.quantum c.args.spec fault form.in_range
-    (subst (λ (specs : List StreamSpec). IsFault fault (setup_of form.workers form.quantum specs)) c.in-Ok-list_of.ensures
+    (subst (λ (specs : List StreamSpec). IsFault fault (setup_of form.workers form.quantum specs)) c.in-Ok.ensures
     c.in-Err.ensures.refused))

@@ -7,6 +7,7 @@ use Rattle.serve_work.proofs.Allowing.{first_allowed}
 use Rattle.serve_work.proofs.Tallying.{KeepsMoments-trans, Tallies-still, Tallies-trans, counted_later}
 use Rattle.serve_work.proofs.Resting.{fed_from}
 use Rattle.serve_work.proofs.Spoiling.{spoilt_from}
+use Rattle.serve_work.proofs.Staying.{same_chain}
 use Rattle.serve_work.proofs.Hands.{tally_silent}
 use Rattle.serve_work.proofs.Stopping.{Feeds-closed, Serves-spoilt, Serves-torn, close_moments, drain_few, drain_none}
 use Rattle.serve_work.proofs.Stopping.{drain_size, drain_writing, first_fault, moves_until, of_no_use}
@@ -56,7 +57,7 @@ hold_left-requires g c =
     let kept = c.feed.ensures.has_fed in
     let fed = c.in-Held.ensures.answer can.past can.before can.counted can.holds in
     record {
-      header = rw (kept.header, kept.tally.seat.chain) c.requires.header;
+      header = rw (kept.header, same_chain c.args.self.now.seat c.feed.new.self.seat kept.tally.seat.spec) c.requires.header;
       can = record {
         is_open = fed.is_open;
         frame = tt;
