@@ -11,7 +11,7 @@ use Rattle.serve_hub.specs.Seats.{StreamRest, StreamSeatValue, left_by}
 use Rattle.serve_work.specs.declared.live.guests.Guest.{Guest}
 use Rattle.serve_work.specs.Clients.{AllowsStop, ClientEnds, ClientStart, StreamEnds}
 use Rattle.serve_work.specs.History.{AreEpochsBy, EpochValue, IsHistory, Terms, given_up}
-use Rattle.serve_work.specs.Live.{HasAtEnd, IsBehind, IsNotCut, IsOfSpec, IsServedSince, Waiting, start_with}
+use Rattle.serve_work.specs.Live.{HasAtEnd, IsBehind, IsNotCut, IsServedSince, Waiting, start_with}
 use Rattle.serve_work.specs.LiveInside.{AllAt, AreAllTold, AreGuests, CanTell, MayTell, ended_so, IsGuestAt, Stood}
 use Rattle.serve_work.specs.Sessions.{IsStreamTold, ServedValue}
 use Rattle.serve_work.specs.SessionInside.{StandsAt}
@@ -19,8 +19,6 @@ use Rattle.serve_work.specs.StreamInside.{StreamValue, is_waiting}
 use Rattle.serve_work.proofs.Renumbered.{stream_before}
 use Rattle.serve_work.proofs.SessionCharges.{served_one}
 use Rattle.serve_work.proofs.Left.{streams_gone}
-use Rattle.serve_work.proofs.Retiring.{some_and}
-use Rattle.serve_work.proofs.SessionTurns.{seat_spec}
 
 -- what holds of a stream where its latest epoch was left, perhaps without the released streams, held at its end
 pub at_end : (terms : Terms) (spec : StreamSpec) (es : List EpochValue) (number : ℕ) (before : List ℕ) (desk : ScheduleValue) (now : ℕ)
@@ -73,7 +71,6 @@ since_given_up terms times (epoch ∷ es) w served since = (
     numbers = since.numbers;
     calls = since.calls;
     stream = since.stream;
-    spec = since.spec;
     stop = since.stop;
   },
   inl refl,
@@ -89,14 +86,6 @@ told_so terms times es told w stream served since own (inl may) =
 told_so terms times es told w stream served since own (inr may) =
     subst (λ (these : List EpochValue). (all : IsServedSince terms times these w served) × IsNotCut terms times these w served all)
     (sym may) (since_given_up terms times es w served since)
-
--- a stream is served with what its request asked for: so its seat told it where it was new, and tells it still
-pub as_asked : (terms : Terms) (times : ℕ → Type 0) (es : List EpochValue) (desk : ScheduleValue) (w : Waiting)
-    (stream : StreamValue) (seat : StreamSeatValue) → Stood terms times es desk w stream seat
-    → HasStream desk seat.number (IsStreamOf seat) → HasStream desk seat.number (IsOfSpec w.request.spec)
-as_asked terms times es desk w stream seat s has =
-    some_and (IsStreamOf seat) (IsOfSpec w.request.spec) (slice_get desk.streams seat.number)
-    (λ x of. of.spec ∙ seat_spec (start_with w.request s.first) s.past seat stream s.stands ∙ s.is_new.told) has
 
 pub answered : (terms : Terms) (times : ℕ → Type 0) (es told : List EpochValue) (desk : ScheduleValue) (w : Waiting)
     (stream : StreamValue) (seat : StreamSeatValue) (served : ServedValue) → IsHistory terms times es
@@ -123,8 +112,6 @@ answered terms times es told desk w stream seat served history s ends own all of
       calls = rw (one.past_of, one.seat_of) s.calls;
       stream = at_end terms w.request.spec es s.number s.before desk seat.number (IsStreamTold served) history.epochs_are s.behind
           one.stream;
-      spec = at_end terms w.request.spec es s.number s.before desk seat.number (IsOfSpec w.request.spec) history.epochs_are s.behind
-          (as_asked terms times es desk w stream seat s of);
       stop = stop;
     } in
     told_so terms times es told w stream served since

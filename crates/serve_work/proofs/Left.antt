@@ -1,7 +1,8 @@
 -- How an epoch is left, and whose stream each of its numbers was.
-use Rattle.std.specs.Prelude.{All, IsSomeAnd, drop, slice_get, slice_set}
+use Rattle.std.specs.Prelude.{All, IsSomeAnd, drop, replicate, slice_get, slice_set}
 use Rattle.std.specs.List.{AllZip}
-use Rattle.std.proofs.Common.{◌≡◌, ℕ, zero, suc, ◌<◌, List, [], ◌∷◌, ◌++◌, length, get_or, length-set, map, Option, Some, None, inl}
+use Rattle.std.proofs.lemmas.List.{length-replicate}
+use Rattle.std.proofs.Common.{◌≡◌, ℕ, zero, suc, ◌<◌, ◌≤◌, List, [], ◌∷◌, ◌++◌, length, get_or, length-set, map, Option, Some, None, inl}
 use Rattle.std.proofs.Common.{inr, refl, sym, ap, ◌∙◌, subst, arith}
 use Rattle.serve_core.specs.Schedule.{ScheduleValue}
 use Rattle.serve_core.specs.Streams.{KeptStream}
@@ -56,7 +57,7 @@ module _ {R W : Type 0} where
 
 -- where the numbers are all different, each stream's ticket is at its number
 module _ (R W : Type 0) where
-  pub all_mine : (ws : List Waiting) (streams : List StreamValue) (after : List HeldValue) (idle : List StreamSeatValue)
+  all_mine : (ws : List Waiting) (streams : List StreamValue) (after : List HeldValue) (idle : List StreamSeatValue)
       (tickets : List (Option ℕ)) → AllZip (λ (w : Waiting) (held : HeldValue). Unit {0}) ws after
       → streams ≡ map (λ held. held.stream) after
       → AreDistinct (map (λ seat. seat.number) (map (λ held. held.seat) after ++ idle))
@@ -77,7 +78,7 @@ module _ (R W : Type 0) where
             (λ m i. let less = within m (inr i) in omega (arith, less, length-set tickets n (Some w.ticket))),
       )
 
-pub both_zip : (P : Waiting → HeldValue → Type 0) (Q : HeldValue → HeldValue → Type 0) (ws : List Waiting) (old new : List HeldValue)
+both_zip : (P : Waiting → HeldValue → Type 0) (Q : HeldValue → HeldValue → Type 0) (ws : List Waiting) (old new : List HeldValue)
     → AllZip P ws old → AllZip Q old new → AllZip (λ (w : Waiting) (held : HeldValue). Unit {0}) ws new
 both_zip P Q [] [] [] p q = tt
 both_zip P Q [] [] (held ∷ new) p q = absurd q
@@ -93,7 +94,7 @@ number_in [] n k seat less here is = absurd (omega (arith, less))
 number_in (x ∷ seats) n zero seat less here is = inl (ap (λ (s : StreamSeatValue). s.number) here ∙ is)
 number_in (x ∷ seats) n (suc k) seat less here is = inr (number_in seats n k seat (omega (arith, less)) here is)
 
-pub distinct_seats : (seats : List StreamSeatValue) (count : ℕ) → length seats ≡ count → HaveStreams count seats
+distinct_seats : (seats : List StreamSeatValue) (count : ℕ) → length seats ≡ count → HaveStreams count seats
     → AreDistinct (map (λ seat. seat.number) seats)
 distinct_seats seats count many have =
     let each : length (map (λ (seat : StreamSeatValue). seat.number) seats) ≡ count =
@@ -122,3 +123,24 @@ rests_within most [] within k d less = absurd (omega (arith, less))
 rests_within most (seat ∷ seats) within zero d less = within seat.number (inl refl)
 rests_within most (seat ∷ seats) within (suc k) d less =
     rests_within most seats (λ n i. within n (inr i)) k d (omega (arith, less))
+
+-- so the table has the ticket of each request at the number of its stream
+module _ (R W : Type 0) where
+  pub all_told : (P : Waiting → HeldValue → Type 0) (Q : HeldValue → HeldValue → Type 0) (desk : ScheduleValue) (ws : List Waiting)
+      (streams : List StreamValue) (helds after : List HeldValue) (idle : List StreamSeatValue) (table : List (Option ℕ))
+      → table ≡ with_tickets (map left_by (map (λ held. held.seat) after ++ idle))
+      (guests_of {R = R} {W = W} (map (λ w. w.ticket) ws) streams ++ nobody idle) (replicate 64 None)
+      → AllZip P ws helds → AllZip Q helds after → streams ≡ map (λ held. held.stream) after
+      → length (map (λ held. held.seat) after ++ idle) ≤ 64
+      → length (map (λ held. held.seat) after ++ idle) ≡ length desk.streams
+      → HaveStreams (length desk.streams) (map (λ held. held.seat) after ++ idle)
+      → AreStreamsOf desk (map (λ held. held.seat) after ++ idle)
+      → AllZip (λ w held. slice_get table held.seat.number ≡ Some (Some w.ticket)) ws after
+  all_told P Q desk ws streams helds after idle table is seated went same few many have kept =
+      let seats = map (λ (held : HeldValue). held.seat) after ++ idle in
+      let within = numbers_within desk seats kept in
+      subst (λ (these : List (Option ℕ)). AllZip (λ (w : Waiting) (held : HeldValue).
+      slice_get these held.seat.number ≡ Some (Some w.ticket)) ws after) (sym is)
+      (all_mine R W ws streams after idle (replicate 64 None) (both_zip P Q ws helds after seated went) same
+      (distinct_seats seats (length desk.streams) many have)
+      (λ n i. let less = within n i in omega (arith, less, many, few, length-replicate {A = Option ℕ} 64 None)))

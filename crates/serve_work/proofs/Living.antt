@@ -8,14 +8,14 @@ use Rattle.frame_view.specs.declared.geometry.Geometry.{Geometry}
 use Rattle.serve_core.specs.Bare.{measures_any, is_any_image}
 use Rattle.serve_core.specs.Desk.{desk_state}
 use Rattle.serve_core.specs.Reached.{IsReached}
-use Rattle.serve_core.specs.Schedule.{ScheduleValue, opened_schedule}
+use Rattle.serve_core.specs.Schedule.{HasStream, ScheduleValue, opened_schedule}
 use Rattle.serve_core.specs.Setup.{IsSetup, Setup, StreamSpec, setup_of}
 use Rattle.serve_hub.specs.declared.entry.Act.{Act}
 use Rattle.serve_hub.specs.declared.entry.Seat.TheVariants as numbered
 use Rattle.serve_hub.specs.declared.moments.Moments.{Moments}
 use Rattle.serve_hub.specs.Books.{BookValue, IsBook, opening_of, specs_of}
 use Rattle.serve_hub.specs.Calls.{Admits}
-use Rattle.serve_hub.specs.Ends.{AreFree, AreStreamCalls, ClockReached, ClocksReached, HaveStreams, acts_of}
+use Rattle.serve_hub.specs.Ends.{AreFree, AreStreamCalls, AreStreamsOf, ClockReached, ClocksReached, HaveStreams, IsStreamOf, acts_of}
 use Rattle.serve_hub.specs.Ends as hubs
 use Rattle.serve_hub.specs.Seats.{StreamRest, StreamSeatValue, left_by, opened_rest, seat_over, spec_told}
 use Rattle.serve_work.specs.declared.live.guests.Guest.{Guest}
@@ -24,7 +24,7 @@ use Rattle.serve_work.specs.Clients.{AreAtMoments, IsUnclosed, closes_in, offers
 use Rattle.serve_work.specs.ClientInside.{KeepsMoments}
 use Rattle.serve_work.specs.History.{EpochValue, HasEnded, IsEpochBy, IsGone, IsHistory, OpensBehind, OpensFor, Terms}
 use Rattle.serve_work.specs.Intervals.{HasNoCalls}
-use Rattle.serve_work.specs.Live.{IsBehind, IsNewIn, IsRequest, IsSeatFor, Waiting, acts_by, start_with}
+use Rattle.serve_work.specs.Live.{AreAllIn, IsBehind, IsNewIn, IsOfSpec, IsRequest, IsSeatFor, Waiting, acts_by, start_with}
 use Rattle.serve_work.specs.LiveInside.{AllAt, AreSeated, Begins, HadTurn, HasPlaces, HasTurn, IsGuestAt, IsGuestIn, Stood}
 use Rattle.serve_work.specs.LiveInside.{TakesSeat, guests_of, helds_of, nobody, tickets_of}
 use Rattle.serve_work.specs.Rests.{IsFresh, Unbegun}
@@ -35,7 +35,8 @@ use Rattle.serve_work.specs.SessionInside.{AllGoOn, GoesOn, HeldValue, IsReady, 
 use Rattle.serve_work.specs.StreamInside.{StreamValue, stream_stop}
 use Rattle.serve_work.proofs.Intervals.{ready_at, reopened, stands_across}
 use Rattle.serve_work.proofs.Journals.{ends_epoch}
-use Rattle.serve_work.proofs.SessionTurns.{map_more, seat_number}
+use Rattle.serve_work.proofs.Retiring.{some_and}
+use Rattle.serve_work.proofs.SessionTurns.{map_more, seat_number, seat_spec}
 use Rattle.serve_work.proofs.Staying.{Stays-same}
 use Rattle.serve_work.proofs.Times.{allowed_too, no_offer, timed_too}
 use Rattle.serve_work.proofs.Timing.{timed}
@@ -113,6 +114,14 @@ may_go terms times es opening w stream seat b =
     ready_at (start_with w.request b.first) (acts_by b.numbers es) seat stream b.stands
     (rw chain b.is_request.header)
 
+-- it is served with what its request asked for: so its seat told it where it was new, and tells it still
+as_asked : (desk : ScheduleValue) (w : Waiting) (first : StreamSeatValue) (past : List Act) (stream : StreamValue)
+    (seat : StreamSeatValue) → IsSeatFor w.request.spec first → StandsAt stream (start_with w.request first) past seat
+    → HasStream desk seat.number (IsStreamOf seat) → HasStream desk seat.number (IsOfSpec w.request.spec)
+as_asked desk w first past stream seat new stands has =
+    some_and (IsStreamOf seat) (IsOfSpec w.request.spec) (slice_get desk.streams seat.number)
+    (λ x of. of.spec ∙ seat_spec (start_with w.request first) past seat stream stands ∙ new.told) has
+
 -- the seat of this number is one of those of which this holds
 at_place : {A : Type 0} (P : A → Type 0) (xs : List A) (k : ℕ) (d : A) → AllByRecursion P xs → k < length xs → P (get_or xs k d)
 at_place P [] k d all less = absurd (omega (arith, less))
@@ -171,9 +180,9 @@ module _ (terms : Terms) (times : ℕ → Type 0) (es : List EpochValue) (openin
 
     went : (w : Waiting) (old new : HeldValue) → HasTurn terms times es opening w old
         → GoesOn Gives old new → acts_of (numbered.Stream new.seat.number) (reverse book.past) ≡ new.seat.calls.list
-        → slice_get whose new.seat.number ≡ Some (Some w.ticket)
+        → HasStream book.desk new.seat.number (IsStreamOf new.seat) → slice_get whose new.seat.number ≡ Some (Some w.ticket)
         → HadTurn terms times (this_epoch ∷ es) gone w new
-    went w old new b on own mine =
+    went w old new b on own kept mine =
         let start = start_with w.request b.first in
         let past : List Act = acts_by b.numbers es in
         let stands : StandsAt new.stream start past new.seat = on.0 start past b.stands in
@@ -188,6 +197,7 @@ module _ (terms : Terms) (times : ℕ → Type 0) (es : List EpochValue) (openin
           before = b.numbers;
           had = (
             mine,
+            as_asked book.desk w b.first past new.stream new.seat b.is_new stands kept,
             subst (λ (x : ScheduleValue). IsBehind terms w.request.spec b.numbers es x new.seat.number) (sym from)
                 (subst (λ (n : ℕ). IsBehind terms w.request.spec b.numbers es opening n) (sym number) b.behind),
             b.had,
@@ -201,16 +211,18 @@ module _ (terms : Terms) (times : ℕ → Type 0) (es : List EpochValue) (openin
     pub all_had : (ws : List Waiting) (helds after : List HeldValue) (idle : List StreamSeatValue)
         → AllZip (HasTurn terms times es opening) ws helds → AllGoOn Gives helds after
         → AreStreamCalls (reverse book.past) (map (λ held. held.seat) after ++ idle)
+        → AreStreamsOf book.desk (map (λ held. held.seat) after ++ idle)
         → AllZip (λ w held. slice_get whose held.seat.number ≡ Some (Some w.ticket)) ws after
         → AllZip (HadTurn terms times (this_epoch ∷ es) gone) ws after
-    all_had [] [] [] idle p q calls mine = tt
-    all_had [] [] (held ∷ after) idle p q calls mine = absurd q
-    all_had [] (held ∷ helds) after idle p q calls mine = absurd p
-    all_had (w ∷ ws) [] after idle p q calls mine = absurd p
-    all_had (w ∷ ws) (held ∷ helds) [] idle p q calls mine = absurd q
-    all_had (w ∷ ws) (held ∷ helds) (next ∷ after) idle p q calls mine = (
-      went w held next p.0 q.0 (calls 0 next.seat (omega arith)) mine.0,
-      all_had ws helds after idle p.1 q.1 (λ k d less. calls (suc k) d (omega (arith, less))) mine.1,
+    all_had [] [] [] idle p q calls kept mine = tt
+    all_had [] [] (held ∷ after) idle p q calls kept mine = absurd q
+    all_had [] (held ∷ helds) after idle p q calls kept mine = absurd p
+    all_had (w ∷ ws) [] after idle p q calls kept mine = absurd p
+    all_had (w ∷ ws) (held ∷ helds) [] idle p q calls kept mine = absurd q
+    all_had (w ∷ ws) (held ∷ helds) (next ∷ after) idle p q calls kept mine = (
+      went w held next p.0 q.0 (calls 0 next.seat (omega arith)) (kept 0 next.seat (omega arith)) mine.0,
+      all_had ws helds after idle p.1 q.1 (λ k d less. calls (suc k) d (omega (arith, less)))
+          (λ k d less. kept (suc k) d (omega (arith, less))) mine.1,
     )
 
     -- each entry of a frame is at one of these times
@@ -255,6 +267,15 @@ module _ (terms : Terms) (times : ℕ → Type 0) (es : List EpochValue) (openin
           timed = λ s less. timed_at (λ n. AreTimed times n (specs_of book.desk) (opening_of book) book.past)
               (map (λ held. held.seat) after ++ idle) s (have s less) all;
         }
+
+-- each of them was in the latest of these epochs
+pub all_in : (terms : Terms) (times : ℕ → Type 0) (es : List EpochValue) (last : ScheduleValue) (ws : List Waiting) (helds : List HeldValue)
+    → AllZip (HadTurn terms times es last) ws helds → AreAllIn terms es ws
+all_in terms times es last [] [] p = tt
+all_in terms times es last [] (held ∷ helds) p = absurd p
+all_in terms times es last (w ∷ ws) [] p = absurd p
+all_in terms times es last (w ∷ ws) (held ∷ helds) p =
+    ((p.0.number, p.0.before, p.0.had), all_in terms times es last ws helds p.1)
 
 pub all_pushed : {A : Type 0} (P : A → Type 0) (xs : List A) (x : A) → AllByRecursion P xs → P x → AllByRecursion P (xs ++ x ∷ [])
 all_pushed P [] x all p = (p, tt)

@@ -12,12 +12,12 @@ use Rattle.serve_work.specs.declared.request.Standing.{Standing}
 use Rattle.serve_work.specs.Clients.{ClientStart, collections_in, offers_in}
 use Rattle.serve_work.specs.History.{EpochValue, IsHistory, IsLeftBy, Terms}
 use Rattle.serve_work.specs.Live as requests
-use Rattle.serve_work.specs.Live.{IsOfSpec, IsStanding, IsStandingOf, start_with}
+use Rattle.serve_work.specs.Live.{IsStanding, IsStandingOf, start_with}
 use Rattle.serve_work.specs.LiveInside.{Stood}
 use Rattle.serve_work.specs.Rests.{Begun, IsRestOf, RestValue, Unbegun}
 use Rattle.serve_work.specs.SessionInside.{StandsAt}
 use Rattle.serve_work.specs.StreamInside.{Over, StreamValue, Waiting, is_waiting}
-use Rattle.serve_work.proofs.Answering.{as_asked, at_end}
+use Rattle.serve_work.proofs.Answering.{at_end}
 use Rattle.serve_work.proofs.SessionCharges.{stream_at}
 use Rattle.serve_work.proofs.Tallying.{collections_both, collections_counted}
 
@@ -98,8 +98,6 @@ can_show terms times es desk w stream seat standing history s waits of has =
         collections_counted seat.calls.list,
       );
       stream = at_end terms w.request.spec es s.number s.before desk seat.number (IsStandingOf standing) history.epochs_are s.behind has;
-      spec = at_end terms w.request.spec es s.number s.before desk seat.number (IsOfSpec w.request.spec) history.epochs_are s.behind
-          (as_asked terms times es desk w stream seat s of);
     }
 
 -- all are shown by the clock with which their epoch was left

@@ -1,6 +1,7 @@
 -- What is told of the streams of a session that come and go.
 use Rattle.std.specs.Prelude.{ℕ, IsTrue, ◌≡◌, ◌≤◌, ◌⊎◌, ◌++◌, false, List, [], ◌∷◌, Option}
 use Rattle.std.specs.Prelude.{None, Some, length, reverse, slice_get}
+use Rattle.std.specs.List.{AllByRecursion}
 use Rattle.cbs_account.specs.declared.limits.TheConstants.{MOST_ENTRIES, MOST_QUANTUM, MOST_WORKERS}
 use Rattle.y4m_stream.specs.declared.reader.Phase.TheVariants.{Open}
 use Rattle.y4m_stream.specs.Reader.{IsOfHeader, ReaderState}
@@ -111,25 +112,31 @@ IsBehind terms spec (old ∷ numbers) [] opening number = ⊥
 IsBehind terms spec (old ∷ numbers) (epoch ∷ epochs) opening number =
     IsKept epoch.gone old opening number
 
--- the stream of this request was in each of these epochs since it was given, had these numbers there, the
--- latest first, and was new in the first. Two that wait at once were both in each epoch since the later one
--- was given, and each epoch opens for one stream alone or as the one before was left: so they share a hub
+-- the stream is served with this: its chain, its share, its places and its frames
+abbrev pub IsOfSpec : StreamSpec → KeptStream → Type 0
+IsOfSpec spec stream = stream.state.spec ≡ spec
+
+-- the stream of this request was in each of these epochs since it was given, and served with what it asked
+-- for. It had these numbers there, the latest first, and was new in the first
 abbrev pub HadNumbers : Terms → Waiting → List ℕ → List EpochValue → Type 0
 HadNumbers terms w [] epochs = length epochs ≡ w.since
 HadNumbers terms w (number ∷ numbers) [] = ⊥
 HadNumbers terms w (number ∷ numbers) (epoch ∷ epochs) =
     (slice_get epoch.whose number ≡ Some (Some w.ticket))
+    × HasStream epoch.last number (IsOfSpec w.request.spec)
     × IsBehind terms w.request.spec numbers epochs epoch.opening number
     × HadNumbers terms w numbers epochs
+
+-- each of these requests has a stream in the latest of these epochs. An epoch opens for one stream alone or as
+-- the one before was left: so two that wait where it ends share a hub since the later one was given
+abbrev pub AreAllIn : Terms → List EpochValue → List Waiting → Type 0
+AreAllIn terms epochs ws =
+    AllByRecursion (λ w. (number : ℕ) × (before : List ℕ) × HadNumbers terms w (number ∷ before) epochs) ws
 
 -- at the end of the latest of these epochs a stream of this number is there, and so it is
 abbrev pub HasAtEnd : List EpochValue → ℕ → (KeptStream → Type 0) → Type 0
 HasAtEnd [] number P = ⊥
 HasAtEnd (epoch ∷ epochs) number P = HasStream epoch.last number P
-
--- the stream is served with this: its chain, its share, its places and its frames
-abbrev pub IsOfSpec : StreamSpec → KeptStream → Type 0
-IsOfSpec spec stream = stream.state.spec ≡ spec
 
 -- these are the session's epochs until now, and the stream of this request was served with what it asked for
 -- in those since it was given, by its calls in their journals. It is told as it stood at the end of the last.
@@ -145,7 +152,6 @@ pub record IsServedSince (terms : Terms) (times : ℕ → Type 0) (epochs : List
   pub numbers : HadNumbers terms w (number ∷ before) epochs
   pub calls : is_served.past ++ is_served.seat.calls.list ≡ acts_by (number ∷ before) epochs
   pub stream : HasAtEnd epochs number (IsStreamTold served)
-  pub spec : HasAtEnd epochs number (IsOfSpec w.request.spec)
   pub stop : AllowsStop times served.outcome.stop
 
 -- as the stream stands, it is shown
@@ -177,7 +183,6 @@ pub record IsStanding (terms : Terms) (times : ℕ → Type 0) (epochs : List Ep
   pub accepted : standing.accepted ≡ offers_in (past ++ seat.calls.list)
   pub collected : standing.collected ≡ collections_in (past ++ seat.calls.list)
   pub stream : HasAtEnd epochs number (IsStandingOf standing)
-  pub spec : HasAtEnd epochs number (IsOfSpec w.request.spec)
 
 -- how many entries an epoch's journal may have: a close of each of 64 streams, an admission of each, and a
 -- lease with its settlement

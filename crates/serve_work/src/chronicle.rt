@@ -1,7 +1,7 @@
 //! What is told of a session whose streams come and go, epoch by epoch.
 ghost use Rattle.std.specs.Prelude.{ℕ, ◌≡◌, ◌≤◌, List, ◌∷◌, Option};
 ghost use Rattle.serve_work.specs.History.{EpochValue, HasEnded, Terms, epoch_of, given_up, gone_to};
-ghost use Rattle.serve_work.specs.Live.{Waiting};
+ghost use Rattle.serve_work.specs.Live.{AreAllIn, Waiting};
 
 use cbs_account::limits::LAST_MOMENT;
 use serve_hub::Ended;
@@ -17,11 +17,12 @@ pub trait Chronicle {
     /// That it was told of these epochs, the latest first, and that these requests wait, the oldest first.
     ghost stands: { Self → List EpochValue → List Waiting → Type 0 };
 
-    /// An epoch has ended. The tickets of the requests are by the numbers of their streams. There is none of
-    /// a stream that was told before.
+    /// An epoch has ended, in which all requests that wait had their streams. Their tickets are by the numbers
+    /// of their streams. There is none of a stream that was told before.
     fn epoch_ended(&mut self, ended: &Ended, tickets: &[Option<u64>])
         requires epoch { (es : List EpochValue) × (ws : List Waiting) × stands self.old es ws
-            × HasEnded terms times es (epoch_of ended.now tickets.now) }
+            × HasEnded terms times es (epoch_of ended.now tickets.now)
+            × AreAllIn terms (epoch_of ended.now tickets.now ∷ es) ws }
         ensures one_more { (es : List EpochValue) (ws : List Waiting)
             → stands self.old es ws → stands self.new (epoch_of ended.now tickets.now ∷ es) ws };
 

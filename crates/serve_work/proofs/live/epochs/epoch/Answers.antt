@@ -11,8 +11,8 @@ use Rattle.serve_work.specs.Live.{Waiting}
 use Rattle.serve_work.specs.LiveInside.{AllAt, IsGuestAt, guests_of, nobody, with_tickets}
 use Rattle.serve_work.specs.SessionInside.{HeldValue}
 use Rattle.serve_work.specs.History.{EpochValue, epoch_of, left_at}
-use Rattle.serve_work.proofs.Left.{all_mine, both_zip, distinct_seats, gone_on, kept_gone, numbers_within, one_epoch_more, rests_within, streams_gone}
-use Rattle.serve_work.proofs.Living.{all_had, guests_at, has_ended, reached_at}
+use Rattle.serve_work.proofs.Left.{all_told, gone_on, kept_gone, numbers_within, one_epoch_more, rests_within, streams_gone}
+use Rattle.serve_work.proofs.Living.{all_had, all_in, guests_at, has_ended, reached_at}
 use Rattle.serve_work.specs.Workers.{HaveSpent}
 use Rattle.serve_work.proofs.SpentLeases.{seats_have_spent}
 use Rattle.serve_work.proofs.SessionTurns.{same_length}
@@ -126,23 +126,53 @@ epoch_ended-requires g c =
     let ran = c.run_threads-turns.ensures.run seated.helds seated.turns in
     let ended = c.in_ok-ended.ended in
     let end = c.in_ok-ended.ensures.end in
+    let whose : List (Option ℕ) = c.tickets_of.result in
+    let desk : ScheduleValue = ended.book.desk in
     let idle : List StreamSeatValue = c.admit_all.new.hall.idle.items in
     let own = c.append_idle.ensures.seats ∙ ap (λ (seats : List StreamSeatValue). seats ++ idle) (c.fill.ensures.seats ran.0 ran.1) in
-    let spent = subst (λ (n : ℕ). HaveSpent n ended.book.past) (sym end.all_workers)
-    (seats_have_spent _ ended.book.past _ end.agree.of_workers end.agree.each_worker c.in_ok-ended.ensures.spent) in
+    let seats = map (λ (held : HeldValue). held.seat) ran.0 ++ idle in
+    let calls = subst (AreStreamCalls (reverse ended.book.past)) own end.agree.of_streams in
+    let reached = subst (ClocksReached ended.book) own end.agree.clock_reached in
+    let have = subst (HaveStreams (length desk.streams)) own end.agree.each_stream in
+    let kept = subst (AreStreamsOf desk) own end.agree.kept in
     let of_limit = end.agree.limit ∙ ap (λ (hub : HubValue). hub.limit) (c.into_hub-hub.ensures ∙ c.new-owner.ensures)
     ∙ c.requires.limit in
+    let spent = subst (λ (n : ℕ). HaveSpent n ended.book.past) (sym end.all_workers)
+    (seats_have_spent _ ended.book.past _ end.agree.of_workers end.agree.each_worker c.in_ok-ended.ensures.spent) in
+    let from = reached_at _ _ end.history in
+    let few : length seats ≤ 64 = omega (
+      arith,
+      length-append (map (λ (held : HeldValue). held.seat) ran.0) idle,
+      same_length (λ (held : HeldValue). held.seat) ran.0,
+      ap length ran.1,
+      same_length Some ran.0,
+      c.run_threads-turns.result.0.ok.0,
+      c.run_threads-turns.ensures.count,
+      c.admit_all.new.hall.idle.ok.0,
+      seated.few,
+    ) in
+    let many : length seats ≡ length desk.streams = sym (ap length own) ∙ end.agree.there.0 in
+    let streams = c.fill.new.self.streams.items in
+    let guests = c.append_idle.ensures.guests
+    ∙ ap (λ (gs : List (Option (Guest _ _))). gs ++ nobody idle) (c.fill_guests.ensures.guests
+    ∙ ap (λ (tickets : List ℕ). guests_of tickets streams) seated.tickets) in
+    let table : whose ≡ with_tickets (map left_by seats) (guests_of (map (λ (w : Waiting). w.ticket) ws) streams ++ nobody idle) (replicate 64 None) =
+    c.tickets_of.ensures
+    ∙ ap (λ (these : List StreamRest). with_tickets these c.append_idle.new.guests.items (replicate 64 None)) (end.left ∙ ap (map left_by) own)
+    ∙ ap (λ (gs : List (Option (Guest _ _))). with_tickets (map left_by seats) gs (replicate 64 None)) guests in
+    let mine = all_told _ _ _ _ desk ws streams seated.helds ran.0 idle whose table seated.each ran.2
+    (c.fill.ensures.streams ran.0 ran.1) few many have kept in
     record {
       epoch = (
         es,
         ws,
         c.admit_all.ensures.seated.2,
-        has_ended terms times es g.L.Epoch.opening ended.book end.is_book (reached_at _ _ end.history) end.history.same
-            of_limit end.agree.free spent c.tickets_of.result ended.book.desk (inl refl) gives
-            c.requires.times ws seated.helds ran.0 idle seated.each ran.2 seated.idle
-            (subst (AreStreamCalls (reverse ended.book.past)) own end.agree.of_streams)
-            (subst (ClocksReached ended.book) own end.agree.clock_reached)
-            (subst (HaveStreams (length ended.book.desk.streams)) own end.agree.each_stream) seated.opens seated.history,
+        has_ended terms times es g.L.Epoch.opening ended.book end.is_book from end.history.same of_limit end.agree.free spent
+            whose desk (inl refl) gives c.requires.times ws seated.helds ran.0 idle seated.each ran.2 seated.idle calls reached
+            have seated.opens seated.history,
+        all_in terms times (epoch_of ended whose ∷ es) desk ws ran.0
+            (all_had terms times es g.L.Epoch.opening ended.book end.is_book from end.history.same of_limit end.agree.free spent
+            whose desk (inl refl) gives c.requires.times ws seated.helds ran.0 idle seated.each ran.2 calls kept mine),
       );
     }
 
@@ -205,17 +235,13 @@ returns-clause-guests g c =
     c.tickets_of.ensures
     ∙ ap (λ (these : List StreamRest). with_tickets these c.append_idle.new.guests.items (replicate 64 None)) rests
     ∙ ap (λ (gs : List (Option (Guest _ _))). with_tickets (map left_by seats) gs (replicate 64 None)) guests in
-    let within = numbers_within desk seats kept in
-    let mine = subst (λ (these : List (Option ℕ)). AllZip (λ (w : Waiting) (held : HeldValue).
-    slice_get these held.seat.number ≡ Some (Some w.ticket)) ws ran.0) (sym table)
-    (all_mine _ _ ws streams ran.0 idle (replicate 64 None) (both_zip _ _ ws seated.helds ran.0 seated.each ran.2)
-    (c.fill.ensures.streams ran.0 ran.1) (distinct_seats seats (length desk.streams) many have)
-    (λ n i. let less = within n i in omega (arith, less, many, few, length-replicate {A = Option ℕ} 64 None))) in
+    let mine = all_told _ _ _ _ desk ws streams seated.helds ran.0 idle whose table seated.each ran.2
+    (c.fill.ensures.streams ran.0 ran.1) few many have kept in
     let is = has_ended terms times es g.L.Epoch.opening ended.book end.is_book from end.history.same of_limit end.agree.free spent
     whose gone is_gone gives c.requires.times ws seated.helds ran.0 idle seated.each ran.2 seated.idle calls reached
     have seated.opens seated.history in
     let had = all_had terms times es g.L.Epoch.opening ended.book end.is_book from end.history.same of_limit end.agree.free spent whose
-    gone is_gone gives c.requires.times ws seated.helds ran.0 idle seated.each ran.2 calls mine in
+    gone is_gone gives c.requires.times ws seated.helds ran.0 idle seated.each ran.2 calls kept mine in
     let epoch : EpochValue = left_at gone (epoch_of ended whose) in
     let now : List EpochValue = epoch ∷ es in (
       now,
