@@ -217,12 +217,13 @@ IsNotCut terms times epochs w served since =
     AreGivenUp epochs
     ⊎ ClientEnds (start_with w.request since.seat) since.is_served.past since.is_served.seat served.outcome
 
--- what is told of a request, behind these epochs: that the stream isn't served, whose reader and writer come
--- back as they were, or what it came to, and that it wasn't cut while others go on
+-- what is told of a request, behind these epochs: that the stream isn't served, where none of them was told
+-- since it was given, and its reader and writer come back as they were; or what it came to, and that it wasn't
+-- cut while others go on
 abbrev pub IsAnswer : {R W : Type 0} (contents : W → Option (List ℕ)) (failures : W → ℕ) (terms : Terms)
     (times : ℕ → Type 0) (epochs : List EpochValue) → Waiting → Answer R W → Type 0
 IsAnswer contents failures terms times epochs w (answers.Refused e reader writer) =
-    AllowsRefusal w.request.spec e × (reader ≡ w.request.reader) × (contents writer ≡ w.request.before)
-    × (failures writer ≡ w.request.failures)
+    (length epochs ≡ w.since) × AllowsRefusal w.request.spec e × (reader ≡ w.request.reader)
+    × (contents writer ≡ w.request.before) × (failures writer ≡ w.request.failures)
 IsAnswer contents failures terms times epochs w (answers.Ended served) =
     (since : IsServedSince terms times epochs w served) × IsNotCut terms times epochs w served since

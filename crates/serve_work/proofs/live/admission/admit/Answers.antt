@@ -13,7 +13,7 @@ pub tell-requires : goal.tell-requires
 tell-requires g c =
     let w : Waiting = waiting_of g.W.Sink.contents g.W.Sink.failures (length c.requires.seated.0) c.args.request in
     let at = c.requires.seated in
-    record { answer = (at.0, at.1, w, [], at.2, refl, (inl tt, refl, refl, refl)) }
+    record { answer = (at.0, at.1, w, [], at.2, refl, (refl, inl tt, refl, refl, refl)) }
 
 pub returns-then-len-ge-MOST_STREAMS : goal.returns-then-len-ge-MOST_STREAMS
 returns-then-len-ge-MOST_STREAMS g c =
@@ -80,7 +80,7 @@ pub tell-requires-in-Err : goal.tell-requires-in-Err
 tell-requires-in-Err g c =
     let w : Waiting = waiting_of g.W.Sink.contents g.W.Sink.failures (length c.requires.seated.0) c.args.request in
     let at = c.requires.seated in
-    record { answer = (at.0, at.1, w, [], at.2, refl, (c.in-Err.ensures.refused, refl, refl, refl)) }
+    record { answer = (at.0, at.1, w, [], at.2, refl, (refl, c.in-Err.ensures.refused, refl, refl, refl)) }
 
 pub returns-in-Ok : goal.returns-in-Ok
 returns-in-Ok g c =

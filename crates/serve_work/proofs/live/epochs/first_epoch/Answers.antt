@@ -22,7 +22,7 @@ tell-requires g c =
         [],
         at.3,
         sym first.ticket,
-        (inr refl, first.reader, first.before, first.failures_of),
+        (first.given, inr refl, first.reader, first.before, first.failures_of),
       );
     }
 

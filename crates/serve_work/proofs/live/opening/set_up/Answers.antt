@@ -11,7 +11,7 @@ tell-requires g c = record {
     [],
     c.requires.waits.1,
     refl,
-    (c.in-Err.ensures.refused, refl, refl, refl),
+    (refl, c.in-Err.ensures.refused, refl, refl, refl),
   );
 }
 
