@@ -28,7 +28,7 @@ at_end terms spec [] number before desk now P are behind has = absurd behind
 at_end terms spec (epoch ∷ es) number before desk now P are behind has =
     subst (λ (streams : List KeptStream). IsSomeAnd (slice_get streams number) P)
     (streams_gone epoch.last epoch.gone are.0.goes_on)
-    (stream_before epoch.gone number desk now P behind has)
+    (stream_before epoch.gone number desk now P behind.1 has)
 
 -- the history of epochs behind which all were given up
 pub history_so : (gives_up : Bool) (terms : Terms) (times : ℕ → Type 0) (es : List EpochValue) → IsHistory terms times es

@@ -202,7 +202,7 @@ module _ (terms : Terms) (times : ℕ → Type 0) (es : List EpochValue) (openin
                 (subst (λ (n : ℕ). IsBehind terms w.request.spec b.numbers es opening n) (sym number) b.behind),
             b.had,
           );
-          behind = inl (refl, refl);
+          behind = (refl, inl (refl, refl));
           stands = stands;
           calls = ap (λ (acts : List Act). past ++ acts) (sym own);
           stop = allowed_too Gives times given (stream_stop old.stream) (stream_stop new.stream) on.2 b.stop;

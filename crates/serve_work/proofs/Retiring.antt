@@ -27,7 +27,7 @@ kept_on : (terms : Terms) (spec : StreamSpec) (es : List EpochValue) (number : �
     → IsBehind terms spec (number ∷ before) es (retired_schedule desk) (new_number desk now)
 kept_on terms spec [] number before desk now behind e = absurd behind
 kept_on terms spec (epoch ∷ es) number before desk now behind e =
-    once_more epoch.gone number desk now behind e
+    (behind.0, once_more epoch.gone number desk now behind.1 e)
 
 -- and a schedule without the released streams
 left_on : (es : List EpochValue) (desk : ScheduleValue) → IsLeftBy es desk → IsLeftBy es (retired_schedule desk)

@@ -1,5 +1,5 @@
 -- What is told of the streams of a session that come and go.
-use Rattle.std.specs.Prelude.{ℕ, IsTrue, ◌≡◌, ◌≤◌, ◌⊎◌, ◌++◌, false, List, [], ◌∷◌, Option}
+use Rattle.std.specs.Prelude.{ℕ, IsFalse, IsTrue, ◌≡◌, ◌≤◌, ◌⊎◌, ◌++◌, false, List, [], ◌∷◌, Option}
 use Rattle.std.specs.Prelude.{None, Some, length, reverse, slice_get}
 use Rattle.std.specs.List.{AllByRecursion}
 use Rattle.cbs_account.specs.declared.limits.TheConstants.{MOST_ENTRIES, MOST_QUANTUM, MOST_WORKERS}
@@ -104,13 +104,14 @@ IsNewIn terms spec opening number =
     (OpensFor terms spec opening × (number ≡ 0)) ⊎ (length opening.streams ≤ number)
 
 -- the stream that had these numbers in the latest of these epochs has this one where another opens: it is new
--- there, or was there, and keeps its number, but for streams that were released
+-- there, or was there, and keeps its number, but for streams that were released. None goes on from an epoch
+-- behind which all were given up
 abbrev pub IsBehind : Terms → StreamSpec → List ℕ → List EpochValue → (opening : ScheduleValue) (number : ℕ)
     → Type 0
 IsBehind terms spec [] epochs opening number = IsNewIn terms spec opening number
 IsBehind terms spec (old ∷ numbers) [] opening number = ⊥
 IsBehind terms spec (old ∷ numbers) (epoch ∷ epochs) opening number =
-    IsKept epoch.gone old opening number
+    IsFalse epoch.is_given_up × IsKept epoch.gone old opening number
 
 -- the stream is served with this: its chain, its share, its places and its frames
 abbrev pub IsOfSpec : StreamSpec → KeptStream → Type 0
