@@ -4,5 +4,6 @@ pub mod Reporting
 pub mod Openings
 pub mod Filtered
 pub mod Lines
+pub mod Noting
 pub mod Feeding
 pub mod TakenBack

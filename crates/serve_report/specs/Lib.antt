@@ -9,3 +9,4 @@ pub mod Runs
 pub mod Control
 pub mod Feeds
 pub mod Said
+pub mod Holdings

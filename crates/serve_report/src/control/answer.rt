@@ -45,6 +45,26 @@ impl fmt::Display for Standing {
     }
 }
 
+/// What a stream holds of the workers that has ended: its share, `q` units in every `t` moments, until a moment.
+#[derive(Clone, Copy)]
+pub struct Holding {
+    pub q: u64,
+    pub t: u64,
+    pub until: u64,
+}
+
+impl fmt::Display for Holding {
+    ghost use Rattle.std.specs.Prelude.{Some};
+    ghost use Rattle.serve_report.specs.Said.{holding_text};
+
+    ghost output = { λ holding. Some (holding_text holding) };
+
+    fn fmt<W: fmt::Write>(&self, f: &mut fmt::Formatter<W>) -> fmt::Result {
+        let Holding { q, t, until } = *self;
+        write!(f, "{q}:{t} until {until}")
+    }
+}
+
 /// An answer.
 #[derive(Clone, Copy)]
 pub enum Said<'a> {
@@ -58,6 +78,10 @@ pub enum Said<'a> {
     Stands(&'a str, Standing),
     /// The stream of this name is being opened.
     Opening(&'a str),
+    /// A stream of this name has ended, and holds this.
+    Held(&'a str, Holding),
+    /// The shares that are kept, and all that the workers have, in millionths of one.
+    Shares(u64, u64),
     /// The moment, and how many streams are served.
     Now(u64, usize),
     /// The units that were done for all streams.
@@ -77,6 +101,8 @@ impl fmt::Display for Said<'_> {
             Said::Ended(row) => write!(f, "{row}"),
             Said::Stands(name, standing) => write!(f, "{name} {standing}"),
             Said::Opening(name) => write!(f, "{name} opening"),
+            Said::Held(name, holding) => write!(f, "{name} held {holding}"),
+            Said::Shares(shares, whole) => write!(f, "shares {shares} of {whole}"),
             Said::Now(moment, streams) => write!(f, "now {moment} streams {streams}"),
             Said::Units(units) => write!(f, "units {units}"),
         }

@@ -9,8 +9,10 @@ use super::lobby::Lobby;
 use super::order::Order;
 use super::{AdmitFault, StreamStop};
 use crate::serve::FileUse;
+use crate::session::Session;
 use serve_files::{Files, Place};
 use serve_words::{Asked, StreamWord};
+use serve_work::Clock as Moments;
 use std::alloc::{AllocError, Global};
 use std::io::{Read, Write};
 use std::sync::{Arc, Wait};
@@ -21,9 +23,25 @@ const REPORT: &str = "/dev/stdout";
 
 /// Who takes the lines of a control.
 #[derive(Drop)]
-pub struct Clerk<'t, 'f, 'l, 'c, 'o, F, R: Source, W: Sink, S: Drop, T, O: Write, E: Write> {
+pub struct Clerk<
+    't,
+    'k,
+    'f,
+    'l,
+    'c,
+    'o,
+    F,
+    R: Source,
+    W: Sink,
+    S: Drop,
+    K: Moments,
+    T,
+    O: Write,
+    E: Write,
+> {
     rt: &'t T,
     alloc: Global,
+    clock: &'k K,
     files: &'f F,
     lobby: &'l Lobby<'o, R, W, S, O, E>,
     /// Whether the control is standard input.
@@ -34,29 +52,51 @@ pub struct Clerk<'t, 'f, 'l, 'c, 'o, F, R: Source, W: Sink, S: Drop, T, O: Write
     asked: u64,
 }
 
-impl<'t, 'f, 'l, 'c, 'o, F, R, W, S, T, O, E> Clerk<'t, 'f, 'l, 'c, 'o, F, R, W, S, T, O, E>
+impl<'t, 'k, 'f, 'l, 'c, 'o, F, R, W, S, K, T, O, E> Clerk<
+    't,
+    'k,
+    'f,
+    'l,
+    'c,
+    'o,
+    F,
+    R,
+    W,
+    S,
+    K,
+    T,
+    O,
+    E,
+>
 where
     F: Files<Slow = S>,
     R: Source + Drop,
     W: Sink + Drop,
     S: Drop + 'static,
+    K: Moments,
     T: Wait,
     O: Write,
     E: Write,
 {
     /// No stream was asked for yet.
     pub fn new<I: Read>(
-        rt: &'t T,
-        alloc: Global,
+        session: Session<'t, 'k, K, T>,
         files: &'f F,
         lobby: &'l Lobby<'o, R, W, S, O, E>,
         lines: &Lines<'c, I, S>,
-    ) -> Clerk<'t, 'f, 'l, 'c, 'o, F, R, W, S, T, O, E> {
+    ) -> Clerk<'t, 'k, 'f, 'l, 'c, 'o, F, R, W, S, K, T, O, E> {
+        let Session {
+            rt,
+            alloc,
+            clock,
+            ..
+        } = session;
         let report = FileUse::output(REPORT, files.place(REPORT));
         let control = FileUse::output(lines.file, files.place(lines.file));
         Clerk {
             rt,
             alloc,
+            clock,
             files,
             lobby,
             is_input: lines.is_input(),
@@ -164,7 +204,7 @@ where
         }
     }
 
-    /// Takes a stream, if there is a place for it.
+    /// Takes a stream, if there is a place for it, and its share is left. It keeps that from here on.
     pub fn enter(
         &mut self,
         asked: Asked<'_>,
@@ -178,13 +218,8 @@ where
         let Some((order, table_order)) = order_of(self.alloc, number, word) else {
             return self.refuse_stream(word.name, AdmitFault::NoMemory);
         };
-        if !self
-            .lobby
-            .table
-            .lock(self.rt)
-            .enter(table_order, input, output)
-        {
-            return self.refuse_stream(word.name, AdmitFault::TooManyStreams);
+        if let Err(fault) = self.keep(table_order, input, output) {
+            return self.refuse_stream(word.name, fault);
         }
         Bidding::Open(Errand {
             order,
@@ -194,6 +229,18 @@ where
             is_prompt: matches!(input, Place::File(_)) && !matches!(output, Place::Pipe(_)),
             output_may_wait: !matches!(output, Place::File(_) | Place::Missing),
         })
+    }
+
+    /// Takes a stream into the table, if there is a place for it, and its share is left now.
+    fn keep(
+        &self,
+        order: Arc<Order, Global>,
+        input: Place,
+        output: Place,
+    ) -> Result<(), AdmitFault> {
+        let moment = self.clock.moment();
+        let mut table = self.lobby.table.lock(self.rt);
+        table.enter(order, moment, input, output)
     }
 
     /// Tells that a stream isn't taken.
@@ -229,6 +276,7 @@ where
 #[derive(Drop)]
 pub struct Desk<
     't,
+    'k,
     'f,
     'l,
     'c,
@@ -237,22 +285,24 @@ pub struct Desk<
     R: Source,
     W: Sink,
     S: Drop,
+    K: Moments,
     T,
     O: Write,
     E: Write,
     I: Read,
 > {
-    pub clerk: Clerk<'t, 'f, 'l, 'c, 'o, F, R, W, S, T, O, E>,
+    pub clerk: Clerk<'t, 'k, 'f, 'l, 'c, 'o, F, R, W, S, K, T, O, E>,
     pub feed: Feed<I>,
 }
 
-impl<'t, 'f, 'l, 'c, 'o, F, R, W, S, T, O, E, I> Bids
-    for Desk<'t, 'f, 'l, 'c, 'o, F, R, W, S, T, O, E, I>
+impl<'t, 'k, 'f, 'l, 'c, 'o, F, R, W, S, K, T, O, E, I> Bids
+    for Desk<'t, 'k, 'f, 'l, 'c, 'o, F, R, W, S, K, T, O, E, I>
 where
     F: Files<Slow = S>,
     R: Source + Drop,
     W: Sink + Drop,
     S: Drop + 'static,
+    K: Moments,
     T: Wait,
     O: Write,
     E: Write,

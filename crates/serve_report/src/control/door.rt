@@ -5,8 +5,13 @@ ghost use Rattle.serve_work.specs.Sessions.{IsInput};
 ghost use Rattle.serve_report.specs.Moments.{IsMoment};
 
 use super::answer::{Said, Standing};
+use super::entry::Entry;
+use super::holders::Holder;
+use super::holdings::Holdings;
 use super::lobby::Lobby;
+use super::table::Table;
 use super::tickets::Tickets;
+use super::voice::Voice;
 use super::{AdmitFault, StreamRow, StreamStop};
 use serve_hub::Ended;
 use serve_work::{Answer, Bell, Chronicle, Clock as Moments, Door, Request, Standing as Stood};
@@ -47,6 +52,8 @@ pub struct Doorway<
     clock: &'l K,
     /// Those of the streams that were given and aren't told yet.
     tickets: Tickets,
+    /// What the streams of the latest epoch held at its end.
+    holdings: Holdings,
     terms: PhantomData<L>,
 }
 
@@ -75,6 +82,7 @@ where
             lobby,
             clock,
             tickets: Tickets::new(alloc)?,
+            holdings: Holdings::new(),
             terms: PhantomData,
         })
     }
@@ -108,12 +116,22 @@ where
         ensures { self.new.tickets ≡ self.old.tickets }
     {
         let mut voice = self.lobby.voice.lock(self.rt);
-        let entry = self.lobby.table.lock(self.rt).take_served(ticket);
+        let entry = self.take_ended(ticket);
         self.lobby.changed.notify_all();
         if let Some(entry) = &entry {
             let is_closed = entry.order.is_closed();
             voice.say_row(course.row(&entry.order.name, is_closed));
         }
+    }
+
+    /// Takes the stream of a ticket out. What it holds is kept, unless no stream is left.
+    fn take_ended(&self, ticket: u64) -> Option<Entry<R, W, S>> {
+        let mut table = self.lobby.table.lock(self.rt);
+        let entry = table.take_served(ticket, self.holdings.under(ticket));
+        if self.tickets.is_empty() {
+            table.holders.clear();
+        }
+        entry
     }
 }
 
@@ -215,9 +233,13 @@ where
 
     ghost stands = { λ door es ws. map (λ w. w.ticket) ws ≡ door.tickets };
 
-    fn epoch_ended(&mut self, _ended: &Ended, _tickets: &[Option<u64>]) {}
+    fn epoch_ended(&mut self, ended: &Ended, tickets: &[Option<u64>]) {
+        self.holdings = Holdings::of(ended, tickets);
+    }
 
-    fn goes_on(&mut self, _at: u64) {}
+    fn goes_on(&mut self, at: u64) {
+        self.lobby.table.lock(self.rt).holders.release(at);
+    }
 
     fn gives_up(&mut self) {}
 
@@ -275,13 +297,32 @@ where
         };
         let mut voice = self.lobby.voice.lock(self.rt);
         let mut table = self.lobby.table.lock(self.rt);
-        for entry in &table.entries {
-            if entry.is_unserved() {
-                voice.say(&Said::Opening(&entry.order.name));
-            }
-        }
+        say_unserved(&mut voice, &table);
+        say_holders(&mut voice, table.holders.all(), moment);
+        voice.say(&Said::Shares(table.kept_at(moment), table.whole()));
         voice.say(&Said::Now(moment, table.count_served()));
         table.asked = table.asked.saturating_sub(1);
+    }
+}
+
+/// Tells which streams are being opened, or wait to be served.
+fn say_unserved<R: Source + Drop, W: Sink + Drop, S: Drop, O: Write, E: Write>(
+    voice: &mut Voice<'_, O, E>,
+    table: &Table<R, W, S>,
+) {
+    for entry in &table.entries {
+        if entry.is_unserved() {
+            voice.say(&Said::Opening(&entry.order.name));
+        }
+    }
+}
+
+/// Tells who holds a share at a moment, though its stream has ended.
+fn say_holders<O: Write, E: Write>(voice: &mut Voice<'_, O, E>, holders: &[Holder], moment: u64) {
+    for holder in holders {
+        if holder.holds_at(moment) {
+            voice.say(&Said::Held(&holder.order.name, holder.holding));
+        }
     }
 }
 

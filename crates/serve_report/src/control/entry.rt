@@ -1,6 +1,8 @@
 //! A stream of a run that hasn't ended.
+ghost use Rattle.std.specs.Prelude.{◌≡◌};
 
 use super::order::Order;
+use super::shares::Share;
 use crate::serve::{FileUse, Ready};
 use serve_files::{Files, Place};
 use std::alloc::Global;
@@ -30,21 +32,28 @@ pub struct Entry<R: Source, W: Sink, S: Drop> {
     input: Place,
     output: Place,
     stage: Stage<R, W>,
-    /// Whether a share of the workers is kept for it.
-    pub has_share: bool,
+    /// The share of the workers that is kept for it.
+    pub share: Share,
     /// What is held open, so that its opener doesn't wait for a FIFO's other end.
     held: Option<S>,
 }
 
 impl<R: Source + Drop, W: Sink + Drop, S: Drop> Entry<R, W, S> {
     /// A stream whose input is being opened.
-    pub fn new(order: Arc<Order, Global>, input: Place, output: Place) -> Entry<R, W, S> {
+    pub fn new(
+        order: Arc<Order, Global>,
+        share: Share,
+        input: Place,
+        output: Place,
+    ) -> Entry<R, W, S>
+        ensures { result.share ≡ share }
+    {
         Entry {
             order,
             input,
             output,
             stage: Stage::Input,
-            has_share: false,
+            share,
             held: None,
         }
     }
@@ -89,9 +98,8 @@ impl<R: Source + Drop, W: Sink + Drop, S: Drop> Entry<R, W, S> {
         self.stage = Stage::Header;
     }
 
-    /// Notes that a share of the workers is kept for it. Its output is made next.
-    pub fn note_share(&mut self) {
-        self.has_share = true;
+    /// Notes that its header was read. Its output is made next.
+    pub fn end_header(&mut self) {
         self.stage = Stage::Output;
     }
 

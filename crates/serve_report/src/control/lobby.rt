@@ -8,7 +8,6 @@ use super::table::Table;
 use super::voice::Voice;
 use super::{AdmitFault, StreamStop};
 use crate::serve::{FileUse, Ready, RunFault};
-use cbs_account::AdmissionError;
 use serve_files::{Files, Place};
 use serve_work::SessionFault;
 use std::alloc::Global;
@@ -96,14 +95,10 @@ impl<'o, R: Source + Drop, W: Sink + Drop, S: Drop, O: Write, E: Write> Lobby<'o
         self.changed.notify_all();
     }
 
-    /// Asks for a stream's share of the workers, before its output is made.
-    pub fn admit<T: Wait>(&self, rt: &T, order: &Order) -> Result<(), StreamStop> {
-        match self.table.lock(rt).admit(order.number, order.q, order.t) {
-            Ok(()) => Ok(()),
-            Err(AdmissionError::BadBandwidth) => {
-                Err(StreamStop::Admit(AdmitFault::BadBandwidth))
-            }
-            Err(AdmissionError::Overload) => Err(StreamStop::Admit(AdmitFault::Overload)),
+    /// Notes that a stream's header was read. Its output is made next.
+    pub fn end_header<T: Wait>(&self, rt: &T, order: &Order) {
+        if let Some(entry) = self.table.lock(rt).entry_mut(order.number) {
+            entry.end_header();
         }
     }
 

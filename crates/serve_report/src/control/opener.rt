@@ -103,7 +103,7 @@ where
         }
     }
 
-    /// Opens the input, reads its header, makes the chain, asks for the share, and makes the output.
+    /// Opens the input, reads its header, makes the chain, and makes the output.
     fn open_files(
         &self,
         order: &Arc<Order, Global>,
@@ -123,7 +123,7 @@ where
             Ok(job_spec) => job_spec,
             Err(error) => return Err(StreamStop::Ops(error)),
         };
-        self.lobby.admit(rt, order)?;
+        self.lobby.end_header(rt, order);
         let sink = self.open_output(order, word.output, carrier, stream)?;
         let place = self.host.files.place(word.output);
         if !self.lobby.set_output(rt, order, place) {

@@ -162,7 +162,7 @@ where
     {
         let Agenda { checked, lines } = agenda;
         let Session { rt, alloc, .. } = session;
-        let mut clerk = Clerk::new(rt, alloc, files, self, &lines);
+        let mut clerk = Clerk::new(session, files, self, &lines);
         let Ok(first) = clerk.enter_all(checked.streams) else {
             self.fail(rt, SessionFault::NoMemory);
             return;

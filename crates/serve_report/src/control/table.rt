@@ -1,24 +1,34 @@
 //! The streams of a run that haven't ended.
-ghost use Rattle.std.specs.Prelude.{◌≡◌, ◌≤◌, ◌<◌, IfSome, vec_len};
-ghost use Rattle.cbs_account.specs.declared.limits.TheConstants.{MOST_WORKERS};
+ghost use Rattle.std.specs.Prelude.{ℕ, ◌≡◌, ◌≤◌, ◌<◌, ◌*◌, ◌↔◌, IfOk, IsOk, OnErr, OnOk, vec_len};
+ghost use Rattle.std.specs.Arc.{arc_value};
+ghost use Rattle.cbs_account.specs.Admission.{Fits, share, with_share};
+ghost use Rattle.cbs_account.specs.Balance.{IsBandwidth};
+ghost use Rattle.cbs_account.specs.declared.limits.TheConstants.{MOST_WORKERS, WHOLE};
+ghost use Rattle.serve_report.specs.Holdings.{IsTaken, kept_by, loaded, sum_within};
 
+use super::AdmitFault;
+use super::answer::Holding;
 use super::entry::Entry;
+use super::holders::{Holder, Holders};
 use super::order::Order;
+use super::shares::{Share, share_beside, whole_of};
 use super::still_read::StillRead;
 use crate::serve::{FileUse, Ready};
+use cbs_account::AdmissionError;
 use cbs_account::limits::MOST_STREAMS;
-use cbs_account::{Admission, AdmissionError};
 use serve_files::{Files, Place};
 use std::alloc::{AllocError, Global};
 use std::sync::Arc;
 use y4m_stream::{Sink, Source};
 
 /// The streams of a run that are being opened, or wait to be served, or are, in the order in which they were
+/// asked for, and those that have ended and hold a share. Each of the first keeps its share from when it was
 /// asked for.
 #[derive(Drop)]
 pub struct Table<R: Source, W: Sink, S: Drop> {
     workers: u64,
     pub entries: Vec<Entry<R, W, S>>,
+    pub holders: Holders,
     still_read: StillRead,
     /// How many times it is asked how the streams stand.
     pub asked: u64,
@@ -39,6 +49,7 @@ impl<R: Source + Drop, W: Sink + Drop, S: Drop> Table<R, W, S> {
         Ok(Table {
             workers,
             entries: Vec::with_capacity(alloc, MOST_STREAMS)?,
+            holders: Holders::new(alloc)?,
             still_read: StillRead::new(alloc, MOST_STREAMS)?,
             asked: 0,
             is_ended: false,
@@ -62,38 +73,77 @@ impl<R: Source + Drop, W: Sink + Drop, S: Drop> Table<R, W, S> {
         self.still_read.has_clash(file)
     }
 
-    /// Takes one more stream, which is being opened. False where there are as many as can be. Where nobody is
-    /// served any more it is closed at once.
-    pub fn enter(&mut self, order: Arc<Order, Global>, input: Place, output: Place) -> bool {
-        let count = self.entries.len().saturating_add(self.still_read.count());
-        if count >= MOST_STREAMS {
-            return false;
+    /// Takes one more stream, which is being opened, if there is a place for it and its share is left at this
+    /// moment. Where nobody is served any more it is closed at once.
+    pub fn enter(
+        &mut self,
+        order: Arc<Order, Global>,
+        moment: u64,
+        input: Place,
+        output: Place,
+    ) -> Result<(), AdmitFault>
+        ensures fits { OnOk result (IsBandwidth (arc_value order).q (arc_value order).t
+            × Fits (with_share (arc_value order).q (arc_value order).t (loaded self.old.workers
+            (kept_by (λ entry. entry.share) moment self.old.entries.items self.old.holders.all.items)))) }
+        ensures keeps { OnOk result ((at : ℕ)
+            → kept_by (λ entry. entry.share) at self.new.entries.items self.new.holders.all.items
+            ≡ sum_within
+            (kept_by (λ entry. entry.share) at self.old.entries.items self.old.holders.all.items)
+            (share (arc_value order).q (arc_value order).t)) }
+        ensures err { OnErr result (self.new.entries.items ≡ self.old.entries.items) }
+    {
+        let others = self.still_read.count().max(self.holders.count_at(moment));
+        if self.entries.len().saturating_add(others) >= MOST_STREAMS {
+            return Err(AdmitFault::TooManyStreams);
         }
+        let share = self.share_of(&order, moment)?;
         if self.is_given_up {
             order.close();
         }
-        self.entries.push(Entry::new(order, input, output)).is_ok()
-    }
-
-    /// Keeps a share of the workers for the stream of this number, if so much is left.
-    pub fn admit(&mut self, number: u64, q: u64, t: u64) -> Result<(), AdmissionError> {
-        let mut tally = self.tally();
-        tally.admit(q, t)?;
-        if let Some(entry) = self.entry_mut(number) {
-            entry.note_share();
+        match self.entries.push(Entry::new(order, share, input, output)) {
+            Ok(()) => Ok(()),
+            Err(_) => Err(AdmitFault::NoMemory),
         }
-        Ok(())
     }
 
-    /// The shares that are kept.
-    fn tally(&self) -> Admission {
-        let mut tally = Admission::new(self.workers);
+    /// The share of a stream, if it is left at this moment.
+    fn share_of(&self, order: &Order, moment: u64) -> Result<Share, AdmitFault>
+        ensures accepted { IsOk result ↔ (IsBandwidth order.now.q order.now.t
+            × Fits (with_share order.now.q order.now.t (loaded self.now.workers
+            (kept_by (λ entry. entry.share) moment self.now.entries.items self.now.holders.all.items)))) }
+        ensures taken { IfOk result (IsTaken self.now.workers
+            (kept_by (λ entry. entry.share) moment self.now.entries.items self.now.holders.all.items)
+            order.now.q order.now.t moment) }
+    {
+        let kept = self.kept_at(moment);
+        match share_beside(kept, self.workers, order.q, order.t) {
+            Ok(parts) => Ok(Share {
+                parts,
+                since: moment,
+            }),
+            Err(AdmissionError::BadBandwidth) => Err(AdmitFault::BadBandwidth),
+            Err(AdmissionError::Overload) => Err(AdmitFault::Overload),
+        }
+    }
+
+    /// The shares that are kept at a moment, in millionths of a worker. A number of 64 bits stays at its last
+    /// value.
+    pub fn kept_at(&self, moment: u64) -> u64
+        ensures { result
+            ≡ kept_by (λ entry. entry.share) moment self.now.entries.items self.now.holders.all.items }
+    {
+        let mut parts = self.holders.parts_at(moment);
         for entry in &self.entries {
-            if entry.has_share {
-                let _ = tally.admit(entry.order.q, entry.order.t);
-            }
+            parts = parts.saturating_add(entry.share.parts);
         }
-        tally
+        parts
+    }
+
+    /// What the workers have, in millionths of one.
+    pub fn whole(&self) -> u64
+        ensures { result ≡ WHOLE * self.now.workers }
+    {
+        whole_of(self.workers)
     }
 
     /// The stream of this number among all that were asked for.
@@ -122,13 +172,23 @@ impl<R: Source + Drop, W: Sink + Drop, S: Drop> Table<R, W, S> {
         Some(self.take_at(place))
     }
 
-    /// Takes the stream out that is served under this ticket.
-    pub fn take_served(&mut self, ticket: u64) -> Option<Entry<R, W, S>> {
+    /// Takes the stream out that is served under this ticket, which holds this from here on.
+    pub fn take_served(&mut self, ticket: u64, holding: Option<Holding>) -> Option<Entry<R, W, S>> {
         let place = self
             .entries
             .iter()
             .position(|entry| entry.is_served(ticket))?;
-        Some(self.take_at(place))
+        let entry = self.take_at(place);
+        if let (Some(holding), Ok(order)) = (holding, Arc::try_clone(&entry.order)) {
+            let parts = entry.share.parts;
+            self.holders.take(Holder {
+                order,
+                ticket,
+                parts,
+                holding,
+            });
+        }
+        Some(entry)
     }
 
     /// Takes a stream out. A FIFO of it that is still being read stays in use.
@@ -154,11 +214,14 @@ impl<R: Source + Drop, W: Sink + Drop, S: Drop> Table<R, W, S> {
         }
     }
 
-    /// What the first stream is served with that waits to be. It is served under this ticket from here on.
+    /// What the first stream is served with that waits to be, and whose share has come free. It is served under
+    /// this ticket from here on.
     pub fn serve_next(&mut self, ticket: u64) -> Option<Ready<R, W>> {
         for entry in &mut self.entries {
-            if let Some(ready) = entry.serve(ticket) {
-                return Some(ready);
+            if self.holders.are_free_since(entry.share.since) {
+                if let Some(ready) = entry.serve(ticket) {
+                    return Some(ready);
+                }
             }
         }
         None

@@ -1,5 +1,5 @@
 //! The tickets of those who were let in at a door.
-ghost use Rattle.std.specs.Prelude.{ℕ, ◌≡◌, ◌≢◌, ◌<◌, ◌++◌, ◌∷◌, [], All, List, IfOk, MatchOption};
+ghost use Rattle.std.specs.Prelude.{ℕ, ◌≡◌, ◌≢◌, ◌<◌, ◌↔◌, ◌++◌, ◌∷◌, [], All, List, IfOk, IsTrue, MatchOption};
 ghost use Rattle.std.specs.Prelude.{length, slice_index};
 
 use cbs_account::limits::MOST_STREAMS;
@@ -46,6 +46,13 @@ impl Tickets {
         }
         self.next = ticket + 1;
         Some(ticket)
+    }
+
+    /// Whether none is out.
+    pub fn is_empty(&self) -> bool
+        ensures { IsTrue result ↔ (self.now ≡ []) }
+    {
+        self.given.is_empty()
     }
 
     /// Takes a ticket back, if it was given.

@@ -1,6 +1,6 @@
 //! The lines that a control answers with.
 use crate::compare::same_at;
-use serve_report::control::answer::{Said, Standing, say};
+use serve_report::control::answer::{Holding, Said, Standing, say};
 use serve_report::control::line::LineFault;
 use serve_report::control::{AdmitFault, StreamRow, StreamStop};
 use std::io::ErrorKind;
@@ -37,6 +37,18 @@ const FAR: Standing = Standing {
     deadline: BIG,
 };
 
+const HELD: Holding = Holding {
+    q: 900,
+    t: 1000,
+    until: 1230,
+};
+
+const FAR_HELD: Holding = Holding {
+    q: BIG,
+    t: BIG,
+    until: BIG,
+};
+
 #[test]
 fn an_answer_is_one_line_in_one_write(rt: HostRuntime) {
     let answers = [
@@ -62,6 +74,16 @@ fn an_answer_is_one_line_in_one_write(rt: HostRuntime) {
              deadline 18446744073709551615\n",
         ),
         (Said::Opening("c"), "c opening\n"),
+        (Said::Held("a", HELD), "a held 900:1000 until 1230\n"),
+        (
+            Said::Held("camera-of-the-gate_0123456789abc", FAR_HELD),
+            "camera-of-the-gate_0123456789abc held 18446744073709551615:18446744073709551615 \
+             until 18446744073709551615\n",
+        ),
+        (
+            Said::Shares(910_000, 1_000_000),
+            "shares 910000 of 1000000\n",
+        ),
         (Said::Now(77, 2), "now 77 streams 2\n"),
         (Said::Units(476), "units 476\n"),
     ];

@@ -19,6 +19,7 @@ mod growths;
 mod opens;
 mod requests;
 mod script;
+mod shares;
 mod waiting;
 
 /// What may be the cause of another answer.

@@ -154,7 +154,7 @@ fn a_stream_is_closed_that_is_being_opened(rt: HostRuntime) {
             ("", b"state\n"),
             ("streams 0\n", b"close a\nend\n"),
         ];
-        let answers = "a opening\nnow streams 0\n\
+        let answers = "a opening\nshares 250000 of 2000000\nnow streams 0\n\
                        a accepted 0 delivered 0 charged 0 stop closed\nunits 0\n";
         let talk = Talk::new(&turns, answers);
         waits(&rt, rt.alloc(), awaited, &[("", A)], None, talk);
@@ -203,7 +203,8 @@ fn an_opener_comes_back_once_its_fifo_is_held(rt: HostRuntime) {
     }
 }
 
-/// One gives no frame. Others come and go beside it, and how all stand is told.
+/// One gives no frame. Others come and go beside it, whose shares are free 16 moments later, and how all stand
+/// is told.
 #[test]
 fn a_silent_stream_holds_up_no_other(rt: HostRuntime) {
     let turns: [Turn<'_>; 6] = [
@@ -216,10 +217,13 @@ fn a_silent_stream_holds_up_no_other(rt: HostRuntime) {
     ];
     let answers = "c admitted\na admitted\na accepted 3 delivered 3 charged 3 stop whole\n\
                    c accepted 0 finished 0 collected 0 charged 0 budget 1 deadline 0\n\
-                   now streams 1\nd accepted 0 delivered 0 charged 0 stop create\n\
+                   shares 250000 of 2000000\nnow streams 1\nd accepted 0 delivered 0 charged 0 stop create\n\
                    c accepted 0 delivered 0 charged 0 stop closed\nunits 3\n";
     let later: [Later<'_>; 2] = [("a.in", "", &[("", A)]), ("b.in", "", &[("", A)])];
     let slow: [Slow<'_>; 1] = [("c.in", &[("", HEADER), ("units ", b"")])];
-    let talk = Talk::new(&turns, answers).with_status(1);
+    let talk = Talk {
+        line: "serve --moment 1 --control -",
+        ..Talk::new(&turns, answers).with_status(1)
+    };
     serves_fifos(&rt, rt.alloc(), &later, &slow, Some(A_INVERTED), talk);
 }

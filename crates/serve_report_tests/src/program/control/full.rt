@@ -19,7 +19,7 @@ fn requests(alloc: Global) -> Result<(String, String), AllocError> {
     let mut asking = String::new(alloc);
     let mut closing = String::new(alloc);
     for k in 0..WAITING {
-        let request = format!(in alloc; "s{k}:fifo{k}:s{k}.out:1:4:invert\n")?;
+        let request = format!(in alloc; "s{k}:fifo{k}:s{k}.out:1:100:invert\n")?;
         asking.push_str(request.as_str())?;
         let close = format!(in alloc; "close s{k}\n")?;
         closing.push_str(close.as_str())?;
@@ -57,11 +57,11 @@ fn fills<'f, R: Abort + Threads + Wait + Clock + Copy + Drop + Send + Sync + 'st
 ) {
     let turns: [Turn<'f>; 7] = [
         ("", asking),
-        ("", b"a:a.in:a.out:1:4:invert\n"),
-        ("a accepted 3", b"b:b.in:b.out:1:4:invert\n"),
+        ("", b"a:a.in:a.out:1:100:invert\n"),
+        ("a accepted 3", b"b:b.in:b.out:1:100:invert\n"),
         (
             "b accepted 3",
-            b"c:fifo:c.out:1:4:invert\nd:d.in:d.out:1:4:invert\n",
+            b"c:fifo:c.out:1:100:invert\nd:d.in:d.out:1:100:invert\n",
         ),
         ("TooManyStreams", closing),
         ("", b"close c\nclose d\n"),

@@ -16,6 +16,12 @@ pub const HELD: &str = "(a file is held)";
 /// What is waited for until more of a file is awaited than it gives at once.
 pub const AWAITED: &str = "(a file is awaited)";
 
+/// What is waited for by who lets a while pass.
+pub const PAUSED: &str = "(a while passes)";
+
+/// How many seconds that is.
+const PAUSE: u64 = 4;
+
 /// What was answered.
 #[derive(Drop)]
 struct Answered {
@@ -69,7 +75,8 @@ impl Answers {
     /// Waits until the answers have this part, for a while.
     pub fn expect<T: Wait + Clock>(&self, rt: &T, part: &str) {
         let answered = self.answered.lock(rt);
-        let patience = Duration::from_secs(PATIENCE);
+        let is_paused = part == PAUSED;
+        let patience = Duration::from_secs(if is_paused { PAUSE } else { PATIENCE });
         let _ = self
             .changed
             .wait_timeout_while(rt, answered, patience, |answered| !answered.has(part));
@@ -109,7 +116,8 @@ impl Answers {
         same_at(rt, counts.0, counts.1, format_args!("{text}: {REFUSED}"));
     }
 
-    /// Compares what was answered, line by line. Of a moment only its line is told.
+    /// Compares what was answered, line by line. Of a moment only its line is told, of the end of a share its
+    /// first digits.
     pub fn are<T: Abort + Wait>(&self, rt: &T, wanted: &str) {
         let answered = self.answered.lock(rt);
         let text = str::from_utf8(&answered.text).unwrap_or("no text");
@@ -123,8 +131,11 @@ impl Answers {
     }
 }
 
-/// Whether a line is this one. Of a moment only its line is told.
+/// Whether a line is this one. Of a moment only its line is told, of the end of a share its first digits.
 fn is_as_wanted(line: &str, wanted: &str) -> bool {
+    if wanted.contains(" until ") {
+        return line.starts_with(wanted);
+    }
     match wanted.strip_prefix("now ") {
         None => line == wanted,
         Some(streams) => line.starts_with("now ") && line.ends_with(streams),

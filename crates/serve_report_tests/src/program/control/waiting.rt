@@ -217,7 +217,7 @@ fn it_is_told_how_a_stream_stands(rt: HostRuntime) {
     let turns: [Turn<'_>; 3] = [ASK, ("a admitted\n", b"state\n"), ("streams 1\n", b"end\n")];
     let answers = "a admitted\n\
                    a accepted 0 finished 0 collected 0 charged 0 budget 1 deadline 0\n\
-                   now streams 1\na accepted 3 delivered 3 charged 3 stop whole\nunits 3\n";
+                   shares 250000 of 2000000\nnow streams 1\na accepted 3 delivered 3 charged 3 stop whole\nunits 3\n";
     let talk = Talk::new(&turns, answers);
     let slow: [Slow<'_>; 1] = [("a.in", TOLD)];
     serves_fifos(&rt, rt.alloc(), &[], &slow, Some(A_INVERTED), talk);
@@ -233,9 +233,9 @@ fn it_is_told_twice_how_a_stream_stands(rt: HostRuntime) {
     ];
     let answers = "a admitted\n\
                    a accepted 0 finished 0 collected 0 charged 0 budget 1 deadline 0\n\
-                   now streams 1\n\
+                   shares 250000 of 2000000\nnow streams 1\n\
                    a accepted 0 finished 0 collected 0 charged 0 budget 1 deadline 0\n\
-                   now streams 1\n\
+                   shares 250000 of 2000000\nnow streams 1\n\
                    a accepted 0 delivered 0 charged 0 stop closed\nunits 0\n";
     let talk = Talk::new(&turns, answers);
     let slow: [Slow<'_>; 1] = [("a.in", &[("", HEADER), ("units ", b"")])];
@@ -253,7 +253,7 @@ fn it_is_told_which_streams_are_being_opened(rt: HostRuntime) {
     ];
     let answers = "a admitted\n\
                    a accepted 0 finished 0 collected 0 charged 0 budget 1 deadline 0\nb opening\n\
-                   now streams 1\na accepted 3 delivered 3 charged 3 stop whole\n\
+                   shares 500000 of 2000000\nnow streams 1\na accepted 3 delivered 3 charged 3 stop whole\n\
                    b admitted\nb accepted 3 delivered 3 charged 3 stop whole\nunits 6\n";
     let talk = Talk::new(&turns, answers);
     let later: [Later<'_>; 1] = [("b.in", "a accepted 3", &[("", A)])];
