@@ -1,8 +1,6 @@
 use Rattle.std.proofs.Common.{ℕ, ◌≡◌, ◌≤◌, ◌++◌, ◌∷◌, ◌∙◌, List, Option, Some, ap, arith, inl, length, map, refl, subst, sym}
-use Rattle.std.specs.Prelude.{All, None, replicate, reverse, slice_get, vec_len}
-use Rattle.std.specs.List.{AllZip}
+use Rattle.std.specs.Prelude.{All, None, replicate, reverse, vec_len}
 use Rattle.std.proofs.Common.{◌<◌, length-append}
-use Rattle.std.proofs.lemmas.List.{length-replicate}
 use Rattle.serve_core.specs.Schedule.{ScheduleValue}
 use Rattle.serve_hub.specs.Ends.{AreStreamCalls, AreStreamsOf, ClocksReached, HaveStreams, IsCharged}
 use Rattle.serve_hub.specs.Seats.{HubValue, StreamRest, StreamSeatValue, left_by}
