@@ -1,7 +1,8 @@
 -- What is told of the streams of a session that come and go.
 use Rattle.std.specs.Prelude.{All, IsSomeAnd, slice_get, slice_set}
-use Rattle.std.proofs.Common.{◌≡◌, ◌∙◌, ℕ, zero, suc, ◌<◌, List, [], ◌∷◌, ◌++◌, length, get_or, map, Option, Some, None, Bool, IsFalse}
+use Rattle.std.proofs.Common.{◌≡◌, ℕ, zero, suc, ◌<◌, List, [], ◌∷◌, ◌++◌, length, get_or, map, Option, Some, None, Bool, IsFalse}
 use Rattle.std.proofs.Common.{IsTrue, ◌⊎◌, false, true, inl, inr, refl, sym, ap, subst, arith}
+use Rattle.std.proofs.lemmas.List.Elements.{All-cons, All-nil}
 use Rattle.serve_core.specs.Schedule.{HasStream, ScheduleValue}
 use Rattle.serve_core.specs.Setup.{StreamSpec}
 use Rattle.serve_core.specs.Streams.{KeptStream}
@@ -212,6 +213,19 @@ module _ {R W : Type 0} (P : Guest R W → StreamSeatValue → Waiting → Type 
       nobody_waits guests seats ws p (λ k d less. all (suc k) d (omega (arith, less)))
   nobody_waits (Some g ∷ guests) (seat ∷ seats) ws p all =
       let none : Some g ≡ None = all 0 (Some g) (omega arith) in absurd (cc)
+
+  -- where a stream is left, a request waits
+  told_where_nobody_waits : (guests : List (Option (Guest R W))) (seats : List StreamSeatValue) → AllAt P guests seats [] → AreAllTold guests
+  told_where_nobody_waits [] seats p = All-nil (λ (guest : Option (Guest R W)). guest ≡ None)
+  told_where_nobody_waits (g ∷ guests) [] p = absurd p
+  told_where_nobody_waits (None ∷ guests) (seat ∷ seats) p =
+      All-cons (λ (guest : Option (Guest R W)). guest ≡ None) None guests refl (told_where_nobody_waits guests seats p)
+  told_where_nobody_waits (Some g ∷ guests) (seat ∷ seats) p = absurd p
+
+  pub some_waits : (guests : List (Option (Guest R W))) (seats : List StreamSeatValue) (ws : List Waiting) → AllAt P guests seats ws
+      → ¬ AreAllTold guests → (w : Waiting) × (others : List Waiting) × (ws ≡ w ∷ others)
+  some_waits guests seats [] p left = absurd (left (told_where_nobody_waits guests seats p))
+  some_waits guests seats (w ∷ ws) p left = (w, ws, refl)
 
 -- the streams between two epochs, of which one was told
 module _ {R W : Type 0} (terms : Terms) (times : ℕ → Type 0) (es : List EpochValue) (ended : EndedValue) where

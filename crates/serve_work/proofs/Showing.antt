@@ -1,7 +1,7 @@
 -- How the streams of a session are shown.
 use Rattle.std.specs.Prelude.{IsSomeAnd}
 use Rattle.std.specs.Option.{option_map}
-use Rattle.std.proofs.Common.{ℕ, ◌≡◌, ◌∙◌, ◌+◌, ◌++◌, List, [], ◌∷◌, Option, Some, None, inl, inr, true, ap, arith, sym}
+use Rattle.std.proofs.Common.{ℕ, ◌≡◌, ◌∙◌, ◌+◌, ◌++◌, List, [], ◌∷◌, Option, Some, None, IsFalse, inl, inr, true, ap, arith, refl, sym}
 use Rattle.serve_core.specs.declared.counts.Counts.{Counts}
 use Rattle.serve_core.specs.Schedule.{HasStream, ScheduleValue, account_of, counts_of}
 use Rattle.serve_core.specs.Streams.{KeptStream}
@@ -100,11 +100,10 @@ can_show terms times es desk w stream seat standing history s waits of has =
       stream = at_end terms w.request.spec es s.number s.before desk seat.number (IsStandingOf standing) history.epochs_are s.behind has;
     }
 
--- all are shown by the clock with which their epoch was left
-pub clock_shown : (stands : List EpochValue → List requests.Waiting → Type 0) (es : List EpochValue) (ws : List requests.Waiting)
-    (desk : ScheduleValue) → IsLeftBy es desk → stands es ws
-    → (epoch : EpochValue) × (before : List EpochValue) × (vs : List requests.Waiting) × stands (epoch ∷ before) vs
+-- a schedule that is left is that of the latest epoch, by its clock
+pub latest_left : (es : List EpochValue) (desk : ScheduleValue) → IsLeftBy es desk
+    → (epoch : EpochValue) × (before : List EpochValue) × (es ≡ epoch ∷ before) × IsFalse epoch.is_given_up
     × (desk.clock ≡ epoch.gone.clock)
-clock_shown stands [] ws desk left s = absurd left
-clock_shown stands (epoch ∷ es) ws desk (on, inl e) s = (epoch, es, ws, s, ap (λ (x : ScheduleValue). x.clock) e)
-clock_shown stands (epoch ∷ es) ws desk (on, inr e) s = (epoch, es, ws, s, ap (λ (x : ScheduleValue). x.clock) e)
+latest_left [] desk left = absurd left
+latest_left (epoch ∷ es) desk (on, inl e) = (epoch, es, refl, on, ap (λ (x : ScheduleValue). x.clock) e)
+latest_left (epoch ∷ es) desk (on, inr e) = (epoch, es, refl, on, ap (λ (x : ScheduleValue). x.clock) e)

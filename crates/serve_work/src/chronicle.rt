@@ -1,5 +1,5 @@
 //! What is told of a session whose streams come and go, epoch by epoch.
-ghost use Rattle.std.specs.Prelude.{ℕ, ◌≡◌, ◌≤◌, List, ◌∷◌, Option};
+ghost use Rattle.std.specs.Prelude.{ℕ, ◌≡◌, ◌≤◌, List, ◌∷◌, Option, IsFalse};
 ghost use Rattle.serve_work.specs.History.{EpochValue, HasEnded, Terms, epoch_of, given_up, gone_to};
 ghost use Rattle.serve_work.specs.Live.{AreAllIn, Waiting};
 
@@ -40,8 +40,10 @@ pub trait Chronicle {
         ensures given_up { (es : List EpochValue) (ws : List Waiting) → stands self.old es ws
             → stands self.new (given_up es) ws };
 
-    /// Released streams were taken out.
+    /// Released streams were taken out, behind the latest epoch.
     fn retired(&mut self)
+        requires behind { (epoch : EpochValue) × (es : List EpochValue) × (ws : List Waiting)
+            × stands self.old (epoch ∷ es) ws × IsFalse epoch.is_given_up }
         ensures waits { (es : List EpochValue) (ws : List Waiting) → stands self.old es ws
             → stands self.new es ws };
 }

@@ -66,10 +66,10 @@ pub trait Door<R: Source, W: Sink>: Bell + Chronicle {
         ensures waits { (es : List EpochValue) (ws : List Waiting) → Self.stands self.old es ws
             → Self.stands self.new es ws };
 
-    /// All were shown. The moment is that of their hub's clock, and `None` where no stream is served.
+    /// All were shown. The moment is that of their hub's clock, and `None` where no request waits.
     fn end_show(&mut self, moment: Option<u64>)
-        requires clock { IfSome moment (λ at. (epoch : EpochValue) × (es : List EpochValue)
-            × (ws : List Waiting) × Self.stands self.old (epoch ∷ es) ws × (at ≡ epoch.gone.clock)) }
+        requires clock { IfSome moment (λ at. (epoch : EpochValue) × (es : List EpochValue) × (w : Waiting)
+            × (ws : List Waiting) × Self.stands self.old (epoch ∷ es) (w ∷ ws) × (at ≡ epoch.gone.clock)) }
         requires nobody { IfNone moment ((es : List EpochValue) × Self.stands self.old es []) }
         ensures waits { (es : List EpochValue) (ws : List Waiting) → Self.stands self.old es ws
             → Self.stands self.new es ws };

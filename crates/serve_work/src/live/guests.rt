@@ -71,6 +71,7 @@ pub(super) fn tell_guests<R: Source + Drop, W: Sink + Drop, D: Door<R, W>>(
     requires guests { HaveWaited (D.stands door.old) D.terms D.times ended.now guests.old.items }
     ensures guests { IsTrue result
         → HaveWaited (D.stands door.new) D.terms D.times ended.now guests.new.items }
+    ensures left { IsTrue result → ¬ AreAllTold guests.new.items }
     ensures answered { IsFalse result → (es : List EpochValue) × IsHistory D.terms D.times es
         × D.stands door.new es [] }
 {
@@ -127,6 +128,7 @@ pub(super) fn show_guests<R: Source + Drop, W: Sink + Drop, D: Door<R, W>>(
     guests: &Vec<Option<Guest<R, W>>>,
 )
     requires guests { HaveWaited (D.stands door.old) D.terms D.times ended.now guests.now.items }
+    requires left { ¬ AreAllTold guests.now.items }
     ensures waits { (es : List EpochValue) (ws : List Waiting) → D.stands door.old es ws
         → D.stands door.new es ws }
 {
@@ -225,7 +227,8 @@ fn is_due<R: Source, W: Sink>(guest: &Option<Guest<R, W>>, gives_up: bool) -> bo
 
 /// Whether a stream is left that wasn't told.
 fn any_left<R: Source, W: Sink>(guests: &Vec<Option<Guest<R, W>>>) -> bool
-    ensures { IsFalse result → AreAllTold guests.now.items }
+    ensures none { IsFalse result → AreAllTold guests.now.items }
+    ensures any { IsTrue result → ¬ AreAllTold guests.now.items }
 {
     for guest in guests {
         if guest.is_some() {

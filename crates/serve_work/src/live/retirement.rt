@@ -1,11 +1,11 @@
 //! Where released streams are taken out between two epochs.
-ghost use Rattle.std.specs.Prelude.{◌≡◌, ◌+◌, ◌≤◌, ◌++◌, false, List, [], ◌∷◌, None, IfSome, IsTrue};
+ghost use Rattle.std.specs.Prelude.{◌≡◌, ◌+◌, ◌≤◌, ◌++◌, false, List, [], ◌∷◌, None, IfSome, IsFalse, IsTrue};
 ghost use Rattle.std.specs.Prelude.{length, map, take};
 ghost use Rattle.std.specs.Vec.{vec_capacity, vec_len};
 ghost use Rattle.serve_core.specs.Retired.{stays};
 ghost use Rattle.serve_work.specs.History.{EpochValue};
 ghost use Rattle.serve_work.specs.Live.{Waiting};
-ghost use Rattle.serve_work.specs.LiveInside.{AreGuests, AreToldBut, at_marks};
+ghost use Rattle.serve_work.specs.LiveInside.{AreGuests, AreToldBut, HaveWaited, at_marks};
 
 use crate::chronicle::Chronicle;
 use crate::live::guests::{Guest, Interval};
@@ -20,6 +20,8 @@ pub(super) fn retire_released<R: Source + Drop, W: Sink + Drop, C: Chronicle>(
     interval: Interval<R, W>,
     chronicle: &mut C,
 ) -> Interval<R, W>
+    requires guests { HaveWaited (C.stands chronicle.old) C.terms C.times interval.ended
+        interval.guests.items }
     ensures guests { (es : List EpochValue) (ws : List Waiting)
         → AreGuests C.terms C.times es interval.ended ws interval.guests.items
         → AreGuests C.terms C.times es result.ended ws result.guests.items }
@@ -58,6 +60,8 @@ pub(super) fn retire_released<R: Source + Drop, W: Sink + Drop, C: Chronicle>(
 
 /// Tells that streams were taken out, if any was.
 fn tell_retired<C: Chronicle>(chronicle: &mut C, is_any: bool)
+    requires behind { (epoch : EpochValue) × (es : List EpochValue) × (ws : List Waiting)
+        × C.stands chronicle.old (epoch ∷ es) ws × IsFalse epoch.is_given_up }
     ensures { (es : List EpochValue) (ws : List Waiting) → C.stands chronicle.old es ws
         → C.stands chronicle.new es ws }
 {

@@ -15,7 +15,15 @@ next_epoch-requires-clause-guests g c κs within =
     )
 
 pub show_guests-requires : goal.show_guests-requires
-show_guests-requires g c = record { guests = c.tell_guests.ensures.guests c.if-not-tell_guests.false }
+show_guests-requires g c = record {
+  guests = c.tell_guests.ensures.guests c.if-not-tell_guests.false;
+  left = c.tell_guests.ensures.left c.if-not-tell_guests.false;
+}
+
+pub retire_released-left-requires : goal.retire_released-left-requires
+retire_released-left-requires g c =
+    let at = c.tell_guests.ensures.guests c.if-not-tell_guests.false in
+    record { guests = (at.0, at.1, c.show_guests.ensures.waits at.0 at.1 at.2, at.3) }
 
 pub returns-then-not-tell_guests-clause-answered : goal.returns-then-not-tell_guests-clause-answered
 returns-then-not-tell_guests-clause-answered g c = c.tell_guests.ensures.answered c.if-not-tell_guests.true

@@ -52,5 +52,5 @@ returns-clause-answered g c = λ none.
       at.3.history,
       subst (g.D.Chronicle.stands c.loop-place.door at.0)
           (nobody_waits (IsGuestAt g.D.Chronicle.terms g.D.Chronicle.times at.0 c.args.ended.now.book.desk) c.loop-place.guests.items
-          at.3.seats at.1 at.3.each (c.any_left.ensures none)) stood,
+          at.3.seats at.1 at.3.each (c.any_left.ensures.none none)) stood,
     )

@@ -5,7 +5,22 @@ use Rattle.serve_hub.specs.Seats.{StreamRest}
 use Rattle.serve_work.specs.declared.live.guests.Guest.{Guest}
 use Rattle.serve_work.specs.LiveInside.{AreGuests, AreToldBut, at_marks}
 use Rattle.serve_work.proofs.Retiring.{guests_retired, marked_first, told_first}
+use Rattle.serve_work.proofs.Showing.{latest_left}
 use Rattle.serve_work.proofs.live.retirement.retire_released.Goals as goal
+
+pub tell_retired-requires : goal.tell_retired-requires
+tell_retired-requires g c =
+    let at = c.requires.guests in
+    let latest = latest_left at.0 c.args.interval.ended.book.desk at.3.left_here in
+    record {
+      behind = (
+        latest.0,
+        latest.1,
+        at.1,
+        subst (λ es. g.C.Chronicle.stands c.args.chronicle.now es at.1) latest.2 at.2,
+        latest.3,
+      );
+    }
 
 pub returns-in-Ok : goal.returns-in-Ok
 returns-in-Ok g c =
