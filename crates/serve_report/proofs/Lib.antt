@@ -5,5 +5,6 @@ pub mod Openings
 pub mod Filtered
 pub mod Lines
 pub mod Noting
+pub mod Keeping
 pub mod Feeding
 pub mod TakenBack

@@ -78,7 +78,7 @@ fn noted_of(ended: &Ended, tickets: &[Option<u64>], number: usize) -> Noted
 }
 
 /// What the stream of this number holds where its epoch ended.
-pub fn holding_of(ended: &Ended, number: u32) -> Option<Holding>
+fn holding_of(ended: &Ended, number: u32) -> Option<Holding>
     ensures { result ≡ option_map holding_in (slice_get ended.now.book.desk.streams number) }
 {
     let spec = ended.spec(number)?;

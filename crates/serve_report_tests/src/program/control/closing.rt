@@ -203,8 +203,8 @@ fn an_opener_comes_back_once_its_fifo_is_held(rt: HostRuntime) {
     }
 }
 
-/// One gives no frame. Others come and go beside it, whose shares are free 16 moments later, and how all stand
-/// is told.
+/// One gives no frame. Others come and go beside it, whose shares are free 16 moments later, and it is told
+/// how all stand.
 #[test]
 fn a_silent_stream_holds_up_no_other(rt: HostRuntime) {
     let turns: [Turn<'_>; 6] = [

@@ -35,8 +35,8 @@ fn shares<R: Abort + Threads + Wait + Clock + Copy + Drop + Send + Sync + 'stati
     holds(rt, &outputs[0], written);
 }
 
-/// A moment is a second, so shares are held for a thousand, from the first frame's on. Where no stream is left
-/// none is.
+/// A moment is a second, so shares are held for a thousand, from the first frame's on. Where no stream is
+/// left none is.
 #[test]
 fn it_is_told_who_holds_shares(rt: HostRuntime) {
     let turns: [Turn<'_>; 6] = [

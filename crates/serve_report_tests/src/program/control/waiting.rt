@@ -217,7 +217,8 @@ fn it_is_told_how_a_stream_stands(rt: HostRuntime) {
     let turns: [Turn<'_>; 3] = [ASK, ("a admitted\n", b"state\n"), ("streams 1\n", b"end\n")];
     let answers = "a admitted\n\
                    a accepted 0 finished 0 collected 0 charged 0 budget 1 deadline 0\n\
-                   shares 250000 of 2000000\nnow streams 1\na accepted 3 delivered 3 charged 3 stop whole\nunits 3\n";
+                   shares 250000 of 2000000\nnow streams 1\n\
+                   a accepted 3 delivered 3 charged 3 stop whole\nunits 3\n";
     let talk = Talk::new(&turns, answers);
     let slow: [Slow<'_>; 1] = [("a.in", TOLD)];
     serves_fifos(&rt, rt.alloc(), &[], &slow, Some(A_INVERTED), talk);

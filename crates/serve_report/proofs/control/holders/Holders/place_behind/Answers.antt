@@ -1,5 +1,5 @@
 use Rattle.std.proofs.Common.{arith, nat_lt, sym}
-use Rattle.serve_report.proofs.Noting.{behind_all}
+use Rattle.serve_report.proofs.Keeping.{behind_all}
 use Rattle.serve_report.proofs.control.holders.Holders.place_behind.Goals as goal
 
 pub returns-in-None-clause-place : goal.returns-in-None-clause-place
