@@ -1,6 +1,6 @@
 -- What streams hold of the workers.
-use Rattle.std.specs.Prelude.{ℕ, ◌+◌, ◌-◌, ◌^◌, ◌≡◌, ◌≢◌, min, Bool, nat_lt, if◌then◌else◌, List, fold, insert}
-use Rattle.std.specs.Prelude.{Option, None, Some}
+use Rattle.std.specs.Prelude.{ℕ, ◌+◌, ◌-◌, ◌^◌, ◌≡◌, ◌≢◌, min, Bool, nat_lt, if◌then◌else◌, List, fold}
+use Rattle.std.specs.Prelude.{insert, Option, None, Some}
 use Rattle.std.specs.List.{position_or_len}
 use Rattle.cbs_account.specs.Admission.{Fits, Load, share, with_share}
 use Rattle.cbs_account.specs.Balance.{IsBandwidth}
@@ -13,7 +13,8 @@ use Rattle.serve_report.specs.declared.control.shares.Share.{Share}
 abbrev pub loaded : (workers kept : ℕ) → Load
 loaded workers kept = record { workers = workers; shares = kept }
 
--- the share of q units in every t is left at a moment beside what is kept of these workers, and kept from then on
+-- the share of q units in every t is left at a moment beside what is kept of these workers, and kept from
+-- then on
 pub record IsTaken (workers kept q t moment : ℕ) (taken : Share) : Type 0 where
   pub bandwidth : IsBandwidth q t
   pub fits : Fits (with_share q t (loaded workers kept))

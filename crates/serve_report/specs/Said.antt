@@ -19,7 +19,8 @@ standing_text standing =
 
 -- `Q:T until M`
 abbrev pub holding_text : Holding → List ℕ
-holding_text holding = decimal holding.q ++ codes ":" ++ decimal holding.t ++ codes " until " ++ decimal holding.until
+holding_text holding =
+    decimal holding.q ++ codes ":" ++ decimal holding.t ++ codes " until " ++ decimal holding.until
 
 -- `line N: FAULT`, `NAME admitted`, the report of a stream that ended, how one stands, `NAME opening`,
 -- `NAME held Q:T until M`, `shares S of W`, `now M streams N`, `units N`

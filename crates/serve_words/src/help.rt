@@ -387,7 +387,10 @@ line asks for is told by 'NAME admitted' when it is served from now on, or by
 its own line where it isn't. A wrong line is told by 'line N: FAULT', and changes
 nothing. Behind 'state' each stream has a line, 'NAME accepted A finished F
 collected K charged U budget C deadline E' or, until it is served, 'NAME
-opening'. The last, 'now M streams N', has the moment and how many are served.
+opening'. One that ended and still holds its share has 'NAME held Q:T until M'.
+Then 'shares S of W' has the shares that are kept of all that there are, in
+millionths of a worker. The last, 'now M streams N', has the moment and how many
+are served.
 
 Where standard error is a terminal, a line for each stream of the words shows
 there how far it has come, at most five times a second: 'NAME frames in I out O'.

@@ -45,7 +45,7 @@ impl fmt::Display for Standing {
     }
 }
 
-/// What a stream holds of the workers that has ended: its share, `q` units in every `t` moments, until a moment.
+/// What a stream that ended holds of the workers until a moment: its share, `q` units in every `t` moments.
 #[derive(Clone, Copy)]
 pub struct Holding {
     pub q: u64,

@@ -1,5 +1,6 @@
 //! Streams that have ended and still hold a share of the workers.
-ghost use Rattle.std.specs.Prelude.{◌≡◌, ◌≤◌, ◌<◌, [], IfOk, filter, if◌then◌else◌, length, nat_lt, position, vec_len};
+ghost use Rattle.std.specs.Prelude.{◌≡◌, ◌≤◌, ◌<◌, [], IfOk, filter, if◌then◌else◌, length, nat_lt};
+ghost use Rattle.std.specs.Prelude.{position, vec_len};
 ghost use Rattle.std.specs.List.{list_all};
 ghost use Rattle.std.specs.Vec.{vec_capacity};
 ghost use Rattle.cbs_account.specs.declared.limits.TheConstants.{MOST_STREAMS};

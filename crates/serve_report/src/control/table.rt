@@ -214,8 +214,8 @@ impl<R: Source + Drop, W: Sink + Drop, S: Drop> Table<R, W, S> {
         }
     }
 
-    /// What the first stream is served with that waits to be, and whose share has come free. It is served under
-    /// this ticket from here on.
+    /// What the first stream is served with that waits to be, and whose share has come free. It is served
+    /// under this ticket from here on.
     pub fn serve_next(&mut self, ticket: u64) -> Option<Ready<R, W>> {
         for entry in &mut self.entries {
             if self.holders.are_free_since(entry.share.since) {

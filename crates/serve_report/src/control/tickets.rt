@@ -1,6 +1,6 @@
 //! The tickets of those who were let in at a door.
-ghost use Rattle.std.specs.Prelude.{ℕ, ◌≡◌, ◌≢◌, ◌<◌, ◌↔◌, ◌++◌, ◌∷◌, [], All, List, IfOk, IsTrue, MatchOption};
-ghost use Rattle.std.specs.Prelude.{length, slice_index};
+ghost use Rattle.std.specs.Prelude.{ℕ, ◌≡◌, ◌≢◌, ◌<◌, ◌↔◌, ◌++◌, ◌∷◌, [], All, List, IfOk, IsTrue};
+ghost use Rattle.std.specs.Prelude.{MatchOption, length, slice_index};
 
 use cbs_account::limits::MOST_STREAMS;
 use std::alloc::{AllocError, Global};
