@@ -298,8 +298,9 @@ where
         let mut voice = self.lobby.voice.lock(self.rt);
         let mut table = self.lobby.table.lock(self.rt);
         say_unserved(&mut voice, &table);
-        say_holders(&mut voice, table.holders.all(), moment);
-        voice.say(&Said::Shares(table.kept_at(moment), table.whole()));
+        let latest = table.latest(moment);
+        say_holders(&mut voice, table.holders.all(), latest);
+        voice.say(&Said::Shares(table.kept_at(latest), table.whole()));
         voice.say(&Said::Now(moment, table.count_served()));
         table.asked = table.asked.saturating_sub(1);
     }

@@ -139,6 +139,16 @@ impl<R: Source + Drop, W: Sink + Drop, S: Drop> Table<R, W, S> {
         parts
     }
 
+    /// The moment at which a share was taken last, or this one, if that is later. By it no share counts twice
+    /// that came free and was given on.
+    pub fn latest(&self, moment: u64) -> u64 {
+        let mut latest = moment;
+        for entry in &self.entries {
+            latest = latest.max(entry.share.since);
+        }
+        latest
+    }
+
     /// What the workers have, in millionths of one.
     pub fn whole(&self) -> u64
         ensures { result ≡ WHOLE * self.now.workers }
