@@ -16,6 +16,7 @@ FLOORS = {
     "serve_watch": (WORDS, "Each record of a trace has its text, and stands behind those before it."),
     "serve_files": (WORDS, "What is read ahead is given once and in order; what came of a write is told once."),
     "serve_script": (WORDS, "A script prints exactly the lines that the definitions give for it."),
+    "serve_client": (THREADS, "What a client read, what it wrote, and why it stops; what is left to do goes to the next epoch."),
     "serve_work": (THREADS, "Each stream writes a front of its own images, all at a whole end, then charged for just these."),
     "serve_audit": (SHARES, "A journal is accepted exactly where it is legal; so is each that a book keeps."),
     "serve_hub": (THREADS, "Threads that share one lock have one legal history, from epoch to epoch."),

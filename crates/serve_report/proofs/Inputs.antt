@@ -6,8 +6,9 @@ use Rattle.y4m_stream.specs.declared.device.Sink as sinks
 use Rattle.y4m_stream.specs.declared.device.Source as sources
 use Rattle.serve_core.specs.Setup.{StreamSpec}
 use Rattle.serve_hub.specs.Seats.{StreamSeatValue, opened_streams}
-use Rattle.serve_work.specs.Clients.{ClientStart}
-use Rattle.serve_work.specs.Sessions.{AreInputs, IsInput, ServedValue, start_of, starts_of}
+use Rattle.serve_client.specs.Clients.{ClientStart}
+use Rattle.serve_client.specs.Streams.{ServedValue}
+use Rattle.serve_work.specs.Sessions.{AreInputs, IsInput, start_of, starts_of}
 use Rattle.serve_report.specs.Entrants.{Leaves, entered}
 use Rattle.serve_report.specs.Openings.{Opening, Output, come_of, entrant_of, input_of, inputs_in, opening_of, openings_of, specs_in}
 use Rattle.serve_report.specs.Openings.{starts_in}

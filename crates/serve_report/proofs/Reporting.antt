@@ -4,8 +4,8 @@ use Rattle.std.specs.List.{AllByRecursion}
 use Rattle.serve_core.specs.Setup.{StreamSpec}
 use Rattle.serve_report.specs.Entrants.{IsInTime, Leaves}
 use Rattle.serve_report.specs.Moments.{AreMoments}
-use Rattle.serve_work.specs.Clients.{AllowsStop, ClientStart}
-use Rattle.serve_work.specs.Sessions.{ServedValue}
+use Rattle.serve_client.specs.Clients.{AllowsStop, ClientStart}
+use Rattle.serve_client.specs.Streams.{ServedValue}
 
 -- a session whose clock gives no moment past the last leaves no stream that was stopped by it
 module _ (Gives : ℕ → Type 0) (most : AreMoments Gives) where

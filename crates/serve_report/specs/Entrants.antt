@@ -19,10 +19,11 @@ use Rattle.serve_report.specs.declared.serve.report.StreamRow.{StreamRow}
 use Rattle.serve_report.specs.declared.serve.report.StreamStop.{StreamStop}
 use Rattle.serve_report.specs.declared.serve.report.StreamStop.TheVariants as stops
 use Rattle.serve_words.specs.declared.request.ServeWords.{ServeWords}
-use Rattle.serve_work.specs.Clients.{ClientStart}
-use Rattle.serve_work.specs.Sessions.{IsSession, ServedValue}
-use Rattle.serve_work.specs.declared.stop.Cause.TheVariants.{ClockEnd}
-use Rattle.serve_work.specs.declared.stop.Stop.TheVariants.{Refused}
+use Rattle.serve_client.specs.declared.stop.Cause.TheVariants.{ClockEnd}
+use Rattle.serve_client.specs.declared.stop.Stop.TheVariants.{Refused}
+use Rattle.serve_client.specs.Clients.{ClientStart}
+use Rattle.serve_client.specs.Streams.{ServedValue}
+use Rattle.serve_work.specs.Sessions.{IsSession}
 
 -- a stream that takes part in the session
 abbrev pub entered : Bor (List ℕ) → Entrant

@@ -16,7 +16,7 @@ use Rattle.y4m_stream.specs.Reader.{IsOfHeader, IsOpened, ReaderState}
 use Rattle.serve_core.specs.Setup.{StreamSpec}
 use Rattle.y4m_header.specs.declared.limits.TheConstants.{MOST_FRAMES}
 use Rattle.serve_hub.specs.Seats.{opened_streams}
-use Rattle.serve_work.specs.Clients.{ClientStart}
+use Rattle.serve_client.specs.Clients.{ClientStart}
 use Rattle.serve_work.specs.Sessions.{starts_of}
 use Rattle.serve_words.specs.declared.checks.Asked.{Asked}
 use Rattle.serve_report.specs.declared.serve.opening.Entrant.{Entrant}

@@ -3,9 +3,9 @@ use Rattle.std.specs.Prelude.{ℕ, List, ◌++◌, codes, decimal}
 use Rattle.serve_core.specs.declared.refusal.Refusal.TheVariants as cores
 use Rattle.serve_hub.specs.declared.refusal.Refusal.{Refusal}
 use Rattle.serve_hub.specs.declared.refusal.Refusal.TheVariants.{Core}
-use Rattle.serve_work.specs.Words.{cause_word}
-use Rattle.serve_work.specs.declared.stop.Stop.{Stop}
-use Rattle.serve_work.specs.declared.stop.Stop.TheVariants as clients
+use Rattle.serve_client.specs.declared.stop.Stop.{Stop}
+use Rattle.serve_client.specs.declared.stop.Stop.TheVariants as clients
+use Rattle.serve_client.specs.Words.{cause_word}
 use Rattle.filters.specs.Words.{filter_word}
 use Rattle.y4m_stream.specs.Words.{read_text, write_text}
 use Rattle.serve_report.specs.declared.serve.report.AdmitFault.{AdmitFault}

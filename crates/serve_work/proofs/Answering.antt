@@ -9,14 +9,13 @@ use Rattle.serve_core.specs.Streams.{KeptStream}
 use Rattle.serve_hub.specs.declared.entry.Act.{Act}
 use Rattle.serve_hub.specs.Ends.{EndedValue, IsCharged, IsStreamOf}
 use Rattle.serve_hub.specs.Seats.{StreamRest, StreamSeatValue, left_by}
+use Rattle.serve_client.specs.Clients.{AllowsStop, ClientEnds, ClientStart, StreamEnds}
+use Rattle.serve_client.specs.Streams.{ServedValue, StandsAt, StreamValue, is_waiting}
 use Rattle.serve_work.specs.declared.live.guests.Guest.{Guest}
-use Rattle.serve_work.specs.Clients.{AllowsStop, ClientEnds, ClientStart, StreamEnds}
 use Rattle.serve_work.specs.History.{AreEpochsBy, EpochValue, IsHistory, Terms, given_up}
 use Rattle.serve_work.specs.Live.{HasAtEnd, IsBehind, IsNotCut, IsServedSince, Waiting, start_with}
 use Rattle.serve_work.specs.LiveInside.{AllAt, AreAllTold, AreGuests, CanTell, MayTell, ended_so, IsGuestAt, Stood}
-use Rattle.serve_work.specs.Sessions.{IsStreamTold, ServedValue}
-use Rattle.serve_work.specs.SessionInside.{StandsAt}
-use Rattle.serve_work.specs.StreamInside.{StreamValue, is_waiting}
+use Rattle.serve_work.specs.Sessions.{IsStreamTold}
 use Rattle.serve_work.proofs.Renumbered.{stream_before}
 use Rattle.serve_work.proofs.SessionCharges.{served_one}
 use Rattle.serve_work.proofs.Left.{streams_gone}

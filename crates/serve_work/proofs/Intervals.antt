@@ -18,18 +18,19 @@ use Rattle.serve_hub.specs.Journal.{AreEntries, IsJournal}
 use Rattle.serve_hub.proofs.Journals.{joined_is}
 use Rattle.serve_hub.proofs.Specs.{added, specs_led}
 use Rattle.serve_hub.specs.Seats.{StreamRest, StreamSeatValue, left_by, opened_rest, opened_streams, seat_over}
+use Rattle.serve_client.specs.Clients.{ClientStart}
+use Rattle.serve_client.specs.Epochs.{IsReopened}
+use Rattle.serve_client.specs.Rests.{IsRestOf, Unbegun}
+use Rattle.serve_client.specs.Streams.{Over, StandsAt, StreamValue, Waiting}
+use Rattle.serve_client.proofs.Crossing.{new_stream_is_unbegun, streams_cross}
+use Rattle.serve_client.proofs.Sized.{rest_sized}
 use Rattle.serve_work.specs.declared.session.interval.Interval.{Interval}
-use Rattle.serve_work.specs.Clients.{ClientStart}
-use Rattle.serve_work.specs.Epochs.{IsReopened}
 use Rattle.serve_work.specs.Intervals.{Beginning, HasNoCalls, IsBeginning, IsBetween, IsLater, IsSizedStart, LeadsTo, beginning_of}
-use Rattle.serve_work.specs.Rests.{IsRestOf, Unbegun}
 use Rattle.serve_work.specs.Sessions.{AllTimed, AreInputs, IsInput, IsOfEpochs, acts_in, start_of, starts_of}
-use Rattle.serve_work.specs.SessionInside.{AllBegin, AllStand, HeldValue, IsReady, IsReadyAt, StandsAt}
+use Rattle.serve_work.specs.SessionInside.{AllBegin, AllStand, HeldValue, IsReady, IsReadyAt}
 use Rattle.serve_work.specs.SessionInside.{held_with, unread}
-use Rattle.serve_work.specs.StreamInside.{Over, StreamValue, Waiting}
-use Rattle.serve_work.proofs.Crossing.{new_stream_is_unbegun, streams_cross}
 use Rattle.serve_work.proofs.SessionCharges.{are_from}
-use Rattle.serve_work.proofs.SessionTurns.{rest_sized, same_length}
+use Rattle.serve_work.proofs.SessionTurns.{same_length}
 
 pub held_length : (seats : List StreamSeatValue) (streams : List StreamValue)
     → length (held_with seats streams) ≤ length streams

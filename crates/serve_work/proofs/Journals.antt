@@ -15,9 +15,9 @@ use Rattle.serve_hub.specs.Books.{BookValue, IsBook, entries_left, one_open, spe
 use Rattle.serve_hub.specs.Ends.{AreFree}
 use Rattle.serve_hub.specs.Journal.{transcript_of}
 use Rattle.serve_hub.proofs.Opened.{only_closes}
+use Rattle.serve_client.specs.Workers.{HaveSpent}
 use Rattle.serve_work.specs.Intervals.{Beginning, IsBehind, LeadsTo}
 use Rattle.serve_work.specs.Sessions.{AreEpochs, IsEpoch, IsOfEpochs, open_streams}
-use Rattle.serve_work.specs.Workers.{HaveSpent}
 
 full_or_over : (limit : ℕ) (specs : List StreamSpec) (opening : State Blank) (waits : Bool) (epochs : List (List Entry))
     → AreEpochs limit specs opening true epochs → AreEpochs limit specs opening waits epochs

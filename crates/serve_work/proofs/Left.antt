@@ -9,12 +9,12 @@ use Rattle.serve_core.specs.Streams.{KeptStream}
 use Rattle.serve_core.proofs.Items.Lists.{slice_get_set_other, slice_get_set_same}
 use Rattle.serve_hub.specs.Ends.{AreStreamsOf, HaveStreams, IsStreamOf}
 use Rattle.serve_hub.specs.Seats.{StreamSeatValue, left_by}
+use Rattle.serve_client.specs.Streams.{StreamValue}
 use Rattle.serve_work.specs.declared.live.guests.Guest.{Guest}
 use Rattle.serve_work.specs.History.{EpochValue, HasEnded, IsGone, IsGoneOn, IsHistory, Terms}
 use Rattle.serve_work.specs.Live.{Waiting}
 use Rattle.serve_work.specs.LiveInside.{with_tickets, guests_of, nobody}
 use Rattle.serve_work.specs.SessionInside.{HeldValue}
-use Rattle.serve_work.specs.StreamInside.{StreamValue}
 use Rattle.serve_work.proofs.Distinct.{AreDistinct, In, distinct_from}
 use Rattle.serve_work.proofs.SessionTurns.{same_length}
 

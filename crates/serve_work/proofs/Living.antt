@@ -18,26 +18,26 @@ use Rattle.serve_hub.specs.Calls.{Admits}
 use Rattle.serve_hub.specs.Ends.{AreFree, AreStreamCalls, AreStreamsOf, ClockReached, ClocksReached, HaveStreams, IsStreamOf, acts_of}
 use Rattle.serve_hub.specs.Ends as hubs
 use Rattle.serve_hub.specs.Seats.{StreamRest, StreamSeatValue, left_by, opened_rest, seat_over, spec_told}
+use Rattle.serve_client.specs.Clients.{AreAtMoments, IsUnclosed, closes_in, offers_in}
+use Rattle.serve_client.specs.ClientInside.{KeepsMoments}
+use Rattle.serve_client.specs.Rests.{IsFresh, Unbegun}
+use Rattle.serve_client.specs.Streams as sessions
+use Rattle.serve_client.specs.Workers.{HaveSpent}
+use Rattle.serve_client.specs.Streams.{StandsAt, StreamValue, stream_stop}
+use Rattle.serve_client.proofs.Staying.{Stays-same}
 use Rattle.serve_work.specs.declared.live.guests.Guest.{Guest}
 use Rattle.serve_work.specs.declared.live.opening.Hall.{Hall}
-use Rattle.serve_work.specs.Clients.{AreAtMoments, IsUnclosed, closes_in, offers_in}
-use Rattle.serve_work.specs.ClientInside.{KeepsMoments}
 use Rattle.serve_work.specs.History.{EpochValue, HasEnded, IsEpochBy, IsGone, IsHistory, OpensBehind, OpensFor, Terms}
 use Rattle.serve_work.specs.Intervals.{HasNoCalls}
 use Rattle.serve_work.specs.Live.{AreAllIn, IsBehind, IsNewIn, IsOfSpec, IsRequest, IsSeatFor, Waiting, acts_by, start_with}
 use Rattle.serve_work.specs.LiveInside.{AllAt, AreSeated, Begins, HadTurn, HasPlaces, HasTurn, IsGuestAt, IsGuestIn, Stood}
 use Rattle.serve_work.specs.LiveInside.{TakesSeat, guests_of, helds_of, nobody, tickets_of}
-use Rattle.serve_work.specs.Rests.{IsFresh, Unbegun}
 use Rattle.serve_work.specs.Sessions.{AreTimed}
-use Rattle.serve_work.specs.StreamInside as sessions
-use Rattle.serve_work.specs.Workers.{HaveSpent}
-use Rattle.serve_work.specs.SessionInside.{AllGoOn, GoesOn, HeldValue, IsReady, IsReadyAt, StandsAt}
-use Rattle.serve_work.specs.StreamInside.{StreamValue, stream_stop}
+use Rattle.serve_work.specs.SessionInside.{AllGoOn, GoesOn, HeldValue, IsReady, IsReadyAt}
 use Rattle.serve_work.proofs.Intervals.{ready_at, reopened, stands_across}
 use Rattle.serve_work.proofs.Journals.{ends_epoch}
 use Rattle.serve_work.proofs.Retiring.{some_and}
 use Rattle.serve_work.proofs.SessionTurns.{map_more, seat_number, seat_spec}
-use Rattle.serve_work.proofs.Staying.{Stays-same}
 use Rattle.serve_work.proofs.Times.{allowed_too, no_offer, timed_too}
 use Rattle.serve_work.proofs.Timing.{timed}
 

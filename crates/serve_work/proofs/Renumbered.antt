@@ -12,18 +12,17 @@ use Rattle.serve_core.specs.Streams.{KeptStream}
 use Rattle.serve_core.proofs.Schedules.Retiring.{number_is}
 use Rattle.serve_hub.specs.declared.entry.Act.{Act}
 use Rattle.serve_hub.specs.Seats.{StreamSeatValue}
-use Rattle.serve_work.specs.declared.stop.Stop.{Stop}
-use Rattle.serve_work.specs.Clients.{ClientEnds, ClientOutcome, ClientStart, ClientStopsAt, CutsHeader, WroteImages}
-use Rattle.serve_work.specs.Clients.{WroteNothing}
-use Rattle.serve_work.specs.ClientInside.{Feeds, HasInHand, IsUseful, Moves, Passes, StopsReading}
-use Rattle.serve_work.specs.Hands.{with_kept}
+use Rattle.serve_client.specs.declared.stop.Stop.{Stop}
+use Rattle.serve_client.specs.Clients.{ClientEnds, ClientOutcome, ClientStart, ClientStopsAt, CutsHeader, WroteImages}
+use Rattle.serve_client.specs.Clients.{WroteNothing}
+use Rattle.serve_client.specs.ClientInside.{Feeds, HasInHand, IsUseful, Moves, Passes, StopsReading}
+use Rattle.serve_client.specs.Hands.{with_kept}
+use Rattle.serve_client.specs.Rests.{Begun, CourseValue, Discarding, Draining, Feeding, Holding, IsAt, IsFresh}
+use Rattle.serve_client.specs.Rests.{IsRestOf, RestValue, Unbegun, as_open}
+use Rattle.serve_client.specs.Streams.{Over, StandsAt, StreamValue, Waiting}
+use Rattle.serve_client.specs.Sends.{Serves}
+use Rattle.serve_client.proofs.Stopping.{moves_until, until_moves}
 use Rattle.serve_work.specs.Live.{IsKept, numbered}
-use Rattle.serve_work.specs.Rests.{Begun, CourseValue, Discarding, Draining, Feeding, Holding, IsAt, IsFresh}
-use Rattle.serve_work.specs.Rests.{IsRestOf, RestValue, Unbegun, as_open}
-use Rattle.serve_work.specs.SessionInside.{StandsAt}
-use Rattle.serve_work.specs.Sends.{Serves}
-use Rattle.serve_work.specs.StreamInside.{Over, StreamValue, Waiting}
-use Rattle.serve_work.proofs.Stopping.{moves_until, until_moves}
 
 abbrev pub starting : ℕ → ClientStart → ClientStart
 starting n start = record start { seat = numbered n start.seat }

@@ -13,12 +13,12 @@ use Rattle.serve_core.proofs.Schedules.Retiring.{number_is}
 use Rattle.serve_hub.specs.Ends.{AreStreamsOf, EndedValue, IsCharged, IsStreamOf}
 use Rattle.serve_hub.specs.Retired.{renumbered, rests_kept, retired_end}
 use Rattle.serve_hub.specs.Seats.{StreamRest, StreamSeatValue, left_by}
+use Rattle.serve_client.specs.Streams.{StreamValue}
 use Rattle.serve_work.specs.declared.live.guests.Guest.{Guest}
 use Rattle.serve_work.specs.History.{EpochValue, IsLeftBy, Terms}
 use Rattle.serve_work.specs.Live.{IsBehind, Waiting, numbered, start_with}
 use Rattle.serve_work.specs.LiveInside.{AllAt, AreGuests, AreToldBut, IsGuestAt, Stood, at_marks, with_ticket}
 use Rattle.serve_work.specs.LiveInside.{with_ticket_of, with_tickets}
-use Rattle.serve_work.specs.StreamInside.{StreamValue}
 use Rattle.serve_work.proofs.Renumbered.{once_more, retired_twice, stands_numbered}
 
 -- one stream that stays

@@ -9,11 +9,11 @@ use Rattle.serve_core.specs.declared.setup.SetupError.TheVariants.{BadLimits, Ba
 use Rattle.serve_core.specs.Admitted.{IsFault}
 use Rattle.serve_core.specs.Setup.{HasBandwidth, IsWithinLimits, StreamSpec, setup_of}
 use Rattle.serve_hub.specs.Seats.{StreamSeatValue}
+use Rattle.serve_client.specs.Streams.{StreamValue}
 use Rattle.serve_work.specs.declared.live.guests.Guest.{Guest}
 use Rattle.serve_work.specs.Live.{AllowsRefusal, IsForm}
 use Rattle.serve_work.specs.LiveInside.{guests_of, helds_of, nobody, refusal_of, tickets_of}
 use Rattle.serve_work.specs.SessionInside.{HeldValue, IsReady}
-use Rattle.serve_work.specs.StreamInside.{StreamValue}
 
 -- a setup of one stream
 

@@ -16,13 +16,14 @@ use Rattle.serve_hub.specs.declared.entry.Act.{Act}
 use Rattle.serve_hub.specs.declared.entry.Entry.{Entry}
 use Rattle.serve_hub.specs.Ends.{AreStreamsOf, IsCharged, IsStreamOf}
 use Rattle.serve_hub.specs.Seats.{StreamSeatValue, collected_by, opened_streams}
-use Rattle.serve_work.specs.declared.stop.Stop.TheVariants.{Whole}
-use Rattle.serve_work.specs.Clients.{ClientEnds, ClientOutcome, ClientStart, StreamEnds}
+use Rattle.serve_client.specs.declared.stop.Stop.TheVariants.{Whole}
+use Rattle.serve_client.specs.Clients.{ClientEnds, ClientOutcome, ClientStart, StreamEnds}
+use Rattle.serve_client.specs.Streams.{ServedValue}
+use Rattle.serve_client.specs.Clients.{ClientLeft}
+use Rattle.serve_client.proofs.Tallying.{collections_both, collections_counted}
 use Rattle.serve_work.specs.Intervals.{AreFrom}
-use Rattle.serve_work.specs.Sessions.{AreServed, IsServed, IsStreamTold, IsServedBy, ServedValue, starts_of}
+use Rattle.serve_work.specs.Sessions.{AreServed, IsServed, IsStreamTold, IsServedBy, starts_of}
 use Rattle.serve_work.specs.SessionInside.{AllLeave, outcomes_of}
-use Rattle.serve_work.specs.Clients.{ClientLeft}
-use Rattle.serve_work.proofs.Tallying.{collections_both, collections_counted}
 
 -- the streams are numbered in order
 pub are_from : {W : Type 0} (contents : W → Option (List ℕ)) (failures : W → ℕ) (limit first : ℕ)

@@ -4,13 +4,12 @@ use Rattle.std.specs.List.{AllByRecursion}
 use Rattle.std.proofs.Common.{◌≡◌, ℕ, List, [], ◌∷◌, Option, IfSome, Some, ap, arith, get_or, length, map, sym, subst}
 use Rattle.y4m_stream.specs.Reader.{ReaderState}
 use Rattle.serve_hub.specs.Seats.{StreamSeatValue}
-use Rattle.serve_work.specs.Clients.{AllowsStop, ClientOutcome}
-use Rattle.serve_work.specs.ClientInside.{IsNoNewEnd}
+use Rattle.serve_client.specs.Clients.{AllowsStop, ClientOutcome}
+use Rattle.serve_client.specs.ClientInside.{IsNoNewEnd}
+use Rattle.serve_client.specs.Streams.{ServedValue, StreamValue, stream_stop}
+use Rattle.serve_client.proofs.Allowing.{kept_allowed}
 use Rattle.serve_work.specs.SessionInside.{AllGoOn, AreAllowed, AreOver, BringNoEnd, HeldValue, held_at, held_with}
 use Rattle.serve_work.specs.SessionInside.{outcomes_of, unread}
-use Rattle.serve_work.specs.Sessions.{ServedValue}
-use Rattle.serve_work.specs.StreamInside.{StreamValue, stream_stop}
-use Rattle.serve_work.proofs.Allowing.{kept_allowed}
 
 abbrev stream_in : HeldValue → StreamValue
 stream_in held = held.stream

@@ -7,7 +7,7 @@ use Rattle.std.proofs.Common.{map, Option, Some, None, append-nil, take_all, Res
 use Rattle.std.proofs.Common.{refl, sym, ap, ◌∙◌, subst, arith}
 use Rattle.std.proofs.lemmas.List.{drop_all, map-append, reverse-append}
 use Rattle.std.proofs.lemmas.List.Elements.{filter-append}
-use Rattle.y4m_stream.specs.Reader.{IsOfHeader, ReaderState}
+use Rattle.y4m_stream.specs.Reader.{ReaderState}
 use Rattle.serve_core.specs.Desk.{desk_state}
 use Rattle.serve_core.specs.Leads.{state_from}
 use Rattle.serve_core.specs.Schedule.{ScheduleValue}
@@ -21,48 +21,22 @@ use Rattle.serve_hub.specs.Books.{specs_of}
 use Rattle.serve_hub.specs.Ends.{AreStreamCalls, ClockReached, acts_of, is_same_seat}
 use Rattle.serve_hub.specs.Journal.{AreEntries, transcript_of}
 use Rattle.serve_hub.specs.Seats.{StreamSeatValue, spec_told}
+use Rattle.serve_client.specs.Clients.{AreAtMoments, ClientStart}
+use Rattle.serve_client.specs.Rests.{Begun, Unbegun}
+use Rattle.serve_client.specs.Streams.{Over, ServedValue, StandsAt, StreamValue, Waiting}
+use Rattle.serve_client.specs.Clients.{ClientLeft}
+use Rattle.serve_client.proofs.Tallying.{KeepsMoments-same}
 use Rattle.serve_work.specs.declared.session.SessionFault.{SessionFault}
 use Rattle.serve_work.specs.declared.session.SessionFault.TheVariants.{BadLimit, Mismatch, NoMemory}
 use Rattle.serve_work.specs.declared.session.unended.Unended.{Unended}
 use Rattle.serve_work.specs.declared.session.unended.Unended.TheVariants as unended
-use Rattle.serve_work.specs.Clients.{AreAtMoments, ClientStart}
-use Rattle.serve_work.specs.Intervals.{HasNoCalls, IsSizedStart}
-use Rattle.serve_work.specs.Rests.{Begun, IsRestOf, RestValue, Unbegun, reader_in}
-use Rattle.serve_work.specs.Sessions.{AllTimed, AreInputs, AreTimed, ServedValue, acts_in}
+use Rattle.serve_work.specs.Intervals.{HasNoCalls}
+use Rattle.serve_work.specs.Sessions.{AllTimed, AreInputs, AreTimed, acts_in}
 use Rattle.serve_work.specs.SessionInside.{AllBegin, AllGoOn, AllLeave, AllRun, AllStand, AreAllOver, AreOver, AreUnread}
 use Rattle.serve_work.specs.SessionInside.{GivesBack, IsUnended, fault_of, unread}
 use Rattle.serve_work.specs.SessionInside.{GoesOn, HeldValue, IsReady, Runs, Stands}
-use Rattle.serve_work.specs.SessionInside.{StandsAt, held_at, held_with, outcomes_of}
-use Rattle.serve_work.specs.Clients.{ClientLeft}
-use Rattle.serve_work.specs.StreamInside.{Over, StreamValue, Waiting}
-use Rattle.serve_work.proofs.Staying.{same_chain}
-use Rattle.serve_work.proofs.Tallying.{KeepsMoments-same}
+use Rattle.serve_work.specs.SessionInside.{held_at, held_with, outcomes_of}
 use Rattle.serve_work.proofs.Timing.{timed, timed_on}
-
--- a stream's chain and its reader's header stay
-rest_header : (start : ClientStart) (past : List Act) (seat : StreamSeatValue) (rest : RestValue) → IsRestOf start past seat rest
-    → (reader_in rest).header ≡ start.reader.header
-rest_header start past seat (Unbegun reader contents failures) a = ap (λ (r : ReaderState). r.header) a.same_reader
-rest_header start past seat (Begun begun) a = a.same_header
-
-rest_chain : (start : ClientStart) (past : List Act) (seat : StreamSeatValue) (rest : RestValue) → IsRestOf start past seat rest
-    → seat.chain ≡ start.seat.chain
-rest_chain start past seat (Unbegun reader contents failures) a = same_chain start.seat seat a.stays.spec
-rest_chain start past seat (Begun begun) a = same_chain start.seat seat a.tally.spec
-
--- what is left to do of a stream whose frames are those of its chain
-pub rest_sized : (start : ClientStart) (past : List Act) (seat : StreamSeatValue) (rest : RestValue) → IsRestOf start past seat rest
-    → IsSizedStart start → IsOfHeader (reader_in rest).header seat.chain.geometry
-rest_sized start past seat rest a is = rw (rest_header start past seat rest a, rest_chain start past seat rest a) is
-
-pub header_stays : (start : ClientStart) (past past' : List Act) (seat seat' : StreamSeatValue) (rest rest' : RestValue)
-    → IsRestOf start past seat rest
-    → IsRestOf start past' seat' rest' → IsOfHeader (reader_in rest).header seat.chain.geometry
-    → IsOfHeader (reader_in rest').header seat'.chain.geometry
-header_stays start past past' seat seat' rest rest' a b is =
-    rest_sized start past' seat' rest' b
-    (subst (λ h. IsOfHeader h start.seat.chain.geometry) (rest_header start past seat rest a)
-    (subst (λ chain. IsOfHeader (reader_in rest).header chain.geometry) (rest_chain start past seat rest a) is))
 
 pub are_unread : {W : Type 0} (specs : List StreamSpec) (inputs : List (ReaderState × W)) → AreInputs specs inputs → AreUnread inputs
 are_unread [] [] p = tt

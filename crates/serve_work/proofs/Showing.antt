@@ -8,18 +8,17 @@ use Rattle.serve_core.specs.Streams.{KeptStream}
 use Rattle.serve_hub.specs.declared.entry.Act.{Act}
 use Rattle.serve_hub.specs.Ends.{IsStreamOf}
 use Rattle.serve_hub.specs.Seats.{StreamSeatValue}
+use Rattle.serve_client.specs.Clients.{ClientStart, collections_in, offers_in}
+use Rattle.serve_client.specs.Rests.{Begun, IsRestOf, RestValue, Unbegun}
+use Rattle.serve_client.specs.Streams.{Over, StandsAt, StreamValue, Waiting, is_waiting}
+use Rattle.serve_client.proofs.Tallying.{collections_both, collections_counted}
 use Rattle.serve_work.specs.declared.request.Standing.{Standing}
-use Rattle.serve_work.specs.Clients.{ClientStart, collections_in, offers_in}
 use Rattle.serve_work.specs.History.{EpochValue, IsHistory, IsLeftBy, Terms}
 use Rattle.serve_work.specs.Live as requests
 use Rattle.serve_work.specs.Live.{IsStanding, IsStandingOf, start_with}
 use Rattle.serve_work.specs.LiveInside.{Stood}
-use Rattle.serve_work.specs.Rests.{Begun, IsRestOf, RestValue, Unbegun}
-use Rattle.serve_work.specs.SessionInside.{StandsAt}
-use Rattle.serve_work.specs.StreamInside.{Over, StreamValue, Waiting, is_waiting}
 use Rattle.serve_work.proofs.Answering.{at_end}
 use Rattle.serve_work.proofs.SessionCharges.{stream_at}
-use Rattle.serve_work.proofs.Tallying.{collections_both, collections_counted}
 
 abbrev pub standing_with : Counts → (budget deadline : ℕ) → Standing
 standing_with counts budget deadline = record {

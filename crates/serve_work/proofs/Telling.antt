@@ -5,11 +5,12 @@ use Rattle.std.proofs.Common.{◌≡◌, ℕ, ◌<◌, ◌^◌, ◌∙◌, List,
 use Rattle.serve_core.specs.Schedule.{HasStream}
 use Rattle.serve_hub.specs.declared.entry.Entry.{Entry}
 use Rattle.serve_hub.specs.Ends.{AreStreamsOf}
+use Rattle.serve_client.specs.Streams.{ServedValue}
+use Rattle.serve_client.specs.Clients.{ClientLeft}
 use Rattle.serve_work.specs.declared.session.interval.Interval.{Interval}
 use Rattle.serve_work.specs.Intervals.{Beginning, IsBetween}
-use Rattle.serve_work.specs.Sessions.{IsServedBy, ServedValue}
+use Rattle.serve_work.specs.Sessions.{IsServedBy}
 use Rattle.serve_work.specs.SessionInside.{AreOver, AreTold, HasStand, HeldValue, outcomes_of}
-use Rattle.serve_work.specs.Clients.{ClientLeft}
 use Rattle.serve_work.proofs.SessionCharges.{all_served, each_kept}
 use Rattle.serve_work.proofs.SessionTurns.{all_over, over_length, same_length, zip_length}
 

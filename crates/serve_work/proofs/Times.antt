@@ -8,11 +8,11 @@ use Rattle.serve_hub.specs.declared.entry.Act.{Act}
 use Rattle.serve_hub.specs.declared.entry.Act.TheVariants.{Offered}
 use Rattle.serve_hub.specs.declared.entry.Entry.{Entry}
 use Rattle.serve_hub.specs.Journal.{clock_in}
-use Rattle.serve_work.specs.declared.stop.Cause.TheVariants.{TooManyFrames, ClockEnd, NoMemory}
-use Rattle.serve_work.specs.declared.stop.Stop.{Stop}
-use Rattle.serve_work.specs.declared.stop.Stop.TheVariants.{Whole, Read, Write, Refused, Torn}
-use Rattle.serve_work.specs.Clients.{AllowsStop, AreAtMoments, IsAtMoment, offers_in}
-use Rattle.serve_work.specs.ClientInside.{KeepsAllowed}
+use Rattle.serve_client.specs.declared.stop.Cause.TheVariants.{TooManyFrames, ClockEnd, NoMemory}
+use Rattle.serve_client.specs.declared.stop.Stop.{Stop}
+use Rattle.serve_client.specs.declared.stop.Stop.TheVariants.{Whole, Read, Write, Refused, Torn}
+use Rattle.serve_client.specs.Clients.{AllowsStop, AreAtMoments, IsAtMoment, offers_in}
+use Rattle.serve_client.specs.ClientInside.{KeepsAllowed}
 use Rattle.serve_work.specs.Sessions.{AreTimed}
 
 -- calls that offer no frame are at any moments

@@ -19,7 +19,7 @@ use Rattle.serve_hub.specs.declared.moments.Moments.{Moments}
 use Rattle.serve_hub.specs.Ends.{ClockReached, IsOfferOf, acts_of, clock_after, is_same_seat}
 use Rattle.serve_hub.specs.Journal.{AreEntries, IsEntry, clock_in, entry_of, tick_of, transcript_of}
 use Rattle.serve_hub.proofs.Clocks.{clock_joined, clock_step}
-use Rattle.serve_work.specs.Clients.{AreAtMoments, IsAtMoment}
+use Rattle.serve_client.specs.Clients.{AreAtMoments, IsAtMoment}
 use Rattle.serve_work.specs.Sessions.{AreTimed}
 
 tick_by : (b : Bool) (at moment : ℕ) → Some moment ≡ (if b then Some at else None) → at ≡ moment

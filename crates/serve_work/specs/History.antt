@@ -14,8 +14,8 @@ use Rattle.serve_hub.specs.declared.entry.Entry.{Entry}
 use Rattle.serve_hub.specs.Books.{specs_of}
 use Rattle.serve_hub.specs.Ends.{AreFree, EndedValue}
 use Rattle.serve_hub.specs.Journal.{IsJournal}
+use Rattle.serve_client.specs.Workers.{HaveSpent}
 use Rattle.serve_work.specs.Sessions.{AreTimed, open_streams}
-use Rattle.serve_work.specs.Workers.{HaveSpent}
 
 -- what a session serves by: how many workers it has, the most bands of a lease, and the most entries of an
 -- epoch's journal

@@ -13,11 +13,11 @@ use Rattle.serve_hub.specs.Books.{specs_of}
 use Rattle.serve_hub.specs.Ends.{AreStreamsOf, IsCharged}
 use Rattle.serve_hub.specs.Journal.{IsJournal}
 use Rattle.serve_hub.specs.Seats.{StreamSeatValue, left_by, opened_streams}
+use Rattle.serve_client.specs.Clients.{ClientStart}
 use Rattle.serve_work.specs.declared.session.interval.Interval.{Interval}
 use Rattle.serve_work.specs.declared.session.opening.Opening.{Opening}
 use Rattle.serve_work.specs.declared.session.places.Places.{Places}
 use Rattle.serve_work.specs.declared.session.room.Room.{Room}
-use Rattle.serve_work.specs.Clients.{ClientStart}
 use Rattle.serve_work.specs.Sessions.{AllTimed, IsOfEpochs, starts_of}
 use Rattle.serve_work.specs.SessionInside.{AllBegin, AllStand, AreAllOver, AreAllowed, HeldValue, held_with}
 

@@ -17,14 +17,15 @@ use Rattle.serve_hub.specs.declared.refusal.Refusal.TheVariants.{Core}
 use Rattle.serve_hub.specs.Calls.{AllowsAdmission}
 use Rattle.serve_hub.specs.Ends.{acts_of}
 use Rattle.serve_hub.specs.Seats.{StreamSeatValue, spec_told}
+use Rattle.serve_client.specs.Clients.{AllowsStop, ClientEnds, ClientStart, collections_in, offers_in}
+use Rattle.serve_client.specs.Rests.{IsRestOf, RestValue}
+use Rattle.serve_client.specs.Streams.{ServedValue}
 use Rattle.serve_work.specs.declared.request.Answer.{Answer}
 use Rattle.serve_work.specs.declared.request.Answer.TheVariants as answers
 use Rattle.serve_work.specs.declared.request.Request.{Request}
 use Rattle.serve_work.specs.declared.request.Standing.{Standing}
-use Rattle.serve_work.specs.Clients.{AllowsStop, ClientEnds, ClientStart, collections_in, offers_in}
 use Rattle.serve_work.specs.History.{AreGivenUp, EpochValue, IsHistory, OpensBehind, OpensFor, Terms}
-use Rattle.serve_work.specs.Rests.{IsRestOf, RestValue}
-use Rattle.serve_work.specs.Sessions.{IsServed, IsStreamTold, ServedValue}
+use Rattle.serve_work.specs.Sessions.{IsServed, IsStreamTold}
 
 -- a stream that is to be served: what it is served with, its reader, and what is known of its writer
 pub record RequestValue : Type 0 where

@@ -15,18 +15,18 @@ use Rattle.serve_hub.specs.declared.refusal.Refusal.{Refusal}
 use Rattle.serve_hub.specs.declared.refusal.Refusal.TheVariants.{Core}
 use Rattle.serve_hub.specs.Ends.{AreStreamsOf, EndedValue, IsCharged, IsStreamOf}
 use Rattle.serve_hub.specs.Seats.{StreamRest, StreamSeatValue, left_by}
+use Rattle.serve_client.specs.Clients.{AllowsStop, offers_in}
+use Rattle.serve_client.specs.Streams.{StandsAt, StreamValue, is_waiting, stream_stop}
 use Rattle.serve_work.specs.declared.live.guests.Guest.{Guest}
 use Rattle.serve_work.specs.declared.live.guests.Interval.{Interval}
 use Rattle.serve_work.specs.declared.live.opening.FirstStream.{FirstStream}
 use Rattle.serve_work.specs.declared.live.opening.Hall.{Hall}
-use Rattle.serve_work.specs.Clients.{AllowsStop, offers_in}
 use Rattle.serve_work.specs.History.{EpochValue, IsGoneOn, IsHistory, IsLeftBy, OpensBehind, Terms}
 use Rattle.serve_work.specs.History.{epoch_of, given_up, left_at}
 use Rattle.serve_work.specs.Intervals.{ArePlacesFor, HasNoCalls}
 use Rattle.serve_work.specs.Live.{HadNumbers, IsBehind, IsRequest, IsSeatFor}
 use Rattle.serve_work.specs.Live.{Waiting, acts_by, start_with}
-use Rattle.serve_work.specs.SessionInside.{HeldValue, StandsAt, held_at}
-use Rattle.serve_work.specs.StreamInside.{StreamValue, is_waiting, stream_stop}
+use Rattle.serve_work.specs.SessionInside.{HeldValue, held_at}
 
 -- where the stream of this request stands with its seat where an epoch opens behind these: the seat has
 -- offered no frame

@@ -8,17 +8,17 @@ use Rattle.serve_core.specs.Schedule.{HasStream, ScheduleValue}
 use Rattle.serve_hub.specs.declared.entry.Act.{Act}
 use Rattle.serve_hub.specs.declared.entry.Entry.{Entry}
 use Rattle.serve_hub.specs.Seats.{StreamSeatValue}
+use Rattle.serve_client.specs.Streams.{IsOver, Over, ServedValue, StandsAt, StreamValue, Waiting, is_waiting}
+use Rattle.serve_client.specs.Streams.{stream_stop}
+use Rattle.serve_client.specs.Clients.{AllowsStop, ClientEnds, ClientLeft, ClientOutcome, ClientStart}
+use Rattle.serve_client.specs.Clients.{StreamEnds}
+use Rattle.serve_client.specs.ClientInside.{IsNoNewEnd, KeepsAllowed, KeepsMoments}
+use Rattle.serve_client.specs.Rests.{IsRest, Unbegun, reader_in}
 use Rattle.serve_work.specs.declared.session.SessionFault.{SessionFault}
 use Rattle.serve_work.specs.declared.session.SessionFault.TheVariants as faults
 use Rattle.serve_work.specs.declared.session.unended.Unended.{Unended}
 use Rattle.serve_work.specs.declared.session.unended.Unended.TheVariants as unended
-use Rattle.serve_work.specs.Clients.{AllowsStop, ClientEnds, ClientLeft, ClientOutcome, ClientStart}
-use Rattle.serve_work.specs.Clients.{StreamEnds}
-use Rattle.serve_work.specs.ClientInside.{IsNoNewEnd, KeepsAllowed, KeepsMoments}
-use Rattle.serve_work.specs.Rests.{IsRest, IsRestOf, Unbegun, reader_in}
-use Rattle.serve_work.specs.Sessions.{ServedValue, acts_in}
-use Rattle.serve_work.specs.Sends.{TellsKept}
-use Rattle.serve_work.specs.StreamInside.{Over, StreamValue, Waiting, is_waiting, stream_image, stream_stop}
+use Rattle.serve_work.specs.Sessions.{acts_in}
 
 -- nothing is left to do of these
 abbrev pub AreAllOver : List StreamValue → Type 0
@@ -70,11 +70,6 @@ GivesBack contents failures inputs unended.Mismatch = ⊤
 
 abbrev pub AreUnread : {W : Type 0} → List (ReaderState × W) → Type 0
 AreUnread inputs = AllByRecursion (λ input. input.0.phase ≡ Open) inputs
-
--- the stream began so, and its seats of the epochs before made these calls
-abbrev pub StandsAt : StreamValue → ClientStart → List Act → StreamSeatValue → Type 0
-StandsAt (Waiting rest) start past seat = IsRestOf start past seat rest
-StandsAt (Over outcome) start past seat = ClientEnds start past seat outcome
 
 abbrev pub Stands : ClientStart → List Act → HeldValue → Type 0
 Stands start past held = StandsAt held.stream start past held.seat
@@ -132,16 +127,6 @@ Runs Gives old new = (held : HeldValue) → old ≡ Some held → IsSomeAnd new 
 abbrev pub AllRun : (Gives : ℕ → Type 0) → List (Option HeldValue) → List (Option HeldValue) → Type 0
 AllRun Gives old new = (helds : List HeldValue) → old ≡ map Some helds
     → (after : List HeldValue) × (new ≡ map Some after) × AllGoOn Gives helds after
-
--- what is told of a stream is its end, from whatever it began with; the clock's end only where it was kept,
--- and a fault that was kept. Where nothing is left to do of it, it is its client's end
-pub record IsOver (stream : StreamValue) (served : ServedValue) : Type 0 where
-  pub ends : (start : ClientStart) (past : List Act) (seat : StreamSeatValue)
-      → StandsAt stream start past seat → StreamEnds start past seat served.outcome
-  pub stop : IsNoNewEnd (stream_stop stream) (Some served.outcome.stop)
-  pub kept : TellsKept (stream_stop stream) (stream_image stream) served.outcome.stop
-  pub own : IsFalse (is_waiting stream) → (start : ClientStart) (past : List Act) (seat : StreamSeatValue)
-      → StandsAt stream start past seat → ClientEnds start past seat served.outcome
 
 abbrev pub AreOver : List StreamValue → List ServedValue → Type 0
 AreOver streams served = AllZip IsOver streams served

@@ -20,10 +20,11 @@ use Rattle.serve_hub.specs.Books.{specs_of}
 use Rattle.serve_hub.specs.Ends.{AreFree, acts_of}
 use Rattle.serve_hub.specs.Journal.{IsJournal, clock_in, transcript_of}
 use Rattle.serve_hub.specs.Seats.{StreamSeatValue}
-use Rattle.serve_work.specs.declared.stop.Stop.TheVariants.{Whole}
-use Rattle.serve_work.specs.Clients.{AllowsStop, ClientEnds, ClientOutcome, ClientStart, IsAtMoment}
-use Rattle.serve_work.specs.Clients.{StreamEnds}
-use Rattle.serve_work.specs.Workers.{HaveSpent}
+use Rattle.serve_client.specs.declared.stop.Stop.TheVariants.{Whole}
+use Rattle.serve_client.specs.Streams.{ServedValue}
+use Rattle.serve_client.specs.Clients.{AllowsStop, ClientEnds, ClientStart, IsAtMoment}
+use Rattle.serve_client.specs.Clients.{StreamEnds}
+use Rattle.serve_client.specs.Workers.{HaveSpent}
 
 -- nothing was read of a stream's frames, and its header has the size of the stream's chain
 pub record IsInput {W : Type 0} (spec : StreamSpec) (input : ReaderState × W) : Type 0 where
@@ -49,11 +50,6 @@ abbrev pub starts_of : {W : Type 0} (contents : W → Option (List ℕ)) (failur
 starts_of contents failures (seat ∷ seats) (input ∷ inputs) =
     start_of contents failures seat input ∷ starts_of contents failures seats inputs
 starts_of contents failures seats inputs = []
-
--- what is told of a stream: what its client came to, and how many units it was charged
-pub record ServedValue : Type 0 where
-  pub outcome : ClientOutcome
-  pub charged : ℕ
 
 -- a client came from this beginning to what is told, and the stream was charged for all images that were
 -- delivered, and for no more than the frames that were accepted

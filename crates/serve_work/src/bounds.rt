@@ -1,7 +1,7 @@
 //! What a session asks of the types whose values it lends or hands to its threads.
 
 use crate::door::Door;
-use crate::gate::{Clock, Gate};
+use serve_client::{Clock, Gate};
 use std::sync::Wait;
 use std::thread::Threads;
 use y4m_stream::{Sink, Source};

@@ -1,43 +1,24 @@
-//! Streams that are served by threads: a worker leases and settles, and a client reads, offers, collects and
-//! writes.
+//! Sessions: streams that are served from epoch to epoch, each by a client's thread, with workers beside.
 //!
-//! `specs/Clients.antt` says what a client comes to, `specs/Workers.antt` what a worker adds to its seat's
-//! calls, `specs/Sessions.antt` what the streams of a session come to.
+//! `specs/Sessions.antt` says what the streams of a session come to, `specs/Live.antt` what is told of
+//! streams that come and go, `specs/History.antt` what the epochs are in which these are served. Clients and
+//! workers are those of `serve_client`.
 #![tactic(auto)]
 
-mod begun;
 mod bounds;
-mod buffers;
 pub mod chronicle;
-pub mod clients;
-mod course;
-mod delivery;
 pub mod door;
-mod feeding;
-pub mod gate;
-mod hand;
-mod holding;
-mod input;
 pub mod laws;
 pub mod live;
-mod pipeline;
-mod post;
 pub mod request;
-pub mod rest;
-mod serving;
 pub mod session;
 mod setting;
-mod spent;
-pub mod stop;
-pub mod workers;
 
 pub use chronicle::Chronicle;
-pub use clients::{ClientEnd, ClientTurn, client};
 pub use door::{Bell, Door};
-pub use gate::{Clock, Gate};
 pub use live::serve_live;
 pub use request::{Answer, Request, Standing};
-pub use rest::ClientRest;
-pub use session::{Served, SessionFault, serve_session};
-pub use stop::{Cause, Stop};
-pub use workers::work;
+pub use serve_client::{
+    Cause, ClientEnd, ClientRest, ClientTurn, Clock, Gate, Served, Stop, client, work,
+};
+pub use session::{SessionFault, serve_session};

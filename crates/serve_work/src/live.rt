@@ -22,7 +22,6 @@ mod tickets;
 
 use crate::bounds::{Host, LentClock, LentDoor, LentGate, SentSink, SentSource};
 use crate::door::Door;
-use crate::gate::{Clock, Gate};
 use crate::request::Request;
 use crate::session::SessionFault;
 use crate::setting::Setting;
@@ -31,6 +30,7 @@ use epochs::{first_epoch, next_epoch};
 use form::Form;
 use guests::{Interval, show_guests, show_none, tell_guests};
 use retirement::retire_released;
+use serve_client::{Clock, Gate};
 use serve_hub::limits::MOST_SEATS;
 use std::alloc::Global;
 use std::marker::Brand;

@@ -1,6 +1,6 @@
 //! Streams that are to be served, and what is told of them.
 
-use crate::session::Served;
+use serve_client::Served;
 use serve_core::StreamSpec;
 use serve_hub::Refusal;
 use y4m_stream::{Sink, Source, StreamReader};

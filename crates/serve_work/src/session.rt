@@ -13,57 +13,20 @@ pub(crate) mod threads;
 pub(crate) mod turn;
 mod unended;
 
-use crate::gate::{Clock, Gate};
 use crate::setting::Setting;
-use crate::stop::Stop;
 use epochs::{begin, go_on};
 use interval::report;
+use serve_client::{Clock, Gate, Served};
 use serve_core::Setup;
 use serve_hub::HubError;
 use serve_hub::limits::MOST_SEATS;
 use std::alloc::{AllocError, Global};
-use std::marker::{Brand, Model};
+use std::marker::Brand;
 use std::sync::Wait;
 use std::sync::ledger::Blank;
 use std::thread::Threads;
 use thiserror::Error;
 use y4m_stream::{Sink, Source, StreamReader};
-
-/// What became of a stream, with its source and its writer. Contracts see the `ServedValue` of
-/// `specs/Sessions.antt`.
-#[derive(Drop)]
-pub struct Served<R: Source, W: Sink> {
-    /// How many of its frames were accepted.
-    pub accepted: u64,
-    /// How many images were written whole.
-    pub delivered: u64,
-    /// How many units it was charged.
-    pub charged: u64,
-    /// The first fault, if there was one.
-    pub stop: Stop,
-    pub source: R,
-    pub writer: W,
-}
-
-impl<R: Source, W: Sink> Model for Served<R, W> {
-    ghost use Rattle.serve_work.specs.Sessions.{ServedValue};
-
-    ghost Value = { ServedValue };
-
-    ghost view = { λ a. record {
-      outcome = record {
-        stop = a.stop;
-        accepted = a.accepted;
-        delivered = a.delivered;
-        left = R.remaining a.source;
-        read_failures = R.failures a.source;
-        after = W.contents a.writer;
-        failures = W.failures a.writer;
-        is_flushed = W.is_flushed a.writer;
-      };
-      charged = a.charged;
-    } };
-}
 
 /// Why a session tells nothing of its streams.
 #[derive(Clone, Copy, Debug, PartialEq, Eq, Error)]

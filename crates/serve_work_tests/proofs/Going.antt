@@ -3,9 +3,9 @@ use Rattle.std.proofs.Common.{◌≡◌, ◌++◌, ℕ, List, [], Option, subst,
 use Rattle.y4m_stream.specs.declared.reader.Phase.TheVariants.{Open}
 use Rattle.y4m_stream.specs.Reader.{IsOfHeader, ReaderState}
 use Rattle.serve_hub.specs.Seats.{StreamSeatValue, left_by, seat_over}
-use Rattle.serve_work.specs.Clients.{ClientStart, IsNewSeat}
-use Rattle.serve_work.specs.Rests.{IsRest, IsRestOf, RestValue, Unbegun, reader_in}
-use Rattle.serve_work.proofs.Crossing.{new_stream_is_unbegun, streams_cross}
+use Rattle.serve_client.specs.Clients.{ClientStart, IsNewSeat}
+use Rattle.serve_client.specs.Rests.{IsRest, IsRestOf, RestValue, Unbegun, reader_in}
+use Rattle.serve_client.proofs.Crossing.{new_stream_is_unbegun, streams_cross}
 use Rattle.serve_work.proofs.Intervals.{reopened}
 
 pub record CanGo (seat : StreamSeatValue) (rest : RestValue) : Type 0 where

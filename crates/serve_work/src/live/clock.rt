@@ -5,7 +5,7 @@ ghost use Rattle.serve_work.specs.Live.{Waiting};
 ghost use Rattle.serve_work.specs.LiveInside.{GoesOn};
 
 use crate::chronicle::Chronicle;
-use crate::gate::Clock;
+use serve_client::Clock;
 use serve_hub::Ended;
 
 /// Lets the hub's clock go on to the moment that the run's clock gives, and tells so: the shares of streams

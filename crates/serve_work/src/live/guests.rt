@@ -3,10 +3,10 @@ ghost use Rattle.std.specs.Prelude.{◌≡◌, ◌<◌, ◌⊎◌, ◌++◌, Lis
 ghost use Rattle.std.specs.Prelude.{IfSome, slice_get, slice_set, vec_len, ⊤};
 ghost use Rattle.serve_core.specs.Schedule.{HasStream};
 ghost use Rattle.serve_hub.specs.Seats.{StreamRest};
+ghost use Rattle.serve_client.specs.Streams.{is_waiting};
 ghost use Rattle.serve_work.specs.History.{EpochValue, IsHistory};
 ghost use Rattle.serve_work.specs.Live.{IsStandingOf, Waiting};
 ghost use Rattle.serve_work.specs.LiveInside.{AreAllTold, CanTell, HaveWaited, MayTell, ended_so};
-ghost use Rattle.serve_work.specs.StreamInside.{is_waiting};
 
 use crate::chronicle::Chronicle;
 use crate::door::Door;

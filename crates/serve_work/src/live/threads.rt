@@ -5,12 +5,12 @@ ghost use Rattle.serve_work.specs.SessionInside.{AllRun, Runs};
 
 use crate::bounds::{Host, LentClock, LentDoor, LentGate, SentSink, SentSource};
 use crate::door::Bell;
-use crate::post::Post;
 use crate::session::room::Slot;
 use crate::session::threads::work_in;
 use crate::session::turn::Turn;
 use crate::setting::Setting;
 use cbs_account::limits::MOST_STREAMS;
+use serve_client::Post;
 use serve_hub::{Epoch, EpochOwner};
 use std::sync::Wait;
 use std::thread;

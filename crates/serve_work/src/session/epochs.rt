@@ -19,7 +19,7 @@ use super::turn::{Stream, pair_with_seats};
 use super::unended::Unended;
 use crate::bounds::{Host, LentClock, LentGate, SentSink, SentSource};
 use crate::setting::Setting;
-use crate::spent::have_spent;
+use serve_client::have_spent;
 use serve_core::Setup;
 use serve_hub::limits::MOST_SEATS;
 use serve_hub::{Ended, Epoch};

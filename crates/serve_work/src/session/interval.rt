@@ -7,8 +7,8 @@ ghost use Rattle.serve_work.specs.Intervals.{Beginning, IsBetween, IsBetweenEpoc
 ghost use Rattle.serve_work.specs.SessionInside.{AreOver, AreTold, BringNoEnd, outcomes_of};
 ghost use Rattle.serve_work.specs.Sessions.{IsServedBy};
 
-use super::Served;
 use super::turn::Stream;
+use serve_client::Served;
 use serve_hub::Ended;
 use y4m_stream::{Sink, Source};
 

@@ -10,11 +10,12 @@ ghost use Rattle.serve_work.specs.Intervals.{beginning_of};
 ghost use Rattle.serve_work.specs.Sessions.{AreInputs};
 ghost use Rattle.serve_work.specs.SessionInside.{GivesBack, fault_of, unread};
 
+use super::SessionFault;
 use super::interval::Interval;
 use super::room::Room;
 use super::turn::{Stream, streams_of};
 use super::unended::Unended;
-use super::{Served, SessionFault};
+use serve_client::Served;
 use serve_core::Setup;
 use serve_hub::{Epoch, Hub, Opened};
 use std::alloc::Global;

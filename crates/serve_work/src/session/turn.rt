@@ -2,14 +2,12 @@
 //! over.
 ghost use Rattle.std.specs.Prelude.{◌≡◌, ◌≤◌, [], IfErr, IfOk, Some, map, vec_capacity, vec_len};
 ghost use Rattle.std.specs.List.{AllByRecursion};
-ghost use Rattle.serve_work.specs.SessionInside.{AreUnread, GoesOn, IsOver, IsReady, Runs, held_at};
+ghost use Rattle.serve_client.specs.Streams.{IsOver};
+ghost use Rattle.serve_client.specs.Streams as rules;
+ghost use Rattle.serve_work.specs.SessionInside.{AreUnread, GoesOn, IsReady, Runs, held_at};
 ghost use Rattle.serve_work.specs.SessionInside.{held_with, unread};
-ghost use Rattle.serve_work.specs.StreamInside as rules;
 
-use super::Served;
-use crate::clients::{ClientEnd, ClientTurn, client};
-use crate::gate::Clock;
-use crate::rest::ClientRest;
+use serve_client::{ClientEnd, ClientRest, ClientTurn, Clock, Served, client};
 use serve_hub::{Epoch, Hub, StreamSeat};
 use std::alloc::Global;
 use std::marker::Model;
@@ -32,7 +30,8 @@ enum State<R: Source, W: Sink> {
 }
 
 impl<R: Source, W: Sink> Model for Stream<R, W> {
-    ghost use Rattle.serve_work.specs.StreamInside.{StreamValue, stream_of};
+    ghost use Rattle.serve_client.specs.Streams.{StreamValue};
+    ghost use Rattle.serve_work.specs.StreamInside.{stream_of};
 
     ghost Value = { StreamValue };
 

@@ -5,7 +5,7 @@ ghost use Rattle.y4m_stream.specs.Reader.{IsOfHeader};
 ghost use Rattle.serve_core.specs.Schedule.{opened_schedule};
 ghost use Rattle.serve_core.specs.Setup as rules;
 ghost use Rattle.serve_hub.specs.Seats.{opened_streams};
-ghost use Rattle.serve_work.specs.Clients.{IsNewSeat};
+ghost use Rattle.serve_client.specs.Clients.{IsNewSeat};
 
 use super::lists::{one_of, put, sole};
 use super::same_at;

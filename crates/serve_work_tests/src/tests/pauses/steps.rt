@@ -4,7 +4,7 @@ ghost use Rattle.y4m_stream.specs.Reader.{IsOfHeader};
 ghost use Rattle.serve_core.specs.Schedule.{opened_schedule};
 ghost use Rattle.serve_core.specs.Setup as rules;
 ghost use Rattle.serve_hub.specs.Seats.{left_by, seat_over};
-ghost use Rattle.serve_work.specs.Rests.{IsRest, reader_in};
+ghost use Rattle.serve_client.specs.Rests.{IsRest, reader_in};
 
 use super::shy::{Bell, Framed, Shy};
 use crate::tests::lists::{both, one_of, sole, two_of};
@@ -89,7 +89,7 @@ impl<'a, R: Source> Model for Paused<'a, R> {
     ghost use Rattle.y4m_stream.specs.Reader.{IsOfHeader};
     ghost use Rattle.serve_hub.specs.Ends.{EndedValue};
     ghost use Rattle.serve_hub.specs.Seats.{StreamSeatValue, left_by};
-    ghost use Rattle.serve_work.specs.Rests.{IsRest, RestValue, reader_in};
+    ghost use Rattle.serve_client.specs.Rests.{IsRest, RestValue, reader_in};
 
     ghost Value = { EndedValue × RestValue };
 

@@ -1,10 +1,10 @@
 use Rattle.std.proofs.Common.{◌++◌, [], ◌∷◌, Some, append-nil, ap, arith, inl, inr, length, refl, subst, sym}
+use Rattle.serve_client.specs.Rests.{Unbegun}
+use Rattle.serve_client.specs.Streams as sessions
+use Rattle.serve_client.specs.Streams.{StreamValue}
 use Rattle.serve_work.specs.Live.{IsRequest, Waiting, waiting_of}
 use Rattle.serve_work.specs.LiveInside.{Begins, HasTurn}
-use Rattle.serve_work.specs.Rests.{Unbegun}
-use Rattle.serve_work.specs.StreamInside as sessions
 use Rattle.serve_work.specs.SessionInside.{IsReadyAt, held_at}
-use Rattle.serve_work.specs.StreamInside.{StreamValue}
 use Rattle.serve_work.proofs.Living.{admitted, began, may_go, seated_more}
 use Rattle.serve_work.proofs.SessionTurns.{same_length, zip_length}
 use Rattle.serve_work.proofs.live.admission.admit.Goals as goal

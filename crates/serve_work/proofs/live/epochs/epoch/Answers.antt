@@ -4,6 +4,8 @@ use Rattle.std.proofs.Common.{◌<◌, length-append}
 use Rattle.serve_core.specs.Schedule.{ScheduleValue}
 use Rattle.serve_hub.specs.Ends.{AreStreamCalls, AreStreamsOf, ClocksReached, HaveStreams, IsCharged}
 use Rattle.serve_hub.specs.Seats.{HubValue, StreamRest, StreamSeatValue, left_by}
+use Rattle.serve_client.specs.Workers.{HaveSpent}
+use Rattle.serve_client.proofs.SpentLeases.{seats_have_spent}
 use Rattle.serve_work.specs.declared.live.guests.Guest.{Guest}
 use Rattle.serve_work.specs.Live.{Waiting}
 use Rattle.serve_work.specs.LiveInside.{AllAt, IsGuestAt, guests_of, nobody, with_tickets}
@@ -11,8 +13,6 @@ use Rattle.serve_work.specs.SessionInside.{HeldValue}
 use Rattle.serve_work.specs.History.{EpochValue, epoch_of, left_at}
 use Rattle.serve_work.proofs.Left.{all_told, gone_on, kept_gone, numbers_within, one_epoch_more, rests_within, streams_gone}
 use Rattle.serve_work.proofs.Living.{all_had, all_in, guests_at, has_ended, reached_at}
-use Rattle.serve_work.specs.Workers.{HaveSpent}
-use Rattle.serve_work.proofs.SpentLeases.{seats_have_spent}
 use Rattle.serve_work.proofs.SessionTurns.{same_length}
 use Rattle.serve_work.proofs.live.epochs.epoch.Goals as goal
 

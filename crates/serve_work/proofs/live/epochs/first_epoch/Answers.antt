@@ -1,12 +1,12 @@
 use Rattle.std.proofs.Common.{ℕ, ◌≡◌, ◌∙◌, [], ◌∷◌, ap, arith, inl, inr, length, refl, subst, sym}
 use Rattle.serve_core.specs.Setup.{Setup}
-use Rattle.serve_work.specs.Clients.{closes_in, offers_in}
+use Rattle.serve_client.specs.Clients.{closes_in, offers_in}
+use Rattle.serve_client.specs.Rests.{Unbegun}
+use Rattle.serve_client.specs.Streams as sessions
+use Rattle.serve_client.specs.Streams.{StreamValue}
 use Rattle.serve_work.specs.Live.{IsNewIn, RequestValue, Waiting}
 use Rattle.serve_work.specs.LiveInside.{AreSeated, Begins, HasTurn, TakesSeat}
-use Rattle.serve_work.specs.Rests.{Unbegun}
-use Rattle.serve_work.specs.StreamInside as sessions
 use Rattle.serve_work.specs.SessionInside.{IsReadyAt, held_at}
-use Rattle.serve_work.specs.StreamInside.{StreamValue}
 use Rattle.serve_work.proofs.Living.{began, empty_seated, may_go, opens_for, seated_more}
 use Rattle.serve_work.proofs.live.epochs.first_epoch.Goals as goal
 

@@ -3,11 +3,10 @@ use Rattle.std.specs.Prelude.{slice_get}
 use Rattle.std.specs.Option.{option_map}
 use Rattle.serve_core.specs.Schedule.{HasStream}
 use Rattle.serve_hub.specs.Seats.{StreamRest}
-use Rattle.serve_work.specs.Clients.{ClientOutcome}
+use Rattle.serve_client.specs.Clients.{ClientOutcome}
+use Rattle.serve_client.specs.Streams.{ServedValue, stream_stop}
+use Rattle.serve_client.proofs.Allowing.{kept_allowed}
 use Rattle.serve_work.specs.Live.{IsNotCut, IsServedSince}
-use Rattle.serve_work.specs.Sessions.{ServedValue}
-use Rattle.serve_work.specs.StreamInside.{stream_stop}
-use Rattle.serve_work.proofs.Allowing.{kept_allowed}
 use Rattle.serve_work.proofs.Answering.{answered}
 use Rattle.serve_work.proofs.SessionCharges.{charge_told}
 use Rattle.serve_work.proofs.live.guests.tell.Goals as goal

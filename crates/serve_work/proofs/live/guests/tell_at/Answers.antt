@@ -1,7 +1,7 @@
 use Rattle.std.proofs.Common.{◌≡◌, ◌⊎◌, ◌∙◌, ◌++◌, IfSome, IsFalse, IsTrue, List, None, Option, Some, ap, arith, slice_get, subst, sym}
+use Rattle.serve_client.specs.Streams.{is_waiting}
 use Rattle.serve_work.specs.declared.live.guests.Guest.{Guest}
 use Rattle.serve_work.specs.LiveInside.{AreGuests, IsGuestAt, ended_so}
-use Rattle.serve_work.specs.StreamInside.{is_waiting}
 use Rattle.serve_core.proofs.Items.Lists.{slice_get_here}
 use Rattle.serve_core.proofs.Items.Picks.{set_same}
 use Rattle.serve_work.proofs.Answering.{can_tell, guest_at, may_tell, nobody_leaves, with_guests}

@@ -1,8 +1,8 @@
 use Rattle.std.proofs.Common.{◌≡◌, ◌∙◌, false, ap, get_or, subst, sym, take_all, arith}
 use Rattle.serve_core.proofs.Items.Lists.{slice_get_here}
 use Rattle.serve_core.proofs.Rules.Admissions.{all_more}
+use Rattle.serve_client.specs.Streams.{is_waiting}
 use Rattle.serve_work.specs.SessionInside.{AreAllOver}
-use Rattle.serve_work.specs.StreamInside.{is_waiting}
 use Rattle.serve_work.proofs.session.epochs.any_waits.Goals as goal
 
 pub loop-stream-preserved : goal.loop-stream-preserved

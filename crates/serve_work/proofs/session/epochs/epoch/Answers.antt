@@ -2,12 +2,12 @@ use Rattle.std.proofs.Common.{ℕ, ◌≡◌, ◌≤◌, ◌∙◌, Some, ap, ar
 use Rattle.std.specs.Prelude.{reverse, vec_len}
 use Rattle.serve_hub.specs.Ends.{AreStreamCalls, AreStreamsOf, ClocksReached}
 use Rattle.serve_hub.specs.Seats.{left_by}
+use Rattle.serve_client.specs.Workers.{HaveSpent}
+use Rattle.serve_client.proofs.SpentLeases.{seats_have_spent}
 use Rattle.serve_work.specs.SessionInside.{BeginsAgain, HeldValue, held_with}
 use Rattle.serve_work.proofs.Intervals.{all_ready, entries_on, held_length, held_new, leads_on, reached_on}
 use Rattle.serve_work.proofs.Journals.{ends_epoch, epoch_ends}
 use Rattle.serve_work.proofs.SessionStops.{go_on_allowed}
-use Rattle.serve_work.specs.Workers.{HaveSpent}
-use Rattle.serve_work.proofs.SpentLeases.{seats_have_spent}
 use Rattle.serve_work.proofs.SessionTurns.{all_timed, all_went, same_length, stand_on, zip_length}
 use Rattle.serve_work.proofs.session.epochs.epoch.Goals as goal
 

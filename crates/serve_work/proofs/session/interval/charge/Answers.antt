@@ -1,8 +1,8 @@
 use Rattle.std.proofs.Common.{◌≡◌, ◌∙◌, ℕ, ap, arith, sym}
 use Rattle.std.specs.Prelude.{slice_get}
 use Rattle.serve_core.specs.Schedule.{HasStream}
-use Rattle.serve_work.specs.Clients.{ClientOutcome}
-use Rattle.serve_work.specs.Sessions.{ServedValue}
+use Rattle.serve_client.specs.Clients.{ClientOutcome}
+use Rattle.serve_client.specs.Streams.{ServedValue}
 use Rattle.serve_work.proofs.SessionCharges.{charge_told, map_set, told_more}
 use Rattle.serve_work.proofs.session.interval.charge.Goals as goal
 

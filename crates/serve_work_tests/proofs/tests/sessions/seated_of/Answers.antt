@@ -1,6 +1,6 @@
 use Rattle.std.proofs.Common.{◌∙◌, ap, refl, subst, sym}
 use Rattle.serve_hub.specs.Seats.{StreamSeatValue, opened_rest, opened_streams, seat_over}
-use Rattle.serve_work.specs.Clients.{IsNewSeat}
+use Rattle.serve_client.specs.Clients.{IsNewSeat}
 use Rattle.serve_work_tests.proofs.tests.sessions.seated_of.Goals as goal
 
 pub returns-clause-chain : goal.returns-clause-chain

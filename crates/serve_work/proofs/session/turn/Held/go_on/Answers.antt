@@ -1,13 +1,13 @@
 use Rattle.std.proofs.Common.{◌≡◌, ◌∙◌, IfSome, ap, subst, sym}
-use Rattle.serve_work.specs.Clients.{AllowsStop, ClientOutcome}
-use Rattle.serve_work.specs.ClientInside.{KeepsMoments}
-use Rattle.serve_work.specs.Rests.{IsRestOf}
-use Rattle.serve_work.specs.SessionInside.{HeldValue, IsReadyAt, Stands, StandsAt, held_at}
-use Rattle.serve_work.specs.Sessions.{ServedValue}
-use Rattle.serve_work.specs.StreamInside.{Over, Waiting, stream_of, stream_stop}
+use Rattle.serve_client.specs.Clients.{AllowsStop, ClientOutcome}
+use Rattle.serve_client.specs.ClientInside.{KeepsMoments}
+use Rattle.serve_client.specs.Rests.{IsRestOf}
+use Rattle.serve_client.specs.Streams.{Over, ServedValue, StandsAt, Waiting, stream_stop}
+use Rattle.serve_client.proofs.Sized.{header_stays}
+use Rattle.serve_client.proofs.Tallying.{KeepsMoments-same}
+use Rattle.serve_work.specs.SessionInside.{HeldValue, IsReadyAt, Stands, held_at}
+use Rattle.serve_work.specs.StreamInside.{stream_of}
 use Rattle.serve_work.proofs.SessionStops.{stop_inside}
-use Rattle.serve_work.proofs.SessionTurns.{header_stays}
-use Rattle.serve_work.proofs.Tallying.{KeepsMoments-same}
 use Rattle.serve_work.proofs.session.turn.Held.go_on.Goals as goal
 
 pub client-requires : goal.client-requires

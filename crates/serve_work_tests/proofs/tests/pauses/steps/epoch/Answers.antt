@@ -1,4 +1,4 @@
-use Rattle.serve_work.proofs.SessionTurns.{header_stays}
+use Rattle.serve_client.proofs.Sized.{header_stays}
 use Rattle.serve_work_tests.proofs.tests.pauses.steps.epoch.Goals as goal
 
 pub invariant_of-result : goal.invariant_of-result

@@ -1,7 +1,7 @@
 use Rattle.std.proofs.Common.{◌∙◌, ap, refl, subst, sym}
 use Rattle.y4m_stream.specs.Reader.{IsOfHeader}
 use Rattle.serve_hub.specs.Seats.{StreamSeatValue, opened_rest, opened_streams, seat_over}
-use Rattle.serve_work.specs.Clients.{IsNewSeat}
+use Rattle.serve_client.specs.Clients.{IsNewSeat}
 use Rattle.serve_work_tests.proofs.Going.{can_begin}
 use Rattle.serve_work_tests.proofs.tests.pauses.steps.first_epoch.Goals as goal
 

@@ -1,0 +1,253 @@
+-- What a client comes to that holds a fault of a delivery.
+use Rattle.std.proofs.Common.{◌≡◌, ◌≢◌, ◌⊎◌, ℕ, ◌+◌, List, [], ◌++◌, length, Option, None, Some, refl, sym, ap, ◌∙◌}
+use Rattle.std.proofs.Common.{append-nil, append_assoc, length-append, arith, subst, inl, inr, IsSome}
+use Rattle.filters.specs.Chain.{ChainValue}
+use Rattle.y4m_header.specs.StreamText.{FrameText}
+use Rattle.y4m_stream.specs.declared.fault.WriteFault.{WriteFault}
+use Rattle.y4m_stream.specs.Filtered.{HasNext}
+use Rattle.y4m_stream.specs.Front.{IsReadAhead}
+use Rattle.y4m_stream.specs.Reader.{ReaderState, TakesFrame, data_len_of}
+use Rattle.y4m_stream.specs.Writer.{WriterState}
+use Rattle.serve_hub.specs.declared.entry.Act.{Act}
+use Rattle.serve_hub.specs.Seats.{StreamSeatValue}
+use Rattle.serve_client.specs.declared.stop.Cause.TheVariants.{NoMemory}
+use Rattle.serve_client.specs.declared.stop.Halt.TheVariants.{Stopped}
+use Rattle.serve_client.specs.declared.stop.Stop.{Stop}
+use Rattle.serve_client.specs.declared.stop.Stop.TheVariants.{Whole, Read, Write, Refused, Torn}
+use Rattle.serve_client.specs.Clients.{ClientProgress, ClientStopsAt, GivesUpAt, HasMoreOrEnds, IsUnclosed, StandsOpen, StreamStopsAt}
+use Rattle.serve_client.specs.Clients.{reads_at}
+use Rattle.serve_client.specs.ClientInside.{Breaks, Feeds, GivesUp, HasInHand, Holds, IsFirst, IsNoWrite, IsOfCollection, IsUseful}
+use Rattle.serve_client.specs.ClientInside.{StopsReading, StopsReadingAt, StopsWith, Takes}
+use Rattle.serve_client.specs.Sends.{IsSent, SendsWhole, Serves, ServesTo}
+use Rattle.serve_client.specs.Rests.{IsOutset, Outset, Spoils}
+use Rattle.serve_client.proofs.Staying.{stays_frames}
+use Rattle.serve_client.proofs.Moving.{StopsWith-later}
+use Rattle.serve_client.proofs.Passing.{Takes-behind, read_behind, takes_of}
+use Rattle.serve_client.proofs.Stopping.{first_fault, read_until, sent_until, stopped_torn}
+
+-- what went out of some frames, where another stop is told that isn't another write fault
+pub sent_told : (chain : ChainValue) (frames : List FrameText) (writer writer' : WriterState) (stop told : Stop)
+    → ((f : WriteFault) → told ≡ Write f → stop ≡ Write f) → IsSent stop chain frames writer writer'
+    → IsSent told chain frames writer writer'
+sent_told chain frames writer writer' stop told same (inl a) = inl (a.0, λ f is. a.1 f (same f is))
+sent_told chain frames writer writer' stop told same (inr a) = inr (a.0, a.1, λ f is. a.2 f (same f is))
+
+-- and of these frames and more
+module _ (chain : ChainValue) (frames more : List FrameText) (writer : WriterState) where
+  whole_more : (writer' : WriterState) → SendsWhole chain frames writer writer' → SendsWhole chain (frames ++ more) writer writer'
+  whole_more writer' a = record {
+    out = record {
+      sent = a.out.sent;
+      later = a.out.later ++ more;
+      images = a.out.images;
+      first = ap (λ (l : List FrameText). l ++ more) a.out.first ∙ append_assoc a.out.sent a.out.later more;
+      made = a.out.made;
+      wrote = a.out.wrote;
+      bytes = a.out.bytes;
+      frames_out = a.out.frames_out;
+    };
+    writing = a.writing;
+    no_failure = a.no_failure;
+  }
+
+  sent_more : (writer' : WriterState) (stop : Stop) → IsSent stop chain frames writer writer'
+      → IsSent stop chain (frames ++ more) writer writer'
+  unfolding whole_more
+  sent_more writer' stop (inl a) = inl (whole_more writer' a.0, a.1)
+  sent_more writer' stop (inr a) = inr (
+    a.0,
+    record {
+      between = a.1.between;
+      whole = whole_more a.1.between a.1.whole;
+      next = a.1.next;
+      later = a.1.later ++ more;
+      oldest = ap (λ (l : List FrameText). l ++ more) a.1.oldest;
+      image = a.1.image;
+      made = a.1.made;
+      cut = a.1.cut;
+    },
+    a.2,
+  )
+
+-- a stop that is held
+held_at : (held : Stop) (at : ClientProgress) → (IsUseful held → ⊥) → HasMoreOrEnds at → ClientStopsAt held at
+held_at Whole at spoilt more = absurd (spoilt tt)
+held_at (Read fault) at spoilt more = absurd (spoilt tt)
+held_at (Refused cause) at spoilt more = absurd (spoilt tt)
+held_at (Write fault) at spoilt more = more
+held_at Torn at spoilt more = inl more
+
+held_open : (held : Stop) (at : ClientProgress) → (IsUseful held → ⊥) → StandsOpen at → GivesUpAt held at
+held_open Whole at spoilt stands = absurd (spoilt tt)
+held_open (Read fault) at spoilt stands = absurd (spoilt tt)
+held_open (Refused cause) at spoilt stands = absurd (spoilt tt)
+held_open (Write fault) at spoilt stands = stands
+held_open Torn at spoilt stands = stands
+
+reads_held : (held : Stop) (n : ℕ) → (IsUseful held → ⊥) → reads_at held n ≡ n
+reads_held Whole n spoilt = refl
+reads_held (Read fault) n spoilt = absurd (spoilt tt)
+reads_held (Refused cause) n spoilt = refl
+reads_held (Write fault) n spoilt = refl
+reads_held Torn n spoilt = refl
+
+of_collection : (held : Stop) → (IsUseful held → ⊥) → IsOfCollection (Stopped held)
+of_collection Whole spoilt = tt
+of_collection (Read fault) spoilt = spoilt tt
+of_collection (Refused cause) spoilt = spoilt tt
+of_collection (Write fault) spoilt = tt
+of_collection Torn spoilt = tt
+
+-- the frame in hand stands behind those that were taken
+next_behind : (reader before reader' : ReaderState) (frames : List FrameText) (frame : FrameText) → Takes reader before frames
+    → TakesFrame before reader' frame → HasNext (data_len_of reader.header) before.rest reader'.left
+next_behind reader before reader' frames frame a one = record {
+  frame = frame;
+  more = reader'.rest;
+  is_frame = rw a.header at one.is_frame;
+  taken = one.taken;
+  ahead = one.ahead;
+}
+
+-- a client is given up that reads, with a frame in hand or with what was read ahead
+pub read_in_hand : (in_hand : Option FrameText) (past : List Act) (reader before reader' : ReaderState) (seat seat' : StreamSeatValue)
+    (frames : List FrameText) → Takes reader before frames → Holds before reader' in_hand → IsReadAhead reader'.rest reader'.left
+    → IsUnclosed (past ++ seat'.calls.list) → StopsReadingAt StreamStopsAt past (Refused NoMemory) reader reader' seat seat' frames
+read_in_hand None past reader before reader' seat seat' frames a same ahead unclosed = record {
+  rest = before.rest;
+  each = a.each;
+  taken = a.taken;
+  stops = inr (inr (unclosed, subst (λ (r : ReaderState). IsReadAhead r.rest reader'.left) same ahead));
+  reads = ap (λ (r : ReaderState). r.failures) same ∙ a.no_failure;
+}
+read_in_hand (Some frame) past reader before reader' seat seat' frames a one ahead unclosed = record {
+  rest = before.rest;
+  each = a.each;
+  taken = a.taken;
+  stops = inl (next_behind reader before reader' frames frame a one.0);
+  reads = one.0.no_failure ∙ a.no_failure;
+}
+
+-- an image didn't go out, and a frame may be in hand
+pub spoilt_behind : (stop : Stop) (o : Outset) (in_hand : Option FrameText) (reader : ReaderState) (mid seat : StreamSeatValue)
+    (between writer : WriterState) → IsOutset o → HasInHand o.reader reader o.seat mid o.writer between in_hand
+    → StopsWith stop mid seat between writer [] → GivesUp mid seat → (IsUseful stop → ⊥) → Spoils stop o reader seat writer in_hand
+spoilt_behind stop o in_hand reader mid seat between writer is at moved stays spoilt =
+    let all : StopsWith stop o.seat seat o.writer writer at.frames = rw (append-nil at.frames) at
+    (StopsWith-later stop o.seat mid seat o.writer between writer at.frames [] at.passed.moved moved) in
+    record {
+      before = at.before;
+      frames = at.frames;
+      read = takes_of o.reader at.before o.seat mid o.writer between at.frames at.passed;
+      count = ap (λ (s : StreamSeatValue). s.accepted) stays ∙ at.passed.moved.count;
+      most = ap (λ (s : StreamSeatValue). s.frames) stays ∙ stays_frames o.seat mid at.passed.moved.seat_stays;
+      is_closed = ap (λ (s : StreamSeatValue). s.is_closed) stays ∙ at.passed.moved.seat_stays.is_closed;
+      torn = λ is. stopped_torn stop mid seat between writer [] is moved;
+      sent = sent_until o.seat o.writer at.frames is.fresh.kept is.writing stop stop seat writer (λ f e. e) all;
+      spoilt = spoilt;
+      holds = at.holds;
+      is_open = at.is_open;
+    }
+
+-- a fault of a delivery is held from here on
+pub spoilt_from : (stop : Stop) (o : Outset) (reader' : ReaderState) (seat' : StreamSeatValue) (writer' : WriterState) → IsOutset o
+    → Breaks stop o.reader reader' o.seat seat' o.writer writer' → Spoils stop o reader' seat' writer' None
+spoilt_from stop o reader' seat' writer' is b =
+    spoilt_behind stop o None reader' b.mid seat' b.between writer' is
+    (record { before = reader'; frames = b.frames; passed = b.passed; holds = refl; is_open = b.is_open }) b.moved b.stays b.spoilt
+
+-- where a fault is held
+module _ (held : Stop) (o : Outset) (reader : ReaderState) (seat : StreamSeatValue) (writer : WriterState) where
+  -- more frames are offered
+  pub spoilt_on : (in_hand next : Option FrameText) (a : Spoils held o reader seat writer in_hand) (reader' : ReaderState)
+      (seat' : StreamSeatValue) → HasInHand a.before reader' seat seat' writer writer next → Spoils held o reader' seat' writer next
+  spoilt_on in_hand next a reader' seat' b = record {
+    before = b.before;
+    frames = a.frames ++ b.frames;
+    read = Takes-behind o.reader a.before b.before a.frames b.frames a.read
+        (takes_of a.before b.before seat seat' writer writer b.frames b.passed);
+    count = omega (arith, a.count, b.passed.moved.count, length-append a.frames b.frames);
+    most = stays_frames seat seat' b.passed.moved.seat_stays ∙ a.most;
+    is_closed = b.passed.moved.seat_stays.is_closed ∙ a.is_closed;
+    torn = λ is. subst IsSome (sym b.passed.moved.seat_stays.torn) (a.torn is);
+    sent = sent_more o.seat.chain a.frames b.frames o.writer writer held a.sent;
+    spoilt = a.spoilt;
+    holds = b.holds;
+    is_open = b.is_open;
+  }
+
+  -- it is told where the client is given up, with what was read ahead
+  pub held_up : (past : List Act) → Spoils held o reader seat writer None → IsReadAhead reader.rest reader.left
+      → IsUnclosed (past ++ seat.calls.list) → ServesTo StreamStopsAt past held o.reader reader o.seat seat o.writer writer
+  held_up past a ahead unclosed = record {
+    frames = a.frames;
+    read = record {
+      rest = a.before.rest;
+      each = a.read.each;
+      taken = a.read.taken;
+      stops = inr (held_open held _ a.spoilt (unclosed, subst (λ (r : ReaderState). IsReadAhead r.rest reader.left) a.holds ahead));
+      reads = ap (λ (r : ReaderState). r.failures) a.holds ∙ a.read.no_failure ∙ sym (reads_held held o.reader.failures a.spoilt);
+    };
+    count = a.count;
+    sent = a.sent;
+    torn = a.torn;
+    whole = λ is. absurd (a.spoilt (subst IsUseful (sym is) tt));
+  }
+
+  -- it is told, with a frame in hand
+  pub held_told : (frame : FrameText) (past : List Act) → Spoils held o reader seat writer (Some frame)
+      → Serves past held o.reader reader o.seat seat o.writer writer
+  held_told frame past a = record {
+    frames = a.frames;
+    read = record {
+      rest = a.before.rest;
+      each = a.read.each;
+      taken = a.read.taken;
+      stops = held_at held _ a.spoilt (inl (next_behind o.reader a.before reader a.frames frame a.read a.holds.0));
+      reads = a.holds.0.no_failure ∙ a.read.no_failure ∙ sym (reads_held held o.reader.failures a.spoilt);
+    };
+    count = a.count;
+    sent = a.sent;
+    torn = a.torn;
+    whole = λ is. absurd (a.spoilt (subst IsUseful (sym is) tt));
+  }
+
+  -- the held stop is told at the input's end, or else the stop that comes behind it
+  told_behind : (stop told : Stop) → IsNoWrite stop → IsFirst stop held told → ((stop ≡ Whole) × (told ≡ held)) ⊎ (told ≡ stop)
+  told_behind Whole told own e = inl (refl, e)
+  told_behind (Read fault) told own e = inr e
+  told_behind (Refused cause) told own e = inr e
+  told_behind (Write fault) told own e = absurd own
+  told_behind Torn told own e = inr e
+
+  pub spoilt_until : (in_hand : Option FrameText) (a : Spoils held o reader seat writer in_hand) (past : List Act) (stop told : Stop)
+      (reader' : ReaderState) (seat' : StreamSeatValue) → IsNoWrite stop → Feeds past stop a.before reader' seat seat' writer writer
+      → IsFirst stop held told → Serves past told o.reader reader' o.seat seat' o.writer writer
+  spoilt_until in_hand a past stop told reader' seat' own b first =
+      let frames = a.frames ++ b.frames in
+      let read = read_behind past stop o.reader a.before reader' o.seat seat seat' a.frames b.frames a.read a.count a.most b.read in
+      let count : seat'.accepted ≡ o.seat.accepted + length frames = omega (arith, a.count, b.count, length-append a.frames b.frames) in
+      let sent = sent_more o.seat.chain a.frames b.frames o.writer writer held a.sent in
+      let not : told ≢ Whole = first_fault stop held told first a.spoilt in
+      elim (told_behind stop told own first) [
+        | inl e ↦ record {
+          frames = frames;
+          read = subst (λ (s : Stop). StopsReading past s o.reader reader' o.seat seat' frames) (sym e.1)
+              (read_until past o.reader reader' o.seat seat' frames
+              (subst (λ (s : Stop). StopsReading past s o.reader reader' o.seat seat' frames) e.0 read) held (of_collection held a.spoilt));
+          count = count;
+          sent = sent_told o.seat.chain frames o.writer writer held told (λ f is. sym e.1 ∙ is) sent;
+          torn = λ is.
+              let moved = subst (λ (s : Stop). StopsWith s seat seat' writer writer b.frames) e.0 b.moved in
+              subst IsSome (sym moved.seat_stays.torn) (a.torn (sym e.1 ∙ is));
+          whole = λ is. absurd (not is);
+        }
+        | inr e ↦ record {
+          frames = frames;
+          read = subst (λ (s : Stop). StopsReading past s o.reader reader' o.seat seat' frames) (sym e) read;
+          count = count;
+          sent = sent_told o.seat.chain frames o.writer writer held told (λ f is. absurd (subst IsNoWrite (sym e ∙ is) own)) sent;
+          torn = λ is. stopped_torn stop seat seat' writer writer b.frames (sym e ∙ is) b.moved;
+          whole = λ is. absurd (not is);
+        }
+      ]

@@ -1,0 +1,14 @@
+pub mod Clients
+pub mod ClientInside
+pub mod Epochs
+pub mod Hands
+pub mod Holding
+pub mod Laws
+pub mod Pipelines
+pub mod RestInside
+pub mod Rests
+pub mod Sends
+pub mod Streams
+pub mod Turns
+pub mod Workers
+pub mod Words

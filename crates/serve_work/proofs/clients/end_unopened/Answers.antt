@@ -1,9 +1,0 @@
-use Rattle.std.proofs.Common.{refl}
-use Rattle.serve_work.proofs.Stopping.{close_tally}
-use Rattle.serve_work.proofs.clients.end_unopened.Goals as goal
-
-pub returns-clause-tally : goal.returns-clause-tally
-returns-clause-tally g c = close_tally _ _ c.close.result c.close.ensures.closed c.close.ensures.refused
-
-pub returns-clause-outcome : goal.returns-clause-outcome
-returns-clause-outcome g c = rw (c.into_source.ensures.remaining, c.into_source.ensures.failures) refl

@@ -1,5 +1,0 @@
-use Rattle.serve_work.proofs.Fronts.{a_front_went_out}
-use Rattle.serve_work.proofs.laws.a_front_went_out.Goals as goal
-
-pub returns : goal.returns
-returns c = a_front_went_out

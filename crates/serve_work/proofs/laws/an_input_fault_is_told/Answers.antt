@@ -1,5 +1,0 @@
-use Rattle.serve_work.proofs.Told.{input_fault_is_told}
-use Rattle.serve_work.proofs.laws.an_input_fault_is_told.Goals as goal
-
-pub returns : goal.returns
-returns c = input_fault_is_told

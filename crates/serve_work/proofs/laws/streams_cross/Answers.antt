@@ -1,5 +1,0 @@
-use Rattle.serve_work.proofs.Crossing.{streams_cross}
-use Rattle.serve_work.proofs.laws.streams_cross.Goals as goal
-
-pub returns : goal.returns
-returns c = streams_cross

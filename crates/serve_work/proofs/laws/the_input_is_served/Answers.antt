@@ -1,5 +1,0 @@
-use Rattle.serve_work.proofs.Texts.{input_is_served}
-use Rattle.serve_work.proofs.laws.the_input_is_served.Goals as goal
-
-pub returns : goal.returns
-returns c = input_is_served

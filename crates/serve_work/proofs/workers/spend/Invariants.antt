@@ -1,5 +1,0 @@
-use Rattle.std.proofs.Common.{◌≡◌}
-use Rattle.serve_work.proofs.workers.spend.Given as goal
-
-abbrev pub invariant-loop-done : goal.invariant-loop-done
-invariant-loop-done g l = l.lease ≡ record l.initial.lease { job = l.lease.job; used = l._done }
