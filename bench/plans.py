@@ -147,7 +147,7 @@ class Plan:
         accepted, delivered, charged, stop = stream.row
         word, wanted = ("write" if stop.startswith("write ") else stop), set(self.stops) | self.prefix
         if self.is_shared:
-            wanted |= {"open", "whole"} | ({stop} if stop.startswith("read ") else set())
+            wanted |= {"open", "whole"} | ({stop} if stop.startswith(("read ", "ops ")) else set())
         if self.goes:
             wanted.add("write")
         if was_closed:
