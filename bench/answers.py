@@ -84,6 +84,7 @@ class Model:
     def __init__(self, language, workers, tell_end):
         self.language, self.whole, self.tell_end = language, workers * WHOLE, tell_end
         self.lines, self.numbered, self.streams, self.answers, self.now = [], {}, [], [], 0
+        self.told_units, self.is_well = 0, True
         self.last_wrong, self.asked, self.shown, self.block, self.units, self.ended = 0, [], 0, None, None, None
 
     # what was given
@@ -302,6 +303,24 @@ class Model:
 
     # the end
 
+    def wells(self):
+        """Whether each stream that counts for the status came to a good end."""
+        counted = [one for one in self.streams if one.row is not None and (one.number == 0 or not self.language.counts_words_alone)]
+        return self.is_well and all(one.row[3] in ("whole", "closed") for one in counted)
+
+    def told(self):
+        """The units of all rows."""
+        return self.told_units + sum(one.row[2] for one in self.streams if one.row is not None)
+
+    def forget(self):
+        """All streams have ended: what is known of them is let go, and so is what they held."""
+        check(self.is_settled() and not self.served(), "a round ended, and a stream didn't")
+        for line in self.lines:
+            check(line.answer is not None or isinstance(line, Stream) or None in self.faults(line, len(self.answers)),
+                  f"line {line.number} isn't told, and {line.text[:200]!r} is {self.faults(line, len(self.answers))}")
+        self.is_well, self.told_units = self.wells(), self.told()
+        self.lines, self.numbered, self.streams, self.answers, self.asked, self.shown = [], {}, [], [], [], 0
+
     def finish(self, status, errors):
         """All answers came, and the run ended so."""
         check(self.units is not None, "the run ended without its last line")
@@ -311,9 +330,6 @@ class Model:
             if line.answer is None and not isinstance(line, Stream) and not self.is_behind_end(line):
                 faults = self.faults(line, len(self.answers))
                 check(None in faults, f"line {line.number} isn't told, and {line.text[:200]!r} is {faults}")
-        rows = [one for one in self.streams if one.row is not None]
-        units = sum(one.row[2] for one in rows)
-        check(units == self.units, f"units {self.units}, and the rows have {units}")
-        counted = [one for one in rows if one.number == 0 or not self.language.counts_words_alone]
-        wanted = 0 if all(one.row[3] in ("whole", "closed") for one in counted) else 1
+        check(self.told() == self.units, f"units {self.units}, and the rows have {self.told()}")
+        wanted = 0 if self.wells() else 1
         check((status, errors) == (wanted, b""), f"status {status}, not {wanted}, and {errors!r}")
