@@ -81,8 +81,10 @@ class Stream(Line):
 class Model:
     """Takes lines as they are given and answers as they come."""
 
-    def __init__(self, language, workers, tell_end):
+    def __init__(self, language, workers, reads_on, tell_end):
+        """`reads_on` tells whether lines behind the end are read where the language has `stop`: until the last stream is over."""
         self.language, self.whole, self.tell_end = language, workers * WHOLE, tell_end
+        self.reads_on = reads_on and language.has_stop
         self.lines, self.numbered, self.streams, self.answers, self.now = [], {}, [], [], 0
         self.told_units, self.is_well = 0, True
         self.last_wrong, self.asked, self.shown, self.block, self.units, self.ended = 0, [], 0, None, None, None
@@ -95,7 +97,7 @@ class Model:
         self.numbered[line.number] = line
         if isinstance(line, Stream):
             self.streams.append(line)
-        if line.kind == "state" and self.ended is None:
+        if line.kind == "state" and (self.ended is None or self.reads_on):
             self.asked.append(line)
         if line.kind in ("end", "stop") and self.ended is None:
             self.ended = line
@@ -111,8 +113,13 @@ class Model:
         """The streams of which nothing is known to have ended, and whether a state isn't answered."""
         return [one for one in self.streams if one.is_taken and one.row is None and not self.is_behind_end(one)]
 
+    def are_shown(self):
+        """Whether each state is answered that was asked for; one behind the end may be."""
+        sure = sum(1 for line in self.asked if not self.is_behind_end(line))
+        return sure <= self.shown <= len(self.asked) and self.block is None
+
     def is_settled(self):
-        return not self.left() and self.shown == len(self.asked) and self.block is None
+        return not self.left() and self.are_shown()
 
     # what came
 
@@ -166,10 +173,12 @@ class Model:
 
     def faults(self, line, at):
         """What a line may be told as, if it is told by the answer of this number; None where it is done and nothing is told."""
-        if self.is_behind_end(line):
-            return {"Ended", line.fault} if line.kind in ("stream", "wrong") else {"NoStream", "AlreadyClosed", None}
+        if self.is_behind_end(line) and not self.reads_on:
+            return {None}
         if line.kind == "close":
             return self.close_faults(line, at)
+        if self.is_behind_end(line):
+            return {line.fault or "Ended"} if line.kind == "stream" else {line.fault}
         if not isinstance(line, Stream):
             return {line.fault}
         before, may = self.before(line), set()
@@ -324,8 +333,7 @@ class Model:
     def finish(self, status, errors):
         """All answers came, and the run ended so."""
         check(self.units is not None, "the run ended without its last line")
-        check(not self.left() and self.block is None, f"not told: {[one.name for one in self.left()]}")
-        check(self.shown == len(self.asked), f"{self.shown} states are told of {len(self.asked)}")
+        check(not self.left() and self.are_shown(), f"not told: {[one.name for one in self.left()]}, {self.shown} states of {len(self.asked)}")
         for line in self.lines:
             if line.answer is None and not isinstance(line, Stream) and not self.is_behind_end(line):
                 faults = self.faults(line, len(self.answers))
