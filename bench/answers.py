@@ -298,7 +298,8 @@ class Model:
 
     def take_now(self, at, moment, count):
         block, moment = self.in_block(at, b"now", 4), int(moment)
-        check(block["stands"] == self.served() and int(count) == len(block["stands"]), f"a state tells of {[one.name for one in block['stands']]} and {count}, and {[one.name for one in self.served()]} are served")
+        stands, served = ([one.name for one in streams] for streams in (block["stands"], self.served()))
+        check(stands == served and int(count) == len(stands), f"a state tells of {stands} and {count}, and {served} are served")
         check(self.shown < len(self.asked), "a state that nobody asked for")
         asked = self.asked[self.shown]
         told = block["stands"] + block["opening"]

@@ -1,5 +1,6 @@
 """What one stream of a run of `chaos` is given, who stands at its FIFOs, and what may come of it."""
 
+import contextlib
 import os
 
 import actors as a
@@ -129,8 +130,10 @@ class Plan:
 
     def make_late(self, now):
         for when, path in ((self.late_in, self.input), (self.late_out, self.output)):
-            if when is not None and now >= when and not os.path.exists(os.path.join(self.top, path)):
-                os.mkfifo(os.path.join(self.top, path))
+            if when is not None and now >= when:
+                # the run may have made a file there meanwhile
+                with contextlib.suppress(FileExistsError):
+                    os.mkfifo(os.path.join(self.top, path))
         self.late_in, self.late_out = (None if when is None or now >= when else when for when in (self.late_in, self.late_out))
 
     def actors(self):
