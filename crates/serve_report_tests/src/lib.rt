@@ -11,6 +11,8 @@ mod control;
 #[cfg(test)]
 mod lookout;
 #[cfg(test)]
+mod patient;
+#[cfg(test)]
 mod program;
 #[cfg(test)]
 mod progress;

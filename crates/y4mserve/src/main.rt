@@ -7,6 +7,7 @@ mod terminals;
 ghost use Rattle.std.specs.Prelude.{◌≡◌, ◌≤◌};
 
 use host_files::HostFiles;
+use serve_files::Patient;
 use serve_report::Host;
 use std::alloc::AllocError;
 use std::io::{ErrorKind, Lock, Write};
@@ -40,8 +41,9 @@ fn run<T: Threads + Wait + Clock + Copy + Drop + Send + Sync + 'static>(
     ensures { result ≤ 2 }
 {
     // `lock` of a standard stream holds no lock here, so that others may call it while this one lives.
-    let mut output = system.stdout().lock();
-    let mut errors = system.stderr().lock();
+    let input = Patient::new(system.stdin().lock(), *system);
+    let mut output = Patient::new(system.stdout().lock(), *system);
+    let mut errors = Patient::new(system.stderr().lock(), *system);
     let Ok(words) = own_words(system) else {
         return refuse(&mut errors);
     };
@@ -53,7 +55,7 @@ fn run<T: Threads + Wait + Clock + Copy + Drop + Send + Sync + 'static>(
         files: &files,
         watch: Some(&terminals),
     };
-    host.run(&words, system.stdin().lock(), &mut output, &mut errors)
+    host.run(&words, input, &mut output, &mut errors)
 }
 
 /// Tells that there was no memory to begin with, and answers the program's status.
