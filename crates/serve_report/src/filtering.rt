@@ -20,8 +20,7 @@ use std::thread::Threads;
 use y4m_stream::{FilterFault, OverRead, OverWrite, Sink, filter_overlapped, filter_stream};
 
 /// What is said where the input is a terminal.
-const AWAITED: &str =
-    "waiting for a stream (.y4m) on standard input, which is a terminal; for help: y4mserve filter --help";
+const AWAITED: &str = "waiting for a stream (.y4m) on standard input; for help: filter -h";
 
 /// The number of a stream that is alone.
 const ALONE: usize = 0;

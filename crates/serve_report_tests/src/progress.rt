@@ -12,17 +12,6 @@ fn shows(rt: &impl Abort, screen: &mut Room, text: &str, writes: u64) {
     screen.writes = 0;
 }
 
-/// Compares a line of 64 columns that was written in one write since the last time.
-fn shows_line(rt: &impl Abort, screen: &mut Room, line: &str) {
-    let text = str::from_utf8(&screen.taken)
-        .ok()
-        .map(|text| text.trim_end_matches(' '));
-    let shown = (text, screen.taken.len(), screen.writes);
-    same_at(rt, shown, (Some(line), 64, 1), "was memory refused?");
-    screen.taken.clear();
-    screen.writes = 0;
-}
-
 /// Compares how many writes were made at a moment.
 fn writes_at(rt: &impl Abort, screen: &Room, writes: u64, time: u64) {
     same_at(
@@ -40,15 +29,15 @@ fn the_line_of_a_stream_alone_has_the_frames_and_two_rates(rt: HostRuntime) {
     let mut screen = Room::endless(rt.alloc());
     line.add_written(50, 50 * 3_110_406);
     line.draw(&mut screen, 700);
-    let text = "\r50 frames, 71.4 frames/s, 222 MB/s";
-    shows_line(&rt, &mut screen, text);
+    let text = "\x1B[?7l\r50 frames, 71.4 frames/s, 222 MB/s\x1B[K\x1B[?7h";
+    shows(&rt, &mut screen, text, 1);
     line.draw(&mut screen, 2_000);
-    let text = "\r50 frames, 25.0 frames/s, 77 MB/s";
-    shows_line(&rt, &mut screen, text);
+    let text = "\x1B[?7l\r50 frames, 25.0 frames/s, 77 MB/s\x1B[K\x1B[?7h";
+    shows(&rt, &mut screen, text, 1);
     line.add_written(20, 20 * 3_110_406);
     line.draw(&mut screen, 2_800);
-    let text = "\r70 frames, 25.0 frames/s, 77 MB/s";
-    shows_line(&rt, &mut screen, text);
+    let text = "\x1B[?7l\r70 frames, 25.0 frames/s, 77 MB/s\x1B[K\x1B[?7h";
+    shows(&rt, &mut screen, text, 1);
 }
 
 #[test]
@@ -58,12 +47,12 @@ fn a_line_that_was_drawn_is_ended_by_a_last_one(rt: HostRuntime) {
     line.draw_last(&mut screen, Some(99));
     shows(&rt, &mut screen, "", 0);
     line.draw(&mut screen, 100);
-    let text = "\r0 frames, 0.0 frames/s, 0 MB/s";
-    shows_line(&rt, &mut screen, text);
+    let text = "\x1B[?7l\r0 frames, 0.0 frames/s, 0 MB/s\x1B[K\x1B[?7h";
+    shows(&rt, &mut screen, text, 1);
     line.draw_last(&mut screen, None);
     shows(&rt, &mut screen, "\n", 1);
     line.draw_last(&mut screen, Some(0));
-    let text = "\r0 frames, 0.0 frames/s, 0 MB/s                                 \n";
+    let text = "\x1B[?7l\r0 frames, 0.0 frames/s, 0 MB/s\x1B[K\x1B[?7h\n";
     shows(&rt, &mut screen, text, 2);
 }
 
@@ -91,8 +80,9 @@ fn a_line_has_a_stream_s_name_and_both_counts(rt: HostRuntime) {
     board.add_read(0, 16_777_216);
     board.add_written(0, 16_777_216);
     board.draw(&mut screen, 200);
-    let longest = "0123456789abcdefghijklmnopqrstuv frames in 16777216 out 16777216\x1B[K\n";
-    same_at(&rt, longest.len(), 64 + 4, "the longest line");
+    let longest =
+        "\x1B[?7l0123456789abcdefghijklmnopqrstuv frames in 16777216 out 16777216\x1B[K\n\x1B[?7h";
+    same_at(&rt, longest.len(), 64 + 14, "the longest line");
     shows(&rt, &mut screen, longest, 1);
 }
 
@@ -126,19 +116,19 @@ fn lines_are_drawn_over_those_before(rt: HostRuntime) {
     board.draw(&mut screen, 199);
     shows(&rt, &mut screen, "", 0);
     board.draw(&mut screen, 200);
-    let first = "a frames in 3 out 0\x1B[K\nback frames in 0 out 0\x1B[K\n";
+    let first = "\x1B[?7la frames in 3 out 0\x1B[K\nback frames in 0 out 0\x1B[K\n\x1B[?7h";
     shows(&rt, &mut screen, first, 1);
     board.add_written(0, 2);
     board.add_read(1, 1);
     board.draw(&mut screen, 399);
     shows(&rt, &mut screen, "", 0);
     board.draw(&mut screen, 400);
-    let second = "\x1B[2Aa frames in 3 out 2\x1B[K\nback frames in 1 out 0\x1B[K\n";
+    let second = "\x1B[?7l\x1B[2Aa frames in 3 out 2\x1B[K\nback frames in 1 out 0\x1B[K\n\x1B[?7h";
     shows(&rt, &mut screen, second, 1);
     board.add_written(0, 1);
     board.add_written(1, 1);
     board.draw_last(&mut screen);
-    let last = "\x1B[2Aa frames in 3 out 3\x1B[K\nback frames in 1 out 1\x1B[K\n";
+    let last = "\x1B[?7l\x1B[2Aa frames in 3 out 3\x1B[K\nback frames in 1 out 1\x1B[K\n\x1B[?7h";
     shows(&rt, &mut screen, last, 1);
 }
 

@@ -1,2 +1,4 @@
 pub mod Board
+pub mod Line
+pub mod Terminal
 pub mod Trace

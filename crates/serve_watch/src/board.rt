@@ -50,7 +50,8 @@ fn is_due(drawn: Option<u64>, time: u64) -> bool
     has_passed(BETWEEN_DRAWINGS, drawn, time)
 }
 
-/// Writes a line for each stream; where they were drawn before, over those.
+/// Writes a line for each stream; where they were drawn before, over those. Meanwhile the terminal doesn't
+/// wrap, so that each is one row of it, however narrow it is.
 fn write_drawing<W: Write>(
     output: &mut W,
     is_again: bool,
@@ -59,11 +60,13 @@ fn write_drawing<W: Write>(
     ensures { OnOk result
         (Appends (W.contents output.old) (W.contents output.new) (drawing_text is_again streams.now)) }
 {
+    write!(output, "\x1B[?7l")?;
     if is_again {
         let lines = streams.len();
         write!(output, "\x1B[{lines}A")?;
     }
-    write_lines(output, streams)
+    write_lines(output, streams)?;
+    write!(output, "\x1B[?7h")
 }
 
 /// Writes a line for each stream.

@@ -1,133 +1,139 @@
 //! The line that shows how far a stream that is alone has come. Each drawing stands over the one before.
 //! Times are milliseconds from the start of the run.
-ghost use Rattle.std.specs.Prelude.{◌≡◌, ◌≤◌, ◌+◌, ◌-◌, ◌^◌, ◌↔◌, IsTrue, None, Some, min, unwrap_or};
+ghost use Rattle.std.specs.Prelude.{◌≡◌, ◌≤◌, ◌+◌, ◌-◌, ◌*◌, ◌/◌, ◌%◌, ◌^◌, ◌↔◌, IsTrue, max, min, unwrap_or};
 
 use crate::due::has_passed;
+use std::fmt;
 use std::io::Write;
 use std::sync::Mutex;
+use std::sync::atomic::{AtomicU64, Ordering};
 
 /// The time between two lines of a stream that is alone.
 const BETWEEN_LINES: u64 = 100;
 
-/// The columns of the line of a stream that is alone: it is filled up with spaces, over what stood there.
-const WIDTH: usize = 64;
+/// Room for the longest line of a stream that is alone, with what it orders of the terminal.
+const LONGEST: usize = 128;
 
-/// How far a stream that is alone has come, and when that was last shown.
+/// What the line tells: the images, their rate in whole ones and a tenth, and the megabytes of each second.
 #[derive(Clone, Copy)]
-struct LineProgress {
+struct Rates {
     frames: u64,
-    bytes: u64,
-    shown: Option<u64>,
+    whole: u64,
+    tenth: u64,
+    megabytes: u64,
 }
 
-impl LineProgress {
-    /// The progress at the start.
-    fn new() -> LineProgress
-        ensures { result ≡ record { frames = 0; bytes = 0; shown = None } }
-    {
-        LineProgress {
-            frames: 0,
-            bytes: 0,
-            shown: None,
-        }
-    }
+/// The line, over what stood there. Meanwhile the terminal doesn't wrap, so that it is one row of it, however
+/// narrow it is.
+impl fmt::Display for Rates {
+    ghost use Rattle.std.specs.Prelude.{Some};
+    ghost use Rattle.serve_watch.specs.Line.{line_drawn};
 
-    /// The progress with so many images and bytes more. A number of 64 bits stays at its last value.
-    fn with(self, frames: u64, bytes: u64) -> LineProgress
-        ensures frames { result.frames ≡ min (self.frames + frames) (2 ^ 64 - 1) }
-        ensures bytes { result.bytes ≡ min (self.bytes + bytes) (2 ^ 64 - 1) }
-        ensures shown { result.shown ≡ self.shown }
-    {
-        LineProgress {
-            frames: self.frames.saturating_add(frames),
-            bytes: self.bytes.saturating_add(bytes),
-            shown: self.shown,
-        }
-    }
+    ghost output = { λ rates. Some (line_drawn rates) };
 
-    /// Whether its line may be shown at this time: at least a tenth of a second after the one before and the
-    /// start.
-    fn is_due(self, time: u64) -> bool
-        ensures { IsTrue result ↔ (unwrap_or self.shown 0 + BETWEEN_LINES ≤ time) }
-    {
-        has_passed(BETWEEN_LINES, self.shown, time)
+    fn fmt<W: fmt::Write>(&self, f: &mut fmt::Formatter<W>) -> fmt::Result {
+        let Rates {
+            frames,
+            whole,
+            tenth,
+            megabytes,
+        } = *self;
+        write!(
+            f,
+            "\x1B[?7l\r{frames} frames, {whole}.{tenth} frames/s, {megabytes} MB/s\x1B[K\x1B[?7h"
+        )
     }
+}
 
-    /// The progress once its line is shown at this time.
-    fn mark_shown(self, time: u64) -> LineProgress
-        ensures { result ≡ record self { shown = Some time } }
+impl Rates {
+    /// The rates of so many images and bytes in so many milliseconds. A number of 64 bits stays at its last
+    /// value.
+    fn of(frames: u64, bytes: u64, time: u64) -> Rates
+        ensures frames { result.frames ≡ frames }
+        ensures whole { result.whole ≡ min (frames * 10000) (2 ^ 64 - 1) / max time 1 / 10 }
+        ensures tenth { result.tenth ≡ min (frames * 10000) (2 ^ 64 - 1) / max time 1 % 10 }
+        ensures megabytes { result.megabytes ≡ bytes / 1000 / max time 1 }
     {
-        LineProgress {
-            shown: Some(time),
-            ..self
-        }
-    }
-
-    /// Shows its line, with the rates up to this time, in one write.
-    fn show<E: Write>(self, errors: &mut E, time: u64) {
-        let LineProgress { frames, bytes, .. } = self;
         let time = time.max(1);
         let tenths = frames.saturating_mul(10_000) / time;
-        let (whole, tenth) = (tenths / 10, tenths % 10);
-        let megabytes = bytes / 1_000 / time;
-        let mut room = [b' '; WIDTH];
-        let mut rest = room.as_mut_slice();
-        let _ = write!(
-            rest,
-            "\r{frames} frames, {whole}.{tenth} frames/s, {megabytes} MB/s"
-        );
-        let _ = errors.write_all(&room);
+        Rates {
+            frames,
+            whole: tenths / 10,
+            tenth: tenths % 10,
+            megabytes: bytes / 1_000 / time,
+        }
     }
 }
 
-/// The line of a stream that is alone, or of all together where there was no memory for a board.
+/// Whether the line of a stream that is alone may be drawn at this time: at least a tenth of a second after it
+/// was last drawn, or after the start.
+fn is_due(drawn: Option<u64>, time: u64) -> bool
+    ensures { IsTrue result ↔ (unwrap_or drawn 0 + BETWEEN_LINES ≤ time) }
+{
+    has_passed(BETWEEN_LINES, drawn, time)
+}
+
+/// The line of a stream that is alone, or of all together where there was no memory for a board. Any thread
+/// may count, also while another one draws.
 #[derive(Drop)]
 pub struct Line {
-    progress: Mutex<LineProgress>,
+    frames: AtomicU64,
+    bytes: AtomicU64,
+    /// When it was last drawn.
+    drawn: Mutex<Option<u64>>,
 }
 
 impl Line {
     /// None of the stream's images was written yet.
     pub fn new() -> Line {
         Line {
-            progress: Mutex::new(LineProgress::new()),
+            frames: AtomicU64::new(0),
+            bytes: AtomicU64::new(0),
+            drawn: Mutex::new(None),
         }
     }
 
-    /// So many images more have been written whole, and so many bytes. They are left out where the line can't
-    /// be had at once, as while another thread has it.
+    /// So many images more have been written whole, and so many bytes.
     pub fn add_written(&self, frames: u64, bytes: u64) {
-        if let Some(mut progress) = self.progress.try_lock() {
-            let before = *progress;
-            *progress = before.with(frames, bytes);
-        }
+        self.frames.fetch_add(frames, Ordering::SeqCst);
+        self.bytes.fetch_add(bytes, Ordering::SeqCst);
     }
 
-    /// Draws the line, if it may be drawn at this time and can be had at once.
+    /// Draws the line, if it may be drawn at this time and no other thread is drawing it.
     pub fn draw<E: Write>(&self, errors: &mut E, time: u64) {
-        let Some(mut progress) = self.progress.try_lock() else {
+        let Some(mut drawn) = self.drawn.try_lock() else {
             return;
         };
-        let now = *progress;
-        if now.is_due(time) {
-            now.show(errors, time);
-            *progress = now.mark_shown(time);
+        if is_due(*drawn, time) {
+            *drawn = Some(time);
+            self.show(errors, time);
         }
     }
 
-    /// Draws the line a last time, where the time is known, and ends it, where it was drawn before and can be
-    /// had at once.
+    /// Draws the line a last time, where the time is known, and ends it, where it was drawn before and no other
+    /// thread is drawing it.
     pub fn draw_last<E: Write>(&self, errors: &mut E, time: Option<u64>) {
-        let Some(progress) = self.progress.try_lock() else {
+        let Some(drawn) = self.drawn.try_lock() else {
             return;
         };
-        let last = *progress;
-        if last.shown.is_none() {
+        if drawn.is_none() {
             return;
         }
         if let Some(time) = time {
-            last.show(errors, time);
+            self.show(errors, time);
         }
         let _ = errors.write_all(b"\n");
+    }
+
+    /// Shows the line, with the rates up to this time, in one write.
+    fn show<E: Write>(&self, errors: &mut E, time: u64) {
+        let frames = self.frames.load(Ordering::SeqCst);
+        let bytes = self.bytes.load(Ordering::SeqCst);
+        let rates = Rates::of(frames, bytes, time);
+        let mut room = [0; LONGEST];
+        let mut rest = room.as_mut_slice();
+        let _ = write!(rest, "{rates}");
+        let left = rest.len().min(LONGEST);
+        let _ = errors.write_all(&room[..LONGEST - left]);
     }
 }

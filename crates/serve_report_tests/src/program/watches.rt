@@ -237,8 +237,7 @@ fn wrong_words_and_help_come_before_terminals(rt: HostRuntime) {
 const AWAITED: &[(&str, &str)] = &[
     (
         "filter invert",
-        "y4mserve: waiting for a stream (.y4m) on standard input, which is a terminal; \
-         for help: y4mserve filter --help\n",
+        "y4mserve: waiting for a stream (.y4m) on standard input; for help: filter -h\n",
     ),
     ("filter --quiet invert", ""),
 ];
