@@ -14,6 +14,10 @@ use std::thread::{self, Threads};
 use std::time::{Clock, Duration};
 use y4m_stream::Wanted;
 
+/// A wait of so many milliseconds is for what a thread that has to wake first may find there. Where it was
+/// looked for before, it isn't there for want of bytes.
+const GLANCE: u64 = 1;
+
 /// Who has the reader, and what is asked of the looker.
 #[derive(Drop)]
 enum State<R: Read> {
@@ -191,14 +195,17 @@ impl<R: Read + Drop, T: Wait + Drop> Lookout<R, T> {
     }
 
     /// Whether reads of what is wanted would be answered at once: with bytes, with the end, or with a fault.
-    /// It waits for that at most so many milliseconds.
+    /// It waits for that at most so many milliseconds, but for a glance only where that wasn't asked before.
     pub fn is_ready(&self, milliseconds: u64, wanted: Wanted) -> bool
     where
         T: Clock,
     {
         let mut state = self.post.state.lock(&self.rt);
-        if state.ask(wanted) {
+        let is_new = state.ask(wanted);
+        if is_new {
             self.post.changed.notify_all();
+        } else if milliseconds <= GLANCE {
+            return !state.is_unknown();
         }
         let patience = Duration::from_millis(milliseconds);
         let (state, _) = self
