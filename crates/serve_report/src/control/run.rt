@@ -116,6 +116,7 @@ where
         let openers = Openers {
             prepares: move |wants: Wants| crew.start(rt, alloc, &wants),
             opens: move |errand| opener.open_errand(errand),
+            dismisses: move |number: u64| drop(crew.take(rt, number)),
             gives_up: move || lobby.give_up(rt, files),
         };
         let session = Session {
@@ -138,12 +139,12 @@ where
 {
     /// Serves the streams of an agenda, and those that its lines ask for, each of which is opened by the
     /// openers.
-    fn serve_agenda<I, F, T, L, P, G>(
+    fn serve_agenda<I, F, T, L, P, D, G>(
         &self,
         session: Session<'_, '_, RunClock<'_, T>, T>,
         files: &F,
         agenda: Agenda<'_, '_, I, S>,
-        openers: &Openers<L, P, G>,
+        openers: &Openers<L, P, D, G>,
     )
     where
         I: SentReader,
@@ -154,10 +155,12 @@ where
         T: Threads + Wait + Clock + Copy + Drop + Send + Sync + 'static,
         L: Fn(Wants) + Sync,
         P: Fn(Errand) + Sync,
+        D: Fn(u64) + Sync,
         G: Fn() + Sync,
         requires form { IsForm session.form.workers session.form.quantum }
         requires prepares { L.IsAlwaysCallable openers.now.prepares }
         requires opens { P.IsAlwaysCallable openers.now.opens }
+        requires dismisses { D.IsAlwaysCallable openers.now.dismisses }
         requires gives_up { G.IsAlwaysCallable openers.now.gives_up }
     {
         let Agenda { checked, lines } = agenda;

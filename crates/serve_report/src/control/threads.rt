@@ -23,11 +23,13 @@ use y4m_stream::{Sink, Source};
 
 /// What is done for streams that are to be opened.
 #[derive(Drop)]
-pub struct Openers<L, P, G> {
+pub struct Openers<L, P, D, G> {
     /// Starts those whom a stream wants.
     pub prepares: L,
     /// Opens a stream. It may wait.
     pub opens: P,
+    /// Lets those go who were started for the stream of this number, which isn't opened.
+    pub dismisses: D,
     /// Lets those come back who open a stream, where nobody is served any more.
     pub gives_up: G,
 }
@@ -52,21 +54,23 @@ where
     /// Takes the lines of a control while those are served who come to the lobby, until no more come. Then no
     /// line is read any more. Where there is no thread for the lines none is, nor is a stream opened of which
     /// a file may be waited for.
-    pub fn serve_beside<T, B, L, P, G>(
+    pub fn serve_beside<T, B, L, P, D, G>(
         &self,
         session: Session<'_, '_, RunClock<'_, T>, T>,
         hearing: Hearing<'_, B>,
-        openers: &Openers<L, P, G>,
+        openers: &Openers<L, P, D, G>,
     )
     where
         T: Threads + Wait + Clock + Sync,
         B: Bids + Drop + Send,
         L: Fn(Wants) + Sync,
         P: Fn(Errand) + Sync,
+        D: Fn(u64) + Sync,
         G: Fn() + Sync,
         requires form { IsForm session.form.workers session.form.quantum }
         requires prepares { L.IsAlwaysCallable openers.now.prepares }
         requires opens { P.IsAlwaysCallable openers.now.opens }
+        requires dismisses { D.IsAlwaysCallable openers.now.dismisses }
         requires gives_up { G.IsAlwaysCallable openers.now.gives_up }
     {
         let Session { rt, alloc, .. } = session;
@@ -78,15 +82,16 @@ where
             rt,
             |scope|
                 requires { IsForm session.form.workers session.form.quantum × IsSync T.row × IsSync L.row
-                    × IsSync P.row × IsSync G.row × IsSend B.row × IsSend R.row × IsSend W.row
-                    × IsSend S.row × IsSend O.row × IsSend E.row
+                    × IsSync P.row × IsSync D.row × IsSync G.row × IsSend B.row × IsSend R.row
+                    × IsSend W.row × IsSend S.row × IsSend O.row × IsSend E.row
                     × L.IsAlwaysCallable openers.now.prepares × P.IsAlwaysCallable openers.now.opens
-                    × G.IsAlwaysCallable openers.now.gives_up }
+                    × D.IsAlwaysCallable openers.now.dismisses × G.IsAlwaysCallable openers.now.gives_up }
             {
                 let listening = scope.spawn(
                     move ||
                         requires { L.IsAlwaysCallable openers.now.prepares
-                            × P.IsAlwaysCallable openers.now.opens }
+                            × P.IsAlwaysCallable openers.now.opens
+                            × D.IsAlwaysCallable openers.now.dismisses }
                     {
                         let first = first.lock(rt).take().unwrap_or(Vec::new(alloc));
                         self.listen(rt, first, bids, openers);
@@ -158,18 +163,27 @@ where
 
     /// Opens the first streams, and takes the lines of a control until no more are taken. It ends when each
     /// stream that was asked for is opened or stopped.
-    fn listen<T, B, L, P, G>(&self, rt: &T, first: Vec<Errand>, bids: B, openers: &Openers<L, P, G>)
+    fn listen<T, B, L, P, D, G>(
+        &self,
+        rt: &T,
+        first: Vec<Errand>,
+        bids: B,
+        openers: &Openers<L, P, D, G>,
+    )
     where
         T: Threads + Wait,
         B: Bids + Drop,
         L: Fn(Wants),
         P: Fn(Errand) + Sync,
+        D: Fn(u64),
         requires prepares { L.IsAlwaysCallable openers.now.prepares }
         requires opens { P.IsAlwaysCallable openers.now.opens }
+        requires dismisses { D.IsAlwaysCallable openers.now.dismisses }
     {
         let Openers {
             prepares,
             opens,
+            dismisses,
             ..
         } = openers;
         let mut first = first.into_iter();
@@ -178,7 +192,8 @@ where
             thread::scope_env(),
             rt,
             |scope|
-                requires { IsSync P.row × L.IsAlwaysCallable prepares.now × P.IsAlwaysCallable opens.now }
+                requires { IsSync P.row × L.IsAlwaysCallable prepares.now × P.IsAlwaysCallable opens.now
+                    × D.IsAlwaysCallable dismisses.now }
             {
                 for _ in rt.forever() {
                     let bidding = match first.next() {
@@ -198,6 +213,7 @@ where
                         { opens(errand) },
                     );
                     if opening.is_err() {
+                        dismisses(number);
                         self.refuse(rt, number);
                     }
                 }
