@@ -221,13 +221,14 @@ where
         if let Err(fault) = self.keep(table_order, input, output) {
             return self.refuse_stream(word.name, fault);
         }
+        let may_wait = !matches!(input, Place::File(_));
         Bidding::Open(Errand {
             order,
             ops,
             stream,
-            may_wait: !matches!(input, Place::File(_)),
-            is_prompt: matches!(input, Place::File(_)) && !matches!(output, Place::Pipe(_)),
-            output_may_wait: !matches!(output, Place::File(_) | Place::Missing),
+            may_wait,
+            is_prompt: !may_wait && !matches!(output, Place::Pipe(_)),
+            output_may_wait: may_wait || !matches!(output, Place::File(_)),
         })
     }
 

@@ -13,11 +13,12 @@ pub struct Errand {
     pub ops: Vec<Op>,
     /// Its place among the streams that a watch is told of; past all of them where it isn't.
     pub stream: usize,
-    /// Whether a read of its input may wait.
+    /// Whether a read of its input may wait. It may where nothing stands there yet.
     pub may_wait: bool,
     /// Whether its files are opened at once, since none is a FIFO.
     pub is_prompt: bool,
-    /// Whether a write to its output may wait.
+    /// Whether a write to its output may wait. It may where nothing stands there yet, and where its input is
+    /// waited for, since another file may stand there then.
     pub output_may_wait: bool,
 }
 
