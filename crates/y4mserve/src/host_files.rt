@@ -141,6 +141,14 @@ fn may_wait(file: &File) -> bool {
     }
 }
 
+/// Whether the file is a folder, which can be opened, but not read.
+fn is_folder(file: &File) -> bool {
+    match file.metadata() {
+        Ok(metadata) => metadata.file_type().is_dir(),
+        Err(_) => false,
+    }
+}
+
 /// What stands behind a name that is there.
 fn place_of(metadata: &Metadata) -> Place {
     let id = FileId {
@@ -182,6 +190,9 @@ impl Files for HostFiles<'_> {
 
     fn open(&self, name: &str) -> io::Result<Inlet<File, File>> {
         let file = fs::open(self.rt, name)?;
+        if is_folder(&file) {
+            return Err(io::Error::from(ErrorKind::IsADirectory));
+        }
         if may_wait(&file) {
             Ok(Inlet::Slow(file))
         } else {

@@ -14,7 +14,9 @@ use super::tickets::Tickets;
 use super::voice::Voice;
 use super::{AdmitFault, StreamRow, StreamStop};
 use serve_hub::Ended;
-use serve_work::{Answer, Bell, Chronicle, Clock as Moments, Door, Request, Standing as Stood};
+use serve_work::{
+    Answer, Bell, Cause, Chronicle, Clock as Moments, Door, Request, Standing as Stood,
+};
 use std::alloc::{AllocError, Global};
 use std::io::Write;
 use std::marker::{Brand, PhantomData};
@@ -54,6 +56,8 @@ pub struct Doorway<
     tickets: Tickets,
     /// What the streams of the latest epoch held at its end.
     holdings: Holdings,
+    /// Whether the streams of the latest epoch are given up.
+    gives_up: bool,
     terms: PhantomData<L>,
 }
 
@@ -83,6 +87,7 @@ where
             clock,
             tickets: Tickets::new(alloc)?,
             holdings: Holdings::new(),
+            gives_up: false,
             terms: PhantomData,
         })
     }
@@ -119,8 +124,11 @@ where
         let entry = self.take_ended(ticket);
         self.lobby.changed.notify_all();
         if let Some(entry) = &entry {
-            let is_closed = entry.order.is_closed();
-            voice.say_row(course.row(&entry.order.name, is_closed));
+            let closing = Closing {
+                is_closed: entry.order.is_closed(),
+                is_given_up: self.gives_up,
+            };
+            voice.say_row(course.row(&entry.order.name, closing));
         }
     }
 
@@ -133,6 +141,13 @@ where
         }
         entry
     }
+}
+
+/// Whether a stream that ended was closed, and whether it was given up.
+#[derive(Clone, Copy)]
+struct Closing {
+    is_closed: bool,
+    is_given_up: bool,
 }
 
 /// What a stream came to.
@@ -163,13 +178,12 @@ impl Course {
         }
     }
 
-    /// What is reported of it. Where the stream was closed, its last read failed for that; it isn't told as
-    /// closed where an image is missing, since a write failed.
-    fn row(self, name: &str, is_closed: bool) -> StreamRow<'_> {
-        let is_whole = self.delivered == self.accepted;
-        let stop = match self.stop {
-            StreamStop::Read(ReadFault::Device) if is_closed && is_whole => StreamStop::Closed,
-            stop => stop,
+    /// What is reported of it.
+    fn row(self, name: &str, closing: Closing) -> StreamRow<'_> {
+        let stop = if closing.is_closed {
+            self.closed_stop(closing.is_given_up)
+        } else {
+            self.stop
         };
         StreamRow {
             name,
@@ -177,6 +191,20 @@ impl Course {
             delivered: self.delivered,
             charged: self.charged,
             stop,
+        }
+    }
+
+    /// Why it ended, where it was closed. Its last read failed for that. It isn't told as closed where an
+    /// image is missing, since it was given up, or a write failed.
+    fn closed_stop(self, is_given_up: bool) -> StreamStop {
+        let is_whole = self.delivered == self.accepted;
+        match self.stop {
+            StreamStop::Admit(_) => StreamStop::Closed,
+            StreamStop::Read(ReadFault::Device) if is_whole => StreamStop::Closed,
+            StreamStop::Read(ReadFault::Device) if is_given_up => {
+                StreamStop::Refused(Cause::NoMemory)
+            }
+            stop => stop,
         }
     }
 }
@@ -235,13 +263,16 @@ where
 
     fn epoch_ended(&mut self, ended: &Ended, tickets: &[Option<u64>]) {
         self.holdings = Holdings::of(ended, tickets);
+        self.gives_up = false;
     }
 
     fn goes_on(&mut self, at: u64) {
         self.lobby.table.lock(self.rt).holders.release(at);
     }
 
-    fn gives_up(&mut self) {}
+    fn gives_up(&mut self) {
+        self.gives_up = true;
+    }
 
     fn retired(&mut self) {}
 }

@@ -29,7 +29,7 @@ pub enum AdmitFault {
 pub enum StreamStop {
     /// The input was read to its end, and the images of all its frames were written.
     Whole,
-    /// The input couldn't be opened, or is a FIFO that another stream reads.
+    /// The input couldn't be opened, as a folder, or is a FIFO that another stream reads.
     Open,
     /// The input couldn't be read on.
     Read(ReadFault),
