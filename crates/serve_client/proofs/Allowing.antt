@@ -5,6 +5,7 @@ use Rattle.std.specs.declared.sync.Arc.{Arc}
 use Rattle.frame_view.specs.declared.frame.Frame.{Frame}
 use Rattle.y4m_stream.specs.Reader.{ReaderState}
 use Rattle.y4m_stream.specs.declared.fault.WriteFault.{WriteFault}
+use Rattle.serve_core.specs.declared.collected.Collected.{Collected}
 use Rattle.serve_hub.specs.Seats.{StreamSeatValue}
 use Rattle.serve_client.specs.declared.feeding.Offered.TheVariants as offered
 use Rattle.serve_client.specs.declared.stop.Cause.TheVariants.{TooManyFrames, ClockEnd, NoMemory}
@@ -15,8 +16,8 @@ use Rattle.serve_client.specs.declared.stop.Stop.TheVariants.{Whole, Read, Write
 use Rattle.serve_client.specs.Clients.{AllowsStop}
 use Rattle.serve_client.specs.ClientInside.{AllowsFed, IsFirst, IsNoNewEnd, IsOfCollection, IsOfDelivery, IsOffered, IsUnread}
 use Rattle.serve_client.specs.ClientInside.{KeepsAllowed, fed_before, fed_of}
-use Rattle.serve_client.specs.Sends.{Flushes, TellsKept}
-use Rattle.serve_client.specs.Hands.{IsOfEnding}
+use Rattle.serve_client.specs.Sends.{Flushes, TellsKept, kept_or_whole}
+use Rattle.serve_client.specs.Hands.{CountsImage, IsOfEnding}
 use Rattle.serve_client.specs.Rests.{CourseValue, Discarding, Draining, Feeding, Holding, course_image, course_stop, stop_kept}
 
 module _ (Gives : ℕ → Type 0) where
@@ -146,23 +147,44 @@ pub given_up_stop : (course : CourseValue) (ended first told : Stop) → IsOfEnd
 given_up_stop course ended first told own now behind is =
     kept_end course (drained_stop (stop_kept course) ended first (ending_collects ended own) now (memory_stop first told behind is))
 
-fed_kept : (ended first told : Stop) → IsOfEnding ended → first ≡ ended → IsFirst first (Refused NoMemory) told
-    → (told ≡ Refused NoMemory) ⊎ ((fault : WriteFault) × (told ≡ Write fault))
-fed_kept Whole first told own now behind = inl (given_for_none Whole first told behind refl now)
-fed_kept (Read fault) first told own now behind = absurd own
-fed_kept (Write fault) first told own now behind = inr (fault, given_for_fault (Write fault) first told behind (Write fault) (λ is. cc) now)
-fed_kept (Refused cause) first told own now behind = absurd own
-fed_kept Torn first told own now behind = absurd own
+-- the first of three stops, where the one between is none, and where it is a fault
+first_none : (stop ended first told : Stop) → ended ≡ Whole → IsFirst stop ended first → IsFirst first (Refused NoMemory) told
+    → IsFirst stop (Refused NoMemory) told
+first_none Whole ended first told well now behind = subst (λ (s : Stop). IsFirst s (Refused NoMemory) told) (now ∙ well) behind
+first_none (Read fault) ended first told well now behind = subst (λ (s : Stop). IsFirst s (Refused NoMemory) told) now behind
+first_none (Write fault) ended first told well now behind = subst (λ (s : Stop). IsFirst s (Refused NoMemory) told) now behind
+first_none (Refused cause) ended first told well now behind = subst (λ (s : Stop). IsFirst s (Refused NoMemory) told) now behind
+first_none Torn ended first told well now behind = subst (λ (s : Stop). IsFirst s (Refused NoMemory) told) now behind
 
--- a client that is given up tells the fault that it keeps
-pub given_up_kept : (course : CourseValue) (ended first told : Stop) → IsOfEnding ended → (course_image course ≡ None → ended ≡ Whole)
+first_cut : (fault : WriteFault) (stop ended first told : Stop) → ended ≡ Write fault → IsFirst stop ended first
+    → IsFirst first (Refused NoMemory) told → IsFirst stop (Write fault) told
+first_cut f Whole ended first told cut now behind = subst (λ (s : Stop). IsFirst s (Refused NoMemory) told) (now ∙ cut) behind
+first_cut f (Read fault) ended first told cut now behind = subst (λ (s : Stop). IsFirst s (Refused NoMemory) told) now behind
+first_cut f (Write fault) ended first told cut now behind = subst (λ (s : Stop). IsFirst s (Refused NoMemory) told) now behind
+first_cut f (Refused cause) ended first told cut now behind = subst (λ (s : Stop). IsFirst s (Refused NoMemory) told) now behind
+first_cut f Torn ended first told cut now behind = subst (λ (s : Stop). IsFirst s (Refused NoMemory) told) now behind
+
+-- a client that is given up with an image in hand
+in_hand_kept : (pair : Collected) (kept : Option Stop) (ended first told : Stop) (old new : ℕ) → CountsImage (Some pair) ended old new
+    → IsFirst (kept_or_whole kept) ended first → IsFirst first (Refused NoMemory) told → TellsKept (Some pair) kept old told new
+in_hand_kept pair kept ended first told old new (inl well) now behind =
+    inl (first_none (kept_or_whole kept) ended first told well.0 now behind, well.1)
+in_hand_kept pair kept ended first told old new (inr cut) now behind =
+    inr (cut.0, first_cut cut.0 (kept_or_whole kept) ended first told cut.1 now behind, cut.2)
+
+-- it tells the fault that it keeps, and how many images went out
+pub given_up_kept : (course : CourseValue) (ended first told : Stop) (old new : ℕ) → CountsImage (course_image course) ended old new
     → IsFirst (stop_kept course) ended first → IsFirst first (Refused NoMemory) told
-    → TellsKept (course_stop course) (course_image course) told
-given_up_kept (Feeding in_hand None) ended first told own none now behind = given_for_none ended first told behind (none refl) now
-given_up_kept (Feeding in_hand (Some pair)) ended first told own none now behind = fed_kept ended first told own now behind
-given_up_kept (Holding in_hand held) ended first told own none now behind = λ fault.
-    given_for_fault ended first told behind held fault (first_kept held ended first fault now)
-given_up_kept (Draining stop image) ended first told own none now behind = λ fault.
-    given_for_fault ended first told behind stop fault (first_kept stop ended first fault now)
-given_up_kept (Discarding stop) ended first told own none now behind = λ fault.
-    given_for_fault ended first told behind stop fault (first_kept stop ended first fault now)
+    → TellsKept (course_image course) (course_stop course) old told new
+given_up_kept (Feeding in_hand None) ended first told old new counts now behind =
+    (given_for_none ended first told behind counts.0 now, counts.1)
+given_up_kept (Feeding in_hand (Some pair)) ended first told old new counts now behind =
+    in_hand_kept pair None ended first told old new counts now behind
+given_up_kept (Holding in_hand held) ended first told old new counts now behind =
+    (λ fault. given_for_fault ended first told behind held fault (first_kept held ended first fault now), counts.1)
+given_up_kept (Draining stop None) ended first told old new counts now behind =
+    (λ fault. given_for_fault ended first told behind stop fault (first_kept stop ended first fault now), counts.1)
+given_up_kept (Draining stop (Some pair)) ended first told old new counts now behind =
+    in_hand_kept pair (Some stop) ended first told old new counts now behind
+given_up_kept (Discarding stop) ended first told old new counts now behind =
+    (λ fault. given_for_fault ended first told behind stop fault (first_kept stop ended first fault now), counts.1)

@@ -1,9 +1,10 @@
 -- How a stream goes on from one epoch to the next.
 use Rattle.std.proofs.Common.{◌≡◌, ◌⊎◌, ◌+◌, ◌++◌, ◌≤◌, ℕ, List, [], Option, None, Some, IfSome, IsSome, ap, append-nil, arith}
-use Rattle.std.proofs.Common.{inl, inr, refl, subst, sym, ◌∙◌}
+use Rattle.std.proofs.Common.{inl, inr, length, refl, subst, sym, ◌∙◌}
 use Rattle.filters.specs.Chain.{ChainValue}
 use Rattle.filters.specs.ChainImage.{FrameValue}
 use Rattle.y4m_header.specs.StreamText.{FrameText}
+use Rattle.y4m_stream.specs.Failures.{one_more}
 use Rattle.y4m_stream.specs.Reader.{ReaderState, data_len_of}
 use Rattle.y4m_stream.specs.Writer.{WriterState}
 use Rattle.serve_core.specs.declared.collected.Collected.{Collected}
@@ -13,7 +14,7 @@ use Rattle.serve_client.specs.declared.stop.Stop.{Stop}
 use Rattle.serve_client.specs.Clients.{ClientEnds, ClientOutcome, ClientStart, ClientStopsAt, CutsHeader}
 use Rattle.serve_client.specs.Clients.{WroteNothing, closes_in, collections_in, offers_in}
 use Rattle.serve_client.specs.ClientInside.{Feeds, HasInHand, IsCounted, IsUseful, Moves, Passes, ShowsClose, Stays, texts_of}
-use Rattle.serve_client.specs.Sends.{Serves}
+use Rattle.serve_client.specs.Sends.{IsSpoilt, Serves}
 use Rattle.serve_client.specs.Hands.{IsBegunPair, counted_with, with_kept}
 use Rattle.serve_client.specs.Epochs.{IsReopened, NewStreamIsUnbegun, StreamsCross}
 use Rattle.serve_client.specs.Rests.{Begun, CourseValue, Discarding, Draining, Feeding, Holding, IsAt, IsFresh}
@@ -21,6 +22,7 @@ use Rattle.serve_client.specs.Rests.{IsRestOf, Outset, RestValue, Unbegun, as_op
 use Rattle.serve_client.proofs.Hands.{IsReopened-kept}
 use Rattle.serve_client.proofs.Staying.{Stays-same, Stays-trans, same_chain, same_frames}
 use Rattle.serve_client.proofs.Tallying.{collections_both, collections_counted}
+use Rattle.serve_client.proofs.Keeping.{spoilt_stays}
 use Rattle.serve_client.proofs.Stopping.{moves_until, read_by, until_moves}
 
 reopened_stays : (old new : StreamSeatValue) → IsReopened old new → Stays old new
@@ -115,6 +117,14 @@ module _ (past : List Act) (old new : StreamSeatValue) (r : IsReopened old new) 
   begun_across pair before writer begun =
       subst (λ (chain : ChainValue). IsBegunPair chain pair before writer) (sym (same_chain old new r.spec)) begun
 
+  spoilt_across : (writer : WriterState) → IsSpoilt writer old → IsSpoilt writer new
+  spoilt_across writer spoilt = spoilt_stays old new writer r.torn spoilt
+
+  kept_across : (writer : WriterState) (n : ℕ) → IsSpoilt writer old ⊎ (writer.frames + length old.kept ≡ n)
+      → IsSpoilt writer new ⊎ (writer.frames + length new.kept ≡ n)
+  kept_across writer n (inl spoilt) = inl (spoilt_across writer spoilt)
+  kept_across writer n (inr all) = inr (omega (arith, all, ap length r.kept))
+
   Serves-across : (stop : Stop) (reader reader' : ReaderState) (first : StreamSeatValue) (writer writer' : WriterState)
       → Serves past stop reader reader' first old writer writer' → Serves more stop reader reader' first new writer writer'
   Serves-across stop reader reader' first writer writer' a = record {
@@ -123,6 +133,7 @@ module _ (past : List Act) (old new : StreamSeatValue) (r : IsReopened old new) 
     count = r.accepted ∙ a.count;
     sent = a.sent;
     torn = λ is. subst IsSome (sym r.torn) (a.torn is);
+    kept = kept_across writer' (writer.frames + length a.frames) a.kept;
     whole = λ is.
         let all = a.whole is in
         (all.0, all.1, record { closed = rw r.is_closed all.2.closed; none = r.kept ∙ all.2.none });
@@ -156,7 +167,7 @@ module _ (past : List Act) (old new : StreamSeatValue) (r : IsReopened old new) 
       let later = Feeds-across past (with_kept pair old) (with_kept pair new) (IsReopened-kept pair old new r) stop o.reader reader o.seat
       o.writer a.1.0 a.0 a.1.2 in
       (a.0, (a.1.0, begun_across pair a.1.0 writer a.1.1, later))
-  IsAt-across (Discarding stop) o reader writer a = (a.0, Serves-across stop o.reader reader o.seat o.writer writer a.1)
+  IsAt-across (Discarding stop) o reader writer a = (a.0, spoilt_across writer a.1, Serves-across stop o.reader reader o.seat o.writer writer a.2)
 
   rest_across : (start : ClientStart) (rest : RestValue) → IsRestOf start past old rest → IsRestOf start more new rest
   rest_across start (Unbegun reader contents failures) a = record {
@@ -221,6 +232,13 @@ module _ (past : List Act) (old new : StreamSeatValue) (r : IsReopened old new) 
     calls = calls;
   })) (sym all_same) a))
 
+  left_across : (start : ClientStart) (end : ClientOutcome)
+      → (end.failures ≡ one_more start.failures) ⊎ IsSome old.torn ⊎ (end.delivered + length old.kept ≡ end.accepted)
+      → (end.failures ≡ one_more start.failures) ⊎ IsSome new.torn ⊎ (end.delivered + length new.kept ≡ end.accepted)
+  left_across start end (inl failed) = inl failed
+  left_across start end (inr (inl torn)) = inr (inl (subst IsSome (sym r.torn) torn))
+  left_across start end (inr (inr all)) = inr (inr (omega (arith, all, ap length r.kept)))
+
   end_across : (start : ClientStart) (end : ClientOutcome) → ClientEnds start past old end → ClientEnds start more new end
   end_across start end a = record {
     frames = a.frames;
@@ -232,6 +250,7 @@ module _ (past : List Act) (old new : StreamSeatValue) (r : IsReopened old new) 
     reads = a.reads;
     out = a.out;
     whole = a.whole;
+    kept = left_across start end a.kept;
     drained = λ is.
         let all = a.drained is in
         record { closed = rw r.is_closed all.closed; none = r.kept ∙ all.none };

@@ -1,6 +1,6 @@
 -- What a client comes to.
 use Rattle.std.proofs.Common.{◌≡◌, ◌≢◌, ◌↔◌, ◌⊎◌, ℕ, ◌+◌, true, false, List, [], ◌∷◌, ◌++◌, length, take}
-use Rattle.std.proofs.Common.{Option, None, Some, Result, Ok, Err, OnOk, IfErr, refl, sym, ap, ◌∙◌, append-nil}
+use Rattle.std.proofs.Common.{Option, None, Some, IsSome, Result, Ok, Err, OnOk, IfErr, refl, sym, ap, ◌∙◌, append-nil}
 use Rattle.std.proofs.Common.{length-append, arith, subst, inl, inr, unwrap_or, ◌≤◌, IfSome}
 use Rattle.std.proofs.KnownBytes.{Appends-kept, Appends-trans, Consumes-nil}
 use Rattle.std.proofs.lemmas.List.{length-take-le}
@@ -24,8 +24,8 @@ use Rattle.serve_client.specs.declared.stop.Stop.{Stop}
 use Rattle.serve_client.specs.declared.stop.Stop.TheVariants.{Whole, Read, Write, Refused, Torn}
 use Rattle.serve_client.specs.Clients.{ClientOutcome, ClientProgress, ClientStart, CutsHeader, Ends, GivesUpAt}
 use Rattle.serve_client.specs.Clients.{ClientStopsAt, StreamStopsAt, WroteImages, WroteNothing, reads_at}
-use Rattle.serve_client.specs.ClientInside.{TalliesSeat}
-use Rattle.serve_client.specs.Sends.{BreaksOff, Flushes, IsSent, SendsWhole, ServesTo, TellsKept}
+use Rattle.serve_client.specs.ClientInside.{IsFirst, TalliesSeat}
+use Rattle.serve_client.specs.Sends.{BreaksOff, Flushes, IsSent, IsSpoilt, SendsWhole, ServesTo, TellsKept, TellsStop, kept_or_whole}
 use Rattle.serve_client.specs.Rests.{IsFresh, IsTallied, IsUnbegun}
 use Rattle.serve_client.proofs.Tallying.{counted_later, if_more}
 
@@ -97,13 +97,31 @@ module _ {T : Type 0} where
       inr (subst (λ s. GivesUpAt s at) (sym (stop_stays stop flush told e (λ is. subst (λ s. GivesUpAt s at) is a))) a)
 
   -- a fault that was kept is told behind the flush too
-  pub told_kept : (kept : Option Stop) (image : Option Collected) (stop : Stop) (flush : Result T WriteFault) (told : Stop)
-      → Flushes stop flush told → TellsKept kept image stop → TellsKept kept image told
-  told_kept None None stop flush told e k = stop_stays stop flush told e (λ is. absurd (cc)) ∙ k
-  told_kept None (Some pair) stop flush told e (inl k) = inl (stop_stays stop flush told e (λ is. absurd (cc)) ∙ k)
-  told_kept None (Some pair) stop flush told e (inr k) =
-      inr (k.0, stop_stays stop flush told e (λ is. let both : Write k.0 ≡ Whole = sym k.1 ∙ is in absurd (cc)) ∙ k.1)
-  told_kept (Some s) image stop flush told e k = λ fault. stop_stays stop flush told e (λ is. fault (sym (k fault) ∙ is)) ∙ k fault
+  first_flushed : (first later stop : Stop) (flush : Result T WriteFault) (told : Stop) → later ≢ Whole → Flushes stop flush told
+      → IsFirst first later stop → IsFirst first later told
+  first_flushed Whole later stop flush told other e k = stop_stays stop flush told e (λ is. other (sym k ∙ is)) ∙ k
+  first_flushed (Read f) later stop flush told other e k =
+      stop_stays stop flush told e (λ is. let both : Read f ≡ Whole = sym k ∙ is in absurd (cc)) ∙ k
+  first_flushed (Refused cause) later stop flush told other e k =
+      stop_stays stop flush told e (λ is. let both : Refused cause ≡ Whole = sym k ∙ is in absurd (cc)) ∙ k
+  first_flushed (Write f) later stop flush told other e k =
+      stop_stays stop flush told e (λ is. let both : Write f ≡ Whole = sym k ∙ is in absurd (cc)) ∙ k
+  first_flushed Torn later stop flush told other e k =
+      stop_stays stop flush told e (λ is. let both : Torn ≡ Whole = sym k ∙ is in absurd (cc)) ∙ k
+
+  stop_flushed : (kept : Option Stop) (stop : Stop) (flush : Result T WriteFault) (told : Stop) → Flushes stop flush told
+      → TellsStop kept stop → TellsStop kept told
+  stop_flushed None stop flush told e k = stop_stays stop flush told e (λ is. absurd (cc)) ∙ k
+  stop_flushed (Some s) stop flush told e k =
+      λ fault. stop_stays stop flush told e (λ is. fault (sym (k fault) ∙ is)) ∙ k fault
+
+  pub told_kept : (image : Option Collected) (kept : Option Stop) (before delivered : ℕ) (stop : Stop) (flush : Result T WriteFault)
+      (told : Stop) → Flushes stop flush told → TellsKept image kept before stop delivered → TellsKept image kept before told delivered
+  told_kept None kept before delivered stop flush told e k = (stop_flushed kept stop flush told e k.0, k.1)
+  told_kept (Some pair) kept before delivered stop flush told e (inl k) =
+      inl (first_flushed (kept_or_whole kept) (Refused NoMemory) stop flush told (λ is. absurd (cc)) e k.0, k.1)
+  told_kept (Some pair) kept before delivered stop flush told e (inr k) =
+      inr (k.0, first_flushed (kept_or_whole kept) (Write k.0) stop flush told (λ is. absurd (cc)) e k.1, k.2)
 
   reads_flushed : (stop : Stop) (flush : Result T WriteFault) (told : Stop) (n : ℕ) → Flushes stop flush told
       → reads_at told n ≡ reads_at stop n
@@ -230,7 +248,7 @@ module _ (start : ClientStart) (end : ClientOutcome) (shown : HeaderValue) (writ
   unfailed stop frames writer' (inr a) writing =
       let both : true ≡ false = sym (ap (λ (w : WriterState). w.failed) a.1.cut.failed) ∙ writing in absurd (cc)
 
-  wrote_until : {T : Type 0} (frames : List FrameText) (stop : Stop) (writer' : WriterState) (flush : Result T WriteFault)
+  pub wrote_until : {T : Type 0} (frames : List FrameText) (stop : Stop) (writer' : WriterState) (flush : Result T WriteFault)
       → IsSent stop start.seat.chain frames writer writer' → (stop ≡ Whole → writer'.failed ≡ false)
       → Finishes writer' flush end → Flushes stop flush end.stop → end.delivered ≡ writer'.frames
       → WroteImages frames start end
@@ -241,6 +259,28 @@ module _ (start : ClientStart) (end : ClientOutcome) (shown : HeaderValue) (writ
       let both : true ≡ false = sym (ap (λ (w : WriterState). w.failed) a.1.cut.failed) ∙ writing is in absurd (cc) in
       wrote_part frames a.0 writer' flush a.1 fin
       (λ other is. a.2 other (sym (stop_stays stop flush end.stop flushes broken) ∙ is)) delivered
+
+  -- one that has failed
+  failed_told : {T : Type 0} (stop : Stop) (frames : List FrameText) (writer' : WriterState) (flush : Result T WriteFault)
+      → IsSent stop start.seat.chain frames writer writer' → Finishes writer' flush end → writer'.failed ≡ true
+      → end.failures ≡ one_more start.failures
+  failed_told stop frames writer' flush (inl a) fin failed =
+      let both : true ≡ false = sym failed ∙ a.0.writing in absurd (cc)
+  failed_told stop frames writer' flush (inr a) fin failed =
+      let this : Finishes writer' (Err Failed) end = subst (λ r. Finishes writer' r end) (fin.failed.1 failed) fin in
+      this.told ∙ ap (λ (w : WriterState). w.failures) a.1.cut.failed ∙ ap one_more (a.1.whole.no_failure ∙ opened.no_failure)
+
+  -- each image was delivered or is kept, or a write failed, or an answer was told Torn
+  kept_told : {T : Type 0} (stop : Stop) (frames : List FrameText) (seat' : StreamSeatValue) (writer' : WriterState)
+      (flush : Result T WriteFault) → IsSent stop start.seat.chain frames writer writer' → Finishes writer' flush end
+      → end.delivered ≡ writer'.frames → length frames ≡ end.accepted
+      → IsSpoilt writer' seat' ⊎ (writer'.frames + length seat'.kept ≡ writer.frames + length frames)
+      → (end.failures ≡ one_more start.failures) ⊎ IsSome seat'.torn ⊎ (end.delivered + length seat'.kept ≡ end.accepted)
+  kept_told stop frames seat' writer' flush sent fin delivered count (inl (inl failed)) =
+      inl (failed_told stop frames writer' flush sent fin failed)
+  kept_told stop frames seat' writer' flush sent fin delivered count (inl (inr torn)) = inr (inl torn)
+  kept_told stop frames seat' writer' flush sent fin delivered count (inr all) =
+      inr (inr (omega (arith, all, delivered, count, opened.frames)))
 
   -- the writer is for the images
   pub opened_for : IsWriterFor start.seat.chain writer
@@ -288,6 +328,7 @@ module _ (start : ClientStart) (end : ClientOutcome) (shown : HeaderValue) (writ
               no_failure = this.told ∙ unfailed stop s.frames writer' s.sent all.1;
               flushed = this.flushed;
             };
+        kept = kept_told stop s.frames seat' writer' flush s.sent fin delivered (omega (arith, counted, fresh.accepted)) s.kept;
         drained = λ is. (s.whole (whole_flush stop flush end.stop flushes is).0).2;
         number = tally.number;
         spec = tally.spec;
@@ -333,9 +374,9 @@ module _ (start : ClientStart) (end : ClientOutcome) where
   pub Ends-unopened : (StopsAt : Stop → ClientProgress → Type 0) (past : List Act) (seat seat' : StreamSeatValue)
       (reader : ReaderState) (contents : Option (List ℕ)) (failures : ℕ)
       → IsUnbegun start past seat reader contents failures → TalliesSeat seat seat'
-      → seat'.accepted ≡ seat.accepted → end.accepted ≡ 0 → end.read_failures ≡ start.reader.failures
+      → seat'.accepted ≡ seat.accepted → seat'.kept ≡ seat.kept → end.accepted ≡ 0 → end.read_failures ≡ start.reader.failures
       → WroteNothing start end ⊎ CutsHeader start end → Ends StopsAt start past seat' end
-  Ends-unopened StopsAt past seat seat' reader contents failures unbegun tally same accepted reads out = record {
+  Ends-unopened StopsAt past seat seat' reader contents failures unbegun tally same same_kept accepted reads out = record {
     frames = [];
     rest = start.reader.rest;
     each = All-nil (IsFrameOf (data_len_of start.reader.header));
@@ -345,6 +386,7 @@ module _ (start : ClientStart) (end : ClientOutcome) where
     reads = reads ∙ reads_unopened start.reader.failures out;
     out = before_or _ out;
     whole = λ is. absurd (not_whole out is);
+    kept = inr (inr (omega (arith, delivered_none out, accepted, ap length same_kept, ap length unbegun.fresh.kept)));
     drained = λ is. absurd (not_whole out is);
     number = tally.number ∙ unbegun.stays.number;
     spec = tally.spec ∙ unbegun.stays.spec;

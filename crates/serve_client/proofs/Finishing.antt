@@ -152,3 +152,8 @@ pub ended_well : (pair : Collected) (before writer : WriterState) (whole : Bool)
     → PutsMore before writer (frame_text_of pair.image) (answer whole) → EndsPair pair Whole before writer
 ended_well pair before writer true decided put = inl (refl, put)
 ended_well pair before writer false decided put = absurd (decided refl)
+
+pub counted_well : (pair : Collected) (old new : WriterState) (whole : Bool) → answer whole ≢ answer false
+    → CountsMore old new (frame_text_of pair.image) (answer whole) → new.frames ≡ old.frames + 1
+counted_well pair old new true decided counted = ap (λ (w : WriterState). w.frames) counted
+counted_well pair old new false decided counted = absurd (decided refl)

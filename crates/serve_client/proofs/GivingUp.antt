@@ -1,5 +1,5 @@
 -- What a client comes to that is given up.
-use Rattle.std.proofs.Common.{◌≡◌, ◌≤◌, List, [], ◌++◌, length, Option, IfNone, None, Some, refl, ap}
+use Rattle.std.proofs.Common.{◌≡◌, ◌⊎◌, ◌≤◌, List, [], ◌++◌, length, Option, None, Some, refl, ap}
 use Rattle.std.proofs.Common.{◌∙◌, ◌+◌, append-nil, arith, subst, inl, inr}
 use Rattle.filters.specs.Chain.{ChainValue}
 use Rattle.y4m_header.specs.StreamText.{FrameText}
@@ -13,7 +13,8 @@ use Rattle.serve_hub.specs.Seats.{CallsValue, StreamSeatValue}
 use Rattle.serve_client.specs.declared.stop.Cause.TheVariants.{NoMemory}
 use Rattle.serve_client.specs.declared.stop.Stop.{Stop}
 use Rattle.serve_client.specs.declared.stop.Stop.TheVariants.{Whole, Read, Write, Refused, Torn}
-use Rattle.serve_client.specs.Clients.{IsUnclosed, StreamStopsAt}
+use Rattle.serve_client.specs.Clients.{ClientOutcome, ClientProgress, ClientStart, ClientStopsAt, CutsHeader, IsUnclosed, StreamStopsAt}
+use Rattle.serve_client.specs.Clients.{WroteNothing}
 use Rattle.serve_client.specs.ClientInside.{Feeds, HasInHand, IsUseful, ShowsClose}
 use Rattle.serve_client.specs.ClientInside.{Moves, StopsReading, StopsReadingAt}
 use Rattle.serve_client.specs.ClientInside.{IsFirst}
@@ -22,12 +23,14 @@ use Rattle.serve_client.specs.Hands.{EndsImage, EndsPair, IsBegunPair, counted_w
 use Rattle.serve_client.specs.Rests.{CourseValue, Feeding, Draining, Discarding}
 use Rattle.serve_client.specs.Rests.{Holding, IsAt, IsOutset, IsTallied, Outset}
 use Rattle.serve_client.specs.Rests.{Spoils, as_open, course_image, stop_kept}
+use Rattle.serve_client.specs.Streams.{IsOver, Over, ServedValue}
 use Rattle.serve_client.proofs.Allowing.{first_kept, given_for_fault, given_for_none}
 use Rattle.serve_client.proofs.Hands.{GivesUp-kept, TalliesSeat-kept}
 use Rattle.serve_client.proofs.Tallying.{if_more}
 use Rattle.serve_client.proofs.Moving.{Cuts-finish, Moves-finish, Moves-trans}
 use Rattle.serve_client.proofs.Passing.{takes_of}
 use Rattle.serve_client.proofs.Spoiling.{held_told, held_up, read_in_hand, spoilt_behind}
+use Rattle.serve_client.proofs.Keeping.{all_kept}
 use Rattle.serve_client.proofs.Stopping.{Serves-drained, first_fault, moves_until, of_no_use, read_by, sends_whole}
 
 -- what is tallied where an image in hand was written to its end
@@ -75,6 +78,7 @@ serves_more past stop o reader seat writer a = record {
   count = a.count;
   sent = a.sent;
   torn = a.torn;
+  kept = a.kept;
   whole = a.whole;
 }
 
@@ -84,15 +88,17 @@ serves_more past stop o reader seat writer a = record {
 module _ (past : List Act) (o : Outset) (is : IsOutset o) (reader : ReaderState) where
   fed_up : (in_hand : Option FrameText) (mid seat : StreamSeatValue) (between writer : WriterState) → IsReadAhead reader.rest reader.left
       → IsUnclosed (past ++ seat.calls.list) → (at : HasInHand o.reader reader o.seat mid o.writer between in_hand)
-      → seat.accepted ≡ mid.accepted → IsSent (Refused NoMemory) o.seat.chain at.frames o.writer writer
+      → seat.accepted ≡ mid.accepted → Moves o.seat seat o.writer writer at.frames
+      → IsSent (Refused NoMemory) o.seat.chain at.frames o.writer writer
       → ServesTo StreamStopsAt past (Refused NoMemory) o.reader reader o.seat seat o.writer writer
-  fed_up in_hand mid seat between writer ahead unclosed at same sent = record {
+  fed_up in_hand mid seat between writer ahead unclosed at same moved sent = record {
     frames = at.frames;
     read = read_in_hand in_hand past o.reader at.before reader o.seat seat at.frames
         (takes_of o.reader at.before o.seat mid o.writer between at.frames at.passed) at.holds ahead unclosed;
     count = same ∙ at.passed.moved.count;
     sent = sent;
     torn = λ is. absurd (cc);
+    kept = inr (all_kept o.seat seat o.writer writer at.frames is.fresh.kept moved);
     whole = λ is. absurd (cc);
   }
 
@@ -143,10 +149,10 @@ module _ (past : List Act) (o : Outset) (is : IsOutset o) (reader : ReaderState)
 
   drained_up : (stop : Stop) (mid seat : StreamSeatValue) (writer : WriterState) (frames : List FrameText) → IsUseful stop
       → seat.calls ≡ mid.calls → StopsReading past stop o.reader reader o.seat mid frames
-      → seat.accepted ≡ o.seat.accepted + length frames
+      → seat.accepted ≡ o.seat.accepted + length frames → Moves o.seat (as_open seat) o.writer writer frames
       → IsSent (told_for stop) o.seat.chain frames o.writer writer
       → ServesTo StreamStopsAt past (told_for stop) o.reader reader o.seat seat o.writer writer
-  drained_up stop mid seat writer frames useful same a count sent =
+  drained_up stop mid seat writer frames useful same a count moved sent =
       let read = read_by past past stop o.reader reader o.seat mid seat frames (ap (λ (c : CallsValue). past ++ c.list) same) a in
       record {
         frames = frames;
@@ -154,6 +160,7 @@ module _ (past : List Act) (o : Outset) (is : IsOutset o) (reader : ReaderState)
         count = count;
         sent = sent;
         torn = λ is. absurd (not_torn stop useful is);
+        kept = inr (all_kept o.seat (as_open seat) o.writer writer frames is.fresh.kept moved);
         whole = λ is. absurd (not_told stop useful is);
       }
 
@@ -164,16 +171,20 @@ module _ (past : List Act) (o : Outset) (is : IsOutset o) (reader : ReaderState)
   no_write (Write fault) useful f same = useful
   no_write Torn useful f same = useful
 
-  -- what went out, where the image in hand was written to its end
-  sent_pair : (stop : Stop) (pair : Collected) (seat : StreamSeatValue) (before writer writer' : WriterState) (frames : List FrameText)
-      → ((f : WriteFault) → stop ≡ Write f → ⊥) → IsBegunPair seat.chain pair before writer
-      → Moves o.seat (with_kept pair seat) o.writer before frames → PutsFrame before writer' (frame_text_of pair.image)
-      → IsSent stop o.seat.chain frames o.writer writer'
-  sent_pair stop pair seat before writer writer' frames other begun moved put =
-      let all : Moves o.seat seat o.writer writer' frames = rw (append-nil frames) at
+  -- what moved, where the image in hand was written to its end
+  moved_pair : (pair : Collected) (seat : StreamSeatValue) (before writer writer' : WriterState) (frames : List FrameText)
+      → IsBegunPair seat.chain pair before writer → Moves o.seat (with_kept pair seat) o.writer before frames
+      → PutsFrame before writer' (frame_text_of pair.image) → Moves o.seat seat o.writer writer' frames
+  moved_pair pair seat before writer writer' frames begun moved put = rw (append-nil frames) at
       (Moves-trans o.seat (with_kept pair seat) seat o.writer before writer' frames [] moved
-      (Moves-finish pair seat before writer writer' begun put)) in
-      inl (sends_whole o.seat o.writer frames is.fresh.kept is.writing seat writer' all, other)
+      (Moves-finish pair seat before writer writer' begun put))
+
+  -- all that moved went out
+  sent_moved : (stop : Stop) (seat : StreamSeatValue) (writer' : WriterState) (frames : List FrameText)
+      → ((f : WriteFault) → stop ≡ Write f → ⊥) → Moves o.seat seat o.writer writer' frames
+      → IsSent stop o.seat.chain frames o.writer writer'
+  sent_moved stop seat writer' frames other moved =
+      inl (sends_whole o.seat o.writer frames is.fresh.kept is.writing seat writer' moved, other)
 
   -- a fault is held, with a frame in hand if there is one
   held_given : (in_hand : Option FrameText) (held : Stop) (seat : StreamSeatValue) (writer : WriterState)
@@ -212,13 +223,14 @@ module _ (past : List Act) (o : Outset) (is : IsOutset o) (reader : ReaderState)
       → IsFirst first (Refused NoMemory) told → ServesTo StreamStopsAt past told o.reader reader o.seat seat o.writer writer'
   given_up (Feeding in_hand None) seat writer writer' ended first told ahead shown at e now behind =
       rw (e.1, given_for_none ended first told behind e.0 now) (fed_up in_hand seat seat writer writer ahead
-      (shown (at.passed.moved.seat_stays.is_closed ∙ is.fresh.is_open)) at refl
-      (inl (sends_whole o.seat o.writer at.frames is.fresh.kept is.writing seat writer at.passed.moved, λ f is. absurd (cc))))
+      (shown (at.passed.moved.seat_stays.is_closed ∙ is.fresh.is_open)) at refl at.passed.moved
+      (sent_moved (Refused NoMemory) seat writer at.frames (λ f is. absurd (cc)) at.passed.moved))
   given_up (Feeding in_hand (Some pair)) seat writer writer' ended first told ahead shown at e now behind = elim (e at.0 at.1) [
-    | inl well ↦ rw (given_for_none ended first told behind well.0 now)
+    | inl well ↦
+        let moved = moved_pair pair seat at.0 writer writer' at.2.frames at.1 at.2.passed.moved well.1 in
+        rw (given_for_none ended first told behind well.0 now)
         (fed_up in_hand (with_kept pair seat) seat at.0 writer' ahead (shown (at.2.passed.moved.seat_stays.is_closed ∙ is.fresh.is_open))
-        at.2 refl
-        (sent_pair (Refused NoMemory) pair seat at.0 writer writer' at.2.frames (λ f is. absurd (cc)) at.1 at.2.passed.moved well.1))
+        at.2 refl moved (sent_moved (Refused NoMemory) seat writer' at.2.frames (λ f is. absurd (cc)) moved))
     | inr cut ↦ rw (given_for_fault ended first told behind (Write cut.0) (λ is. cc) (now ∙ cut.1))
         (fed_fault in_hand pair seat at.0 writer writer' cut.0 ahead shown at.1 at.2 cut.2)
   ]
@@ -230,16 +242,18 @@ module _ (past : List Act) (o : Outset) (is : IsOutset o) (reader : ReaderState)
       let a = at.1 in
       let moved = moves_until stop o.seat (as_open seat) o.writer writer a.frames at.0 a.moved in
       rw (e.1, same_told stop first told (first_well stop ended first e.0 now) behind)
-      (drained_up stop (as_open seat) seat writer a.frames at.0 refl a.read a.count
-      (inl (sends_whole o.seat o.writer a.frames is.fresh.kept is.writing (as_open seat) writer moved, no_write stop at.0)))
+      (drained_up stop (as_open seat) seat writer a.frames at.0 refl a.read a.count moved
+      (sent_moved (told_for stop) (as_open seat) writer a.frames (no_write stop at.0) moved))
   given_up (Draining stop (Some pair)) seat writer writer' ended first told ahead shown at e now behind =
       let a = at.1.2 in
       let kept = as_open (with_kept pair seat) in
       let moved = moves_until stop o.seat kept o.writer at.1.0 a.frames at.0 a.moved in
       elim (e at.1.0 at.1.1) [
-        | inl well ↦ rw (same_told stop first told (first_well stop ended first well.0 now) behind)
-            (drained_up stop kept seat writer' a.frames at.0 refl a.read a.count
-            (sent_pair (told_for stop) pair (as_open seat) at.1.0 writer writer' a.frames (no_write stop at.0) at.1.1 moved well.1))
+        | inl well ↦
+            let all = moved_pair pair (as_open seat) at.1.0 writer writer' a.frames at.1.1 moved well.1 in
+            rw (same_told stop first told (first_well stop ended first well.0 now) behind)
+            (drained_up stop kept seat writer' a.frames at.0 refl a.read a.count all
+            (sent_moved (told_for stop) (as_open seat) writer' a.frames (no_write stop at.0) all))
         | inr cut ↦
             let then : IsFirst stop (Write cut.0) first = subst (λ (s : Stop). IsFirst stop s first) cut.1 now in
             rw (given_for_fault ended first told behind first (first_fault stop (Write cut.0) first then (λ useful. useful)) refl)
@@ -247,9 +261,43 @@ module _ (past : List Act) (o : Outset) (is : IsOutset o) (reader : ReaderState)
       ]
   given_up (Discarding stop) seat writer writer' ended first told ahead shown at e now behind =
       rw (e.1, given_for_fault ended first told behind stop at.0 (first_kept stop ended first at.0 now))
-      (serves_more past stop o reader seat writer at.1)
+      (serves_more past stop o reader seat writer at.2)
 
--- where no image is in hand
-pub where_none : (P : Type 0) (image : Option Collected) → IfNone image P → image ≡ None → P
-where_none P None p is = p
-where_none P (Some pair) p is = absurd (cc)
+-- a client's end is told as that of its stream
+
+stops_so : (start : ClientStart) (end : ClientOutcome) (at : ClientProgress)
+    → WroteNothing start end ⊎ CutsHeader start end ⊎ ClientStopsAt end.stop at
+    → WroteNothing start end ⊎ CutsHeader start end ⊎ StreamStopsAt end.stop at
+stops_so start end at (inl a) = inl a
+stops_so start end at (inr (inl a)) = inr (inl a)
+stops_so start end at (inr (inr a)) = inr (inr (inl a))
+
+pub over_told : (served : ServedValue) → IsOver (Over served.outcome) served
+over_told served = record {
+  ends = λ start past seat done.
+      let a = done.0 in
+      record {
+        frames = a.frames;
+        rest = a.rest;
+        each = a.each;
+        taken = a.taken;
+        count = a.count;
+        stops = stops_so start served.outcome _ a.stops;
+        reads = a.reads;
+        out = a.out;
+        whole = a.whole;
+        kept = a.kept;
+        drained = a.drained;
+        number = a.number;
+        spec = a.spec;
+        accepted = a.accepted;
+        offers = a.offers;
+        collections = a.collections;
+        before = a.before;
+        torn = a.torn;
+        told = a.told;
+      };
+  stop = λ is. is;
+  kept = ((λ fault. refl), refl);
+  own = λ over start past seat done. done;
+}

@@ -5,6 +5,7 @@ pub mod Finishing
 pub mod Fronts
 pub mod GivingUp
 pub mod Hands
+pub mod Keeping
 pub mod Moving
 pub mod Offering
 pub mod OfferingOn

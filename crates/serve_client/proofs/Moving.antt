@@ -249,6 +249,19 @@ Accounted-later seat seat' writer writer' xs a p = record {
   none = ap (λ (w : WriterState). w.part) a.writer_stays ∙ p.none;
 }
 
+-- what was kept or accepted went out, or is kept
+pub moved_kept : (seat seat' : StreamSeatValue) (writer writer' : WriterState) (xs : List FrameText) → Moves seat seat' writer writer' xs
+    → writer'.frames + length seat'.kept ≡ writer.frames + length seat.kept + length xs
+moved_kept seat seat' writer writer' xs a = omega (
+  arith,
+  a.frames,
+  ap length a.order,
+  length-append (texts_of seat.kept) xs,
+  length-append a.sent (texts_of seat'.kept),
+  length-map seat.kept text_of_value,
+  length-map seat'.kept text_of_value,
+)
+
 -- there are no more frames than a writer may put
 pub few_of : (seat : StreamSeatValue) (writer : WriterState) → Accounted seat writer → writer.frames + length seat.kept ≤ MOST_FRAMES
 few_of seat writer p = omega (arith, p.balanced, p.within, p.most)

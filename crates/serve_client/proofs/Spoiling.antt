@@ -18,11 +18,12 @@ use Rattle.serve_client.specs.Clients.{ClientProgress, ClientStopsAt, GivesUpAt,
 use Rattle.serve_client.specs.Clients.{reads_at}
 use Rattle.serve_client.specs.ClientInside.{Breaks, Feeds, GivesUp, HasInHand, Holds, IsFirst, IsNoWrite, IsOfCollection, IsUseful}
 use Rattle.serve_client.specs.ClientInside.{StopsReading, StopsReadingAt, StopsWith, Takes}
-use Rattle.serve_client.specs.Sends.{IsSent, SendsWhole, Serves, ServesTo}
+use Rattle.serve_client.specs.Sends.{IsSent, IsSpoilt, SendsWhole, Serves, ServesTo}
 use Rattle.serve_client.specs.Rests.{IsOutset, Outset, Spoils}
 use Rattle.serve_client.proofs.Staying.{stays_frames}
 use Rattle.serve_client.proofs.Moving.{StopsWith-later}
 use Rattle.serve_client.proofs.Passing.{Takes-behind, read_behind, takes_of}
+use Rattle.serve_client.proofs.Keeping.{spoilt_stays}
 use Rattle.serve_client.proofs.Stopping.{first_fault, read_until, sent_until, stopped_torn}
 
 -- what went out of some frames, where another stop is told that isn't another write fault
@@ -156,8 +157,31 @@ spoilt_from stop o reader' seat' writer' is b =
     spoilt_behind stop o None reader' b.mid seat' b.between writer' is
     (record { before = reader'; frames = b.frames; passed = b.passed; holds = refl; is_open = b.is_open }) b.moved b.stays b.spoilt
 
+-- nothing more is written behind a stop of no use
+sent_spoilt : (held : Stop) (chain : ChainValue) (frames : List FrameText) (writer writer' : WriterState) (seat : StreamSeatValue)
+    → (IsUseful held → ⊥) → (held ≡ Torn → IsSome seat.torn) → IsSent held chain frames writer writer' → IsSpoilt writer' seat
+sent_spoilt Whole chain frames writer writer' seat spoilt torn a = absurd (spoilt tt)
+sent_spoilt (Read fault) chain frames writer writer' seat spoilt torn a = absurd (spoilt tt)
+sent_spoilt (Refused cause) chain frames writer writer' seat spoilt torn a = absurd (spoilt tt)
+sent_spoilt (Write fault) chain frames writer writer' seat spoilt torn (inl a) = absurd (a.1 fault refl)
+sent_spoilt (Write fault) chain frames writer writer' seat spoilt torn (inr a) = inl (ap (λ (w : WriterState). w.failed) a.1.cut.failed)
+sent_spoilt Torn chain frames writer writer' seat spoilt torn a = inr (torn refl)
+
+-- nor while frames are offered
+pub spoilt_offered : (stop : Stop) (seat seat' : StreamSeatValue) (writer : WriterState) (frames : List FrameText) → IsNoWrite stop
+    → StopsWith stop seat seat' writer writer frames → IsSpoilt writer seat → IsSpoilt writer seat'
+spoilt_offered Whole seat seat' writer frames own a spoilt = spoilt_stays seat seat' writer a.seat_stays.torn spoilt
+spoilt_offered (Read fault) seat seat' writer frames own a spoilt = spoilt_stays seat seat' writer a.seat_stays.torn spoilt
+spoilt_offered (Refused cause) seat seat' writer frames own a spoilt = spoilt_stays seat seat' writer a.seat_stays.torn spoilt
+spoilt_offered (Write fault) seat seat' writer frames own a spoilt = absurd own
+spoilt_offered Torn seat seat' writer frames own a spoilt = inr a.2
+
 -- where a fault is held
 module _ (held : Stop) (o : Outset) (reader : ReaderState) (seat : StreamSeatValue) (writer : WriterState) where
+  -- nothing more is written
+  pub held_spoilt : (in_hand : Option FrameText) → Spoils held o reader seat writer in_hand → IsSpoilt writer seat
+  held_spoilt in_hand a = sent_spoilt held o.seat.chain a.frames o.writer writer seat a.spoilt a.torn a.sent
+
   -- more frames are offered
   pub spoilt_on : (in_hand next : Option FrameText) (a : Spoils held o reader seat writer in_hand) (reader' : ReaderState)
       (seat' : StreamSeatValue) → HasInHand a.before reader' seat seat' writer writer next → Spoils held o reader' seat' writer next
@@ -191,6 +215,7 @@ module _ (held : Stop) (o : Outset) (reader : ReaderState) (seat : StreamSeatVal
     count = a.count;
     sent = a.sent;
     torn = a.torn;
+    kept = inl (held_spoilt None a);
     whole = λ is. absurd (a.spoilt (subst IsUseful (sym is) tt));
   }
 
@@ -209,6 +234,7 @@ module _ (held : Stop) (o : Outset) (reader : ReaderState) (seat : StreamSeatVal
     count = a.count;
     sent = a.sent;
     torn = a.torn;
+    kept = inl (held_spoilt (Some frame) a);
     whole = λ is. absurd (a.spoilt (subst IsUseful (sym is) tt));
   }
 
@@ -229,6 +255,7 @@ module _ (held : Stop) (o : Outset) (reader : ReaderState) (seat : StreamSeatVal
       let count : seat'.accepted ≡ o.seat.accepted + length frames = omega (arith, a.count, b.count, length-append a.frames b.frames) in
       let sent = sent_more o.seat.chain a.frames b.frames o.writer writer held a.sent in
       let not : told ≢ Whole = first_fault stop held told first a.spoilt in
+      let spoilt : IsSpoilt writer seat' = spoilt_offered stop seat seat' writer b.frames own b.moved (held_spoilt in_hand a) in
       elim (told_behind stop told own first) [
         | inl e ↦ record {
           frames = frames;
@@ -240,6 +267,7 @@ module _ (held : Stop) (o : Outset) (reader : ReaderState) (seat : StreamSeatVal
           torn = λ is.
               let moved = subst (λ (s : Stop). StopsWith s seat seat' writer writer b.frames) e.0 b.moved in
               subst IsSome (sym moved.seat_stays.torn) (a.torn (sym e.1 ∙ is));
+          kept = inl spoilt;
           whole = λ is. absurd (not is);
         }
         | inr e ↦ record {
@@ -248,6 +276,7 @@ module _ (held : Stop) (o : Outset) (reader : ReaderState) (seat : StreamSeatVal
           count = count;
           sent = sent_told o.seat.chain frames o.writer writer held told (λ f is. absurd (subst IsNoWrite (sym e ∙ is) own)) sent;
           torn = λ is. stopped_torn stop seat seat' writer writer b.frames (sym e ∙ is) b.moved;
+          kept = inl spoilt;
           whole = λ is. absurd (not is);
         }
       ]

@@ -22,10 +22,11 @@ use Rattle.serve_client.specs.declared.stop.Stop.TheVariants.{Whole, Read, Write
 use Rattle.serve_client.specs.Clients.{ClientProgress, ClientStopsAt, HasOtherNumber, IsDrained}
 use Rattle.serve_client.specs.ClientInside.{Accounted, Cuts, Feeds, IsFirst, IsNoWrite, IsOfCollection, IsUseful}
 use Rattle.serve_client.specs.ClientInside.{KeepsMoments, MayClose, Moves, StopsReading, StopsWith, TalliesSeat, texts_of}
-use Rattle.serve_client.specs.Sends.{BreaksOff, IsSent, SendsWhole, Serves}
+use Rattle.serve_client.specs.Sends.{BreaksOff, IsSent, IsSpoilt, SendsWhole, Serves}
 use Rattle.serve_client.specs.Rests.{as_open}
 use Rattle.serve_client.specs.Hands.{Behind}
 use Rattle.serve_client.proofs.Hands.{Behind-map, stood_tally}
+use Rattle.serve_client.proofs.Keeping.{spoilt_later, stopped_kept, stopped_spoilt}
 use Rattle.serve_client.proofs.Tallying.{TalliesSeat-torn, TalliesSeat-trans, collections_both, none_accepted, offers_both, seat_same}
 use Rattle.serve_client.proofs.Tallying.{torn_still}
 use Rattle.serve_client.proofs.Moving.{Accounted-later, Moves-none, Moves-trans, StopsWith-later, few_of, size_later}
@@ -331,14 +332,15 @@ read_later past stop reader reader' seat mid seat' frames added calls a = record
 
 pub Serves-later : (past : List Act) (stop : Stop) (reader reader' : ReaderState) (seat mid seat' : StreamSeatValue)
     (writer writer' : WriterState)
-    → stop ≢ Whole → TalliesSeat mid seat' → seat'.accepted ≡ mid.accepted → Serves past stop reader reader' seat mid writer writer'
-    → Serves past stop reader reader' seat seat' writer writer'
-Serves-later past stop reader reader' seat mid seat' writer writer' fault tally same a = record {
+    → stop ≢ Whole → IsSpoilt writer' mid → TalliesSeat mid seat' → seat'.accepted ≡ mid.accepted
+    → Serves past stop reader reader' seat mid writer writer' → Serves past stop reader reader' seat seat' writer writer'
+Serves-later past stop reader reader' seat mid seat' writer writer' fault spoilt tally same a = record {
   frames = a.frames;
   read = read_later past stop reader reader' seat mid seat' a.frames tally.added tally.calls a.read;
   count = same ∙ a.count;
   sent = a.sent;
   torn = λ is. torn_still mid seat' tally (a.torn is);
+  kept = inl (spoilt_later mid seat' writer' tally spoilt);
   whole = λ is. absurd (fault is);
 }
 
@@ -401,6 +403,7 @@ module _ (past : List Act) (reader reader' : ReaderState) (seat : StreamSeatValu
     count = same ∙ a.count;
     sent = sent_until seat writer a.frames none well stop stop mid writer' (λ f is. is) a.moved;
     torn = λ is. torn_still mid seat' tally (stopped_torn stop seat mid writer writer' a.frames is a.moved);
+    kept = inl (spoilt_later mid seat' writer' tally (stopped_spoilt stop seat mid writer writer' a.frames spoilt a.moved));
     whole = λ is. absurd (spoilt (subst IsUseful (sym is) tt));
   }
 
@@ -417,6 +420,8 @@ module _ (past : List Act) (reader reader' : ReaderState) (seat : StreamSeatValu
       (StopsWith-open last closed drained between writer' [] b) in
       let all : StopsWith last seat (as_open drained) writer writer' a.frames =
       subst (λ (fs : List FrameText). StopsWith last seat (as_open drained) writer writer' fs) (append-nil a.frames) both in
+      let kept : IsSpoilt writer' drained ⊎ (writer'.frames + length drained.kept ≡ writer.frames + length a.frames) =
+      stopped_kept last seat (as_open drained) writer writer' a.frames none all in
       elim (first_told stop last told useful first) [
         | inl e ↦ record {
           frames = a.frames;
@@ -427,6 +432,7 @@ module _ (past : List Act) (reader reader' : ReaderState) (seat : StreamSeatValu
           count = same ∙ a.count;
           sent = sent_until seat writer a.frames none well told last (as_open drained) writer' (λ f is. sym e.1 ∙ is) all;
           torn = λ is. stopped_torn last closed drained between writer' [] (sym e.1 ∙ is) b;
+          kept = kept;
           whole = λ is.
               let stopped : last ≡ Whole = sym e.1 ∙ is in
               let sent = all_sent seat writer a.frames none well (as_open drained) writer' (left stopped).none
@@ -441,6 +447,7 @@ module _ (past : List Act) (reader reader' : ReaderState) (seat : StreamSeatValu
           sent = sent_until seat writer a.frames none well told last (as_open drained) writer'
               (λ f is. absurd (subst IsNoWrite (sym e.2 ∙ is) e.0)) all;
           torn = λ is. absurd (subst IsUseful (sym e.2 ∙ is) useful);
+          kept = kept;
           whole = λ is. absurd (e.1 (sym e.2 ∙ is));
         }
       ]

@@ -238,6 +238,10 @@ pub record Ends (StopsAt : Stop → ClientProgress → Type 0) (start : ClientSt
   pub reads : end.read_failures ≡ reads_at end.stop start.reader.failures
   pub out : WroteNothing start end ⊎ CutsHeader start end ⊎ WroteImages frames start end
   pub whole : end.stop ≡ Whole → IsWhole start end
+  -- no image is thrown away, unless a write failed or an answer was told Torn: each is delivered, or its seat
+  -- keeps it
+  pub kept : (end.failures ≡ one_more start.failures) ⊎ IsSome seat.torn
+      ⊎ (end.delivered + length seat.kept ≡ end.accepted)
   pub drained : end.stop ≡ Whole → IsDrained seat
   -- the seat, and its stream's calls
   pub number : seat.number ≡ start.seat.number
@@ -254,6 +258,10 @@ pub record Ends (StopsAt : Stop → ClientProgress → Type 0) (start : ClientSt
 -- what a client comes to
 abbrev pub ClientEnds : ClientStart → List Act → StreamSeatValue → ClientOutcome → Type 0
 ClientEnds = Ends ClientStopsAt
+
+-- and no image is left at its seat
+abbrev pub ClientIsDone : ClientStart → List Act → StreamSeatValue → ClientOutcome → Type 0
+ClientIsDone start past seat end = ClientEnds start past seat end × (seat.kept ≡ [])
 
 -- what a stream comes to, whose client may have been given up between epochs
 abbrev pub StreamEnds : ClientStart → List Act → StreamSeatValue → ClientOutcome → Type 0

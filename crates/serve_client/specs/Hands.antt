@@ -1,5 +1,5 @@
 -- An image in hand: one that was begun, where a client pauses.
-use Rattle.std.specs.Prelude.{◌≡◌, ◌+◌, ◌<◌, ◌⊎◌, ◌∷◌, ⊤, length, Option, Some, None, Result, Ok, Err}
+use Rattle.std.specs.Prelude.{ℕ, ◌≡◌, ◌+◌, ◌<◌, ◌⊎◌, ◌∷◌, ⊤, length, Option, Some, None, Result, Ok, Err}
 use Rattle.filters.specs.Chain.{ChainValue}
 use Rattle.y4m_header.specs.StreamText.{text_of}
 use Rattle.y4m_header.specs.declared.limits.TheConstants.{MOST_FRAMES}
@@ -71,3 +71,9 @@ abbrev pub EndsImage : Option Collected → ChainValue → Stop → WriterState 
 EndsImage None chain ended writer writer' = (ended ≡ Whole) × (writer' ≡ writer)
 EndsImage (Some pair) chain ended writer writer' =
     (before : WriterState) → IsBegunPair chain pair before writer → EndsPair pair ended before writer'
+
+-- how many images went out before, and how many then
+abbrev pub CountsImage : Option Collected → Stop → (old new : ℕ) → Type 0
+CountsImage None ended old new = (ended ≡ Whole) × (new ≡ old)
+CountsImage (Some pair) ended old new =
+    (ended ≡ Whole) × (new ≡ old + 1) ⊎ ((fault : WriteFault) × (ended ≡ Write fault) × (new ≡ old))

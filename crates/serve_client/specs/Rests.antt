@@ -26,7 +26,7 @@ use Rattle.serve_client.specs.Clients.{ClientStart, collections_in}
 use Rattle.serve_client.specs.Hands.{Behind, CanPutOn, IsBegunPair, IsPairOf, counted_with, with_kept}
 use Rattle.serve_client.specs.ClientInside.{Accounted, AreBuffersFor, Feeds, HasInHand, Holds, IsCounted}
 use Rattle.serve_client.specs.ClientInside.{IsSized, IsUseful, ShowsClose, Stays, Takes, text_in}
-use Rattle.serve_client.specs.Sends.{IsSent, Serves}
+use Rattle.serve_client.specs.Sends.{IsSent, IsSpoilt, Serves}
 
 -- what a client does next
 pub data CourseValue : Type 0 where
@@ -160,18 +160,18 @@ IsAt (Draining stop image) past o reader seat writer =
     IsUseful stop × Behind image seat writer (λ s w.
     Feeds past stop o.reader reader o.seat (as_open s) o.writer w)
 IsAt (Discarding stop) past o reader seat writer =
-    (stop ≢ Whole) × Serves past stop o.reader reader o.seat seat o.writer writer
+    (stop ≢ Whole) × IsSpoilt writer seat × Serves past stop o.reader reader o.seat seat o.writer writer
 
 abbrev pub IsBefore : Option code.Course → List Act → Outset → ReaderState → StreamSeatValue → WriterState
     → Type 0
 IsBefore None past o reader seat writer = HasInHand o.reader reader o.seat seat o.writer writer None
 IsBefore (Some course) past o reader seat writer = IsAt (course_of course) past o reader seat writer
 
--- the client paused, or it is done
+-- the client paused, or it is done, and no image is left at its seat
 abbrev pub Comes : Step → List Act → Outset → ReaderState → StreamSeatValue → WriterState → Type 0
 Comes (steps.Paused course) past o reader seat writer = IsAt (course_of course) past o reader seat writer
 Comes (steps.Done stop) past o reader seat writer =
-    Serves past stop o.reader reader o.seat seat o.writer writer
+    Serves past stop o.reader reader o.seat seat o.writer writer × (seat.kept ≡ [])
 
 -- none of the stream's frames was accepted yet, and it is open
 pub record IsFresh (seat : StreamSeatValue) : Type 0 where

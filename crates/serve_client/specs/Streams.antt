@@ -4,8 +4,8 @@ use Rattle.serve_core.specs.declared.collected.Collected.{Collected}
 use Rattle.serve_hub.specs.declared.entry.Act.{Act}
 use Rattle.serve_hub.specs.Seats.{StreamSeatValue}
 use Rattle.serve_client.specs.declared.stop.Stop.{Stop}
-use Rattle.serve_client.specs.Clients.{ClientOutcome, ClientEnds, ClientStart, StreamEnds}
-use Rattle.serve_client.specs.Rests.{RestValue, rest_image, rest_stop, IsRestOf}
+use Rattle.serve_client.specs.Clients.{ClientIsDone, ClientOutcome, ClientStart, StreamEnds}
+use Rattle.serve_client.specs.Rests.{RestValue, delivered_in, rest_image, rest_stop, IsRestOf}
 use Rattle.serve_client.specs.ClientInside.{IsNoNewEnd}
 use Rattle.serve_client.specs.Sends.{TellsKept}
 
@@ -29,22 +29,28 @@ abbrev pub stream_image : StreamValue → Option Collected
 stream_image (Waiting rest) = rest_image rest
 stream_image (Over outcome) = None
 
+-- how many of its images went out
+abbrev pub stream_delivered : StreamValue → ℕ
+stream_delivered (Waiting rest) = delivered_in rest
+stream_delivered (Over outcome) = outcome.delivered
+
 -- the stream began so, and its seats of the epochs before made these calls
 abbrev pub StandsAt : StreamValue → ClientStart → List Act → StreamSeatValue → Type 0
 StandsAt (Waiting rest) start past seat = IsRestOf start past seat rest
-StandsAt (Over outcome) start past seat = ClientEnds start past seat outcome
+StandsAt (Over outcome) start past seat = ClientIsDone start past seat outcome
 
 -- what is told of a stream: what its client came to, and how many units it was charged
 pub record ServedValue : Type 0 where
   pub outcome : ClientOutcome
   pub charged : ℕ
 
--- what is told of a stream is its end, from whatever it began with; the clock's end only where it was kept,
--- and a fault that was kept. Where nothing is left to do of it, it is its client's end
+-- what is told of a stream is its end, from whatever it began with; the clock's end only where it was kept;
+-- a fault that was kept, or that of the image in hand, and else want of memory. Where nothing is left to do of it, it is its client's end
 pub record IsOver (stream : StreamValue) (served : ServedValue) : Type 0 where
   pub ends : (start : ClientStart) (past : List Act) (seat : StreamSeatValue)
       → StandsAt stream start past seat → StreamEnds start past seat served.outcome
   pub stop : IsNoNewEnd (stream_stop stream) (Some served.outcome.stop)
-  pub kept : TellsKept (stream_stop stream) (stream_image stream) served.outcome.stop
+  pub kept : TellsKept (stream_image stream) (stream_stop stream) (stream_delivered stream) served.outcome.stop
+      served.outcome.delivered
   pub own : IsFalse (is_waiting stream) → (start : ClientStart) (past : List Act) (seat : StreamSeatValue)
-      → StandsAt stream start past seat → ClientEnds start past seat served.outcome
+      → StandsAt stream start past seat → ClientIsDone start past seat served.outcome

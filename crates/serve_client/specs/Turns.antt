@@ -7,7 +7,7 @@ use Rattle.serve_hub.specs.Seats.{StreamSeatValue}
 use Rattle.serve_client.specs.declared.clients.ClientTurn.{ClientTurn}
 use Rattle.serve_client.specs.declared.clients.ClientTurn.TheVariants as turns
 use Rattle.serve_client.specs.declared.stop.Stop.{Stop}
-use Rattle.serve_client.specs.Clients.{ClientEnds, ClientOutcome, ClientStart}
+use Rattle.serve_client.specs.Clients.{ClientIsDone, ClientOutcome, ClientStart}
 use Rattle.serve_client.specs.Rests.{IsRestOf, rest_stop}
 
 -- what a client comes to that read no frame and wrote no image
@@ -34,9 +34,10 @@ abbrev pub turn_stop : {L R W : Type 0} → ClientTurn L R W → Option Stop
 turn_stop (turns.Ended end) = Some end.outcome.stop
 turn_stop (turns.Paused seat rest told) = rest_stop rest
 
--- what a client comes to in an epoch, from this beginning of its stream: its end, or what is left to do
+-- what a client comes to in an epoch, from this beginning of its stream: its end, where no image is left at
+-- its seat, or what is left to do
 abbrev pub Turns : {L R W : Type 0} → ClientStart → List Act → ClientTurn L R W → Type 0
-Turns start past (turns.Ended end) = ClientEnds start past end.seat end.outcome
+Turns start past (turns.Ended end) = ClientIsDone start past end.seat end.outcome
 Turns start past (turns.Paused seat rest told) = IsRestOf start past seat rest
 
 -- where it paused, its hub had told that the epoch was being ended, or that the journal had no place for another

@@ -1,9 +1,8 @@
 //! A client whose header line was written, where the journal is full.
 ghost use Rattle.filters.specs.Chain.{ChainValue};
-ghost use Rattle.std.specs.Prelude.{◌≡◌, IfNone, IfSome, Some};
-ghost use Rattle.serve_client.specs.declared.stop.Stop.TheVariants as stops;
+ghost use Rattle.std.specs.Prelude.{◌≡◌, IfSome, Some};
 ghost use Rattle.serve_client.specs.Rests as rests;
-ghost use Rattle.serve_client.specs.Hands.{CanPutOn, EndsImage, IsOfEnding};
+ghost use Rattle.serve_client.specs.Hands.{CanPutOn, CountsImage, EndsImage, IsOfEnding};
 ghost use Rattle.serve_client.specs.Streams.{IsOver, Waiting};
 
 use crate::buffers::Buffers;
@@ -48,7 +47,7 @@ fn end_image<W: Sink>(writer: &mut StreamWriter<W>, image: Option<Collected>) ->
     requires { IfSome image (CanPutOn writer.old) }
     ensures ended { (chain : ChainValue) → EndsImage image chain result writer.old writer.new }
     ensures own { IsOfEnding result }
-    ensures none { IfNone image (result ≡ stops.Whole) }
+    ensures counts { CountsImage image result writer.old.frames writer.new.frames }
 {
     let Some(pair) = image else {
         return Stop::Whole;

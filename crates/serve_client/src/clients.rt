@@ -101,6 +101,7 @@ fn end_unopened<L: Epoch, R: Source + Drop, W: Sink, K, T: Wait>(
 ) -> ClientEnd<L, R, W>
     ensures tally { TalliesSeat seat result.seat }
     ensures accepted { result.seat.accepted ≡ seat.accepted }
+    ensures kept { result.seat.kept ≡ seat.kept }
     ensures outcome { result.outcome ≡ left_unread reader (W.contents writer) (W.failures writer)
         (W.is_flushed writer) stop }
 {

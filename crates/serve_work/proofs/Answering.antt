@@ -9,7 +9,7 @@ use Rattle.serve_core.specs.Streams.{KeptStream}
 use Rattle.serve_hub.specs.declared.entry.Act.{Act}
 use Rattle.serve_hub.specs.Ends.{EndedValue, IsCharged, IsStreamOf}
 use Rattle.serve_hub.specs.Seats.{StreamRest, StreamSeatValue, left_by}
-use Rattle.serve_client.specs.Clients.{AllowsStop, ClientEnds, ClientStart, StreamEnds}
+use Rattle.serve_client.specs.Clients.{AllowsStop, ClientIsDone, ClientStart, StreamEnds}
 use Rattle.serve_client.specs.Streams.{ServedValue, StandsAt, StreamValue, is_waiting}
 use Rattle.serve_work.specs.declared.live.guests.Guest.{Guest}
 use Rattle.serve_work.specs.History.{AreEpochsBy, EpochValue, IsHistory, Terms, given_up}
@@ -78,7 +78,7 @@ since_given_up terms times (epoch ∷ es) w served since = (
 
 told_so : (terms : Terms) (times : ℕ → Type 0) (es told : List EpochValue) (w : Waiting) (stream : StreamValue)
     (served : ServedValue) (since : IsServedSince terms times es w served)
-    → (IsFalse (is_waiting stream) → ClientEnds (start_with w.request since.seat) since.is_served.past since.is_served.seat served.outcome)
+    → (IsFalse (is_waiting stream) → ClientIsDone (start_with w.request since.seat) since.is_served.past since.is_served.seat served.outcome)
     → MayTell es told stream → (all : IsServedSince terms times told w served) × IsNotCut terms times told w served all
 told_so terms times es told w stream served since own (inl may) =
     subst (λ (these : List EpochValue). (all : IsServedSince terms times these w served) × IsNotCut terms times these w served all)
@@ -93,7 +93,7 @@ pub answered : (terms : Terms) (times : ℕ → Type 0) (es told : List EpochVal
     → ((start : ClientStart) (past : List Act) (last : StreamSeatValue) → StandsAt stream start past last
     → StreamEnds start past last served.outcome)
     → (IsFalse (is_waiting stream) → (start : ClientStart) (past : List Act) (last : StreamSeatValue)
-    → StandsAt stream start past last → ClientEnds start past last served.outcome)
+    → StandsAt stream start past last → ClientIsDone start past last served.outcome)
     → All IsCharged desk.streams → HasStream desk seat.number (IsStreamOf seat)
     → HasStream desk seat.number (λ kept. served.charged ≡ kept.state.charged)
     → AllowsStop times served.outcome.stop → MayTell es told stream

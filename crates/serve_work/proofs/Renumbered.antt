@@ -87,6 +87,7 @@ module _ (n : ℕ) where
     count = a.count;
     sent = a.sent;
     torn = a.torn;
+    kept = a.kept;
     whole = λ is.
         let all = a.whole is in
         (all.0, all.1, record { closed = all.2.closed; none = all.2.none });
@@ -132,7 +133,7 @@ module _ (n : ℕ) where
   IsAt-numbered (Draining stop (Some pair)) past first reader reader' writer writer' seat a =
       (a.0, (a.1.0, a.1.1, Feeds-numbered past stop reader reader' first (as_open (with_kept pair seat)) writer a.1.0 a.0 a.1.2))
   IsAt-numbered (Discarding stop) past first reader reader' writer writer' seat a =
-      (a.0, Serves-numbered past stop reader reader' first seat writer writer' a.1)
+      (a.0, a.1, Serves-numbered past stop reader reader' first seat writer writer' a.2)
 
   rest_numbered : (start : ClientStart) (past : List Act) (seat : StreamSeatValue) (rest : RestValue)
       → IsRestOf start past seat rest → IsRestOf (starting n start) past (numbered n seat) rest
@@ -246,6 +247,7 @@ module _ (n : ℕ) where
     whole = λ is.
         let all = a.whole is in
         record { all = all.all; no_failure = all.no_failure; flushed = all.flushed };
+    kept = a.kept;
     drained = λ is.
         let all = a.drained is in
         record { closed = all.closed; none = all.none };
@@ -262,7 +264,7 @@ module _ (n : ℕ) where
   pub stands_numbered : (start : ClientStart) (past : List Act) (seat : StreamSeatValue) (stream : StreamValue)
       → StandsAt stream start past seat → StandsAt stream (starting n start) past (numbered n seat)
   stands_numbered start past seat (Waiting rest) a = rest_numbered start past seat rest a
-  stands_numbered start past seat (Over outcome) a = end_numbered start past seat outcome a
+  stands_numbered start past seat (Over outcome) a = (end_numbered start past seat outcome a.0, a.1)
 
 -- what is picked twice is picked once
 

@@ -17,7 +17,7 @@ use Rattle.serve_hub.specs.declared.entry.Entry.{Entry}
 use Rattle.serve_hub.specs.Ends.{AreStreamsOf, IsCharged, IsStreamOf}
 use Rattle.serve_hub.specs.Seats.{StreamSeatValue, collected_by, opened_streams}
 use Rattle.serve_client.specs.declared.stop.Stop.TheVariants.{Whole}
-use Rattle.serve_client.specs.Clients.{ClientEnds, ClientOutcome, ClientStart, StreamEnds}
+use Rattle.serve_client.specs.Clients.{ClientIsDone, ClientOutcome, ClientStart, StreamEnds}
 use Rattle.serve_client.specs.Streams.{ServedValue}
 use Rattle.serve_client.specs.Clients.{ClientLeft}
 use Rattle.serve_client.proofs.Tallying.{collections_both, collections_counted}
@@ -126,7 +126,7 @@ module _ (waits : Bool) (journal : List Entry) (desk : ScheduleValue) (all : All
             most = cost.most;
             whole = cost.whole;
           };
-          own = λ none. subst (ClientEnds start p.0.0 left.seat) (sym outcome) (p.0.3 none);
+          own = λ none. subst (ClientIsDone start p.0.0 left.seat) (sym outcome) (p.0.3 none);
           calls = p.0.2;
           stream = subst (λ n. HasStream desk n (IsStreamTold s)) (sym from.0)
               (subst (λ o. IsSomeAnd o (IsStreamTold s)) (sym at.here) is_told);

@@ -49,14 +49,14 @@ pub seat_number : (start : ClientStart) (past : List Act) (seat : StreamSeatValu
     → seat.number ≡ start.seat.number
 seat_number start past seat (Waiting (Unbegun reader contents failures)) a = a.stays.number
 seat_number start past seat (Waiting (Begun begun)) a = a.tally.number
-seat_number start past seat (Over outcome) a = a.number
+seat_number start past seat (Over outcome) a = a.0.number
 
 -- and what it tells of its spec stays
 pub seat_spec : (start : ClientStart) (past : List Act) (seat : StreamSeatValue) (stream : StreamValue) → StandsAt stream start past seat
     → spec_told seat ≡ spec_told start.seat
 seat_spec start past seat (Waiting (Unbegun reader contents failures)) a = a.stays.spec
 seat_spec start past seat (Waiting (Begun begun)) a = a.tally.spec
-seat_spec start past seat (Over outcome) a = a.spec
+seat_spec start past seat (Over outcome) a = a.0.spec
 
 -- what a seat did by two journals, one behind the other
 

@@ -17,7 +17,7 @@ use Rattle.serve_hub.specs.declared.refusal.Refusal.TheVariants.{Core}
 use Rattle.serve_hub.specs.Calls.{AllowsAdmission}
 use Rattle.serve_hub.specs.Ends.{acts_of}
 use Rattle.serve_hub.specs.Seats.{StreamSeatValue, spec_told}
-use Rattle.serve_client.specs.Clients.{AllowsStop, ClientEnds, ClientStart, collections_in, offers_in}
+use Rattle.serve_client.specs.Clients.{AllowsStop, ClientIsDone, ClientStart, collections_in, offers_in}
 use Rattle.serve_client.specs.Rests.{IsRestOf, RestValue}
 use Rattle.serve_client.specs.Streams.{ServedValue}
 use Rattle.serve_work.specs.declared.request.Answer.{Answer}
@@ -212,12 +212,13 @@ pub record IsAdmitted (terms : Terms) (epochs : List EpochValue) (others : List 
   pub number : ℕ
   pub is_new : (OpensFor terms spec opening × (number ≡ 0) × (others ≡ [])) ⊎ (length opening.streams ≤ number)
 
--- the stream's client came to its own end, or all streams that were left were given up
+-- the stream's client came to its own end, and no image is left at its seat; or all streams that were left
+-- were given up
 abbrev pub IsNotCut : (terms : Terms) (times : ℕ → Type 0) (epochs : List EpochValue) (w : Waiting)
     (served : ServedValue) → IsServedSince terms times epochs w served → Type 0
 IsNotCut terms times epochs w served since =
     AreGivenUp epochs
-    ⊎ ClientEnds (start_with w.request since.seat) since.is_served.past since.is_served.seat served.outcome
+    ⊎ ClientIsDone (start_with w.request since.seat) since.is_served.past since.is_served.seat served.outcome
 
 -- what is told of a request, behind these epochs: that the stream isn't served, where none of them was told
 -- since it was given, and its reader and writer come back as they were; or what it came to, and that it wasn't

@@ -10,7 +10,7 @@ use Rattle.serve_hub.specs.declared.entry.Entry.{Entry}
 use Rattle.serve_hub.specs.Seats.{StreamSeatValue}
 use Rattle.serve_client.specs.Streams.{IsOver, Over, ServedValue, StandsAt, StreamValue, Waiting, is_waiting}
 use Rattle.serve_client.specs.Streams.{stream_stop}
-use Rattle.serve_client.specs.Clients.{AllowsStop, ClientEnds, ClientLeft, ClientOutcome, ClientStart}
+use Rattle.serve_client.specs.Clients.{AllowsStop, ClientIsDone, ClientLeft, ClientOutcome, ClientStart}
 use Rattle.serve_client.specs.Clients.{StreamEnds}
 use Rattle.serve_client.specs.ClientInside.{IsNoNewEnd, KeepsAllowed, KeepsMoments}
 use Rattle.serve_client.specs.Rests.{IsRest, Unbegun, reader_in}
@@ -114,7 +114,7 @@ abbrev pub Leaves : (waits : Bool) → List Entry → ClientStart → ClientLeft
 Leaves waits journal start left =
     (past : List Act) × StreamEnds start past left.seat left.outcome
     × (past ++ left.seat.calls.list ≡ acts_in journal start)
-    × (IsFalse waits → ClientEnds start past left.seat left.outcome)
+    × (IsFalse waits → ClientIsDone start past left.seat left.outcome)
 
 abbrev pub AllLeave : (waits : Bool) → List Entry → List ClientStart → List ClientLeft → Type 0
 AllLeave waits journal starts lefts = AllZip (Leaves waits journal) starts lefts

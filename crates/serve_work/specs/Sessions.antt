@@ -22,7 +22,7 @@ use Rattle.serve_hub.specs.Journal.{IsJournal, clock_in, transcript_of}
 use Rattle.serve_hub.specs.Seats.{StreamSeatValue}
 use Rattle.serve_client.specs.declared.stop.Stop.TheVariants.{Whole}
 use Rattle.serve_client.specs.Streams.{ServedValue}
-use Rattle.serve_client.specs.Clients.{AllowsStop, ClientEnds, ClientStart, IsAtMoment}
+use Rattle.serve_client.specs.Clients.{AllowsStop, ClientIsDone, ClientStart, IsAtMoment}
 use Rattle.serve_client.specs.Clients.{StreamEnds}
 use Rattle.serve_client.specs.Workers.{HaveSpent}
 
@@ -76,11 +76,11 @@ pub record IsStreamTold (served : ServedValue) (stream : KeptStream) : Type 0 wh
   pub charged : stream.state.charged ≡ served.charged
 
 -- a stream was served by the calls that it made in this journal, and is told as it stood at last. Where its
--- session wasn't cut it wasn't given up: its client came to its end
+-- session wasn't cut it wasn't given up: its client came to its end, and no image is left at its seat
 pub record IsServedBy (is_cut : Bool) (journal : List Entry) (last : ScheduleValue) (start : ClientStart)
     (served : ServedValue) : Type 0 where
   pub is_served : IsServed start served
-  pub own : IsFalse is_cut → ClientEnds start is_served.past is_served.seat served.outcome
+  pub own : IsFalse is_cut → ClientIsDone start is_served.past is_served.seat served.outcome
   pub calls : is_served.past ++ is_served.seat.calls.list ≡ acts_in journal start
   pub stream : HasStream last start.seat.number (IsStreamTold served)
 

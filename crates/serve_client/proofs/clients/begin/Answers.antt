@@ -17,8 +17,8 @@ pub returns-in_default-clause-turn : goal.returns-in_default-clause-turn
 returns-in_default-clause-turn g c = λ start past is.
     let u = c.end_unopened.ensures in
     let contents = g.W.Sink.contents c.args.writer in
-    subst (λ (o : ClientOutcome). ClientEnds start past c.end_unopened.result.seat o) (sym u.outcome)
-    (Ends-unopened start _ ClientStopsAt past c.args.seat _ _ _ _ is u.tally u.accepted refl
+    let ends = subst (λ (o : ClientOutcome). ClientEnds start past c.end_unopened.result.seat o) (sym u.outcome)
+    (Ends-unopened start _ ClientStopsAt past c.args.seat _ _ _ _ is u.tally u.accepted u.kept refl
     (ap (λ (r : ReaderState). r.failures) is.same_reader) (inl (record {
       stop = refl;
       unread = ap (λ (r : ReaderState). r.left) is.same_reader;
@@ -26,7 +26,8 @@ returns-in_default-clause-turn g c = λ start past is.
       none = refl;
       kept = subst (λ b. Keeps b contents) is.same_contents (Keeps-refl contents);
       no_failure = is.same_failures;
-    })))
+    }))) in
+    (ends, u.kept ∙ is.fresh.kept)
 
 pub returns-in-Err-clause-turn : goal.returns-in-Err-clause-turn
 returns-in-Err-clause-turn g c = λ start past is.
@@ -39,8 +40,8 @@ returns-in-Err-clause-turn g c = λ start past is.
     subst (λ (r : ReaderState). IsHeaderOfImages start.seat.chain r.header h) is.same_reader
     (subst (λ (chain : ChainValue). IsHeaderOfImages chain c.args.reader.header h) (stays_chain start.seat c.args.seat is.stays) own) in
     let contents = g.W.Sink.contents c.in-Err.writer in
-    subst (λ (o : ClientOutcome). ClientEnds start past c.end_unopened-in-Err.result.seat o) (sym u.outcome)
-    (Ends-unopened start _ ClientStopsAt past c.args.seat _ _ _ _ is u.tally u.accepted refl
+    let ends = subst (λ (o : ClientOutcome). ClientEnds start past c.end_unopened-in-Err.result.seat o) (sym u.outcome)
+    (Ends-unopened start _ ClientStopsAt past c.args.seat _ _ _ _ is u.tally u.accepted u.kept refl
     (ap (λ (r : ReaderState). r.failures) is.same_reader) (inr (record {
       fault = c.in-Err.fault;
       stop = refl;
@@ -50,7 +51,8 @@ returns-in-Err-clause-turn g c = λ start past is.
       cut = subst (λ l. CutsShort start.before contents (l ++ 10 ∷ []) 0 c.in-Err.fault) shown.line
           (subst (λ b. CutsShort b contents (h.line ++ 10 ∷ []) 0 c.in-Err.fault) is.same_contents c.in-Err.ensures.cut);
       failure = c.in-Err.ensures.failures ∙ ap one_more is.same_failures;
-    })))
+    }))) in
+    (ends, u.kept ∙ is.fresh.kept)
 
 pub run-requires-clause-can : goal.run-requires-clause-can
 run-requires-clause-can g c =

@@ -1,4 +1,4 @@
-use Rattle.std.proofs.Common.{◌∙◌, Some, arith, subst, sym}
+use Rattle.std.proofs.Common.{◌∙◌, Some, ap, arith, subst, sym}
 use Rattle.serve_hub.specs.Seats.{StreamSeatValue}
 use Rattle.serve_client.specs.ClientInside.{KeepsMoments}
 use Rattle.serve_client.specs.Rests.{Outset}
@@ -11,11 +11,13 @@ returns-in-Done-clause-turn g c = λ start past running.
     let old = c.args.pipeline in
     let first : Outset = record { reader = start.reader; seat = start.seat; writer = running.opened } in
     let o = outset_of start running.shown running.opened running.first running.is_opened in
-    let serves = c.in-Done.ensures.answer past first o running.tally.offers running.before in
-    c.end.ensures.ends start past running.shown running.opened running.header running.is_opened running.first serves
-    (tallied_later past start.seat old.seat c.serve.new.self.seat _ c.serve.new.self.writer running.tally
-    (untorn_or_silent c.args.course past first old.reader old.seat old.writer c.serve.new.self.writer _ running.before
-    c.in-Done.ensures.silent) c.in-Done.ensures.tally)
+    let serves = c.in-Done.ensures.answer past first o running.tally.offers running.before in (
+      c.end.ensures.ends start past running.shown running.opened running.header running.is_opened running.first serves.0
+          (tallied_later past start.seat old.seat c.serve.new.self.seat _ c.serve.new.self.writer running.tally
+          (untorn_or_silent c.args.course past first old.reader old.seat old.writer c.serve.new.self.writer _ running.before
+          c.in-Done.ensures.silent) c.in-Done.ensures.tally),
+      ap (λ (s : StreamSeatValue). s.kept) c.end.ensures.seat ∙ serves.1,
+    )
 
 pub returns-in-Paused-clause-turn : goal.returns-in-Paused-clause-turn
 returns-in-Paused-clause-turn g c = λ start past running.

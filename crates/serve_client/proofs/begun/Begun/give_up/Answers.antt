@@ -1,13 +1,13 @@
-use Rattle.std.proofs.Common.{Some, ◌∙◌, subst, sym}
+use Rattle.std.proofs.Common.{Some, subst, sym}
 use Rattle.serve_client.specs.declared.stop.Stop.{Stop}
 use Rattle.serve_client.specs.Clients.{StreamStopsAt}
 use Rattle.serve_client.specs.ClientInside.{IsFirst, IsNoNewEnd}
 use Rattle.serve_client.specs.Sends.{TellsKept}
-use Rattle.serve_client.specs.Hands.{EndsImage}
+use Rattle.serve_client.specs.Hands.{CountsImage, EndsImage}
 use Rattle.serve_client.specs.Rests.{BegunValue, IsBegun, Outset, course_image, course_of, course_stop}
 use Rattle.serve_client.proofs.Allowing.{flushed_stop, given_up_kept, given_up_stop}
 use Rattle.serve_client.proofs.Ending.{Ends-served, stream_flushed, told_kept}
-use Rattle.serve_client.proofs.GivingUp.{given_up, tallied_ended, where_none}
+use Rattle.serve_client.proofs.GivingUp.{given_up, tallied_ended}
 use Rattle.serve_client.proofs.Resting.{outset_of}
 use Rattle.serve_client.proofs.begun.Begun.give_up.Goals as goal
 
@@ -44,10 +44,14 @@ returns g c =
           (λ is. given_up_stop course ended c.or.result c.or-stop.result c.end_image-ended.ensures.own now c.or-stop.ensures
           (flushed_stop c.or-stop.result c.finish-writer.result.1 c.stop_after_flush.result c.stop_after_flush.ensures is));
       kept =
-          let none = where_none _ c.into_kept-kept.result.1 c.end_image-ended.ensures.none in
-          let told = given_up_kept course ended c.or.result c.or-stop.result c.end_image-ended.ensures.own
-          (λ is. none (c.into_kept-kept.ensures.image ∙ is)) now c.or-stop.ensures in
-          subst (λ (b : BegunValue). TellsKept (course_stop b.course) (course_image b.course) c.stop_after_flush.result) c.self.view_is
-          (told_kept _ _ c.or-stop.result c.finish-writer.result.1 c.stop_after_flush.result c.stop_after_flush.ensures told);
+          let old = inside.writer.frames in
+          let new = c.end_image-ended.new.writer.frames in
+          let counts = subst (λ image. CountsImage image ended old new) c.into_kept-kept.ensures.image c.end_image-ended.ensures.counts in
+          let kept = told_kept (course_image course) (course_stop course) old new c.or-stop.result c.finish-writer.result.1
+          c.stop_after_flush.result c.stop_after_flush.ensures
+          (given_up_kept course ended c.or.result c.or-stop.result old new counts now c.or-stop.ensures) in
+          subst (λ (b : BegunValue). TellsKept (course_image b.course) (course_stop b.course) b.writer.frames c.stop_after_flush.result
+          c.frames-delivered.result) c.self.view_is
+          (subst (TellsKept (course_image course) (course_stop course) old c.stop_after_flush.result) (sym c.frames-delivered.ensures) kept);
       own = λ over. absurd (cc);
     }

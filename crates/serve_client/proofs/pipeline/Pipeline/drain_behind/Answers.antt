@@ -6,6 +6,7 @@ use Rattle.serve_client.proofs.Allowing.{drained_stop, kept_allowed}
 use Rattle.serve_client.proofs.Finishing.{full_can, writing_collects, writing_delivers, writing_unfinished}
 use Rattle.serve_client.proofs.Hands.{TalliesSeat-kept, Tallies-less, tally_silent}
 use Rattle.serve_client.proofs.Moving.{few_later, none_later, size_later, writing_later}
+use Rattle.serve_client.proofs.Keeping.{stopped_spoilt}
 use Rattle.serve_client.proofs.Stopping.{Feeds-drained, Feeds-paused, Serves-drained, first_fault}
 use Rattle.serve_client.proofs.Tallying.{KeepsMoments-same, Tallies-trans}
 use Rattle.serve_client.proofs.pipeline.Pipeline.drain_behind.Goals as goal
@@ -81,6 +82,7 @@ returns g c =
           (c.in-Err-Stopped.ensures.answer old.seat at.1.0 at.1.1) in
           left.answer past o is counted (
             first_fault c.args.stop last c.or.result c.or.ensures (writing_delivers (Stopped last) own),
+            stopped_spoilt last kept old.seat at.1.0 c.finish.new.writer [] (writing_delivers (Stopped last) own) stops,
             Serves-drained past o.reader old.reader o.seat o.writer is.fresh.kept is.writing c.args.stop last c.or.result kept old.seat
                 at.1.0 c.finish.new.writer at.0 at.1.2 stops (writing_collects (Stopped last) own)
                 (λ e. writing_unfinished _ (Stopped last) own (ap Stopped e)) refl (TalliesSeat-kept c.args.pair old.seat) c.or.ensures,

@@ -1,8 +1,10 @@
-use Rattle.std.proofs.Common.{◌≡◌, ◌∙◌, Some, true, false, ap, refl, sym}
+use Rattle.std.proofs.Common.{◌≡◌, ◌∙◌, Some, true, false, [], ap, refl, sym}
 use Rattle.serve_hub.specs.Seats.{StreamSeatValue}
 use Rattle.serve_client.specs.declared.stop.Halt.TheVariants.{Stopped}
+use Rattle.serve_client.specs.ClientInside.{IsUseful}
 use Rattle.serve_client.proofs.Allowing.{drained_stop, kept_allowed}
 use Rattle.serve_client.proofs.Hands.{left_can, tally_silent}
+use Rattle.serve_client.proofs.Keeping.{collected_whole, stopped_spoilt}
 use Rattle.serve_client.proofs.Stopping.{Feeds-paused, Serves-drained, first_fault}
 use Rattle.serve_client.proofs.Tallying.{KeepsMoments-trans, counted_later, none_given}
 use Rattle.serve_client.proofs.pipeline.Pipeline.drain_left.Goals as goal
@@ -35,9 +37,11 @@ returns-then-is_spoilt g c =
     let accepted = ap (λ (s : StreamSeatValue). s.accepted) c.drain.ensures.stays in
     record {
       answer = λ past o is counted at.
+          let spoilt : IsUseful last → ⊥ = λ useful.
+          let both : true ≡ false = sym c.if-is_spoilt.true ∙ c.is_spoilt.ensures.useful.1 useful in absurd (cc) in
           left.answer past o is (counted_later past _ _ on.tally.seat counted) (
-            first_fault c.args.stop last c.or-told.result c.or-told.ensures
-                (λ useful. let both : true ≡ false = sym c.if-is_spoilt.true ∙ c.is_spoilt.ensures.useful.1 useful in absurd (cc)),
+            first_fault c.args.stop last c.or-told.result c.or-told.ensures spoilt,
+            stopped_spoilt last old.seat c.drain.new.seat old.writer c.drain.new.writer [] spoilt on.answer,
             Serves-drained past o.reader old.reader o.seat o.writer is.fresh.kept is.writing c.args.stop last c.or-told.result
                 old.seat c.drain.new.seat old.writer c.drain.new.writer at.0 at.1 on.answer on.own
                 (λ e. on.drained (ap Stopped e)) accepted on.tally.seat c.or-told.ensures,
@@ -58,11 +62,13 @@ returns-else-is_spoilt g c =
     let last = c.in-Stopped.last in
     let on = c.in-Stopped.ensures in
     record {
-      answer = λ past o is counted at.
-          Serves-drained past o.reader old.reader o.seat o.writer is.fresh.kept is.writing c.args.stop last c.or-told.result
-          old.seat c.drain.new.seat old.writer c.drain.new.writer at.0 at.1 on.answer on.own
-          (λ e. on.drained (ap Stopped e)) (ap (λ (s : StreamSeatValue). s.accepted) c.drain.ensures.stays) on.tally.seat
-          c.or-told.ensures;
+      answer = λ past o is counted at. (
+        Serves-drained past o.reader old.reader o.seat o.writer is.fresh.kept is.writing c.args.stop last c.or-told.result
+            old.seat c.drain.new.seat old.writer c.drain.new.writer at.0 at.1 on.answer on.own
+            (λ e. on.drained (ap Stopped e)) (ap (λ (s : StreamSeatValue). s.accepted) c.drain.ensures.stays) on.tally.seat
+            c.or-told.ensures,
+        (on.drained (ap Stopped (collected_whole last (c.is_spoilt.ensures.useful.0 c.if-is_spoilt.false) on.own))).none,
+      );
       tally = on.tally;
       silent = λ is. absurd is;
       moments = none_given _ _ _ on.tally.seat c.drain.ensures.stays;

@@ -1,4 +1,4 @@
-use Rattle.std.proofs.Common.{◌≡◌, ◌∙◌, true, false, ap, sym}
+use Rattle.std.proofs.Common.{◌≡◌, ◌∙◌, true, false, ap, inr, sym}
 use Rattle.serve_hub.specs.Seats.{StreamSeatValue}
 use Rattle.serve_client.specs.declared.feeding.Fed.TheVariants as feds
 use Rattle.serve_client.specs.declared.stop.Stop.TheVariants.{Torn}
@@ -9,6 +9,7 @@ use Rattle.serve_client.proofs.Resting.{fed_from}
 use Rattle.serve_client.proofs.Spoiling.{spoilt_from}
 use Rattle.serve_client.proofs.Staying.{same_chain}
 use Rattle.serve_client.proofs.Hands.{tally_silent}
+use Rattle.serve_client.proofs.Keeping.{spoilt_later, stopped_spoilt}
 use Rattle.serve_client.proofs.Stopping.{Feeds-closed, Serves-spoilt, Serves-torn, close_moments, drain_few, drain_none}
 use Rattle.serve_client.proofs.Stopping.{drain_size, drain_writing, first_fault, moves_until, of_no_use}
 use Rattle.serve_client.proofs.pipeline.Pipeline.feed_left.Goals as goal
@@ -112,6 +113,8 @@ returns-then-is_spoilt g c =
           new.writer at (λ before h. c.in-Stopped.ensures.answer past before counted h) in
           left.answer past o is (counted_later past _ _ close.tally (counted_later past _ _ kept.tally.seat counted)) (
             of_no_use stop spoilt,
+            spoilt_later new.seat c.close_torn-is_torn.new.seat new.writer close.tally
+                (stopped_spoilt stop o.seat new.seat o.writer new.writer all.frames spoilt all.moved),
             Serves-spoilt past o.reader new.reader o.seat o.writer is.fresh.kept is.writing stop new.seat c.close_torn-is_torn.new.seat
                 new.writer spoilt all (ap (λ (s : StreamSeatValue). s.accepted) close.closed) close.tally,
           );
@@ -145,6 +148,7 @@ returns-then-is_torn g c =
           new.writer at (λ before h. c.in-Stopped.ensures.answer past before counted h) in
           left.answer past o is (counted_later past _ _ close.tally (counted_later past _ _ kept.tally.seat counted)) (
             first_fault stop Torn c.or.result c.or.ensures (λ useful. useful),
+            inr (close.torn c.if-is_torn.true),
             Serves-torn past o.reader new.reader o.seat o.writer is.fresh.kept is.writing stop c.or.result new.seat
                 c.close_torn-is_torn.new.seat new.writer is.fresh.is_open (c.is_spoilt.ensures.useful.0 c.if-is_spoilt.false) all
                 (ap (λ (s : StreamSeatValue). s.accepted) close.closed) close.tally (close.torn c.if-is_torn.true) c.or.ensures,

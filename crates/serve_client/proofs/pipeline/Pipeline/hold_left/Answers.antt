@@ -3,7 +3,7 @@ use Rattle.serve_client.specs.ClientInside.{text_in}
 use Rattle.serve_client.proofs.Allowing.{first_allowed}
 use Rattle.serve_client.proofs.Hands.{tally_silent}
 use Rattle.serve_client.proofs.Tallying.{KeepsMoments-trans, Tallies-seat, counted_later}
-use Rattle.serve_client.proofs.Spoiling.{held_told, spoilt_on, spoilt_until}
+use Rattle.serve_client.proofs.Spoiling.{held_spoilt, held_told, spoilt_offered, spoilt_on, spoilt_until}
 use Rattle.serve_client.proofs.Stopping.{first_fault, of_no_use}
 use Rattle.serve_client.proofs.pipeline.Pipeline.hold_left.Goals as goal
 
@@ -42,11 +42,12 @@ returns-in-QueueFull g c =
     record {
       answer = λ past o is counted at.
           let on = c.in-QueueFull.ensures.answer past at.before old.writer counted at.holds in
+          let held = spoilt_on c.args.held o old.reader old.seat old.writer (text_in c.args.in_hand) _ at c.hold.new.reader
+          c.hold.new.seat on.1 in
           left.answer past o is (counted_later past _ _ kept.tally counted) (
             of_no_use c.args.held c.requires.can.spoilt,
-            held_told c.args.held o c.hold.new.reader c.hold.new.seat old.writer on.0 past
-                (spoilt_on c.args.held o old.reader old.seat old.writer (text_in c.args.in_hand) _ at c.hold.new.reader c.hold.new.seat
-                on.1),
+            held_spoilt c.args.held o c.hold.new.reader c.hold.new.seat old.writer _ held,
+            held_told c.args.held o c.hold.new.reader c.hold.new.seat old.writer on.0 past held,
           );
       tally = tally_silent _ _ _ _ _ _ _ (Tallies-seat _ _ _ _ kept.tally refl) left.tally.seat (left.silent tt);
       silent = λ is. left.silent tt;
@@ -71,6 +72,8 @@ returns-in-Stopped g c =
           let on = c.in-Stopped.ensures.answer past at.before old.writer counted at.holds in
           left.answer past o is (counted_later past _ _ kept.tally counted) (
             first_fault c.in-Stopped.stop c.args.held c.or.result c.or.ensures c.requires.can.spoilt,
+            spoilt_offered c.in-Stopped.stop old.seat c.hold.new.seat old.writer on.1.frames on.0 on.1.moved
+                (held_spoilt c.args.held o old.reader old.seat old.writer (text_in c.args.in_hand) at),
             spoilt_until c.args.held o old.reader old.seat old.writer (text_in c.args.in_hand) at past c.in-Stopped.stop c.or.result
                 c.hold.new.reader c.hold.new.seat on.0 on.1 c.or.ensures,
           );

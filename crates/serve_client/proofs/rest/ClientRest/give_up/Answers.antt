@@ -5,7 +5,7 @@ use Rattle.y4m_stream.specs.Reader.{ReaderState}
 use Rattle.serve_client.specs.declared.stop.Cause.TheVariants as causes
 use Rattle.serve_client.specs.declared.stop.Stop.TheVariants.{Refused}
 use Rattle.serve_client.specs.Clients.{StreamStopsAt}
-use Rattle.serve_client.specs.Rests.{IsRestOf, IsUnbegun, RestValue, rest_image, rest_stop}
+use Rattle.serve_client.specs.Rests.{IsRestOf, IsUnbegun, RestValue, delivered_in, rest_image, rest_stop}
 use Rattle.serve_client.specs.RestInside.{rest_of}
 use Rattle.serve_client.specs.Sends.{TellsKept}
 use Rattle.serve_client.proofs.Ending.{Ends-unopened}
@@ -23,7 +23,7 @@ returns-in-Unbegun g c =
           subst (IsRestOf start past seat) rest at in
           let kept : Keeps start.before (contents writer) = subst (λ b. Keeps b (contents writer)) is.same_contents (Keeps-refl (contents writer))
           in
-          Ends-unopened start _ StreamStopsAt past seat seat _ _ _ is (seat_same seat seat refl) refl refl
+          Ends-unopened start _ StreamStopsAt past seat seat _ _ _ is (seat_same seat seat refl) refl refl refl
           (c.into_source.ensures.failures ∙ ap (λ (r : ReaderState). r.failures) (c.in-Unbegun.reader-is ∙ is.same_reader))
           (inl (record {
             stop = refl;
@@ -34,6 +34,7 @@ returns-in-Unbegun g c =
             no_failure = rw c.in-Unbegun.writer-is is.same_failures;
           }));
       stop = λ is. absurd (cc);
-      kept = subst (λ (r : RestValue). TellsKept (rest_stop r) (rest_image r) (Refused causes.NoMemory)) (sym rest) refl;
+      kept = subst (λ (r : RestValue). TellsKept (rest_image r) (rest_stop r) (delivered_in r) (Refused causes.NoMemory) 0) (sym rest)
+          (refl, refl);
       own = λ over. absurd (cc);
     }
