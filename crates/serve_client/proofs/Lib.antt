@@ -10,6 +10,7 @@ pub mod Moving
 pub mod Offering
 pub mod OfferingOn
 pub mod Passing
+pub mod Pauses
 pub mod Pipelines
 pub mod Refusing
 pub mod Resting

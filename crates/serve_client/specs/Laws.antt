@@ -1,7 +1,7 @@
 -- What follows from the definitions alone.
-use Rattle.std.specs.Prelude.{ℕ, ◌≡◌, ◌≤◌, ◌⊎◌, ◌++◌, ⊤, List, [], length, take, Option, Some, IfSome}
+use Rattle.std.specs.Prelude.{All, ℕ, ◌≡◌, ◌≤◌, ◌⊎◌, ◌++◌, ⊤, List, [], length, take, Option, Some, IfSome}
 use Rattle.std.specs.Io.KnownBytes.{Appends, Consumes}
-use Rattle.y4m_header.specs.StreamText.{FrameText, IsStreamText}
+use Rattle.y4m_header.specs.StreamText.{FrameText, IsFrameOf, IsStreamText, frames_text}
 use Rattle.y4m_stream.specs.declared.fault.ReadFault.{ReadFault}
 use Rattle.y4m_stream.specs.Front.{StandsAtFrame}
 use Rattle.y4m_stream.specs.Laws.{IsOfBytes}
@@ -16,6 +16,7 @@ use Rattle.serve_client.specs.Clients.{ClientEnds, ClientOutcome, ClientProgress
 use Rattle.serve_client.specs.Clients.{CutsHeader, Ends, HasOtherNumber, IsUnclosed, StreamEnds}
 use Rattle.serve_client.specs.Clients.{StreamStopsAt}
 use Rattle.serve_client.specs.Clients.{WroteImages, WroteNothing}
+use Rattle.serve_client.specs.Rests.{Begun, BegunValue, IsRestOf, RestValue, Unbegun}
 
 -- the text is the whole input, all of it was read, and what it is served as was written
 pub record ServesAll (input : Option (List ℕ)) (text : List ℕ) (frames : List FrameText)
@@ -100,3 +101,24 @@ abbrev pub AFrontWentOut : Type 0
 AFrontWentOut = (start : ClientStart) (end : ClientOutcome) (frames : List FrameText) (served : List ℕ)
     → WroteNothing start end ⊎ CutsHeader start end ⊎ WroteImages frames start end
     → IsServedText start.seat.chain start.reader.header.line frames served → WroteFront served start end
+
+-- frames were taken off the front of the input and accepted, and a front of what these are served as went out
+pub record HasFrontOut (start : ClientStart) (begun : BegunValue) : Type 0 where
+  pub frames : List FrameText
+  pub rest : Option (List ℕ)
+  pub each : All (IsFrameOf (data_len_of start.reader.header)) frames
+  pub taken : Consumes start.reader.rest rest (frames_text frames)
+  pub count : length frames ≡ begun.accepted
+  pub front : (served : List ℕ) → IsServedText start.seat.chain start.reader.header.line frames served
+      → (n : ℕ) × (n ≤ length served) × Appends start.before begun.writer.contents (take n served)
+
+-- what went out where a client pauses: nothing, where nothing was done of its stream
+abbrev pub FrontIsOut : ClientStart → RestValue → Type 0
+FrontIsOut start (Unbegun reader contents failures) = contents ≡ start.before
+FrontIsOut start (Begun begun) = HasFrontOut start begun
+
+-- so it is with whatever is left to do of a stream
+abbrev pub AFrontIsOut : Type 0
+AFrontIsOut =
+    (start : ClientStart) (past : List Act) (seat : StreamSeatValue) (rest : RestValue)
+    → IsRestOf start past seat rest → FrontIsOut start rest

@@ -1,6 +1,6 @@
 //! What follows from the definitions alone.
 ghost use Rattle.serve_client.specs.Epochs.{NewStreamIsUnbegun, StreamsCross};
-ghost use Rattle.serve_client.specs.Laws.{AFrontWentOut, InputFaultIsTold, InputIsServed};
+ghost use Rattle.serve_client.specs.Laws.{AFrontIsOut, AFrontWentOut, InputFaultIsTold, InputIsServed};
 
 /// Where a reader was opened on an input and a client has ended, or its stream was given up, a stream text of
 /// the accepted frames stands at the front of the input. Where the stop is `Whole`, that is the whole input,
@@ -20,6 +20,12 @@ pub fn an_input_fault_is_told()
 /// What a client wrote is a front of what the accepted frames are served as.
 pub fn a_front_went_out()
     ensures { AFrontWentOut }
+{}
+
+/// Where a client pauses, a front went out of what the frames are served as that were accepted by then; and
+/// nothing, where nothing was done of its stream.
+pub fn a_front_is_out()
+    ensures { AFrontIsOut }
 {}
 
 /// Of the stream of a new seat all is left to do.

@@ -2,8 +2,8 @@
 ghost use Rattle.serve_work.specs.HistoryLaws.{EarliestLaw, EpochDemandLaw, HubDemandLaw, TakenOutLaw};
 
 pub use serve_client::laws::{
-    a_front_went_out, a_new_stream_is_unbegun, an_input_fault_is_told, streams_cross,
-    the_input_is_served,
+    a_front_is_out, a_front_went_out, a_new_stream_is_unbegun, an_input_fault_is_told,
+    streams_cross, the_input_is_served,
 };
 use serve_core::laws::charges::{life_demand_law, whole_demand_law};
 
