@@ -15,7 +15,7 @@ use Rattle.serve_client.specs.declared.stop.Stop.{Stop}
 use Rattle.serve_client.specs.declared.stop.Stop.TheVariants.{Whole, Read, Write, Refused, Torn}
 use Rattle.serve_client.specs.Clients.{AllowsStop}
 use Rattle.serve_client.specs.ClientInside.{AllowsFed, IsFirst, IsNoNewEnd, IsOfCollection, IsOfDelivery, IsOffered, IsUnread}
-use Rattle.serve_client.specs.ClientInside.{KeepsAllowed, fed_before, fed_of}
+use Rattle.serve_client.specs.ClientInside.{KeepsAllowed, KeepsFault, fed_before, fed_of}
 use Rattle.serve_client.specs.Sends.{Flushes, TellsKept, kept_or_whole}
 use Rattle.serve_client.specs.Hands.{CountsImage, IsOfEnding}
 use Rattle.serve_client.specs.Rests.{CourseValue, Discarding, Draining, Feeding, Holding, course_image, course_stop, stop_kept}
@@ -79,6 +79,15 @@ module _ (Gives : ℕ → Type 0) where
   kept_allowed old (Some (Refused ClockEnd)) same was = same_allowed old (Some (Refused ClockEnd)) (same refl) was
   kept_allowed old (Some (Refused NoMemory)) same was = tt
   kept_allowed old (Some Torn) same was = tt
+
+-- a fault that was kept stays so
+pub fault_same : (kept : Option Stop) → KeepsFault kept kept
+fault_same None = tt
+fault_same (Some stop) = λ fault. refl
+
+pub fault_kept : (old mid new : Option Stop) → KeepsFault old mid → KeepsFault mid new → KeepsFault old new
+fault_kept None mid new p q = tt
+fault_kept (Some stop) mid new p q = λ fault. subst (λ (o : Option Stop). KeepsFault o new) (p fault) q fault
 
 -- where the clock's end is told, it was kept
 

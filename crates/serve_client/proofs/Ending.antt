@@ -23,7 +23,7 @@ use Rattle.serve_client.specs.declared.stop.Cause.TheVariants.{NoMemory}
 use Rattle.serve_client.specs.declared.stop.Stop.{Stop}
 use Rattle.serve_client.specs.declared.stop.Stop.TheVariants.{Whole, Read, Write, Refused, Torn}
 use Rattle.serve_client.specs.Clients.{ClientOutcome, ClientProgress, ClientStart, CutsHeader, Ends, GivesUpAt}
-use Rattle.serve_client.specs.Clients.{ClientStopsAt, StreamStopsAt, WroteImages, WroteNothing, reads_at}
+use Rattle.serve_client.specs.Clients.{ClientStopsAt, CountsReads, StreamStopsAt, WroteImages, WroteNothing}
 use Rattle.serve_client.specs.ClientInside.{IsFirst, TalliesSeat}
 use Rattle.serve_client.specs.Sends.{BreaksOff, Flushes, IsSent, IsSpoilt, SendsWhole, ServesTo, TellsKept, TellsStop, kept_or_whole}
 use Rattle.serve_client.specs.Rests.{IsFresh, IsTallied, IsUnbegun}
@@ -54,7 +54,7 @@ module _ {T : Type 0} where
   flush_stop Torn flush told e other fault is = absurd (other fault (sym e ∙ is))
 
   -- a stop that isn't whole stays
-  stop_stays : (stop : Stop) (flush : Result T WriteFault) (told : Stop) → Flushes stop flush told → stop ≢ Whole
+  pub stop_stays : (stop : Stop) (flush : Result T WriteFault) (told : Stop) → Flushes stop flush told → stop ≢ Whole
       → told ≡ stop
   stop_stays Whole flush told e other = absurd (other refl)
   stop_stays (Read f) flush told e other = e
@@ -83,7 +83,7 @@ module _ {T : Type 0} where
   pub stops_flushed : (stop : Stop) (flush : Result T WriteFault) (told : Stop) (at : ClientProgress) → Flushes stop flush told
       → ClientStopsAt stop at → ClientStopsAt told at
   stops_flushed Whole (Ok t) told at e a = subst (λ s. ClientStopsAt s at) (sym e) a
-  stops_flushed Whole (Err f) told at e a = subst (λ s. ClientStopsAt s at) (sym e) (inr a)
+  stops_flushed Whole (Err f) told at e a = subst (λ s. ClientStopsAt s at) (sym e) (inl (inr a))
   stops_flushed (Read f) flush told at e a = subst (λ s. ClientStopsAt s at) (sym e) a
   stops_flushed (Refused cause) flush told at e a = subst (λ s. ClientStopsAt s at) (sym e) a
   stops_flushed (Write f) flush told at e a = subst (λ s. ClientStopsAt s at) (sym e) a
@@ -123,14 +123,14 @@ module _ {T : Type 0} where
   told_kept (Some pair) kept before delivered stop flush told e (inr k) =
       inr (k.0, first_flushed (kept_or_whole kept) (Write k.0) stop flush told (λ is. absurd (cc)) e k.1, k.2)
 
-  reads_flushed : (stop : Stop) (flush : Result T WriteFault) (told : Stop) (n : ℕ) → Flushes stop flush told
-      → reads_at told n ≡ reads_at stop n
-  reads_flushed Whole (Ok t) told n e = ap (λ s. reads_at s n) e
-  reads_flushed Whole (Err f) told n e = ap (λ s. reads_at s n) e
-  reads_flushed (Read f) flush told n e = ap (λ s. reads_at s n) e
-  reads_flushed (Refused cause) flush told n e = ap (λ s. reads_at s n) e
-  reads_flushed (Write f) flush told n e = ap (λ s. reads_at s n) e
-  reads_flushed Torn flush told n e = ap (λ s. reads_at s n) e
+  reads_flushed : (stop : Stop) (flush : Result T WriteFault) (told : Stop) (old new : ℕ) → Flushes stop flush told
+      → CountsReads stop old new → CountsReads told old new
+  reads_flushed Whole (Ok t) told old new e a = subst (λ s. CountsReads s old new) (sym e) a
+  reads_flushed Whole (Err f) told old new e a = subst (λ s. CountsReads s old new) (sym e) (inl a)
+  reads_flushed (Read f) flush told old new e a = subst (λ s. CountsReads s old new) (sym e) a
+  reads_flushed (Refused cause) flush told old new e a = subst (λ s. CountsReads s old new) (sym e) a
+  reads_flushed (Write f) flush told old new e a = subst (λ s. CountsReads s old new) (sym e) a
+  reads_flushed Torn flush told old new e a = subst (λ s. CountsReads s old new) (sym e) a
 
   flush_failures : (writer : WriterState) (flush : Result T WriteFault) (end : ClientOutcome) (n : ℕ)
       → Finishes writer flush end → writer.failed ≡ false → writer.failures ≡ n
@@ -316,7 +316,8 @@ module _ (start : ClientStart) (end : ClientOutcome) (shown : HeaderValue) (writ
         count = omega (arith, counted, fresh.accepted);
         stops = inr (inr (flushed end.stop (at end.accepted end.left) flushes
             (subst (StopsAt stop) (ap (λ k. at k reader'.left) counted ∙ ap (at end.accepted) (sym left)) s.read.stops)));
-        reads = reads ∙ s.read.reads ∙ sym (reads_flushed stop flush end.stop start.reader.failures flushes);
+        reads = reads_flushed stop flush end.stop start.reader.failures end.read_failures flushes
+            (subst (λ n. CountsReads stop start.reader.failures n) (sym reads) s.read.reads);
         out = inr (inr (wrote_until s.frames stop writer' flush s.sent (λ is. (s.whole is).1) fin flushes delivered));
         whole = λ is.
             let well = whole_flush stop flush end.stop flushes is in
@@ -351,9 +352,9 @@ shown_for chain header own second shown resized p q e is =
 -- nothing was offered
 
 module _ (start : ClientStart) (end : ClientOutcome) where
-  reads_unopened : (n : ℕ) → WroteNothing start end ⊎ CutsHeader start end → n ≡ reads_at end.stop n
-  reads_unopened n (inl a) = sym (ap (λ s. reads_at s n) a.stop)
-  reads_unopened n (inr a) = sym (ap (λ s. reads_at s n) a.stop)
+  reads_unopened : (old new : ℕ) → new ≡ old → WroteNothing start end ⊎ CutsHeader start end → CountsReads end.stop old new
+  reads_unopened old new same (inl a) = subst (λ s. CountsReads s old new) (sym a.stop) same
+  reads_unopened old new same (inr a) = subst (λ s. CountsReads s old new) (sym a.stop) (inl same)
 
   not_whole : WroteNothing start end ⊎ CutsHeader start end → end.stop ≢ Whole
   not_whole (inl a) is = let both : Refused NoMemory ≡ Whole = sym a.stop ∙ is in absurd (cc)
@@ -383,7 +384,7 @@ module _ (start : ClientStart) (end : ClientOutcome) where
     taken = Consumes-nil start.reader.rest;
     count = sym accepted;
     stops = before_or _ out;
-    reads = reads ∙ reads_unopened start.reader.failures out;
+    reads = reads_unopened start.reader.failures end.read_failures reads out;
     out = before_or _ out;
     whole = λ is. absurd (not_whole out is);
     kept = inr (inr (omega (arith, delivered_none out, accepted, ap length same_kept, ap length unbegun.fresh.kept)));

@@ -27,7 +27,7 @@ use Rattle.serve_client.specs.declared.stop.Halt.{Halt}
 use Rattle.serve_client.specs.declared.stop.Halt.TheVariants.{Full, Stopped}
 use Rattle.serve_client.specs.declared.stop.Stop.{Stop}
 use Rattle.serve_client.specs.declared.stop.Stop.TheVariants.{Whole, Read, Write, Refused, Torn}
-use Rattle.serve_client.specs.Clients.{ClientProgress, ClientStopsAt, reads_at}
+use Rattle.serve_client.specs.Clients.{ClientProgress, ClientStopsAt, CountsReads}
 use Rattle.serve_client.specs.ClientInside.{AcceptsTorn, Feeds, FeedsOn, GivesUp, HaltsWith, HasInHand, HasPassed, Holds, IsCounted}
 use Rattle.serve_client.specs.ClientInside.{IsOfDelivery, IsOfSeat, IsSizedFed, IsUnread, Moves, Offers, Passes, Refuses, StopsReading, Takes}
 use Rattle.serve_client.specs.ClientInside.{IsLeft, TalliesSeat, Unfed, fed_before, text_in}
@@ -80,15 +80,15 @@ stops_of_seat (Read fault) at own next limit = absurd own
 stops_of_seat (Refused TooManyFrames) at own next limit = (limit refl, next)
 stops_of_seat (Refused ClockEnd) at own next limit = next
 stops_of_seat (Refused NoMemory) at own next limit = next
-stops_of_seat (Write fault) at own next limit = inl next
+stops_of_seat (Write fault) at own next limit = inl (inl next)
 stops_of_seat Torn at own next limit = inl (inl next)
 
-reads_of_seat : (stop : Stop) (n : ℕ) → IsOfSeat stop → reads_at stop n ≡ n
-reads_of_seat Whole n own = absurd own
-reads_of_seat (Read fault) n own = absurd own
-reads_of_seat (Refused cause) n own = refl
-reads_of_seat (Write fault) n own = refl
-reads_of_seat Torn n own = refl
+reads_of_seat : (stop : Stop) (old new : ℕ) → IsOfSeat stop → new ≡ old → CountsReads stop old new
+reads_of_seat Whole old new own same = absurd own
+reads_of_seat (Read fault) old new own same = absurd own
+reads_of_seat (Refused cause) old new own same = same
+reads_of_seat (Write fault) old new own same = inl same
+reads_of_seat Torn old new own same = inl same
 
 -- behind some frames that passed
 module _ (reader mid : ReaderState) (seat between : StreamSeatValue) (writer v : WriterState) (frames : List FrameText)
@@ -182,7 +182,7 @@ module _ (reader mid : ReaderState) (seat between : StreamSeatValue) (writer v :
           taken = so_far.taken;
           stops = stops_of_seat stop _ r.of_seat (next_of frame reader' one)
               (λ is. sym count ∙ r.limit is ∙ stays_frames seat between so_far.moved.seat_stays);
-          reads = one.no_failure ∙ so_far.no_failure ∙ sym (reads_of_seat stop reader.failures r.of_seat);
+          reads = reads_of_seat stop reader.failures reader'.failures r.of_seat (one.no_failure ∙ so_far.no_failure);
         };
         moved = rw (append-nil frames) at (StopsWith-later stop seat between seat' writer v writer' frames [] so_far.moved r.moved);
         count = count;
@@ -204,8 +204,8 @@ module _ (reader mid : ReaderState) (seat between : StreamSeatValue) (writer v :
           each = All-push IsFrame frames frame so_far.each is_frame;
           taken = rw (frames_text-push frames frame)
               (Consumes-trans reader.rest mid.rest reader'.rest (frames_text frames) (text_of frame) so_far.taken one.taken);
-          stops = inr (torn.other past counted, one.ahead);
-          reads = one.no_failure ∙ so_far.no_failure;
+          stops = inr (inr (torn.other past counted, one.ahead));
+          reads = inl (one.no_failure ∙ so_far.no_failure);
         };
         moved = (torn.mid, moved, some_torn (collected_by torn.mid) torn.mid seat' torn.noted);
         count = ap (λ (s : StreamSeatValue). s.accepted) torn.noted ∙ moved.count;

@@ -3,19 +3,23 @@ use Rattle.std.proofs.Common.{◌≡◌, ◌≢◌, ◌⊎◌, ℕ, ◌+◌, Lis
 use Rattle.std.proofs.Common.{append-nil, append_assoc, length-append, arith, subst, inl, inr, IsSome}
 use Rattle.filters.specs.Chain.{ChainValue}
 use Rattle.y4m_header.specs.StreamText.{FrameText}
+use Rattle.y4m_stream.specs.declared.fault.ReadFault.{ReadFault}
+use Rattle.y4m_stream.specs.declared.fault.ReadFault.TheVariants.{Device, Failed, Header, LineTooLong, NotFrame, Truncated}
+use Rattle.y4m_stream.specs.declared.fault.ReadFault.TheVariants as faults
 use Rattle.y4m_stream.specs.declared.fault.WriteFault.{WriteFault}
+use Rattle.y4m_stream.specs.Failures.{one_more}
 use Rattle.y4m_stream.specs.Filtered.{HasNext}
 use Rattle.y4m_stream.specs.Front.{IsReadAhead}
-use Rattle.y4m_stream.specs.Reader.{ReaderState, TakesFrame, data_len_of}
+use Rattle.y4m_stream.specs.Reader.{ReaderState, TakesFrame, data_len_of, failures_at}
 use Rattle.y4m_stream.specs.Writer.{WriterState}
 use Rattle.serve_hub.specs.declared.entry.Act.{Act}
 use Rattle.serve_hub.specs.Seats.{StreamSeatValue}
-use Rattle.serve_client.specs.declared.stop.Cause.TheVariants.{NoMemory}
+use Rattle.serve_client.specs.declared.stop.Cause.TheVariants.{TooManyFrames, ClockEnd, NoMemory}
 use Rattle.serve_client.specs.declared.stop.Halt.TheVariants.{Stopped}
 use Rattle.serve_client.specs.declared.stop.Stop.{Stop}
 use Rattle.serve_client.specs.declared.stop.Stop.TheVariants.{Whole, Read, Write, Refused, Torn}
-use Rattle.serve_client.specs.Clients.{ClientProgress, ClientStopsAt, GivesUpAt, HasMoreOrEnds, IsUnclosed, StandsOpen, StreamStopsAt}
-use Rattle.serve_client.specs.Clients.{reads_at}
+use Rattle.serve_client.specs.Clients.{ClientProgress, ClientStopsAt, CountsReads, GivesUpAt, HasLaterFault, HasMoreOrEnds, IsUnclosed}
+use Rattle.serve_client.specs.Clients.{StandsOpen, StreamStopsAt}
 use Rattle.serve_client.specs.ClientInside.{Breaks, Feeds, GivesUp, HasInHand, Holds, IsFirst, IsNoWrite, IsOfCollection, IsUseful}
 use Rattle.serve_client.specs.ClientInside.{StopsReading, StopsReadingAt, StopsWith, Takes}
 use Rattle.serve_client.specs.Sends.{IsSent, IsSpoilt, SendsWhole, Serves, ServesTo}
@@ -75,8 +79,25 @@ held_at : (held : Stop) (at : ClientProgress) → (IsUseful held → ⊥) → Ha
 held_at Whole at spoilt more = absurd (spoilt tt)
 held_at (Read fault) at spoilt more = absurd (spoilt tt)
 held_at (Refused cause) at spoilt more = absurd (spoilt tt)
-held_at (Write fault) at spoilt more = more
+held_at (Write fault) at spoilt more = inl more
 held_at Torn at spoilt more = inl more
+
+-- and a stop that came later, which it hides
+fault_behind : (stop : Stop) (at : ClientProgress) → IsNoWrite stop → ClientStopsAt stop at → HasMoreOrEnds at ⊎ HasLaterFault at
+fault_behind Whole at own a = inl (inr a)
+fault_behind (Read fault) at own a = inr (inl (fault, a))
+fault_behind (Refused TooManyFrames) at own a = inl (inl a.1)
+fault_behind (Refused ClockEnd) at own a = inl (inl a)
+fault_behind (Refused NoMemory) at own a = inl (inl a)
+fault_behind (Write fault) at own a = absurd own
+fault_behind Torn at own a = a
+
+hides_at : (held : Stop) (at : ClientProgress) → (IsUseful held → ⊥) → HasMoreOrEnds at ⊎ HasLaterFault at → ClientStopsAt held at
+hides_at Whole at spoilt a = absurd (spoilt tt)
+hides_at (Read fault) at spoilt a = absurd (spoilt tt)
+hides_at (Refused cause) at spoilt a = absurd (spoilt tt)
+hides_at (Write fault) at spoilt a = a
+hides_at Torn at spoilt a = a
 
 held_open : (held : Stop) (at : ClientProgress) → (IsUseful held → ⊥) → StandsOpen at → GivesUpAt held at
 held_open Whole at spoilt stands = absurd (spoilt tt)
@@ -85,19 +106,28 @@ held_open (Refused cause) at spoilt stands = absurd (spoilt tt)
 held_open (Write fault) at spoilt stands = stands
 held_open Torn at spoilt stands = stands
 
-reads_held : (held : Stop) (n : ℕ) → (IsUseful held → ⊥) → reads_at held n ≡ n
-reads_held Whole n spoilt = refl
-reads_held (Read fault) n spoilt = absurd (spoilt tt)
-reads_held (Refused cause) n spoilt = refl
-reads_held (Write fault) n spoilt = refl
-reads_held Torn n spoilt = refl
+read_failed : (fault : ReadFault) (old new : ℕ) → new ≡ failures_at fault old → (new ≡ old) ⊎ (new ≡ one_more old)
+read_failed Device old new e = inr e
+read_failed LineTooLong old new e = inl e
+read_failed (Header fault) old new e = inl e
+read_failed NotFrame old new e = inl e
+read_failed Truncated old new e = inl e
+read_failed faults.NoMemory old new e = inl e
+read_failed Failed old new e = inl e
 
-of_collection : (held : Stop) → (IsUseful held → ⊥) → IsOfCollection (Stopped held)
-of_collection Whole spoilt = tt
-of_collection (Read fault) spoilt = spoilt tt
-of_collection (Refused cause) spoilt = spoilt tt
-of_collection (Write fault) spoilt = tt
-of_collection Torn spoilt = tt
+counts_behind : (stop : Stop) (old new : ℕ) → CountsReads stop old new → (new ≡ old) ⊎ (new ≡ one_more old)
+counts_behind Whole old new e = inl e
+counts_behind (Read fault) old new e = read_failed fault old new e
+counts_behind (Refused cause) old new e = inl e
+counts_behind (Write fault) old new e = e
+counts_behind Torn old new e = e
+
+reads_held : (held : Stop) (old new : ℕ) → (IsUseful held → ⊥) → (new ≡ old) ⊎ (new ≡ one_more old) → CountsReads held old new
+reads_held Whole old new spoilt e = absurd (spoilt tt)
+reads_held (Read fault) old new spoilt e = absurd (spoilt tt)
+reads_held (Refused cause) old new spoilt e = absurd (spoilt tt)
+reads_held (Write fault) old new spoilt e = e
+reads_held Torn old new spoilt e = e
 
 -- the frame in hand stands behind those that were taken
 next_behind : (reader before reader' : ReaderState) (frames : List FrameText) (frame : FrameText) → Takes reader before frames
@@ -168,13 +198,18 @@ sent_spoilt (Write fault) chain frames writer writer' seat spoilt torn (inr a) =
 sent_spoilt Torn chain frames writer writer' seat spoilt torn a = inr (torn refl)
 
 -- nor while frames are offered
+torn_offered : (stop : Stop) (seat seat' : StreamSeatValue) (writer : WriterState) (frames : List FrameText) → IsNoWrite stop
+    → StopsWith stop seat seat' writer writer frames → IsSome seat.torn → IsSome seat'.torn
+torn_offered Whole seat seat' writer frames own a torn = subst IsSome (sym a.seat_stays.torn) torn
+torn_offered (Read fault) seat seat' writer frames own a torn = subst IsSome (sym a.seat_stays.torn) torn
+torn_offered (Refused cause) seat seat' writer frames own a torn = subst IsSome (sym a.seat_stays.torn) torn
+torn_offered (Write fault) seat seat' writer frames own a torn = absurd own
+torn_offered Torn seat seat' writer frames own a torn = a.2
+
 pub spoilt_offered : (stop : Stop) (seat seat' : StreamSeatValue) (writer : WriterState) (frames : List FrameText) → IsNoWrite stop
     → StopsWith stop seat seat' writer writer frames → IsSpoilt writer seat → IsSpoilt writer seat'
-spoilt_offered Whole seat seat' writer frames own a spoilt = spoilt_stays seat seat' writer a.seat_stays.torn spoilt
-spoilt_offered (Read fault) seat seat' writer frames own a spoilt = spoilt_stays seat seat' writer a.seat_stays.torn spoilt
-spoilt_offered (Refused cause) seat seat' writer frames own a spoilt = spoilt_stays seat seat' writer a.seat_stays.torn spoilt
-spoilt_offered (Write fault) seat seat' writer frames own a spoilt = absurd own
-spoilt_offered Torn seat seat' writer frames own a spoilt = inr a.2
+spoilt_offered stop seat seat' writer frames own a (inl failed) = inl failed
+spoilt_offered stop seat seat' writer frames own a (inr torn) = inr (torn_offered stop seat seat' writer frames own a torn)
 
 -- where a fault is held
 module _ (held : Stop) (o : Outset) (reader : ReaderState) (seat : StreamSeatValue) (writer : WriterState) where
@@ -210,7 +245,8 @@ module _ (held : Stop) (o : Outset) (reader : ReaderState) (seat : StreamSeatVal
       each = a.read.each;
       taken = a.read.taken;
       stops = inr (held_open held _ a.spoilt (unclosed, subst (λ (r : ReaderState). IsReadAhead r.rest reader.left) a.holds ahead));
-      reads = ap (λ (r : ReaderState). r.failures) a.holds ∙ a.read.no_failure ∙ sym (reads_held held o.reader.failures a.spoilt);
+      reads = reads_held held o.reader.failures reader.failures a.spoilt
+          (inl (ap (λ (r : ReaderState). r.failures) a.holds ∙ a.read.no_failure));
     };
     count = a.count;
     sent = a.sent;
@@ -229,7 +265,7 @@ module _ (held : Stop) (o : Outset) (reader : ReaderState) (seat : StreamSeatVal
       each = a.read.each;
       taken = a.read.taken;
       stops = held_at held _ a.spoilt (inl (next_behind o.reader a.before reader a.frames frame a.read a.holds.0));
-      reads = a.holds.0.no_failure ∙ a.read.no_failure ∙ sym (reads_held held o.reader.failures a.spoilt);
+      reads = reads_held held o.reader.failures reader.failures a.spoilt (inl (a.holds.0.no_failure ∙ a.read.no_failure));
     };
     count = a.count;
     sent = a.sent;
@@ -238,45 +274,26 @@ module _ (held : Stop) (o : Outset) (reader : ReaderState) (seat : StreamSeatVal
     whole = λ is. absurd (a.spoilt (subst IsUseful (sym is) tt));
   }
 
-  -- the held stop is told at the input's end, or else the stop that comes behind it
-  told_behind : (stop told : Stop) → IsNoWrite stop → IsFirst stop held told → ((stop ≡ Whole) × (told ≡ held)) ⊎ (told ≡ stop)
-  told_behind Whole told own e = inl (refl, e)
-  told_behind (Read fault) told own e = inr e
-  told_behind (Refused cause) told own e = inr e
-  told_behind (Write fault) told own e = absurd own
-  told_behind Torn told own e = inr e
-
-  pub spoilt_until : (in_hand : Option FrameText) (a : Spoils held o reader seat writer in_hand) (past : List Act) (stop told : Stop)
+  -- it is told, and hides a stop that comes behind it
+  pub spoilt_until : (in_hand : Option FrameText) (a : Spoils held o reader seat writer in_hand) (past : List Act) (stop : Stop)
       (reader' : ReaderState) (seat' : StreamSeatValue) → IsNoWrite stop → Feeds past stop a.before reader' seat seat' writer writer
-      → IsFirst stop held told → Serves past told o.reader reader' o.seat seat' o.writer writer
-  spoilt_until in_hand a past stop told reader' seat' own b first =
+      → Serves past held o.reader reader' o.seat seat' o.writer writer
+  spoilt_until in_hand a past stop reader' seat' own b =
       let frames = a.frames ++ b.frames in
       let read = read_behind past stop o.reader a.before reader' o.seat seat seat' a.frames b.frames a.read a.count a.most b.read in
-      let count : seat'.accepted ≡ o.seat.accepted + length frames = omega (arith, a.count, b.count, length-append a.frames b.frames) in
-      let sent = sent_more o.seat.chain a.frames b.frames o.writer writer held a.sent in
-      let not : told ≢ Whole = first_fault stop held told first a.spoilt in
-      let spoilt : IsSpoilt writer seat' = spoilt_offered stop seat seat' writer b.frames own b.moved (held_spoilt in_hand a) in
-      elim (told_behind stop told own first) [
-        | inl e ↦ record {
-          frames = frames;
-          read = subst (λ (s : Stop). StopsReading past s o.reader reader' o.seat seat' frames) (sym e.1)
-              (read_until past o.reader reader' o.seat seat' frames
-              (subst (λ (s : Stop). StopsReading past s o.reader reader' o.seat seat' frames) e.0 read) held (of_collection held a.spoilt));
-          count = count;
-          sent = sent_told o.seat.chain frames o.writer writer held told (λ f is. sym e.1 ∙ is) sent;
-          torn = λ is.
-              let moved = subst (λ (s : Stop). StopsWith s seat seat' writer writer b.frames) e.0 b.moved in
-              subst IsSome (sym moved.seat_stays.torn) (a.torn (sym e.1 ∙ is));
-          kept = inl spoilt;
-          whole = λ is. absurd (not is);
-        }
-        | inr e ↦ record {
-          frames = frames;
-          read = subst (λ (s : Stop). StopsReading past s o.reader reader' o.seat seat' frames) (sym e) read;
-          count = count;
-          sent = sent_told o.seat.chain frames o.writer writer held told (λ f is. absurd (subst IsNoWrite (sym e ∙ is) own)) sent;
-          torn = λ is. stopped_torn stop seat seat' writer writer b.frames (sym e ∙ is) b.moved;
-          kept = inl spoilt;
-          whole = λ is. absurd (not is);
-        }
-      ]
+      record {
+        frames = frames;
+        read = record {
+          rest = read.rest;
+          each = read.each;
+          taken = read.taken;
+          stops = hides_at held _ a.spoilt (fault_behind stop _ own read.stops);
+          reads = reads_held held o.reader.failures reader'.failures a.spoilt
+              (counts_behind stop o.reader.failures reader'.failures read.reads);
+        };
+        count = omega (arith, a.count, b.count, length-append a.frames b.frames);
+        sent = sent_more o.seat.chain a.frames b.frames o.writer writer held a.sent;
+        torn = λ is. torn_offered stop seat seat' writer b.frames own b.moved (a.torn is);
+        kept = inl (spoilt_offered stop seat seat' writer b.frames own b.moved (held_spoilt in_hand a));
+        whole = λ is. absurd (a.spoilt (subst IsUseful (sym is) tt));
+      }

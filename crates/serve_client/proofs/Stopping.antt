@@ -19,7 +19,7 @@ use Rattle.serve_client.specs.declared.stop.Cause.TheVariants.{TooManyFrames, Cl
 use Rattle.serve_client.specs.declared.stop.Halt.TheVariants.{Stopped}
 use Rattle.serve_client.specs.declared.stop.Stop.{Stop}
 use Rattle.serve_client.specs.declared.stop.Stop.TheVariants.{Whole, Read, Write, Refused, Torn}
-use Rattle.serve_client.specs.Clients.{ClientProgress, ClientStopsAt, HasOtherNumber, IsDrained}
+use Rattle.serve_client.specs.Clients.{ClientProgress, ClientStopsAt, HasLaterFault, HasMoreOrEnds, HasOtherNumber, IsDrained}
 use Rattle.serve_client.specs.ClientInside.{Accounted, Cuts, Feeds, IsFirst, IsNoWrite, IsOfCollection, IsUseful}
 use Rattle.serve_client.specs.ClientInside.{KeepsMoments, MayClose, Moves, StopsReading, StopsWith, TalliesSeat, texts_of}
 use Rattle.serve_client.specs.Sends.{BreaksOff, IsSent, IsSpoilt, SendsWhole, Serves}
@@ -270,9 +270,9 @@ module _ (past : List Act) (reader reader' : ReaderState) (seat mid : StreamSeat
   read_until (Read fault) own = absurd own
   read_until (Refused cause) own = absurd own
   read_until (Write fault) own =
-      record { rest = a.rest; each = a.each; taken = a.taken; stops = inr a.stops; reads = a.reads }
+      record { rest = a.rest; each = a.each; taken = a.taken; stops = inl (inr a.stops); reads = inl a.reads }
   read_until Torn own =
-      record { rest = a.rest; each = a.each; taken = a.taken; stops = inl (inr a.stops); reads = a.reads }
+      record { rest = a.rest; each = a.each; taken = a.taken; stops = inl (inr a.stops); reads = inl a.reads }
 
 -- more calls follow
 
@@ -286,6 +286,12 @@ other_later calls added a = record {
   whole = ap (λ l. l ++ added) a.whole ∙ append_assoc a.before (acts.Offered a.tick a.number ∷ a.later) added;
 }
 
+fault_later : (at : ClientProgress) (added : List Act) → HasMoreOrEnds at ⊎ HasLaterFault at
+    → HasMoreOrEnds at ⊎ HasLaterFault (record at { calls = at.calls ++ added })
+fault_later at added (inl a) = inl a
+fault_later at added (inr (inl a)) = inr (inl a)
+fault_later at added (inr (inr a)) = inr (inr (other_later at.calls added a.0, a.1))
+
 stops_later : (stop : Stop) (at : ClientProgress) (added : List Act) → ClientStopsAt stop at
     → ClientStopsAt stop (record at { calls = at.calls ++ added })
 stops_later Whole at added a = a
@@ -293,9 +299,8 @@ stops_later (Read fault) at added a = a
 stops_later (Refused TooManyFrames) at added a = a
 stops_later (Refused ClockEnd) at added a = a
 stops_later (Refused NoMemory) at added a = a
-stops_later (Write fault) at added a = a
-stops_later Torn at added (inl a) = inl a
-stops_later Torn at added (inr a) = inr (other_later at.calls added a.0, a.1)
+stops_later (Write fault) at added a = fault_later at added a
+stops_later Torn at added a = fault_later at added a
 
 -- the same stop, by the calls of all epochs
 pub read_by : (past past' : List Act) (stop : Stop) (reader reader' : ReaderState) (seat mid seat' : StreamSeatValue)

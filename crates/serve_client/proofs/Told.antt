@@ -12,8 +12,8 @@ use Rattle.serve_hub.specs.declared.entry.Act.{Act}
 use Rattle.serve_client.specs.declared.stop.Cause.TheVariants.{TooManyFrames, ClockEnd, NoMemory}
 use Rattle.serve_client.specs.declared.stop.Stop.{Stop}
 use Rattle.serve_client.specs.declared.stop.Stop.TheVariants.{Whole, Read, Write, Refused, Torn}
-use Rattle.serve_client.specs.Clients.{ClientProgress, ClientStopsAt, GivesUpAt, HasMoreOrEnds, HasOtherNumber, IsUnclosed}
-use Rattle.serve_client.specs.Laws.{InputFaultIsTold, IsOfGivingUp, TellsFault}
+use Rattle.serve_client.specs.Clients.{ClientProgress, ClientStopsAt, GivesUpAt, IsUnclosed}
+use Rattle.serve_client.specs.Laws.{HidesLater, InputFaultIsTold, IsOfGivingUp, TellsFault}
 
 module _ (len : ℕ) (bytes : List ℕ) (fault : ReadFault) (left : Option (List ℕ)) (of_bytes : IsOfBytes fault)
     (stands : StandsAtFrame len fault (Some bytes) left) where
@@ -41,19 +41,14 @@ module _ (len : ℕ) (bytes : List ℕ) (fault : ReadFault) (left : Option (List
     abbrev at : ClientProgress
     at = record { len = len; count = count; most = most; rest = rest; left = after; calls = calls }
 
-    neither : HasMoreOrEnds at → ⊥
-    neither (inl a) = no_next rest after same a
-    neither (inr a) = not_at_end rest same a.0
-
-    told_at : (stop : Stop) → ClientStopsAt stop at → TellsFault fault stop ⊎ (stop ≡ Torn) × HasOtherNumber calls
+    told_at : (stop : Stop) → ClientStopsAt stop at → TellsFault fault stop ⊎ HidesLater stop
     told_at Whole a = absurd (not_at_end rest same a.0)
     told_at (Read told) a = inl (told, refl, λ of_told. one_fault told after of_told (subst (λ r. StandsAtFrame len told r after) same a))
     told_at (Refused TooManyFrames) a = absurd (no_next rest after same a.1)
     told_at (Refused ClockEnd) a = absurd (no_next rest after same a)
     told_at (Refused NoMemory) a = absurd (no_next rest after same a)
-    told_at (Write f) a = absurd (neither a)
-    told_at Torn (inl a) = absurd (neither a)
-    told_at Torn (inr a) = inr (refl, a.0)
+    told_at (Write f) a = inr tt
+    told_at Torn a = inr tt
 
     -- of a stream that was given up
     of_giving_up : (stop : Stop) → GivesUpAt stop at → IsOfGivingUp stop × IsUnclosed calls

@@ -39,7 +39,7 @@ use Rattle.serve_client.specs.declared.stop.Stop.{Stop}
 use Rattle.serve_client.specs.declared.stop.Stop.TheVariants.{Whole, Read, Write, Refused, Torn}
 use Rattle.serve_client.specs.Clients.{AllowsStop, AreAtMoments, ClientProgress, ClientStopsAt}
 use Rattle.serve_client.specs.Clients.{HasOtherNumber}
-use Rattle.serve_client.specs.Clients.{IsUnclosed, collections_in, offers_in, reads_at}
+use Rattle.serve_client.specs.Clients.{CountsReads, IsUnclosed, collections_in, offers_in}
 use Rattle.serve_client.specs.Hands.{Behind, CanPutOn, IsPairOf}
 
 -- a refusal that isn't that of a full journal
@@ -206,6 +206,10 @@ pub record KeepsMoments (Gives : ℕ → Type 0) (old new : StreamSeatValue) : T
 -- where the clock allows the stop that was kept, if one was, it allows the one that is kept or told then
 abbrev pub KeepsAllowed : (Gives : ℕ → Type 0) → (old new : Option Stop) → Type 0
 KeepsAllowed Gives old new = IfSome old (AllowsStop Gives) → IfSome new (AllowsStop Gives)
+
+-- a fault that was kept is the one that is kept or told then
+abbrev pub KeepsFault : (old new : Option Stop) → Type 0
+KeepsFault old new = IfSome old (λ stop. stop ≢ Whole → new ≡ Some stop)
 
 -- the clock's end is kept or told only where it was kept
 abbrev pub IsNoNewEnd : (old new : Option Stop) → Type 0
@@ -432,7 +436,7 @@ pub record StopsReadingAt (StopsAt : Stop → ClientProgress → Type 0) (past :
     left = reader'.left;
     calls = past ++ seat'.calls.list;
   })
-  pub reads : reader'.failures ≡ reads_at stop reader.failures
+  pub reads : CountsReads stop reader.failures reader'.failures
 
 -- why a client reads no more
 abbrev pub StopsReading : List Act → Stop → ReaderState → ReaderState → StreamSeatValue → StreamSeatValue

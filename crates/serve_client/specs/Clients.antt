@@ -6,6 +6,7 @@ use Rattle.std.specs.Io.KnownBytes.{Appends, Consumes, IsAtEnd, Keeps}
 use Rattle.cbs_account.specs.declared.limits.TheConstants.{LAST_MOMENT}
 use Rattle.y4m_header.specs.StreamText.{FrameText, IsFrameOf, frames_text, text_of}
 use Rattle.filters.specs.Chain.{ChainValue}
+use Rattle.y4m_stream.specs.declared.fault.ReadFault.{ReadFault}
 use Rattle.y4m_stream.specs.declared.fault.WriteFault.{WriteFault}
 use Rattle.y4m_stream.specs.declared.fault.WriteFault.TheVariants.{Device}
 use Rattle.y4m_stream.specs.Failures.{one_more}
@@ -128,15 +129,21 @@ HasEnded at = IsAtEnd at.rest × Keeps at.rest at.left
 abbrev pub HasMoreOrEnds : ClientProgress → Type 0
 HasMoreOrEnds at = HasNext at.len at.rest at.left ⊎ HasEnded at
 
--- why a client has no more frames accepted; where one was accepted with another number, no frame behind them
+-- a fault of the input stands there, or an offer was answered with another number, and then no frame behind
 -- need have been read
+abbrev pub HasLaterFault : ClientProgress → Type 0
+HasLaterFault at =
+    ((fault : ReadFault) × StandsAtFrame at.len fault at.rest at.left)
+    ⊎ HasOtherNumber at.calls × IsReadAhead at.rest at.left
+
+-- why a client has no more frames accepted; a write fault, or a Torn, hides a fault that came later
 abbrev pub ClientStopsAt : Stop → ClientProgress → Type 0
 ClientStopsAt Whole at = HasEnded at
 ClientStopsAt (Read fault) at = StandsAtFrame at.len fault at.rest at.left
 ClientStopsAt (Refused TooManyFrames) at = (at.count ≡ at.most) × HasNext at.len at.rest at.left
 ClientStopsAt (Refused cause) at = HasNext at.len at.rest at.left
-ClientStopsAt (Write fault) at = HasMoreOrEnds at
-ClientStopsAt Torn at = HasMoreOrEnds at ⊎ HasOtherNumber at.calls × IsReadAhead at.rest at.left
+ClientStopsAt (Write fault) at = HasMoreOrEnds at ⊎ HasLaterFault at
+ClientStopsAt Torn at = HasMoreOrEnds at ⊎ HasLaterFault at
 
 -- no call closed the stream, and no more than a line behind the frames that were accepted was read
 abbrev pub StandsOpen : ClientProgress → Type 0
@@ -154,10 +161,13 @@ GivesUpAt stop at = ⊥
 abbrev pub StreamStopsAt : Stop → ClientProgress → Type 0
 StreamStopsAt stop at = ClientStopsAt stop at ⊎ GivesUpAt stop at
 
--- a read failed where that is why the client stopped
-abbrev pub reads_at : Stop → ℕ → ℕ
-reads_at (Read fault) n = failures_at fault n
-reads_at stop n = n
+-- how many reads had failed before, and how many then: one more where that is why the client stopped, and
+-- perhaps where a write fault or a Torn hides it
+abbrev pub CountsReads : Stop → (old new : ℕ) → Type 0
+CountsReads (Read fault) old new = new ≡ failures_at fault old
+CountsReads (Write fault) old new = (new ≡ old) ⊎ (new ≡ one_more old)
+CountsReads Torn old new = (new ≡ old) ⊎ (new ≡ one_more old)
+CountsReads stop old new = new ≡ old
 
 -- no memory was granted before anything was written, and no frame was read
 pub record WroteNothing (start : ClientStart) (end : ClientOutcome) : Type 0 where
@@ -235,7 +245,7 @@ pub record Ends (StopsAt : Stop → ClientProgress → Type 0) (start : ClientSt
     left = end.left;
     calls = past ++ seat.calls.list;
   })
-  pub reads : end.read_failures ≡ reads_at end.stop start.reader.failures
+  pub reads : CountsReads end.stop start.reader.failures end.read_failures
   pub out : WroteNothing start end ⊎ CutsHeader start end ⊎ WroteImages frames start end
   pub whole : end.stop ≡ Whole → IsWhole start end
   -- no image is thrown away, unless a write failed or an answer was told Torn: each is delivered, or its seat

@@ -13,7 +13,7 @@ use Rattle.serve_client.specs.declared.stop.Stop.{Stop}
 use Rattle.serve_client.specs.declared.stop.Cause.TheVariants.{NoMemory}
 use Rattle.serve_client.specs.declared.stop.Stop.TheVariants.{Read, Refused, Torn, Whole, Write}
 use Rattle.serve_client.specs.Clients.{ClientEnds, ClientOutcome, ClientProgress, ClientStart, ClientStopsAt}
-use Rattle.serve_client.specs.Clients.{CutsHeader, Ends, HasOtherNumber, IsUnclosed, StreamEnds}
+use Rattle.serve_client.specs.Clients.{CutsHeader, Ends, IsUnclosed, StreamEnds}
 use Rattle.serve_client.specs.Clients.{StreamStopsAt}
 use Rattle.serve_client.specs.Clients.{WroteImages, WroteNothing}
 use Rattle.serve_client.specs.Rests.{Begun, BegunValue, IsRestOf, RestValue, Unbegun}
@@ -70,12 +70,16 @@ IsOfGivingUp (Write fault) = ⊤
 IsOfGivingUp Torn = ⊤
 IsOfGivingUp stop = ⊥
 
--- the fault is told, unless no frame was read, or the stop is Torn, and an offer among these calls was
--- answered with another number
-abbrev pub IsToldOrTorn : ReadFault → List Act → ClientStart → ClientOutcome → Type 0
-IsToldOrTorn fault calls start end =
-    WroteNothing start end ⊎ CutsHeader start end ⊎ TellsFault fault end.stop
-    ⊎ (end.stop ≡ Torn) × HasOtherNumber calls
+-- a stop that hides what comes later
+abbrev pub HidesLater : Stop → Type 0
+HidesLater (Write fault) = ⊤
+HidesLater Torn = ⊤
+HidesLater stop = ⊥
+
+-- the fault is told, unless no frame was read, or a write fault or a Torn that came before hides it
+abbrev pub IsToldOrHidden : ReadFault → ClientStart → ClientOutcome → Type 0
+IsToldOrHidden fault start end =
+    WroteNothing start end ⊎ CutsHeader start end ⊎ TellsFault fault end.stop ⊎ HidesLater end.stop
 
 -- where a fault lies in the bytes behind the frames that were accepted, a client tells it, and so it is told
 -- of a stream, unless that was given up before it was closed
@@ -85,9 +89,9 @@ InputFaultIsTold =
     (bytes : List ℕ) (left : Option (List ℕ)) → IsOfBytes fault
     → StandsAtFrame (data_len_of start.reader.header) fault (Some bytes) left
     → ((e : ClientEnds start past seat end) → e.rest ≡ Some bytes
-    → IsToldOrTorn fault (past ++ seat.calls.list) start end)
+    → IsToldOrHidden fault start end)
     × ((e : StreamEnds start past seat end) → e.rest ≡ Some bytes
-    → IsToldOrTorn fault (past ++ seat.calls.list) start end
+    → IsToldOrHidden fault start end
     ⊎ IsOfGivingUp end.stop × IsUnclosed (past ++ seat.calls.list))
 
 -- a front of the text was written

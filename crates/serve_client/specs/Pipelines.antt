@@ -11,7 +11,8 @@ use Rattle.serve_client.specs.declared.pipeline.Pipeline.{Pipeline}
 use Rattle.serve_client.specs.declared.serving.Step.{Step}
 use Rattle.serve_client.specs.ClientInside.{Accounted, AllowsFed, AreBuffersFor, FeedsOn, HasPassed}
 use Rattle.serve_client.specs.ClientInside.{IsCounted}
-use Rattle.serve_client.specs.ClientInside.{IsSizedFed, KeepsAllowed, KeepsMoments, Tallies, fed_image}
+use Rattle.serve_client.specs.ClientInside.{IsSizedFed, KeepsAllowed, KeepsFault, KeepsMoments, Tallies}
+use Rattle.serve_client.specs.ClientInside.{fed_image}
 use Rattle.serve_client.specs.Hands.{counted_with}
 use Rattle.serve_client.specs.Rests.{CanGoOn, Comes, HasMemoryAt, IsBefore, IsOutset, IsSilent, Outset}
 use Rattle.serve_client.specs.Rests.{course_stop_before, image_before, step_image, step_stop}
@@ -68,5 +69,6 @@ pub record Follows {L R W : Type 0} (Gives : ℕ → Type 0) (course : Option Co
   pub silent : IsSilent course → (step_image step ≡ None) × (new.writer ≡ old.writer)
   pub moments : KeepsMoments Gives old.seat new.seat
   pub stop : KeepsAllowed Gives (course_stop_before course) (step_stop step)
+  pub fault : KeepsFault (course_stop_before course) (step_stop step)
   pub memory : HasMemoryAt new.reader new.writer new.buffers step
   pub header : new.reader.header ≡ old.reader.header

@@ -7,7 +7,7 @@ ghost use Rattle.y4m_stream.specs.Reader.{IsOfHeader};
 ghost use Rattle.y4m_stream.specs.Served.{IsHeaderOfImages};
 ghost use Rattle.y4m_stream.specs.Writer.{IsOpenedFor, WriterState};
 ghost use Rattle.serve_client.specs.ClientInside.{AreBuffersFor, HasPlaces, IsCounted, IsNoNewEnd};
-ghost use Rattle.serve_client.specs.ClientInside.{KeepsAllowed, KeepsMoments, TalliesSeat};
+ghost use Rattle.serve_client.specs.ClientInside.{KeepsAllowed, KeepsFault, KeepsMoments, TalliesSeat};
 ghost use Rattle.serve_client.specs.Clients.{AllowsStop, ClientEnds, ClientStart};
 ghost use Rattle.serve_client.specs.Pipelines.{CanFollow};
 ghost use Rattle.serve_client.specs.Rests.{IsFresh, IsRest, IsRestOf, IsRunning, IsTallied, IsUnbegun};
@@ -141,6 +141,7 @@ fn end<L: Epoch, R: Source + Drop, W: Sink>(
 ) -> ClientEnd<L, R, W>
     ensures seat { result.seat ≡ pipeline.seat }
     ensures stop { IsNoNewEnd (Some stop) (Some result.outcome.stop) }
+    ensures fault { KeepsFault (Some stop) (Some result.outcome.stop) }
     ensures ends { (start : ClientStart) (past : List Act) (shown : HeaderValue) (opened : WriterState)
         → IsHeaderOfImages start.seat.chain start.reader.header shown
         → IsOpenedFor shown start.before start.failures opened → IsFresh start.seat
@@ -181,6 +182,7 @@ fn run<L: Epoch, R: Source + Drop, W: Sink, K: Clock, T: Wait>(
     ensures moments { KeepsMoments (K.gives post.entry.clock.now) pipeline.seat (seat_in result) }
     ensures stop { KeepsAllowed (K.gives post.entry.clock.now) (course_stop_before course)
         (turn_stop result) }
+    ensures fault { KeepsFault (course_stop_before course) (turn_stop result) }
 {
     let mut pipeline = pipeline;
     match pipeline.serve(post, course) {
@@ -260,6 +262,7 @@ fn go_on<L: Epoch, R: Source + Drop, W: Sink, K: Clock, T: Wait>(
         → Turns start past result }
     ensures moments { KeepsMoments (K.gives post.entry.clock.now) seat (seat_in result) }
     ensures stop { KeepsAllowed (K.gives post.entry.clock.now) (rest_stop rest) (turn_stop result) }
+    ensures fault { KeepsFault (rest_stop rest) (turn_stop result) }
 {
     let _recalled = seat.frames();
     match rest.state {
@@ -290,7 +293,8 @@ fn go_on<L: Epoch, R: Source + Drop, W: Sink, K: Clock, T: Wait>(
 /// input, and at any fault, it closes the stream and collects the images that are left. After a fault of the
 /// writer, or an answer that contradicts the seat, these are thrown away, and nothing more is written; where
 /// that came before a frame was read, frames are read and offered on until the queue is full or the input
-/// ends, and it is told then. Once a stream runs, frames and images have the memory of those before them.
+/// ends or fails, and it is told then. Once a stream runs, frames and images have the memory of those before
+/// them.
 ///
 /// Where the journal is full it pauses, also while its input is silent, and tells what is left to do: in the
 /// next epoch a call with the stream's seat of that epoch goes on from there, with the frame first that it
@@ -309,6 +313,7 @@ pub fn client<L: Epoch, R: Source + Drop, W: Sink, K: Clock, T: Wait>(
         → Turns start past result }
     ensures moments { KeepsMoments (K.gives clock.now) seat (seat_in result) }
     ensures stop { KeepsAllowed (K.gives clock.now) (rest_stop rest) (turn_stop result) }
+    ensures fault { KeepsFault (rest_stop rest) (turn_stop result) }
     ensures full { PausesAtFull result }
 {
     let post = Post {

@@ -10,9 +10,9 @@ pub fn the_input_is_served()
 {}
 
 /// Where a fault lies in the bytes behind the accepted frames, a client that began to read tells it, or a
-/// fault of the reader that isn't in the bytes; or its stop is `Torn`, and an offer was answered with another
-/// number than its own. Where its stream was given up before it was closed, as it may be in a session that
-/// was cut, the fault may be told as want of memory, or as a fault of the writer or a `Torn` that was held.
+/// fault of the reader that isn't in the bytes; or a fault of the writer or a `Torn`, which hides it. Where its
+/// stream was given up before it was closed, as it may be in a session that was cut, the fault may be told as
+/// want of memory.
 pub fn an_input_fault_is_told()
     ensures { InputFaultIsTold }
 {}

@@ -64,8 +64,7 @@ impl<L: Epoch, R: Source + Drop, W: Sink> Pipeline<L, R, W> {
     }
 
     /// Reads and offers on, where an image couldn't be delivered for the reason that is held, and throws away
-    /// what is left. It stops for that reason, unless another comes before the queue is full or the input
-    /// ends.
+    /// what is left. It stops for that reason, whatever fault comes later.
     fn hold_left<K: Clock, T: Wait>(
         &mut self,
         post: Post<'_, L, K, T>,
@@ -80,7 +79,7 @@ impl<L: Epoch, R: Source + Drop, W: Sink> Pipeline<L, R, W> {
         match hold(post, &mut self.seat, &mut self.reader, in_hand) {
             Onward::Paused(in_hand) => Step::Paused(Course::Holding(in_hand, held)),
             Onward::QueueFull => self.spoil_left(post, held),
-            Onward::Stopped(stop) => self.spoil_left(post, stop.or(held)),
+            Onward::Stopped(_later) => self.spoil_left(post, held),
         }
     }
 

@@ -1,4 +1,6 @@
 use Rattle.std.proofs.Common.{refl}
+use Rattle.serve_client.specs.Rests.{rest_stop}
+use Rattle.serve_client.proofs.Allowing.{fault_kept, fault_same}
 use Rattle.serve_client.proofs.Sized.{header_stays}
 use Rattle.serve_client.proofs.Tallying.{KeepsMoments-same, KeepsMoments-trans}
 use Rattle.serve_client.proofs.clients.client.Goals as goal
@@ -10,6 +12,7 @@ loop-init g c = record {
   stands = λ start past at. at;
   moments = KeepsMoments-same (g.K.Clock.gives c.args.clock.now) _ _ refl;
   stop = λ allowed. allowed;
+  fault = fault_same (rest_stop c.args.rest);
 }
 
 pub go_on-requires : goal.go_on-requires
@@ -26,6 +29,7 @@ loop-preserved g c =
       stands = λ start past at. c.in-Paused.ensures.turn start past (inv.stands start past at);
       moments = KeepsMoments-trans (g.K.Clock.gives c.args.clock.now) _ _ _ inv.moments c.in-Paused.ensures.moments;
       stop = λ allowed. c.in-Paused.ensures.stop (inv.stop allowed);
+      fault = fault_kept _ _ _ inv.fault c.in-Paused.ensures.fault;
     }
 
 pub returns-in-Ended-clause-turn : goal.returns-in-Ended-clause-turn
@@ -44,3 +48,9 @@ returns-in-Ended-clause-moments g c =
 
 pub returns-then-is_full-clause-full : goal.returns-then-is_full-clause-full
 returns-then-is_full-clause-full g c = c.is_full.ensures.0 c.if-is_full.true
+
+pub returns-in-Ended-clause-fault : goal.returns-in-Ended-clause-fault
+returns-in-Ended-clause-fault g c = fault_kept _ _ _ c.loop.invariant.fault c.in-Ended.ensures.fault
+
+pub returns-then-is_full-clause-fault : goal.returns-then-is_full-clause-fault
+returns-then-is_full-clause-fault g c = fault_kept _ _ _ c.loop.invariant.fault c.in-Paused.ensures.fault

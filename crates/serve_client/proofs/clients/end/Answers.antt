@@ -1,6 +1,7 @@
+use Rattle.std.proofs.Common.{Some, ap}
 use Rattle.serve_client.specs.Clients.{ClientStopsAt}
 use Rattle.serve_client.proofs.Allowing.{flushed_stop}
-use Rattle.serve_client.proofs.Ending.{Ends-served, stops_flushed}
+use Rattle.serve_client.proofs.Ending.{Ends-served, stop_stays, stops_flushed}
 use Rattle.serve_client.proofs.clients.end.Goals as goal
 
 pub returns-clause-ends : goal.returns-clause-ends
@@ -22,3 +23,7 @@ returns-clause-ends g c = λ start past shown opened header is_opened fresh serv
 
 pub returns-clause-stop : goal.returns-clause-stop
 returns-clause-stop g c = flushed_stop c.args.stop c.finish-writer.result.1 c.stop_after_flush.result c.stop_after_flush.ensures
+
+pub returns-clause-fault : goal.returns-clause-fault
+returns-clause-fault g c = λ fault.
+    ap Some (stop_stays c.args.stop c.finish-writer.result.1 c.stop_after_flush.result c.stop_after_flush.ensures fault)

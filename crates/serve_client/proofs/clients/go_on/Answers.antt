@@ -2,8 +2,10 @@ use Rattle.std.proofs.Common.{◌≡◌, ◌∙◌, ◌≤◌, IfSome, ap, arith
 use Rattle.y4m_header.specs.declared.limits.TheConstants.{MOST_FRAMES}
 use Rattle.y4m_stream.specs.Reader.{IsOfHeader}
 use Rattle.serve_client.specs.Clients.{AllowsStop}
+use Rattle.serve_client.specs.ClientInside.{KeepsFault}
 use Rattle.serve_client.specs.Rests.{Begun, IsRestOf, IsUnbegun, RestValue, reader_in, rest_stop}
 use Rattle.serve_client.specs.RestInside.{rest_of}
+use Rattle.serve_client.specs.Turns.{turn_stop}
 use Rattle.serve_client.proofs.Resting.{begun_with, can_resume, resumed}
 use Rattle.serve_client.proofs.clients.go_on.Goals as goal
 
@@ -45,3 +47,16 @@ returns-in-Begun-clause-stop g c = λ was.
     sym c.rest.view_is ∙ ap (rest_of g.W.Sink.contents g.W.Sink.failures) c.in-Begun.is ∙ ap Begun
     (sym c.in-Begun.begun-is ∙ sym c.begun.view_is) in
     c.run.ensures.stop (subst (λ (r : RestValue). IfSome (rest_stop r) (AllowsStop (g.K.Clock.gives c.args.post.clock.now))) same was)
+
+pub returns-in-Unbegun-clause-fault : goal.returns-in-Unbegun-clause-fault
+returns-in-Unbegun-clause-fault g c =
+    let is = sym c.rest.view_is ∙ ap (rest_of g.W.Sink.contents g.W.Sink.failures) c.in-Unbegun.is in
+    subst (λ (r : RestValue). KeepsFault (rest_stop r) (turn_stop c.begin.result)) (sym is) tt
+
+pub returns-in-Begun-clause-fault : goal.returns-in-Begun-clause-fault
+returns-in-Begun-clause-fault g c =
+    let inside = c.begun.inside in
+    let same : c.args.rest ≡ Begun (begun_with inside.course inside.reader inside.writer inside.accepted inside.collected) =
+    sym c.rest.view_is ∙ ap (rest_of g.W.Sink.contents g.W.Sink.failures) c.in-Begun.is ∙ ap Begun
+    (sym c.in-Begun.begun-is ∙ sym c.begun.view_is) in
+    subst (λ (r : RestValue). KeepsFault (rest_stop r) (turn_stop c.run.result)) (sym same) c.run.ensures.fault

@@ -1,8 +1,8 @@
 use Rattle.std.proofs.Common.{◌∙◌, Some, ap, arith, subst, sym}
 use Rattle.serve_hub.specs.Seats.{StreamSeatValue}
 use Rattle.serve_client.specs.ClientInside.{KeepsMoments}
-use Rattle.serve_client.specs.Rests.{Outset}
-use Rattle.serve_client.proofs.Allowing.{kept_allowed}
+use Rattle.serve_client.specs.Rests.{Outset, course_stop_before}
+use Rattle.serve_client.proofs.Allowing.{fault_kept, kept_allowed}
 use Rattle.serve_client.proofs.Resting.{outset_of, tallied_later, untorn_or_silent}
 use Rattle.serve_client.proofs.clients.run.Goals as goal
 
@@ -48,3 +48,8 @@ pub returns-in-Done-clause-stop : goal.returns-in-Done-clause-stop
 returns-in-Done-clause-stop g c = λ was.
     kept_allowed (g.K.Clock.gives c.args.post.clock.now) (Some c.in-Done.stop) (Some c.end.result.outcome.stop) c.end.ensures.stop
     (c.in-Done.ensures.stop was)
+
+pub returns-in-Done-clause-fault : goal.returns-in-Done-clause-fault
+returns-in-Done-clause-fault g c =
+    fault_kept (course_stop_before c.args.course) (Some c.in-Done.stop) (Some c.end.result.outcome.stop) c.in-Done.ensures.fault
+    c.end.ensures.fault

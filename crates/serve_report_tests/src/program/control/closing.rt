@@ -1,5 +1,5 @@
 //! Streams that are closed.
-use super::script::{AWAITED, HELD, Turn};
+use super::script::{AWAITED, HELD, PAUSED, Turn};
 use super::waiting::{ASK, Later, Slow, serves_fifos, shared_answers, talks_of, waits};
 use super::{Talk, text_by};
 use crate::program::memory::Made;
@@ -42,19 +42,20 @@ fn closes<'f, R: Abort + Threads + Wait + Clock + Copy + Drop + Send + Sync + 's
     waits(rt, alloc, "", &came, Some(written), talk);
 }
 
-/// The last image doesn't fit into the output.
+/// The last image doesn't fit into the output, as is seen before the stream is closed.
 #[test]
 fn a_failed_write_is_not_told_as_a_close(rt: HostRuntime) {
-    let turns: [Turn<'_>; 3] = [
+    let turns: [Turn<'_>; 4] = [
         ASK,
-        (AWAITED, b"close a\nclose a\n"),
-        ("stop read Device\n", b"end\n"),
+        (AWAITED, b""),
+        (PAUSED, b"close a\nclose a\n"),
+        ("stop write 49\n", b"end\n"),
     ];
     let outputs = [Made::new(rt.alloc(), "a.out", A_INVERTED.len() - 3)];
     let answers = shared_answers(&rt, rt.alloc(), usize::MAX);
     let came = [("", A), ("AlreadyClosed", b"FRAME\n".as_slice())];
     let wanted = "a admitted\nline 3: AlreadyClosed\n\
-                  a accepted 3 delivered 2 charged 3 stop read Device\nunits 3\n";
+                  a accepted 3 delivered 2 charged 3 stop write 49\nunits 3\n";
     let later: [Later<'_>; 1] = [("a.in", "", &came)];
     let talk = Talk::new(&turns, wanted).with_status(1);
     talks_of(&rt, rt.alloc(), &answers, &later, &[], "", &outputs, talk);

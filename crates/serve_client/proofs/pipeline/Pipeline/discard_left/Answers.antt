@@ -20,6 +20,7 @@ returns-then-discard g c =
       silent = λ is. (refl, refl);
       moments = none_given _ _ _ on.tally on.stays;
       stop = λ was. was;
+      fault = λ kept. refl;
       memory = tt;
       header = refl;
     }
@@ -38,6 +39,7 @@ returns-else-discard g c =
       silent = λ is. (refl, refl);
       moments = none_given _ _ _ on.tally on.stays;
       stop = λ was. was;
+      fault = λ kept. refl;
       memory = tt;
       header = refl;
     }

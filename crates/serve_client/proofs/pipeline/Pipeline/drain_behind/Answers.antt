@@ -1,8 +1,8 @@
-use Rattle.std.proofs.Common.{[], Some, ap, refl}
+use Rattle.std.proofs.Common.{[], Some, ap, refl, sym, ◌∙◌}
 use Rattle.serve_client.specs.declared.stop.Halt.TheVariants.{Stopped}
 use Rattle.serve_client.specs.ClientInside.{IsOfWriting, StopsWith}
 use Rattle.serve_client.specs.Hands.{counted_with, with_kept}
-use Rattle.serve_client.proofs.Allowing.{drained_stop, kept_allowed}
+use Rattle.serve_client.proofs.Allowing.{drained_stop, first_kept, kept_allowed}
 use Rattle.serve_client.proofs.Finishing.{full_can, writing_collects, writing_delivers, writing_unfinished}
 use Rattle.serve_client.proofs.Hands.{TalliesSeat-kept, Tallies-less, tally_silent}
 use Rattle.serve_client.proofs.Moving.{few_later, none_later, size_later, writing_later}
@@ -39,6 +39,7 @@ returns-in-Ok g c =
       silent = λ is. absurd is;
       moments = left.moments;
       stop = left.stop;
+      fault = left.fault;
       memory = left.memory;
       header = left.header;
     }
@@ -59,6 +60,7 @@ returns-in-Err-Full g c =
       silent = λ is. absurd is;
       moments = KeepsMoments-same _ _ _ refl;
       stop = λ was. was;
+      fault = λ kept. refl;
       memory = full_can image c.args.pair c.finish.new.writer (rw c.in-Err-Full.field-0-is at c.in-Err-Full.ensures.left);
       header = refl;
     }
@@ -95,6 +97,9 @@ returns g c =
       stop = λ was. left.stop
           (kept_allowed _ (Some c.args.stop) (Some c.or.result)
           (drained_stop c.args.stop last c.or.result (writing_collects (Stopped last) own) c.or.ensures) was);
+      fault = λ kept.
+          let told = first_kept c.args.stop last c.or.result kept c.or.ensures in
+          left.fault (λ is. kept (sym told ∙ is)) ∙ ap Some told;
       memory = left.memory;
       header = left.header;
     }

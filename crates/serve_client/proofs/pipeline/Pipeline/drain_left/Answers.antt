@@ -2,7 +2,7 @@ use Rattle.std.proofs.Common.{◌≡◌, ◌∙◌, Some, true, false, [], ap, r
 use Rattle.serve_hub.specs.Seats.{StreamSeatValue}
 use Rattle.serve_client.specs.declared.stop.Halt.TheVariants.{Stopped}
 use Rattle.serve_client.specs.ClientInside.{IsUseful}
-use Rattle.serve_client.proofs.Allowing.{drained_stop, kept_allowed}
+use Rattle.serve_client.proofs.Allowing.{drained_stop, first_kept, kept_allowed}
 use Rattle.serve_client.proofs.Hands.{left_can, tally_silent}
 use Rattle.serve_client.proofs.Keeping.{collected_whole, stopped_spoilt}
 use Rattle.serve_client.proofs.Stopping.{Feeds-paused, Serves-drained, first_fault}
@@ -23,6 +23,7 @@ returns-in-Full g c =
       silent = λ is. absurd is;
       moments = none_given _ _ _ c.drain.ensures.tally.seat c.drain.ensures.stays;
       stop = λ was. was;
+      fault = λ kept. refl;
       memory = left_can image old.seat.chain c.drain.new.writer c.in-Full.ensures.left;
       header = refl;
     }
@@ -52,6 +53,9 @@ returns-then-is_spoilt g c =
       stop = λ was. left.stop
           (kept_allowed gives (Some c.args.stop) (Some c.or-told.result)
           (drained_stop c.args.stop last c.or-told.result on.own c.or-told.ensures) was);
+      fault = λ kept.
+          let told = first_kept c.args.stop last c.or-told.result kept c.or-told.ensures in
+          left.fault (λ is. kept (sym told ∙ is)) ∙ ap Some told;
       memory = left.memory;
       header = left.header;
     }
@@ -74,6 +78,7 @@ returns-else-is_spoilt g c =
       moments = none_given _ _ _ on.tally.seat c.drain.ensures.stays;
       stop = kept_allowed _ (Some c.args.stop) (Some c.or-told.result)
           (drained_stop c.args.stop last c.or-told.result on.own c.or-told.ensures);
+      fault = λ kept. ap Some (first_kept c.args.stop last c.or-told.result kept c.or-told.ensures);
       memory = tt;
       header = refl;
     }

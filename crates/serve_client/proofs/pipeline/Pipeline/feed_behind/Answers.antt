@@ -47,6 +47,7 @@ returns-in-Ok g c =
       silent = λ is. absurd is;
       moments = left.moments;
       stop = left.stop;
+      fault = tt;
       memory = left.memory;
       header = left.header;
     }
@@ -71,6 +72,7 @@ returns-in-Err-Full g c =
       silent = λ is. absurd is;
       moments = KeepsMoments-same _ _ _ refl;
       stop = λ was. was;
+      fault = tt;
       memory = record {
         chain = old.seat.chain;
         header = c.requires.header;
@@ -119,6 +121,7 @@ returns-in-Err-Stopped g c =
       moments = left.moments;
       stop = λ was. left.stop
           (delivery_allowed (g.K.Clock.gives c.args.post.clock.now) (Stopped stop) (writing_delivers (Stopped stop) own));
+      fault = tt;
       memory = left.memory;
       header = left.header;
     }

@@ -39,6 +39,7 @@ returns-in-Paused g c =
       silent = λ is. absurd is;
       moments = kept.moments;
       stop = λ was. tt;
+      fault = tt;
       memory = record {
         chain = old.seat.chain;
         header = rw kept.header c.requires.header;
@@ -84,6 +85,7 @@ returns-in-Held g c =
       silent = λ is. absurd is;
       moments = KeepsMoments-trans _ _ _ _ kept.moments left.moments;
       stop = λ was. left.stop kept.stop;
+      fault = tt;
       memory = left.memory;
       header = left.header ∙ kept.header;
     }
@@ -123,6 +125,7 @@ returns-then-is_spoilt g c =
       moments = KeepsMoments-trans gives _ _ _ kept.moments
           (KeepsMoments-trans gives _ _ _ (close_moments gives _ _ close.tally close.closed) left.moments);
       stop = λ was. left.stop kept.stop;
+      fault = tt;
       memory = left.memory;
       header = left.header ∙ kept.header;
     }
@@ -158,6 +161,7 @@ returns-then-is_torn g c =
       moments = KeepsMoments-trans gives _ _ _ kept.moments
           (KeepsMoments-trans gives _ _ _ (close_moments gives _ _ close.tally close.closed) left.moments);
       stop = λ was. left.stop (first_allowed gives stop Torn c.or.result kept.stop tt c.or.ensures);
+      fault = tt;
       memory = left.memory;
       header = left.header ∙ kept.header;
     }
@@ -212,6 +216,7 @@ returns-else-is_torn g c =
       moments = KeepsMoments-trans gives _ _ _ kept.moments
           (KeepsMoments-trans gives _ _ _ (close_moments gives _ _ close.tally close.closed) left.moments);
       stop = λ was. left.stop kept.stop;
+      fault = tt;
       memory = left.memory;
       header = left.header ∙ kept.header;
     }

@@ -1,10 +1,9 @@
 use Rattle.std.proofs.Common.{◌∙◌, refl}
 use Rattle.serve_client.specs.ClientInside.{text_in}
-use Rattle.serve_client.proofs.Allowing.{first_allowed}
 use Rattle.serve_client.proofs.Hands.{tally_silent}
 use Rattle.serve_client.proofs.Tallying.{KeepsMoments-trans, Tallies-seat, counted_later}
 use Rattle.serve_client.proofs.Spoiling.{held_spoilt, held_told, spoilt_offered, spoilt_on, spoilt_until}
-use Rattle.serve_client.proofs.Stopping.{first_fault, of_no_use}
+use Rattle.serve_client.proofs.Stopping.{of_no_use}
 use Rattle.serve_client.proofs.pipeline.Pipeline.hold_left.Goals as goal
 
 pub hold-requires : goal.hold-requires
@@ -27,6 +26,7 @@ returns-in-Paused g c =
       silent = λ is. (refl, refl);
       moments = kept.moments;
       stop = λ was. was;
+      fault = λ kept. refl;
       memory = record { chain = old.seat.chain; header = rw kept.header c.requires.header; sized = kept.frame };
       header = kept.header;
     }
@@ -53,17 +53,16 @@ returns-in-QueueFull g c =
       silent = λ is. left.silent tt;
       moments = KeepsMoments-trans _ _ _ _ kept.moments left.moments;
       stop = left.stop;
+      fault = left.fault;
       memory = left.memory;
       header = left.header ∙ kept.header;
     }
 
 pub spoil_left-requires-in-Stopped : goal.spoil_left-requires-in-Stopped
-spoil_left-requires-in-Stopped g c =
-    record { can = first_fault c.in-Stopped.stop c.args.held c.or.result c.or.ensures c.requires.can.spoilt }
+spoil_left-requires-in-Stopped g c = record { can = of_no_use c.args.held c.requires.can.spoilt }
 
 pub returns-in-Stopped : goal.returns-in-Stopped
 returns-in-Stopped g c =
-    let gives = g.K.Clock.gives c.args.post.clock.now in
     let old = c.args.self.now in
     let kept = c.in-Stopped.ensures.has_held in
     let left = c.spoil_left-in-Stopped.ensures in
@@ -71,16 +70,17 @@ returns-in-Stopped g c =
       answer = λ past o is counted at.
           let on = c.in-Stopped.ensures.answer past at.before old.writer counted at.holds in
           left.answer past o is (counted_later past _ _ kept.tally counted) (
-            first_fault c.in-Stopped.stop c.args.held c.or.result c.or.ensures c.requires.can.spoilt,
-            spoilt_offered c.in-Stopped.stop old.seat c.hold.new.seat old.writer on.1.frames on.0 on.1.moved
+            of_no_use c.args.held c.requires.can.spoilt,
+            spoilt_offered c.in-Stopped._later old.seat c.hold.new.seat old.writer on.1.frames on.0 on.1.moved
                 (held_spoilt c.args.held o old.reader old.seat old.writer (text_in c.args.in_hand) at),
-            spoilt_until c.args.held o old.reader old.seat old.writer (text_in c.args.in_hand) at past c.in-Stopped.stop c.or.result
-                c.hold.new.reader c.hold.new.seat on.0 on.1 c.or.ensures,
+            spoilt_until c.args.held o old.reader old.seat old.writer (text_in c.args.in_hand) at past c.in-Stopped._later
+                c.hold.new.reader c.hold.new.seat on.0 on.1,
           );
       tally = tally_silent _ _ _ _ _ _ _ (Tallies-seat _ _ _ _ kept.tally refl) left.tally.seat (left.silent tt);
       silent = λ is. left.silent tt;
       moments = KeepsMoments-trans _ _ _ _ kept.moments left.moments;
-      stop = λ was. left.stop (first_allowed gives c.in-Stopped.stop c.args.held c.or.result kept.stop was c.or.ensures);
+      stop = left.stop;
+      fault = left.fault;
       memory = left.memory;
       header = left.header ∙ kept.header;
     }

@@ -14,6 +14,7 @@ returns-in-None g c =
       silent = left.silent;
       moments = left.moments;
       stop = left.stop;
+      fault = left.fault;
       memory = left.memory;
       header = left.header;
     } in

@@ -23,6 +23,7 @@ returns g c =
       silent = left.silent;
       moments = KeepsMoments-trans _ _ _ _ (close_moments _ _ _ close.tally close.closed) left.moments;
       stop = left.stop;
+      fault = left.fault;
       memory = left.memory;
       header = left.header;
     }
