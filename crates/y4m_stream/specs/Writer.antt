@@ -59,6 +59,11 @@ failures_by Done n = n
 failures_by More n = n
 failures_by Fails n = one_more n
 
+-- where there is more of a text of which so many bytes had gone out, some went out, or the sink may have
+-- deferred them
+abbrev pub WritesSome : (may_defer : Type 0) → (from : ℕ) → Put → Type 0
+WritesSome may_defer from put = put.way ≡ More → (from < put.written) ⊎ may_defer
+
 -- where so many bytes of the text had gone out, from its front, so many have now
 pub record PutsOn (old new : Option (List ℕ)) (text : List ℕ) (from : ℕ) (put : Put) : Type 0 where
   pub later : from ≤ put.written

@@ -2,7 +2,7 @@
 ghost use Rattle.std.specs.Prelude.{◌≡◌, ◌≢◌, ◌+◌, ◌-◌, ◌^◌, ◌<◌, ◌≤◌, [], ◌∷◌, ◌++◌, length, take, IfNone};
 ghost use Rattle.y4m_stream.specs.declared.lookahead.TheConstants.{LINE_LIMIT};
 ghost use Rattle.y4m_stream.specs.Failures.{failures_after};
-ghost use Rattle.y4m_stream.specs.Writer.{IsFar, PutsOn, PutsText, failures_by};
+ghost use Rattle.y4m_stream.specs.Writer.{IsFar, PutsOn, PutsText, WritesSome, failures_by};
 
 use crate::device::Sink;
 use crate::lookahead::LINE_LIMIT;
@@ -90,6 +90,7 @@ fn put_on<W: Sink>(writer: &mut W, bytes: &[u8], from: usize, patience: Option<u
     requires { from ≤ length bytes.now }
     ensures text { PutsOn (W.contents writer.old) (W.contents writer.new) bytes.now from result }
     ensures failures { W.failures writer.new ≡ failures_by result.way (W.failures writer.old) }
+    ensures some { WritesSome W.may_defer from result }
     ensures decided { IfNone patience (result.way ≢ Way.More) }
 {
     match patience {
@@ -112,6 +113,7 @@ fn try_on<W: Sink>(writer: &mut W, bytes: &[u8], from: usize, milliseconds: u64)
     requires { from ≤ length bytes.now }
     ensures text { PutsOn (W.contents writer.old) (W.contents writer.new) bytes.now from result }
     ensures failures { W.failures writer.new ≡ failures_by result.way (W.failures writer.old) }
+    ensures some { WritesSome W.may_defer from result }
 {
     if from == bytes.len() {
         return Put {
@@ -148,6 +150,7 @@ fn put_line_on<W: Sink>(writer: &mut W, line: &[u8], from: usize, patience: Opti
     requires { (length line.now < LINE_LIMIT) × (from ≤ length line.now) }
     ensures text { PutsOn (W.contents writer.old) (W.contents writer.new) (line.now ++ 10 ∷ []) from result }
     ensures failures { W.failures writer.new ≡ failures_by result.way (W.failures writer.old) }
+    ensures some { WritesSome W.may_defer from result }
     ensures decided { IfNone patience (result.way ≢ Way.More) }
 {
     let text = with_line_feed(line);
@@ -167,6 +170,7 @@ fn put_data_on<W: Sink>(
     ensures text { PutsOn (W.contents writer.old) (W.contents writer.new) (line.now ++ 10 ∷ bytes.now)
         (length line.now + 1 + from) result }
     ensures failures { W.failures writer.new ≡ failures_by result.way (W.failures writer.old) }
+    ensures some { WritesSome W.may_defer (length line.now + 1 + from) result }
     ensures decided { IfNone patience (result.way ≢ Way.More) }
 {
     let Put { written, way } = put_on(writer, bytes, from, patience);
@@ -198,6 +202,7 @@ pub fn put_frame_on<W: Sink>(
     ensures text { PutsOn (W.contents writer.old) (W.contents writer.new) (line.now ++ 10 ∷ bytes.now)
         from result }
     ensures failures { W.failures writer.new ≡ failures_by result.way (W.failures writer.old) }
+    ensures some { WritesSome W.may_defer from result }
     ensures decided { IfNone patience (result.way ≢ Way.More) }
 {
     if line.len() < from {

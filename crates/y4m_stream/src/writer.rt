@@ -1,5 +1,5 @@
 //! A writer of frames, which fails for good at its first fault.
-ghost use Rattle.std.specs.Prelude.{◌≡◌, ◌≢◌, ◌<◌, ◌^◌, ◌↔◌, [], ◌∷◌, ◌++◌, Ok, Err, IfOk, IfErr, IfNone};
+ghost use Rattle.std.specs.Prelude.{◌≡◌, ◌≢◌, ◌<◌, ◌^◌, ◌↔◌, ◌⊎◌, [], ◌∷◌, ◌++◌, Ok, Err, IfOk, IfErr, IfNone};
 ghost use Rattle.std.specs.Prelude.{OnOk, length, true, false};
 ghost use Rattle.std.specs.Io.KnownBytes.{Keeps};
 ghost use Rattle.y4m_stream.specs.Failures.{one_more};
@@ -107,7 +107,7 @@ impl<W: Sink> StreamWriter<W> {
 
     /// Writes on with a frame, behind what went out of it before, if anything did: where it has a patience,
     /// in at most two writes, each of which waits at most so many milliseconds; else to its end. It answers
-    /// whether the frame went out whole.
+    /// whether the frame went out whole. Where it didn't, some of it went out, unless the sink deferred that.
     ///
     /// Until it has, each call is for the same frame. After a fault each later call answers
     /// `WriteFault::Failed`, as those of `put` do.
@@ -120,6 +120,7 @@ impl<W: Sink> StreamWriter<W> {
         ensures counted { CountsMore self.old self.new (frame_text_of frame.now) result }
         ensures failed { self.old.failed ≡ true → (result ≡ Err WriteFault.Failed) × (self.new ≡ self.old) }
         ensures decided { IfNone patience (result ≢ Ok false) }
+        ensures some { result ≡ Ok false → (self.old.part < self.new.part) ⊎ W.may_defer }
     {
         if self.failed {
             return Err(WriteFault::Failed);
