@@ -71,6 +71,7 @@ since_given_up terms times (epoch ∷ es) w served since = (
     numbers = since.numbers;
     calls = since.calls;
     stream = since.stream;
+    left = since.left;
     stop = since.stop;
   },
   inl refl,
@@ -112,6 +113,7 @@ answered terms times es told desk w stream seat served history s ends own all of
       calls = rw (one.past_of, one.seat_of) s.calls;
       stream = at_end terms w.request.spec es s.number s.before desk seat.number (IsStreamTold served) history.epochs_are s.behind
           one.stream;
+      left = rw one.seat_of s.left;
       stop = stop;
     } in
     told_so terms times es told w stream served since

@@ -31,10 +31,10 @@ record IsLife (terms : Terms) (opening : ScheduleValue) (out : List (StreamState
   leads : state_in setup life ≡ desk_state opening
   taken : taken_out setup life ≡ out
 
-life_anew : (terms : Terms) (opening : ScheduleValue) (taken : List (StreamState Blank))
-    → OpensAnew terms opening taken → IsLife terms opening taken
-life_anew terms opening taken o =
-    let setup = setup_of terms.workers terms.quantum (o.0.0 ∷ []) in
+life_anew : (terms : Terms) (before : List EpochValue) (opening : ScheduleValue) (taken : List (StreamState Blank))
+    → OpensAnew terms before opening taken → IsLife terms opening taken
+life_anew terms before opening taken o =
+    let setup = setup_of terms.workers terms.quantum o.0.0 in
     record {
       setup = setup;
       is_setup = o.0.1.is_setup;
@@ -93,8 +93,8 @@ life_on terms epoch taken is l =
 
 life_of : (terms : Terms) (before : List EpochValue) (opening : ScheduleValue)
     (taken : List (StreamState Blank)) → AreEpochsBy terms before → WereTakenOut terms before opening taken → IsLife terms opening taken
-life_of terms [] opening taken are t = life_anew terms opening taken t
-life_of terms (epoch ∷ before) opening taken are (inl t) = life_anew terms opening taken t
+life_of terms [] opening taken are t = life_anew terms [] opening taken t
+life_of terms (epoch ∷ before) opening taken are (inl t) = life_anew terms (epoch ∷ before) opening taken t
 life_of terms (epoch ∷ before) opening taken are (inr (inl t)) =
     subst (λ (x : ScheduleValue). IsLife terms x taken) (sym t.0)
     (life_on terms epoch taken are.0 (life_of terms before epoch.opening taken are.2 t.1))

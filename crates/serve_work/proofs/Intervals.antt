@@ -1,7 +1,7 @@
 -- How a session comes from one epoch to the next.
-use Rattle.std.specs.Prelude.{All}
+use Rattle.std.specs.Prelude.{IsTrue}
 use Rattle.std.specs.List.{AllByRecursion}
-use Rattle.std.proofs.Common.{append-nil, append_assoc, ◌≡◌, ℕ, suc, ◌≤◌, List, [], ◌∷◌, ◌++◌}
+use Rattle.std.proofs.Common.{append-nil, ◌≡◌, ℕ, suc, ◌≤◌, List, [], ◌∷◌, ◌++◌}
 use Rattle.std.proofs.Common.{Option, Result, Ok, Err, OnOk, length, map, refl, sym, ap, ◌∙◌, subst}
 use Rattle.std.proofs.Common.{arith}
 use Rattle.std.proofs.Common.{length-append}
@@ -13,8 +13,7 @@ use Rattle.serve_core.specs.Streams.{KeptStream, opened}
 use Rattle.serve_hub.specs.declared.entry.Act.{Act}
 use Rattle.serve_hub.specs.declared.entry.Entry.{Entry}
 use Rattle.serve_hub.specs.Books.{BookValue, IsBook, IsLimit, book_transcript, specs_of}
-use Rattle.serve_hub.specs.Ends.{ClockReached, ClocksReached}
-use Rattle.serve_hub.specs.Journal.{AreEntries, IsJournal}
+use Rattle.serve_hub.specs.Journal.{IsJournal}
 use Rattle.serve_hub.proofs.Journals.{joined_is}
 use Rattle.serve_hub.proofs.Specs.{added, specs_led}
 use Rattle.serve_hub.specs.Seats.{StreamRest, StreamSeatValue, left_by, opened_rest, opened_streams, seat_over}
@@ -25,10 +24,11 @@ use Rattle.serve_client.specs.Streams.{Over, StandsAt, StreamValue, Waiting}
 use Rattle.serve_client.proofs.Crossing.{new_stream_is_unbegun, streams_cross}
 use Rattle.serve_client.proofs.Sized.{rest_sized}
 use Rattle.serve_work.specs.declared.session.interval.Interval.{Interval}
-use Rattle.serve_work.specs.Intervals.{Beginning, HasNoCalls, IsBeginning, IsBetween, IsLater, IsSizedStart, LeadsTo, beginning_of}
-use Rattle.serve_work.specs.Sessions.{AllTimed, AreInputs, IsInput, IsOfEpochs, acts_in, start_of, starts_of}
+use Rattle.serve_work.specs.Intervals.{Beginning, HasNoCalls, IsBeginning, IsBetween, IsSizedStart, LeadsTo, beginning_of}
+use Rattle.serve_work.specs.History.{EpochValue}
+use Rattle.serve_work.specs.Sessions.{AreInputs, IsInput, acts_in, start_of, starts_of, unread}
 use Rattle.serve_work.specs.SessionInside.{AllBegin, AllStand, HeldValue, IsReady, IsReadyAt}
-use Rattle.serve_work.specs.SessionInside.{held_with, unread}
+use Rattle.serve_work.specs.SessionInside.{held_with}
 use Rattle.serve_work.proofs.SessionCharges.{are_from}
 use Rattle.serve_work.proofs.SessionTurns.{same_length}
 
@@ -138,21 +138,6 @@ leads_on first last journal book led is same few =
       specs = specs ∙ all;
     }
 
--- a book's entries, and how far the clock had come at them, where it opened from a schedule with these streams
-pub entries_on : (first last : ScheduleValue) (book : BookValue) → IsBook book → book.opening ≡ last
-    → specs_of book.desk ≡ specs_of first → AreEntries (specs_of first) (desk_state last) book.past
-entries_on first last book is same specs =
-    subst (λ (x : ScheduleValue). AreEntries (specs_of first) (desk_state x) book.past) same
-    (subst (λ (xs : List StreamSpec). AreEntries xs (desk_state book.opening) book.past) specs is.journal.entries)
-
-pub reached_on : (first last : ScheduleValue) (book : BookValue) (seats : List StreamSeatValue) → book.opening ≡ last
-    → specs_of book.desk ≡ specs_of first → ClocksReached book seats
-    → All (λ s. ClockReached s.number s.moments (specs_of first) (desk_state last) book.past) seats
-reached_on first last book seats same specs reached =
-    subst (λ (x : ScheduleValue). All (λ s. ClockReached s.number s.moments (specs_of first) (desk_state x) book.past) seats) same
-    (subst (λ (xs : List StreamSpec). All (λ s. ClockReached s.number s.moments xs (desk_state book.opening) book.past) seats) specs
-    reached)
-
 opened_specs : (specs : List StreamSpec) → map (λ (stream : KeptStream). stream.state.spec) (map opened specs) ≡ specs
 opened_specs [] = refl
 opened_specs (spec ∷ specs) = ap (λ (these : List StreamSpec). spec ∷ these) (opened_specs specs)
@@ -243,42 +228,25 @@ pub on_ok : {T E : Type 0} (r : Result T E) (P : Type 0) → P → OnOk r P
 on_ok (Ok t) P p = p
 on_ok (Err e) P p = tt
 
-module _ {R W : Type 0} (b : Beginning) (journal : List Entry) where
-  -- an interval that is left as it was
-  pub still_between : (old new : Interval R W) → new.ended ≡ old.ended → new.streams ≡ old.streams → new.served ≡ old.served
-      → new.waits ≡ old.waits → IsBetween b journal old → IsBetween b journal new
-  still_between old new e f h w at = record {
-    begun = at.begun;
-    past = rw e at.past;
-    helds = at.helds;
-    stand = at.stand;
-    streams = rw f at.streams;
-    seats = rw e at.seats;
-    kept = rw e at.kept;
-    charges = rw e at.charges;
-    limit = rw e at.limit;
-    untold = rw h at.untold;
-    places = rw h at.places;
-    over = rw w (rw f at.over);
-  }
-
-  module _ (Gives : ℕ → Type 0) where
-    pub no_later : (Before : List Entry → Type 0) (now : Interval R W) → IsBetween b journal now
-        → (Before journal → IsOfEpochs b.limit b.schedule now.waits journal) → IsLater Gives b Before journal now
-    no_later Before now at epochs = record { more = []; between = at; moments = λ given. given; epochs = epochs }
-
-    -- what is later than what is later
-    pub later_on : (Before Between : List Entry → Type 0) (more : List Entry) (now : Interval R W)
-        → (AllTimed Gives b.schedule journal b.starts → AllTimed Gives b.schedule (more ++ journal) b.starts)
-        → (Before journal → Between (more ++ journal)) → IsLater Gives b Between (more ++ journal) now
-        → IsLater Gives b Before journal now
-    later_on Before Between more now given epochs l = record {
-      more = l.more ++ more;
-      between = subst (λ (j : List Entry). IsBetween b j now)
-          (sym (append_assoc l.more more journal)) l.between;
-      moments = λ before.
-          subst (λ (j : List Entry). AllTimed Gives b.schedule j b.starts) (sym (append_assoc l.more more journal))
-          (l.moments (given before));
-      epochs = λ before.
-          subst (IsOfEpochs b.limit b.schedule now.waits) (sym (append_assoc l.more more journal)) (l.epochs (epochs before));
-    }
+-- an interval that is left as it was, but that no epoch comes any more
+pub still_between : {R W : Type 0} (b : Beginning) (epochs : List EpochValue) (old new : Interval R W) → new.ended ≡ old.ended
+    → new.streams ≡ old.streams → new.served ≡ old.served → new.waits ≡ old.waits → IsTrue new.is_cut
+    → IsBetween b epochs old → IsBetween b epochs new
+still_between b epochs old new e f h w cut at = record {
+  begun = at.begun;
+  before = at.before;
+  latest = rw e at.latest;
+  in_turn = rw w at.in_turn;
+  next = λ goes_on waits. absurd (cc);
+  past = rw e at.past;
+  helds = at.helds;
+  stand = at.stand;
+  streams = rw f at.streams;
+  seats = rw e at.seats;
+  kept = rw e at.kept;
+  charges = rw e at.charges;
+  limit = rw e at.limit;
+  untold = rw h at.untold;
+  places = rw h at.places;
+  over = rw w (rw f at.over);
+}

@@ -23,7 +23,7 @@ pub one_epoch_more : (terms : Terms) (times : ℕ → Type 0) (es : List EpochVa
     → HasEnded terms times es epoch → IsGoneOn times epoch.last epoch.gone → IsHistory terms times (epoch ∷ es)
 one_epoch_more terms times es epoch h on = record {
   epochs_are = (h.is_epoch, h.opens, h.before.epochs_are);
-  timed = (record { each = h.timed; goes_on = on }, h.before.timed);
+  timed = (record { each = h.timed; goes_on = inl on }, h.before.timed);
 }
 
 pub gone_on : (times : ℕ → Type 0) (last gone : ScheduleValue) → IsGoneOn times last gone → IsGone last gone

@@ -7,6 +7,7 @@ pub mod Journals
 pub mod Left
 pub mod Living
 pub mod Renumbered
+pub mod Rests
 pub mod Retiring
 pub mod Seating
 pub mod SessionCharges
@@ -17,3 +18,4 @@ pub mod Slots
 pub mod Telling
 pub mod Times
 pub mod Timing
+pub mod Told

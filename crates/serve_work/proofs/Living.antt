@@ -1,6 +1,6 @@
 -- How the streams of a session go on that come and go.
 use Rattle.std.specs.Prelude.{drop, reverse, slice_get}
-use Rattle.std.specs.List.{AllByRecursion, AllZip, Any}
+use Rattle.std.specs.List.{AllByRecursion, AllZip, Any, Contains}
 use Rattle.std.specs.Vec.{vec_len}
 use Rattle.std.proofs.Common.{◌≡◌, ℕ, zero, suc, ◌<◌, ◌≤◌, ◌+◌, List, [], ◌∷◌, ◌++◌, length, get_or, map, Option, Some, None, IfSome, false}
 use Rattle.std.proofs.Common.{inl, refl, sym, ap, ◌∙◌, subst, arith}
@@ -27,15 +27,15 @@ use Rattle.serve_client.specs.Streams.{StandsAt, StreamValue, stream_stop}
 use Rattle.serve_client.proofs.Staying.{Stays-same}
 use Rattle.serve_work.specs.declared.live.guests.Guest.{Guest}
 use Rattle.serve_work.specs.declared.live.opening.Hall.{Hall}
-use Rattle.serve_work.specs.History.{EpochValue, HasEnded, IsEpochBy, IsGone, IsHistory, OpensBehind, OpensFor, Terms}
+use Rattle.serve_work.specs.History.{EpochValue, HasEnded, IsEpochBy, IsGone, IsHistory, MayOpenFor, OpensBehind, OpensFor, Terms}
 use Rattle.serve_work.specs.Intervals.{HasNoCalls}
 use Rattle.serve_work.specs.Live.{AreAllIn, IsBehind, IsNewIn, IsOfSpec, IsRequest, IsSeatFor, Waiting, acts_by, start_with}
 use Rattle.serve_work.specs.LiveInside.{AllAt, AreSeated, Begins, HadTurn, HasPlaces, HasTurn, IsGuestAt, IsGuestIn, Stood}
 use Rattle.serve_work.specs.LiveInside.{TakesSeat, guests_of, helds_of, nobody, tickets_of}
-use Rattle.serve_work.specs.Sessions.{AreTimed}
+use Rattle.serve_work.specs.Entries.{AreTimed}
 use Rattle.serve_work.specs.SessionInside.{AllGoOn, GoesOn, HeldValue, IsReady, IsReadyAt}
 use Rattle.serve_work.proofs.Intervals.{ready_at, reopened, stands_across}
-use Rattle.serve_work.proofs.Journals.{ends_epoch}
+use Rattle.serve_work.proofs.Journals.{fits_limit}
 use Rattle.serve_work.proofs.Retiring.{some_and}
 use Rattle.serve_work.proofs.SessionTurns.{map_more, seat_number, seat_spec}
 use Rattle.serve_work.proofs.Times.{allowed_too, no_offer, timed_too}
@@ -102,9 +102,18 @@ opened limit number spec sized =
 
 pub opens_for : (terms : Terms) (spec : StreamSpec) (setup : Setup) (opening : ScheduleValue)
     → setup ≡ setup_of terms.workers terms.quantum (spec ∷ []) → IsSetup setup → opened_schedule setup ≡ opening
-    → OpensFor terms spec opening
+    → OpensFor terms (spec ∷ []) opening
 opens_for terms spec setup opening is good opens =
     record { is_setup = subst IsSetup is good; opened = sym opens ∙ ap opened_schedule is }
+
+-- so does a hub for one stream, where they come one by one
+pub opens_alone : (terms : Terms) (es : List EpochValue) (spec : StreamSpec) (opening : ScheduleValue) → terms.together ≡ None
+    → OpensFor terms (spec ∷ []) opening → OpensBehind terms es opening
+opens_alone terms es spec opening none opens = inl (
+  spec ∷ [],
+  opens,
+  subst (λ (all : Option (List StreamSpec)). MayOpenFor all es (spec ∷ [])) (sym none) refl,
+)
 
 -- where it stands, its client may go on
 pub may_go : (terms : Terms) (times : ℕ → Type 0) (es : List EpochValue) (opening : ScheduleValue) (w : Waiting)
@@ -145,15 +154,29 @@ reached_at opening book h =
 -- times
 module _ (terms : Terms) (times : ℕ → Type 0) (es : List EpochValue) (opening : ScheduleValue) (book : BookValue) (is : IsBook book)
     (reached : IsReached measures_any is_any_image (desk_state book.opening)) (from : book.opening ≡ opening) (of_limit : book.limit ≡ terms.limit) (free : AreFree book.desk.workers)
-    (spent : HaveSpent (length book.desk.workers) book.past) (whose : List (Option ℕ)) (gone : ScheduleValue)
+    (spent : HaveSpent (length book.desk.workers) book.past) (rests : List StreamRest) (whose : List (Option ℕ)) (gone : ScheduleValue)
     (goes : IsGone book.desk gone) where
   abbrev this_epoch : EpochValue
-  this_epoch = record { opening = book.opening; journal = book.past; last = book.desk; gone = gone; whose = whose; is_given_up = false }
+  this_epoch = record {
+    opening = book.opening;
+    journal = book.past;
+    last = book.desk;
+    gone = gone;
+    rests = rests;
+    whose = whose;
+    is_given_up = false;
+  }
 
   pub is_epoch : IsEpochBy terms this_epoch
   is_epoch =
-      let ends = ends_epoch terms.limit false book is of_limit free spent (λ on. absurd (cc)) in
-      record { reached = reached; leads = is.journal; free = free; spent = spent; fits = ends.fits; goes_on = goes }
+      record {
+        reached = reached;
+        leads = is.journal;
+        free = free;
+        spent = spent;
+        fits = fits_limit terms.limit book is of_limit free;
+        goes_on = goes;
+      }
 
   module _ (Gives : ℕ → Type 0) (given : (at : ℕ) → Gives at → times at) where
     its_times : (old new : HeldValue) → offers_in old.seat.calls.list ≡ 0 → old.seat.moments ≡ None
@@ -181,8 +204,8 @@ module _ (terms : Terms) (times : ℕ → Type 0) (es : List EpochValue) (openin
     went : (w : Waiting) (old new : HeldValue) → HasTurn terms times es opening w old
         → GoesOn Gives old new → acts_of (numbered.Stream new.seat.number) (reverse book.past) ≡ new.seat.calls.list
         → HasStream book.desk new.seat.number (IsStreamOf new.seat) → slice_get whose new.seat.number ≡ Some (Some w.ticket)
-        → HadTurn terms times (this_epoch ∷ es) gone w new
-    went w old new b on own kept mine =
+        → Contains rests (left_by new.seat) → HadTurn terms times (this_epoch ∷ es) gone w new
+    went w old new b on own kept mine left =
         let start = start_with w.request b.first in
         let past : List Act = acts_by b.numbers es in
         let stands : StandsAt new.stream start past new.seat = on.0 start past b.stands in
@@ -205,6 +228,7 @@ module _ (terms : Terms) (times : ℕ → Type 0) (es : List EpochValue) (openin
           behind = (refl, inl (refl, refl));
           stands = stands;
           calls = ap (λ (acts : List Act). past ++ acts) (sym own);
+          left = left;
           stop = allowed_too Gives times given (stream_stop old.stream) (stream_stop new.stream) on.2 b.stop;
         }
 
@@ -213,16 +237,17 @@ module _ (terms : Terms) (times : ℕ → Type 0) (es : List EpochValue) (openin
         → AreStreamCalls (reverse book.past) (map (λ held. held.seat) after ++ idle)
         → AreStreamsOf book.desk (map (λ held. held.seat) after ++ idle)
         → AllZip (λ w held. slice_get whose held.seat.number ≡ Some (Some w.ticket)) ws after
+        → AllByRecursion (λ held. Contains rests (left_by held.seat)) after
         → AllZip (HadTurn terms times (this_epoch ∷ es) gone) ws after
-    all_had [] [] [] idle p q calls kept mine = tt
-    all_had [] [] (held ∷ after) idle p q calls kept mine = absurd q
-    all_had [] (held ∷ helds) after idle p q calls kept mine = absurd p
-    all_had (w ∷ ws) [] after idle p q calls kept mine = absurd p
-    all_had (w ∷ ws) (held ∷ helds) [] idle p q calls kept mine = absurd q
-    all_had (w ∷ ws) (held ∷ helds) (next ∷ after) idle p q calls kept mine = (
-      went w held next p.0 q.0 (calls 0 next.seat (omega arith)) (kept 0 next.seat (omega arith)) mine.0,
+    all_had [] [] [] idle p q calls kept mine lefts = tt
+    all_had [] [] (held ∷ after) idle p q calls kept mine lefts = absurd q
+    all_had [] (held ∷ helds) after idle p q calls kept mine lefts = absurd p
+    all_had (w ∷ ws) [] after idle p q calls kept mine lefts = absurd p
+    all_had (w ∷ ws) (held ∷ helds) [] idle p q calls kept mine lefts = absurd q
+    all_had (w ∷ ws) (held ∷ helds) (next ∷ after) idle p q calls kept mine lefts = (
+      went w held next p.0 q.0 (calls 0 next.seat (omega arith)) (kept 0 next.seat (omega arith)) mine.0 lefts.0,
       all_had ws helds after idle p.1 q.1 (λ k d less. calls (suc k) d (omega (arith, less)))
-          (λ k d less. kept (suc k) d (omega (arith, less))) mine.1,
+          (λ k d less. kept (suc k) d (omega (arith, less))) mine.1 lefts.1,
     )
 
     -- each entry of a frame is at one of these times

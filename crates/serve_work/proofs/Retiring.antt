@@ -58,6 +58,7 @@ retired_one terms times es desk w stream seat s e =
       behind = kept_on terms w.request.spec es s.number s.before desk seat.number s.behind e;
       stands = stands_numbered n (start_with w.request s.first) s.past seat stream s.stands;
       calls = s.calls;
+      left = s.left;
       stop = s.stop;
     }
 

@@ -1,6 +1,6 @@
 -- What the streams of a session are charged.
 use Rattle.std.specs.Prelude.{All, Bool, IsSomeAnd, drop, slice_get, slice_set, ⊤}
-use Rattle.std.specs.List.{AllZip}
+use Rattle.std.specs.List.{AllByRecursion, AllZip, Contains}
 use Rattle.std.specs.Option.{option_map}
 use Rattle.std.proofs.Common.{◌≡◌, ℕ, suc, zero, ◌+◌, ◌*◌, ◌≤◌, ◌<◌, List, [], ◌∷◌, length, get_or, map}
 use Rattle.std.proofs.Common.{Option, Some, None, inl, inr, refl, sym, ap, ◌∙◌, subst, arith}
@@ -15,15 +15,17 @@ use Rattle.serve_core.specs.Streams.{KeptStream}
 use Rattle.serve_hub.specs.declared.entry.Act.{Act}
 use Rattle.serve_hub.specs.declared.entry.Entry.{Entry}
 use Rattle.serve_hub.specs.Ends.{AreStreamsOf, IsCharged, IsStreamOf}
-use Rattle.serve_hub.specs.Seats.{StreamSeatValue, collected_by, opened_streams}
+use Rattle.serve_hub.specs.Seats.{StreamRest, StreamSeatValue, collected_by, left_by, opened_streams}
 use Rattle.serve_client.specs.declared.stop.Stop.TheVariants.{Whole}
 use Rattle.serve_client.specs.Clients.{ClientIsDone, ClientOutcome, ClientStart, StreamEnds}
 use Rattle.serve_client.specs.Streams.{ServedValue}
 use Rattle.serve_client.specs.Clients.{ClientLeft}
 use Rattle.serve_client.proofs.Tallying.{collections_both, collections_counted}
+use Rattle.serve_work.specs.History.{EpochValue, journal_of}
 use Rattle.serve_work.specs.Intervals.{AreFrom}
 use Rattle.serve_work.specs.Sessions.{AreServed, IsServed, IsStreamTold, IsServedBy, starts_of}
 use Rattle.serve_work.specs.SessionInside.{AllLeave, outcomes_of}
+use Rattle.serve_work.proofs.Rests.{all_left_by}
 
 -- the streams are numbered in order
 pub are_from : {W : Type 0} (contents : W → Option (List ℕ)) (failures : W → ℕ) (limit first : ℕ)
@@ -97,19 +99,22 @@ stream_at desk n P Q p q = elim (slice_get_cases desk.streams n).1 [
   | inr past ↦ absurd (subst (λ o. IsSomeAnd o P) past.1 p)
 ]
 
-module _ (waits : Bool) (journal : List Entry) (desk : ScheduleValue) (all : All IsCharged desk.streams) where
+module _ (waits : Bool) (epochs : List EpochValue) (latest : EpochValue) (all : All IsCharged latest.last.streams) where
   all_served_from : (first : ℕ) (starts : List ClientStart) (lefts : List ClientLeft) (served : List ServedValue)
-      → AllLeave waits journal starts lefts → AreFrom first starts → AreStreamsOf desk (map (λ left. left.seat) lefts)
+      → AllLeave waits (journal_of epochs) starts lefts → AreFrom first starts
+      → AreStreamsOf latest.last (map (λ left. left.seat) lefts)
+      → AllByRecursion (λ left. Contains latest.rests (left_by left.seat)) lefts
       → outcomes_of served ≡ map (λ left. left.outcome) lefts
       → ((k n : ℕ) (d : ServedValue) → n ≡ first + k → k < length served
-      → HasStream desk n (λ stream. (get_or served k d).charged ≡ stream.state.charged))
-      → AllZip (IsServedBy waits journal desk) starts served
-  all_served_from first [] [] [] p from streams e charges = tt
-  all_served_from first [] [] (s ∷ served) p from streams e charges = absurd (omega (arith, ap length e))
-  all_served_from first [] (left ∷ lefts) served p from streams e charges = absurd p
-  all_served_from first (start ∷ starts) [] served p from streams e charges = absurd p
-  all_served_from first (start ∷ starts) (left ∷ lefts) [] p from streams e charges = absurd (omega (arith, ap length e))
-  all_served_from first (start ∷ starts) (left ∷ lefts) (s ∷ served) p from streams e charges =
+      → HasStream latest.last n (λ stream. (get_or served k d).charged ≡ stream.state.charged))
+      → AllZip (IsServedBy waits epochs latest) starts served
+  all_served_from first [] [] [] p from streams rests e charges = tt
+  all_served_from first [] [] (s ∷ served) p from streams rests e charges = absurd (omega (arith, ap length e))
+  all_served_from first [] (left ∷ lefts) served p from streams rests e charges = absurd p
+  all_served_from first (start ∷ starts) [] served p from streams rests e charges = absurd p
+  all_served_from first (start ∷ starts) (left ∷ lefts) [] p from streams rests e charges = absurd (omega (arith, ap length e))
+  all_served_from first (start ∷ starts) (left ∷ lefts) (s ∷ served) p from streams rests e charges =
+      let desk : ScheduleValue = latest.last in
       let outcome : s.outcome ≡ left.outcome = ap (λ os. get_or os 0 left.outcome) e in
       let ends : StreamEnds start p.0.0 left.seat s.outcome = subst (StreamEnds start p.0.0 left.seat) (sym outcome) p.0.1 in
       let here = subst (λ n. HasStream desk n (IsStreamOf left.seat)) (ends.number ∙ from.0) (streams 0 left.seat (omega arith)) in
@@ -130,23 +135,28 @@ module _ (waits : Bool) (journal : List Entry) (desk : ScheduleValue) (all : All
           calls = p.0.2;
           stream = subst (λ n. HasStream desk n (IsStreamTold s)) (sym from.0)
               (subst (λ o. IsSomeAnd o (IsStreamTold s)) (sym at.here) is_told);
+          left = rests.0;
         },
         all_served_from (suc first) starts lefts served p.1 from.1
             (λ k d less. streams (suc k) d (omega (arith, less)))
+            rests.1
             (ap (λ os. drop 1 os) e)
             (λ k n d same less. charges (suc k) n d (omega (arith, same)) (omega (arith, less))),
       )
 
   -- each stream was served, where the desk has of it what its client left, and what it is told to be charged
   pub all_served : (starts : List ClientStart) (lefts : List ClientLeft) (served : List ServedValue)
-      → AllLeave waits journal starts lefts → AreFrom 0 starts → AreStreamsOf desk (map (λ left. left.seat) lefts)
-      → outcomes_of served ≡ map (λ left. left.outcome) lefts
+      → AllLeave waits (journal_of epochs) starts lefts → AreFrom 0 starts
+      → AreStreamsOf latest.last (map (λ left. left.seat) lefts)
+      → latest.rests ≡ map left_by (map (λ left. left.seat) lefts) → outcomes_of served ≡ map (λ left. left.outcome) lefts
       → ((k : ℕ) (d : ServedValue) → k < length served
-      → HasStream desk k (λ stream. (get_or served k d).charged ≡ stream.state.charged))
-      → AllZip (IsServedBy waits journal desk) starts served
-  all_served starts lefts served p from streams e charges =
-      all_served_from 0 starts lefts served p from streams e
-      (λ k n d same less. subst (λ m. HasStream desk m (λ stream. (get_or served k d).charged ≡ stream.state.charged))
+      → HasStream latest.last k (λ stream. (get_or served k d).charged ≡ stream.state.charged))
+      → AllZip (IsServedBy waits epochs latest) starts served
+  all_served starts lefts served p from streams rests e charges =
+      all_served_from 0 starts lefts served p from streams
+      (subst (λ (these : List StreamRest). AllByRecursion (λ left. Contains these (left_by left.seat)) lefts) (sym rests)
+      (all_left_by (λ (left : ClientLeft). left.seat) lefts)) e
+      (λ k n d same less. subst (λ m. HasStream latest.last m (λ stream. (get_or served k d).charged ≡ stream.state.charged))
       (omega (arith, same)) (charges k d less))
 
 -- one stream was served, and is told as the desk has it
@@ -180,12 +190,12 @@ served_one start past seat served desk all ends of charged =
     }
 
 -- each stream that is told was served
-pub are_served : (is_cut : Bool) (journal : List Entry) (last : ScheduleValue) (starts : List ClientStart) (served : List ServedValue)
-    → AllZip (IsServedBy is_cut journal last) starts served → AreServed starts served
-are_served is_cut journal last [] [] p = tt
-are_served is_cut journal last [] (s ∷ served) p = absurd p
-are_served is_cut journal last (start ∷ starts) [] p = absurd p
-are_served is_cut journal last (start ∷ starts) (s ∷ served) p = (p.0.is_served, are_served is_cut journal last starts served p.1)
+pub are_served : (is_cut : Bool) (epochs : List EpochValue) (latest : EpochValue) (starts : List ClientStart) (served : List ServedValue)
+    → AllZip (IsServedBy is_cut epochs latest) starts served → AreServed starts served
+are_served is_cut epochs latest [] [] p = tt
+are_served is_cut epochs latest [] (s ∷ served) p = absurd p
+are_served is_cut epochs latest (start ∷ starts) [] p = absurd p
+are_served is_cut epochs latest (start ∷ starts) (s ∷ served) p = (p.0.is_served, are_served is_cut epochs latest starts served p.1)
 
 -- the desk has each stream
 pub each_kept : (waits : Bool) (journal : List Entry) (desk : ScheduleValue) (first : ℕ) (starts : List ClientStart)

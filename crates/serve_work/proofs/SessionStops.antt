@@ -9,7 +9,8 @@ use Rattle.serve_client.specs.ClientInside.{IsNoNewEnd}
 use Rattle.serve_client.specs.Streams.{ServedValue, StreamValue, stream_stop}
 use Rattle.serve_client.proofs.Allowing.{kept_allowed}
 use Rattle.serve_work.specs.SessionInside.{AllGoOn, AreAllowed, AreOver, BringNoEnd, HeldValue, held_at, held_with}
-use Rattle.serve_work.specs.SessionInside.{outcomes_of, unread}
+use Rattle.serve_work.specs.SessionInside.{outcomes_of}
+use Rattle.serve_work.specs.Sessions.{unread}
 
 abbrev stream_in : HeldValue → StreamValue
 stream_in held = held.stream

@@ -8,10 +8,12 @@ use Rattle.std.proofs.Common.{refl, sym, ap, ◌∙◌, subst, arith}
 use Rattle.std.proofs.lemmas.List.{drop_all, map-append, reverse-append}
 use Rattle.std.proofs.lemmas.List.Elements.{filter-append}
 use Rattle.y4m_stream.specs.Reader.{ReaderState}
+use Rattle.serve_core.specs.Bare.{Blank}
 use Rattle.serve_core.specs.Desk.{desk_state}
 use Rattle.serve_core.specs.Leads.{state_from}
 use Rattle.serve_core.specs.Schedule.{ScheduleValue}
 use Rattle.serve_core.specs.Setup.{StreamSpec}
+use Rattle.serve_core.specs.States.{State}
 use Rattle.serve_hub.specs.declared.entry.Act.{Act}
 use Rattle.serve_hub.specs.declared.entry.Entry.{Entry}
 use Rattle.serve_hub.specs.declared.entry.Seat.{Seat}
@@ -31,9 +33,10 @@ use Rattle.serve_work.specs.declared.session.SessionFault.TheVariants.{BadLimit,
 use Rattle.serve_work.specs.declared.session.unended.Unended.{Unended}
 use Rattle.serve_work.specs.declared.session.unended.Unended.TheVariants as unended
 use Rattle.serve_work.specs.Intervals.{HasNoCalls}
-use Rattle.serve_work.specs.Sessions.{AllTimed, AreInputs, AreTimed, acts_in}
+use Rattle.serve_work.specs.Entries.{AreTimed}
+use Rattle.serve_work.specs.Sessions.{AllTimed, AreInputs, GivesBack, acts_in, fault_of, unread}
 use Rattle.serve_work.specs.SessionInside.{AllBegin, AllGoOn, AllLeave, AllRun, AllStand, AreAllOver, AreOver, AreUnread}
-use Rattle.serve_work.specs.SessionInside.{GivesBack, IsUnended, fault_of, unread}
+use Rattle.serve_work.specs.SessionInside.{IsUnended}
 use Rattle.serve_work.specs.SessionInside.{GoesOn, HeldValue, IsReady, Runs, Stands}
 use Rattle.serve_work.specs.SessionInside.{held_at, held_with, outcomes_of}
 use Rattle.serve_work.proofs.Timing.{timed, timed_on}
@@ -95,32 +98,40 @@ module _ (Gives : ℕ → Type 0) (journal more : List Entry) where
         stand_on starts helds after p.1 q.1 (λ k d less. calls (suc k) d (omega (arith, less))),
       )
 
-  -- and its frames have moments that the clock may give, by the journal's own clock
-  pub all_timed : (first last : ScheduleValue) (starts : List ClientStart) (helds after : List HeldValue)
-      → state_from (desk_state first) (transcript_of (specs_of first) (desk_state first) journal) ≡ desk_state last
-      → AreEntries (specs_of first) (desk_state last) more → AllBegin journal starts helds → AllGoOn Gives helds after
+  -- and its frames of these entries have moments that the clock may give, by the journal's own clock
+  pub each_timed : (specs : List StreamSpec) (m : State Blank) (starts : List ClientStart) (helds after : List HeldValue)
+      → AreEntries specs m more → AllBegin journal starts helds → AllGoOn Gives helds after
       → AreStreamCalls (reverse more) (map (λ held. held.seat) after)
-      → All (λ s. ClockReached s.number s.moments (specs_of first) (desk_state last) more) (map (λ held. held.seat) after)
-      → AllByRecursion (λ held. HasNoCalls held.seat) helds → AllTimed Gives first journal starts
-      → AllTimed Gives first (more ++ journal) starts
-  all_timed first last [] helds after led entries p q calls reached none given = tt
-  all_timed first last (start ∷ starts) [] after led entries p q calls reached none given = absurd p
-  all_timed first last (start ∷ starts) (held ∷ helds) [] led entries p q calls reached none given = absurd q
-  all_timed first last (start ∷ starts) (held ∷ helds) (next ∷ after) led entries p q calls reached none given =
+      → All (λ s. ClockReached s.number s.moments specs m more) (map (λ held. held.seat) after)
+      → AllByRecursion (λ held. HasNoCalls held.seat) helds
+      → AllByRecursion (λ start. AreTimed Gives start.seat.number specs m more) starts
+  each_timed specs m [] helds after entries p q calls reached none = tt
+  each_timed specs m (start ∷ starts) [] after entries p q calls reached none = absurd p
+  each_timed specs m (start ∷ starts) (held ∷ helds) [] entries p q calls reached none = absurd q
+  each_timed specs m (start ∷ starts) (held ∷ helds) (next ∷ after) entries p q calls reached none =
       let past : List Act = acts_in journal start in
-      let specs = specs_of first in
       let at : Stands start past next = q.0.0 start past p.0 in
       let number : next.seat.number ≡ start.seat.number = seat_number start past next.seat next.stream at in
-      let own : next.seat.calls.list ≡ acts_in more start = own_calls more start past next at (calls 0 next.seat (omega arith)) in
-      let here : AreTimed Gives start.seat.number specs (desk_state last) more =
-      timed Gives start.seat.number next.seat.moments specs (desk_state last) more entries
-      (subst (λ (s : ℕ). ClockReached s next.seat.moments specs (desk_state last) more) number (reached 0 next.seat (omega arith)))
-      (q.0.1.first (subst (λ (o : Option Moments). IfSome o (λ t. Gives t.first)) (sym none.0.1) tt))
-      (subst (AreAtMoments Gives) own (q.0.1.calls (subst (AreAtMoments Gives) (sym none.0.0) tt))) in (
-        timed_on Gives start.seat.number specs (desk_state first) (desk_state last) journal more led given.0 here,
-        all_timed first last starts helds after led entries p.1 q.1 (λ k d less. calls (suc k) d (omega (arith, less)))
-            (λ k d less. reached (suc k) d (omega (arith, less))) none.1 given.1,
+      let own : next.seat.calls.list ≡ acts_in more start = own_calls more start past next at (calls 0 next.seat (omega arith)) in (
+        timed Gives start.seat.number next.seat.moments specs m more entries
+            (subst (λ (s : ℕ). ClockReached s next.seat.moments specs m more) number (reached 0 next.seat (omega arith)))
+            (q.0.1.first (subst (λ (o : Option Moments). IfSome o (λ t. Gives t.first)) (sym none.0.1) tt))
+            (subst (AreAtMoments Gives) own (q.0.1.calls (subst (AreAtMoments Gives) (sym none.0.0) tt))),
+        each_timed specs m starts helds after entries p.1 q.1 (λ k d less. calls (suc k) d (omega (arith, less)))
+            (λ k d less. reached (suc k) d (omega (arith, less))) none.1,
       )
+
+  -- behind a journal that led to where these begin, both together have them
+  pub all_timed : (first last : ScheduleValue) (starts : List ClientStart)
+      → state_from (desk_state first) (transcript_of (specs_of first) (desk_state first) journal) ≡ desk_state last
+      → AllTimed Gives first journal starts
+      → AllByRecursion (λ start. AreTimed Gives start.seat.number (specs_of first) (desk_state last) more) starts
+      → AllTimed Gives first (more ++ journal) starts
+  all_timed first last [] led given here = tt
+  all_timed first last (start ∷ starts) led given here = (
+    timed_on Gives start.seat.number (specs_of first) (desk_state first) (desk_state last) journal more led given.0 here.0,
+    all_timed first last starts led given.1 here.1,
+  )
 
 pub none_yet : (Gives : ℕ → Type 0) (first : ScheduleValue) (starts : List ClientStart) → AllTimed Gives first [] starts
 none_yet Gives first [] = tt

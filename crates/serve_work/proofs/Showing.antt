@@ -97,6 +97,7 @@ can_show terms times es desk w stream seat standing history s waits of has =
         collections_counted seat.calls.list,
       );
       stream = at_end terms w.request.spec es s.number s.before desk seat.number (IsStandingOf standing) history.epochs_are s.behind has;
+      has_left = s.left;
     }
 
 -- a schedule that is left is that of the latest epoch, by its clock

@@ -13,7 +13,7 @@ use Rattle.serve_client.specs.declared.stop.Stop.{Stop}
 use Rattle.serve_client.specs.declared.stop.Stop.TheVariants.{Whole, Read, Write, Refused, Torn}
 use Rattle.serve_client.specs.Clients.{AllowsStop, AreAtMoments, IsAtMoment, offers_in}
 use Rattle.serve_client.specs.ClientInside.{KeepsAllowed}
-use Rattle.serve_work.specs.Sessions.{AreTimed}
+use Rattle.serve_work.specs.Entries.{AreTimed}
 
 -- calls that offer no frame are at any moments
 pub no_offer : (Gives : ℕ → Type 0) (acts : List Act) → offers_in acts ≡ 0 → AreAtMoments Gives acts

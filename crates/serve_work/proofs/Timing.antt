@@ -20,7 +20,7 @@ use Rattle.serve_hub.specs.Ends.{ClockReached, IsOfferOf, acts_of, clock_after, 
 use Rattle.serve_hub.specs.Journal.{AreEntries, IsEntry, clock_in, entry_of, tick_of, transcript_of}
 use Rattle.serve_hub.proofs.Clocks.{clock_joined, clock_step}
 use Rattle.serve_client.specs.Clients.{AreAtMoments, IsAtMoment}
-use Rattle.serve_work.specs.Sessions.{AreTimed}
+use Rattle.serve_work.specs.Entries.{AreTimed}
 
 tick_by : (b : Bool) (at moment : ℕ) → Some moment ≡ (if b then Some at else None) → at ≡ moment
 tick_by true at moment e = cc

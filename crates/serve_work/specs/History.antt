@@ -1,6 +1,6 @@
--- What a session did whose streams come and go, from epoch to epoch.
-use Rattle.std.specs.Prelude.{ℕ, ◌+◌, ◌≡◌, ◌≤◌, ◌<◌, ◌⊎◌, ⊤, Bool, true, false, List, [], ◌∷◌}
-use Rattle.std.specs.Prelude.{IsFalse, IsTrue, Option, length}
+-- What a session did from epoch to epoch.
+use Rattle.std.specs.Prelude.{ℕ, ◌+◌, ◌≡◌, ◌≤◌, ◌<◌, ◌⊎◌, ◌++◌, ⊤, Bool, true, false, List, [], ◌∷◌}
+use Rattle.std.specs.Prelude.{IsFalse, IsSome, IsTrue, None, Option, Some, length}
 use Rattle.std.specs.List.{AllByRecursion}
 use Rattle.cbs_account.specs.declared.limits.TheConstants.{LAST_MOMENT}
 use Rattle.serve_core.specs.Bare.{measures_any, is_any_image}
@@ -8,33 +8,43 @@ use Rattle.serve_core.specs.Desk.{desk_state}
 use Rattle.serve_core.specs.Reached.{IsReached}
 use Rattle.serve_core.specs.Retired.{retired_schedule}
 use Rattle.serve_core.specs.Schedule.{ScheduleValue, opened_schedule}
-use Rattle.serve_core.specs.Setup.{IsSetup, StreamSpec, setup_of}
+use Rattle.serve_core.specs.Setup.{IsSetup, Setup, StreamSpec, setup_of}
 use Rattle.serve_core.specs.Ticked.{at_moment}
 use Rattle.serve_hub.specs.declared.entry.Entry.{Entry}
 use Rattle.serve_hub.specs.Books.{specs_of}
 use Rattle.serve_hub.specs.Ends.{AreFree, EndedValue}
 use Rattle.serve_hub.specs.Journal.{IsJournal}
+use Rattle.serve_hub.specs.Seats.{StreamRest}
 use Rattle.serve_client.specs.Workers.{HaveSpent}
-use Rattle.serve_work.specs.Sessions.{AreTimed, open_streams}
+use Rattle.serve_work.specs.Entries.{AreTimed, open_streams}
 
--- what a session serves by: how many workers it has, the most bands of a lease, and the most entries of an
--- epoch's journal
+-- what a session serves by: how many workers it has, the most bands of a lease, the most entries of an epoch's
+-- journal, and what its streams are, where all begin together
 pub record Terms : Type 0 where
   pub workers : ℕ
   pub quantum : ℕ
   pub limit : ℕ
+  pub together : Option (List StreamSpec)
 
+-- where streams come and go
 abbrev pub terms_of : (workers quantum limit : ℕ) → Terms
-terms_of workers quantum limit = record { workers = workers; quantum = quantum; limit = limit }
+terms_of workers quantum limit =
+    record { workers = workers; quantum = quantum; limit = limit; together = None }
+
+-- where those of a setup begin together
+abbrev pub terms_with : Setup → (limit : ℕ) → Terms
+terms_with setup limit =
+    record { workers = setup.workers; quantum = setup.quantum; limit = limit; together = Some setup.streams }
 
 -- an epoch: where it opened, its journal, the latest entry first, where it ended, and how it was left, from
--- where the next one goes on; of which request the stream of each number was, by its ticket, unless it was
--- told before; and whether all streams that were left were given up then
+-- where the next one goes on; what the seats of its streams left; of which request the stream of each number
+-- was, by its ticket, unless it was told before; and whether all streams that were left were given up then
 pub record EpochValue : Type 0 where
   pub opening : ScheduleValue
   pub journal : List Entry
   pub last : ScheduleValue
   pub gone : ScheduleValue
+  pub rests : List StreamRest
   pub whose : List (Option ℕ)
   pub is_given_up : Bool
 
@@ -45,9 +55,15 @@ epoch_of ended whose = record {
   journal = ended.book.past;
   last = ended.book.desk;
   gone = ended.book.desk;
+  rests = ended.streams;
   whose = whose;
   is_given_up = false;
 }
+
+-- the journals of these epochs, one behind the other, the latest entry first
+abbrev pub journal_of : List EpochValue → List Entry
+journal_of [] = []
+journal_of (epoch ∷ before) = epoch.journal ++ journal_of before
 
 -- the same epoch, left like this
 abbrev pub left_at : ScheduleValue → EpochValue → EpochValue
@@ -93,15 +109,29 @@ abbrev pub IsAtTimes : (times : ℕ → Type 0) → EpochValue → Type 0
 IsAtTimes times epoch = (s : ℕ) → s < length epoch.last.streams
     → AreTimed times s (specs_of epoch.last) (desk_state epoch.opening) epoch.journal
 
--- and to one of them the clock went on then
-pub record IsTimed (times : ℕ → Type 0) (epoch : EpochValue) : Type 0 where
-  pub each : IsAtTimes times epoch
-  pub goes_on : IsGoneOn times epoch.last epoch.gone
+-- and to one of them the clock went on then; or it stayed, where the session's streams begin together
+abbrev pub IsLeftAt : Terms → (times : ℕ → Type 0) → EpochValue → Type 0
+IsLeftAt terms times epoch =
+    IsGoneOn times epoch.last epoch.gone ⊎ (IsSome terms.together × (epoch.gone ≡ epoch.last))
 
--- a hub opens here, for a stream of this spec alone
-pub record OpensFor (terms : Terms) (spec : StreamSpec) (opening : ScheduleValue) : Type 0 where
-  pub is_setup : IsSetup (setup_of terms.workers terms.quantum (spec ∷ []))
-  pub opened : opening ≡ opened_schedule (setup_of terms.workers terms.quantum (spec ∷ []))
+pub record IsTimed (terms : Terms) (times : ℕ → Type 0) (epoch : EpochValue) : Type 0 where
+  pub each : IsAtTimes times epoch
+  pub goes_on : IsLeftAt terms times epoch
+
+-- a hub opens here, for streams of these specs
+pub record OpensFor (terms : Terms) (specs : List StreamSpec) (opening : ScheduleValue) : Type 0 where
+  pub is_setup : IsSetup (setup_of terms.workers terms.quantum specs)
+  pub opened : opening ≡ opened_schedule (setup_of terms.workers terms.quantum specs)
+
+-- behind these epochs a hub may open for these: for one stream, or behind none for all that begin together
+abbrev pub MayOpenFor : (together : Option (List StreamSpec)) → List EpochValue → List StreamSpec → Type 0
+MayOpenFor None before specs = length specs ≡ 1
+MayOpenFor (Some all) before specs = (before ≡ []) × (specs ≡ all)
+
+-- a hub opens here behind these epochs
+abbrev pub OpensHub : Terms → List EpochValue → (opening : ScheduleValue) → Type 0
+OpensHub terms before opening =
+    (specs : List StreamSpec) × OpensFor terms specs opening × MayOpenFor terms.together before specs
 
 -- so the latest of these epochs was left, perhaps without the streams that were released then, and the others
 -- weren't given up
@@ -110,10 +140,9 @@ IsLeftBy [] opening = ⊥
 IsLeftBy (epoch ∷ before) opening =
     IsFalse epoch.is_given_up × ((opening ≡ epoch.gone) ⊎ (opening ≡ retired_schedule epoch.gone))
 
--- an epoch opens here behind these: for a stream alone, or as the latest of them was left
+-- an epoch opens here behind these: in a new hub, or as the latest of them was left
 abbrev pub OpensBehind : Terms → List EpochValue → ScheduleValue → Type 0
-OpensBehind terms before opening =
-    ((spec : StreamSpec) × OpensFor terms spec opening) ⊎ IsLeftBy before opening
+OpensBehind terms before opening = OpensHub terms before opening ⊎ IsLeftBy before opening
 
 -- these are the epochs of a session, the latest first
 abbrev pub AreEpochsBy : Terms → List EpochValue → Type 0
@@ -124,7 +153,7 @@ AreEpochsBy terms (epoch ∷ before) =
 -- each frame of them was offered at one of these times, and behind each of them the clock went on to one
 pub record IsHistory (terms : Terms) (times : ℕ → Type 0) (epochs : List EpochValue) : Type 0 where
   pub epochs_are : AreEpochsBy terms epochs
-  pub timed : AllByRecursion (IsTimed times) epochs
+  pub timed : AllByRecursion (IsTimed terms times) epochs
 
 -- an epoch ended behind these
 pub record HasEnded (terms : Terms) (times : ℕ → Type 0) (epochs : List EpochValue) (epoch : EpochValue)

@@ -1,4 +1,4 @@
--- What follows for the epochs of a session whose streams come and go.
+-- What follows for the epochs of a session.
 use Rattle.std.specs.Prelude.{ℕ, ◌*◌, ◌≡◌, ◌≤◌, ◌⊎◌, ◌++◌, List, [], ◌∷◌}
 use Rattle.std.specs.List.{AllByRecursion}
 use Rattle.edf_pool.specs.Earliest.{IsEarliest}
@@ -9,14 +9,13 @@ use Rattle.serve_core.specs.Leads.{state_from}
 use Rattle.serve_core.specs.Life.{released}
 use Rattle.serve_core.specs.Retired.{retired_schedule}
 use Rattle.serve_core.specs.Schedule.{ScheduleValue}
-use Rattle.serve_core.specs.Setup.{StreamSpec}
 use Rattle.serve_core.specs.States.{State, StreamState, deadlines}
 use Rattle.serve_hub.specs.declared.entry.Act.TheVariants.{Leased}
 use Rattle.serve_hub.specs.declared.entry.Entry.{Entry}
 use Rattle.serve_hub.specs.declared.entry.Seat.TheVariants.{Worker}
 use Rattle.serve_hub.specs.Books.{specs_of}
 use Rattle.serve_hub.specs.Journal.{entry_of, transcript_of}
-use Rattle.serve_work.specs.History.{AreEpochsBy, EpochValue, OpensFor, Terms}
+use Rattle.serve_work.specs.History.{AreEpochsBy, EpochValue, OpensHub, Terms}
 
 -- the state of an epoch behind these entries, the latest first
 abbrev pub state_behind : EpochValue → (earlier : List Entry) → State Blank
@@ -47,15 +46,16 @@ EpochDemandLaw =
     → AllByRecursion (KeepsDemand terms) epochs
 
 -- a hub opens here, and no stream of it was taken out yet
-abbrev pub OpensAnew : Terms → (opening : ScheduleValue) → (taken : List (StreamState Blank)) → Type 0
-OpensAnew terms opening taken = ((spec : StreamSpec) × OpensFor terms spec opening) × (taken ≡ [])
+abbrev pub OpensAnew : Terms → List EpochValue → (opening : ScheduleValue)
+    → (taken : List (StreamState Blank)) → Type 0
+OpensAnew terms before opening taken = OpensHub terms before opening × (taken ≡ [])
 
 -- where an epoch opens behind these, these streams were taken out since its hub opened, each as it was then
 abbrev pub WereTakenOut : Terms → List EpochValue → (opening : ScheduleValue)
     → (taken : List (StreamState Blank)) → Type 0
-WereTakenOut terms [] opening taken = OpensAnew terms opening taken
+WereTakenOut terms [] opening taken = OpensAnew terms [] opening taken
 WereTakenOut terms (epoch ∷ before) opening taken =
-    OpensAnew terms opening taken
+    OpensAnew terms (epoch ∷ before) opening taken
     ⊎ (((opening ≡ epoch.gone) × WereTakenOut terms before epoch.opening taken)
     ⊎ ((opening ≡ retired_schedule epoch.gone)
     × ((earlier : List (StreamState Blank)) × WereTakenOut terms before epoch.opening earlier

@@ -1,6 +1,6 @@
 -- What contracts inside the crate say of a session from one epoch to the next.
-use Rattle.std.specs.Prelude.{ℕ, suc, ◌≡◌, ◌≤◌, ◌<◌, ◌^◌, ⊤, All, Bool, true, false, List, [], ◌∷◌, ◌++◌}
-use Rattle.std.specs.Prelude.{IsFalse, Option, None, length, map}
+use Rattle.std.specs.Prelude.{ℕ, suc, ◌≡◌, ◌≢◌, ◌≤◌, ◌<◌, ◌^◌, ⊤, All, Bool, List, [], ◌∷◌}
+use Rattle.std.specs.Prelude.{IsFalse, IsSome, IsTrue, Option, None, length, map}
 use Rattle.std.specs.List.{AllByRecursion}
 use Rattle.std.specs.Vec.{vec_capacity, vec_len}
 use Rattle.y4m_stream.specs.Reader.{IsOfHeader, ReaderState}
@@ -18,7 +18,9 @@ use Rattle.serve_work.specs.declared.session.interval.Interval.{Interval}
 use Rattle.serve_work.specs.declared.session.opening.Opening.{Opening}
 use Rattle.serve_work.specs.declared.session.places.Places.{Places}
 use Rattle.serve_work.specs.declared.session.room.Room.{Room}
-use Rattle.serve_work.specs.Sessions.{AllTimed, IsOfEpochs, starts_of}
+use Rattle.serve_work.specs.History.{EpochValue, IsHistory, OpensHub, Terms, epoch_of, journal_of}
+use Rattle.serve_work.specs.Sessions.{AllTimed, AreInTurn, OpensInTurn, starts_of}
+use Rattle.serve_work.specs.Live.{Waiting}
 use Rattle.serve_work.specs.SessionInside.{AllBegin, AllStand, AreAllOver, AreAllowed, HeldValue, held_with}
 
 -- streams whose seats have the numbers from this one on
@@ -56,14 +58,21 @@ pub record LeadsTo (first : ScheduleValue) (journal : List Entry) (last : Schedu
   pub is_journal : IsJournal (specs_of first) (desk_state first) journal (desk_state last)
   pub specs : specs_of last ≡ specs_of first
 
--- a session that began so stands between two epochs, with this journal of all until now: each stream where
--- its client came to, with its seat of the epoch that ended, whose journal had the session's limit; none is
--- told yet, and there is a place for each that is. Where none waits, all are over
-pub record IsBetween {R W : Type 0} (b : Beginning) (journal : List Entry) (now : Interval R W) : Type 0 where
+-- a session that began so stands between two epochs, behind these, the latest of which just ended: each stream
+-- where its client came to, with its seat of that epoch, whose journal had the session's limit; none is told
+-- yet, and there is a place for each that is. Where none waits, all are over. Another may open in turn, where a
+-- stream waits for it and the session isn't cut
+pub record IsBetween {R W : Type 0} (b : Beginning) (epochs : List EpochValue) (now : Interval R W)
+    : Type 0 where
   pub begun : IsBeginning b
-  pub past : LeadsTo b.schedule journal now.ended.book.desk
+  pub before : List EpochValue
+  pub latest : epochs ≡ epoch_of now.ended [] ∷ before
+  pub in_turn : AreInTurn b.limit b.schedule now.waits epochs
+  pub next : IsFalse now.is_cut → IsTrue now.waits
+      → OpensInTurn b.limit b.schedule now.ended.book.desk epochs
+  pub past : LeadsTo b.schedule (journal_of epochs) now.ended.book.desk
   pub helds : List HeldValue
-  pub stand : AllStand journal b.starts helds
+  pub stand : AllStand (journal_of epochs) b.starts helds
   pub streams : now.streams.items ≡ map (λ held. held.stream) helds
   pub seats : now.ended.streams ≡ map left_by (map (λ held. held.seat) helds)
   pub kept : AreStreamsOf now.ended.book.desk (map (λ held. held.seat) helds)
@@ -73,31 +82,47 @@ pub record IsBetween {R W : Type 0} (b : Beginning) (journal : List Entry) (now 
   pub places : length helds ≤ vec_capacity now.served
   pub over : IsFalse now.waits → AreAllOver now.streams.items
 
--- an epoch may come behind this journal: the first where it has no entry, and else one that a stream waits
--- for, behind epochs
-abbrev pub IsBehind : Beginning → (is_first : Bool) → List Entry → Type 0
-IsBehind b true journal = journal ≡ []
-IsBehind b false journal = IsOfEpochs b.limit b.schedule true journal
-
--- the same, with more entries behind those of this journal. Where its frames have moments that the clock may
--- give, so have those of both together. Where this is so of it, both are that of epochs
-pub record IsLater {R W : Type 0} (Gives : ℕ → Type 0) (b : Beginning) (Before : List Entry → Type 0)
-    (journal : List Entry) (now : Interval R W) : Type 0 where
-  pub more : List Entry
-  pub between : IsBetween b (more ++ journal) now
-  pub moments : AllTimed Gives b.schedule journal b.starts
-      → AllTimed Gives b.schedule (more ++ journal) b.starts
-  pub epochs : Before journal → IsOfEpochs b.limit b.schedule now.waits (more ++ journal)
-
 -- a session stands so between two epochs, whatever it began with
 abbrev pub IsBetweenEpochs : {R W : Type 0} → Interval R W → Type 0
-IsBetweenEpochs now = (b : Beginning) × (journal : List Entry) × IsBetween b journal now
+IsBetweenEpochs now = (b : Beginning) × (epochs : List EpochValue) × IsBetween b epochs now
 
--- and later so, behind epochs after which a stream waited or not, with no other stops than the clock allows
-pub record GoesLater {R W : Type 0} (Gives : ℕ → Type 0) (waited : Bool) (old now : Interval R W)
-    : Type 0 where
-  pub between : (b : Beginning) (journal : List Entry) → IsBetween b journal old
-      → IsLater Gives b (IsOfEpochs b.limit b.schedule waited) journal now
+-- nothing came behind the end of the epoch
+pub record IsJustEnded (epoch : EpochValue) : Type 0 where
+  pub stays : epoch.gone ≡ epoch.last
+  pub goes_on : IsFalse epoch.is_given_up
+
+-- a session that began so serves by these terms
+pub record IsByTerms (terms : Terms) (b : Beginning) : Type 0 where
+  pub limit : b.limit ≡ terms.limit
+  pub together : IsSome terms.together
+  pub opens : OpensHub terms [] b.schedule
+
+-- the epochs of a session that began so were told, each where it ended. Each frame of them was offered at one of
+-- the moments that the clock may give, by the journal of each and by that of all
+pub record AreTold (stands : List EpochValue → List Waiting → Type 0) (terms : Terms) (Gives : ℕ → Type 0)
+    (b : Beginning) (epochs : List EpochValue) : Type 0 where
+  pub told : stands epochs []
+  pub by_terms : IsByTerms terms b
+  pub at_end : AllByRecursion IsJustEnded epochs
+  pub history : IsHistory terms Gives epochs
+  pub moments : AllTimed Gives b.schedule (journal_of epochs) b.starts
+
+-- so a session stands between two epochs that began so
+abbrev pub StandsBetween : {R W : Type 0} (stands : List EpochValue → List Waiting → Type 0) (terms : Terms)
+    (Gives : ℕ → Type 0) → Beginning → Interval R W → Type 0
+StandsBetween stands terms Gives b now =
+    (epochs : List EpochValue) × AreTold stands terms Gives b epochs × IsBetween b epochs now
+
+-- the same, whatever it began with
+abbrev pub StandsSo : {R W : Type 0} (stands : List EpochValue → List Waiting → Type 0) (terms : Terms)
+    (Gives : ℕ → Type 0) → Interval R W → Type 0
+StandsSo stands terms Gives now = (b : Beginning) × StandsBetween stands terms Gives b now
+
+-- and later so, by what is told then, with no other stops than the clock allows
+pub record GoesLater {R W : Type 0} (stood stands : List EpochValue → List Waiting → Type 0) (terms : Terms)
+    (Gives : ℕ → Type 0) (old now : Interval R W) : Type 0 where
+  pub between : (b : Beginning) → StandsBetween stood terms Gives b old
+      → StandsBetween stands terms Gives b now
   pub stops : AreAllowed Gives old.streams.items → AreAllowed Gives now.streams.items
 
 -- an empty ledger of this name, with a part for each seat that there can be, can name an epoch that opens
@@ -126,26 +151,38 @@ pub record IsRoomFor {L R W : Type 0} (count : ℕ) (room : Room L R W) : Type 0
   pub turns : count ≤ vec_capacity room.turns
   pub places : ArePlacesFor count room.places
 
--- an epoch of a session that began so can begin from this schedule, behind this journal, by a hub of the
--- session's limit: each stream stands with its seat, and there is room for what comes of all
-pub record CanBegin {L R W : Type 0} (b : Beginning) (journal : List Entry) (from : ScheduleValue)
+-- an epoch of a session that began so can begin from this schedule, behind these, by a hub of the session's
+-- limit: each stream stands with its seat, and there is room for what comes of all
+pub record CanBegin {L R W : Type 0} (b : Beginning) (epochs : List EpochValue) (from : ScheduleValue)
     (now : Opening L R W) : Type 0 where
   pub begun : IsBeginning b
-  pub past : LeadsTo b.schedule journal from
-  pub stand : AllBegin journal b.starts (held_with now.opened.1.items now.streams.items)
+  pub opens : OpensInTurn b.limit b.schedule from epochs
+  pub past : LeadsTo b.schedule (journal_of epochs) from
+  pub stand : AllBegin (journal_of epochs) b.starts (held_with now.opened.1.items now.streams.items)
   pub room : IsRoomFor (vec_len now.streams) now.room
   pub untold : now.served.items ≡ []
   pub places : vec_len now.streams ≤ vec_capacity now.served
   pub no_calls : AllByRecursion HasNoCalls now.opened.1.items
   pub limit : now.opened.0.limit ≡ b.limit
 
--- the same, whatever it began with
-abbrev pub MayBegin : {L R W : Type 0} → ScheduleValue → Opening L R W → Type 0
-MayBegin from now = (b : Beginning) × (journal : List Entry) × CanBegin b journal from now
+-- it may begin behind those that were told. Only the first of all is behind none
+pub record MayBeginAt {L R W : Type 0} (stands : List EpochValue → List Waiting → Type 0) (terms : Terms)
+    (Gives : ℕ → Type 0) (is_first : Bool) (b : Beginning) (epochs : List EpochValue) (from : ScheduleValue)
+    (now : Opening L R W) : Type 0 where
+  pub told : AreTold stands terms Gives b epochs
+  pub later : IsFalse is_first → epochs ≢ []
+  pub can : CanBegin b epochs from now
+
+-- the same, whatever the session began with
+abbrev pub MayBegin : {L R W : Type 0} (stands : List EpochValue → List Waiting → Type 0) (terms : Terms)
+    (Gives : ℕ → Type 0) (is_first : Bool) → ScheduleValue → Opening L R W → Type 0
+MayBegin stands terms Gives is_first from now =
+    (b : Beginning) × (epochs : List EpochValue) × MayBeginAt stands terms Gives is_first b epochs from now
 
 -- a session comes to this from where an epoch began, with no other stops than the clock allows
-pub record Continues {L R W : Type 0} (Gives : ℕ → Type 0) (is_first : Bool) (from : ScheduleValue)
-    (opening : Opening L R W) (now : Interval R W) : Type 0 where
-  pub between : (b : Beginning) (journal : List Entry) → CanBegin b journal from opening
-      → IsLater Gives b (IsBehind b is_first) journal now
+pub record Continues {L R W : Type 0} (stood stands : List EpochValue → List Waiting → Type 0) (terms : Terms)
+    (Gives : ℕ → Type 0) (is_first : Bool) (from : ScheduleValue) (opening : Opening L R W)
+    (now : Interval R W) : Type 0 where
+  pub between : (b : Beginning) (epochs : List EpochValue)
+      → MayBeginAt stood terms Gives is_first b epochs from opening → StandsBetween stands terms Gives b now
   pub stops : AreAllowed Gives opening.streams.items → AreAllowed Gives now.streams.items

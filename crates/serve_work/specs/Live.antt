@@ -1,7 +1,7 @@
 -- What is told of the streams of a session that come and go.
 use Rattle.std.specs.Prelude.{ℕ, IsFalse, IsTrue, ◌≡◌, ◌≤◌, ◌⊎◌, ◌++◌, false, List, [], ◌∷◌, Option}
 use Rattle.std.specs.Prelude.{None, Some, length, reverse, slice_get}
-use Rattle.std.specs.List.{AllByRecursion}
+use Rattle.std.specs.List.{AllByRecursion, Contains}
 use Rattle.cbs_account.specs.declared.limits.TheConstants.{MOST_ENTRIES, MOST_QUANTUM, MOST_WORKERS}
 use Rattle.y4m_stream.specs.declared.reader.Phase.TheVariants.{Open}
 use Rattle.y4m_stream.specs.Reader.{IsOfHeader, ReaderState}
@@ -16,7 +16,7 @@ use Rattle.serve_hub.specs.declared.refusal.Refusal.{Refusal}
 use Rattle.serve_hub.specs.declared.refusal.Refusal.TheVariants.{Core}
 use Rattle.serve_hub.specs.Calls.{AllowsAdmission}
 use Rattle.serve_hub.specs.Ends.{acts_of}
-use Rattle.serve_hub.specs.Seats.{StreamSeatValue, spec_told}
+use Rattle.serve_hub.specs.Seats.{StreamRest, StreamSeatValue, left_by, spec_told}
 use Rattle.serve_client.specs.Clients.{AllowsStop, ClientIsDone, ClientStart, collections_in, offers_in}
 use Rattle.serve_client.specs.Rests.{IsRestOf, RestValue}
 use Rattle.serve_client.specs.Streams.{ServedValue}
@@ -102,7 +102,7 @@ IsKept gone old opening number =
 -- stream has there
 abbrev pub IsNewIn : Terms → StreamSpec → (opening : ScheduleValue) (number : ℕ) → Type 0
 IsNewIn terms spec opening number =
-    (OpensFor terms spec opening × (number ≡ 0)) ⊎ (length opening.streams ≤ number)
+    (OpensFor terms (spec ∷ []) opening × (number ≡ 0)) ⊎ (length opening.streams ≤ number)
 
 -- the stream that had these numbers in the latest of these epochs has this one where another opens: it is new
 -- there, or was there, and keeps its number, but for streams that were released. None goes on from an epoch
@@ -140,9 +140,14 @@ abbrev pub HasAtEnd : List EpochValue → ℕ → (KeptStream → Type 0) → Ty
 HasAtEnd [] number P = ⊥
 HasAtEnd (epoch ∷ epochs) number P = HasStream epoch.last number P
 
+-- a seat of the latest of these epochs left this
+abbrev pub HasLeft : List EpochValue → StreamRest → Type 0
+HasLeft [] rest = ⊥
+HasLeft (epoch ∷ epochs) rest = Contains epoch.rests rest
+
 -- these are the session's epochs until now, and the stream of this request was served with what it asked for
--- in those since it was given, by its calls in their journals. It is told as it stood at the end of the last.
--- A clock that gives these times allows its stop
+-- in those since it was given, by its calls in their journals. It is told as it stood at the end of the last, in
+-- which its seat left just this. A clock that gives these times allows its stop
 pub record IsServedSince (terms : Terms) (times : ℕ → Type 0) (epochs : List EpochValue) (w : Waiting)
     (served : ServedValue) : Type 0 where
   pub history : IsHistory terms times epochs
@@ -154,6 +159,7 @@ pub record IsServedSince (terms : Terms) (times : ℕ → Type 0) (epochs : List
   pub numbers : HadNumbers terms w (number ∷ before) epochs
   pub calls : is_served.past ++ is_served.seat.calls.list ≡ acts_by (number ∷ before) epochs
   pub stream : HasAtEnd epochs number (IsStreamTold served)
+  pub left : HasLeft epochs (left_by (numbered number is_served.seat))
   pub stop : AllowsStop times served.outcome.stop
 
 -- as the stream stands, it is shown
@@ -168,7 +174,7 @@ pub record IsStandingOf (standing : Standing) (stream : KeptStream) : Type 0 whe
 -- these are the session's epochs until now. Something is left to do of the stream of this request, which was
 -- served with what it asked for in those since it was given, by its calls in their journals, and is shown as
 -- it stood at the end of the last. As many of its frames are shown as accepted as these calls offered, and as
--- collected as they collected
+-- collected as they collected. Its seat left just this at that end
 pub record IsStanding (terms : Terms) (times : ℕ → Type 0) (epochs : List EpochValue) (w : Waiting)
     (standing : Standing) : Type 0 where
   pub history : IsHistory terms times epochs
@@ -185,6 +191,7 @@ pub record IsStanding (terms : Terms) (times : ℕ → Type 0) (epochs : List Ep
   pub accepted : standing.accepted ≡ offers_in (past ++ seat.calls.list)
   pub collected : standing.collected ≡ collections_in (past ++ seat.calls.list)
   pub stream : HasAtEnd epochs number (IsStandingOf standing)
+  pub has_left : HasLeft epochs (left_by (numbered number seat))
 
 -- how many entries an epoch's journal may have: a close of each of 64 streams, an admission of each, and a
 -- lease with its settlement
@@ -210,7 +217,8 @@ pub record IsAdmitted (terms : Terms) (epochs : List EpochValue) (others : List 
   pub opening : ScheduleValue
   pub opens : OpensBehind terms epochs opening
   pub number : ℕ
-  pub is_new : (OpensFor terms spec opening × (number ≡ 0) × (others ≡ [])) ⊎ (length opening.streams ≤ number)
+  pub is_new : (OpensFor terms (spec ∷ []) opening × (number ≡ 0) × (others ≡ []))
+      ⊎ (length opening.streams ≤ number)
 
 -- the stream's client came to its own end, and no image is left at its seat; or all streams that were left
 -- were given up

@@ -24,8 +24,8 @@ use Rattle.serve_work.specs.declared.live.opening.Hall.{Hall}
 use Rattle.serve_work.specs.History.{EpochValue, IsGoneOn, IsHistory, IsLeftBy, OpensBehind, Terms}
 use Rattle.serve_work.specs.History.{epoch_of, given_up, left_at}
 use Rattle.serve_work.specs.Intervals.{ArePlacesFor, HasNoCalls}
-use Rattle.serve_work.specs.Live.{HadNumbers, IsBehind, IsRequest, IsSeatFor}
-use Rattle.serve_work.specs.Live.{Waiting, acts_by, start_with}
+use Rattle.serve_work.specs.Live.{HadNumbers, HasLeft, IsBehind, IsRequest, IsSeatFor}
+use Rattle.serve_work.specs.Live.{Waiting, acts_by, numbered, start_with}
 use Rattle.serve_work.specs.SessionInside.{HeldValue, held_at}
 
 -- where the stream of this request stands with its seat where an epoch opens behind these: the seat has
@@ -56,6 +56,7 @@ pub record Stood (terms : Terms) (times : ℕ → Type 0) (epochs : List EpochVa
   pub behind : IsBehind terms w.request.spec (number ∷ before) epochs last seat.number
   pub stands : StandsAt stream (start_with w.request first) past seat
   pub calls : past ++ seat.calls.list ≡ acts_by (number ∷ before) epochs
+  pub left : HasLeft epochs (left_by (numbered number seat))
   pub stop : IfSome (stream_stop stream) (AllowsStop times)
 
 -- the stream of a request that waits, with its seat, where an epoch opens, and where it was left
@@ -233,6 +234,7 @@ pub record AreSeated {L R W : Type 0} (terms : Terms) (times : ℕ → Type 0) (
 pub record IsFirst {R W : Type 0} (contents : W → Option (List ℕ)) (failures : W → ℕ) (terms : Terms)
     (epochs : List EpochValue) (w : Waiting) (stream : FirstStream R W) : Type 0 where
   pub given : length epochs ≡ w.since
+  pub one_by_one : terms.together ≡ None
   pub ticket : stream.ticket ≡ w.ticket
   pub is_request : IsRequest w.request
   pub setup : stream.setup ≡ setup_of terms.workers terms.quantum (w.request.spec ∷ [])

@@ -13,9 +13,7 @@ use Rattle.serve_client.specs.Streams.{stream_stop}
 use Rattle.serve_client.specs.Clients.{AllowsStop, ClientIsDone, ClientLeft, ClientOutcome, ClientStart}
 use Rattle.serve_client.specs.Clients.{StreamEnds}
 use Rattle.serve_client.specs.ClientInside.{IsNoNewEnd, KeepsAllowed, KeepsMoments}
-use Rattle.serve_client.specs.Rests.{IsRest, Unbegun, reader_in}
-use Rattle.serve_work.specs.declared.session.SessionFault.{SessionFault}
-use Rattle.serve_work.specs.declared.session.SessionFault.TheVariants as faults
+use Rattle.serve_client.specs.Rests.{IsRest, reader_in}
 use Rattle.serve_work.specs.declared.session.unended.Unended.{Unended}
 use Rattle.serve_work.specs.declared.session.unended.Unended.TheVariants as unended
 use Rattle.serve_work.specs.Sessions.{acts_in}
@@ -27,12 +25,6 @@ AreAllOver streams = All (λ stream. IsFalse (is_waiting stream)) streams
 -- the clock allows each stop that these keep, or came to
 abbrev pub AreAllowed : (Gives : ℕ → Type 0) → List StreamValue → Type 0
 AreAllowed Gives streams = AllByRecursion (λ stream. IfSome (stream_stop stream) (AllowsStop Gives)) streams
-
--- the fault that a session tells where an epoch came to no end
-abbrev pub fault_of : {R W : Type 0} → Unended R W → SessionFault
-fault_of (unended.Unopened fault inputs) = fault
-fault_of (unended.Unbegun streams) = faults.NoMemory
-fault_of unended.Mismatch = faults.Mismatch
 
 -- a stream with its seat of this epoch
 pub record HeldValue : Type 0 where
@@ -54,19 +46,6 @@ IsUnended is_first helds (unended.Unopened fault inputs) = ⊥
 IsUnended is_first helds (unended.Unbegun back) =
     IsTrue is_first × (back.items ≡ map (λ held. held.stream) helds)
 IsUnended is_first helds unended.Mismatch = ⊤
-
--- nothing was done of the stream of this input
-abbrev pub unread : {W : Type 0} (contents : W → Option (List ℕ)) (failures : W → ℕ) → ReaderState × W
-    → StreamValue
-unread contents failures input = Waiting (Unbegun input.0 (contents input.1) (failures input.1))
-
--- what comes back where a session's first epoch came to no end: its inputs as they were, or their streams
--- with nothing done of them
-abbrev pub GivesBack : {R W : Type 0} (contents : W → Option (List ℕ)) (failures : W → ℕ)
-    → List (ReaderState × W) → Unended R W → Type 0
-GivesBack contents failures inputs (unended.Unopened fault back) = back.items ≡ inputs
-GivesBack contents failures inputs (unended.Unbegun back) = back.items ≡ map (unread contents failures) inputs
-GivesBack contents failures inputs unended.Mismatch = ⊤
 
 abbrev pub AreUnread : {W : Type 0} → List (ReaderState × W) → Type 0
 AreUnread inputs = AllByRecursion (λ input. input.0.phase ≡ Open) inputs

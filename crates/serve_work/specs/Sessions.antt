@@ -1,30 +1,31 @@
 -- What the streams of a session come to.
-use Rattle.std.specs.Prelude.{ℕ, ◌+◌, ◌*◌, ◌≡◌, ◌≢◌, ◌<◌, ◌≤◌, ◌++◌, ⊤, Bool, true, IsFalse, IsTrue}
-use Rattle.std.specs.Prelude.{if◌then◌else◌}
-use Rattle.std.specs.Prelude.{List, [], ◌∷◌, Option, flat_map, length, reverse, sum_by}
-use Rattle.std.specs.List.{AllByRecursion, AllZip}
+use Rattle.std.specs.Prelude.{ℕ, ◌+◌, ◌*◌, ◌≡◌, ◌≢◌, ◌<◌, ◌≤◌, ◌++◌, ◌⊎◌, ⊤, Bool, true, false, IsFalse}
+use Rattle.std.specs.Prelude.{List, [], ◌∷◌, Option, length, map, reverse}
+use Rattle.std.specs.List.{AllByRecursion, AllZip, Contains}
 use Rattle.filters.specs.Costs.{cost_of}
 use Rattle.y4m_stream.specs.declared.reader.Phase.TheVariants.{Open}
 use Rattle.y4m_stream.specs.Reader.{IsOfHeader, ReaderState}
-use Rattle.serve_core.specs.Bare.{Blank}
 use Rattle.serve_core.specs.Desk.{desk_state}
-use Rattle.serve_core.specs.Leads.{state_from}
 use Rattle.serve_core.specs.Schedule.{HasStream, ScheduleValue, opened_schedule}
 use Rattle.serve_core.specs.Setup.{Setup, StreamSpec}
-use Rattle.serve_core.specs.States.{State}
 use Rattle.serve_core.specs.Streams.{KeptStream}
 use Rattle.serve_hub.specs.declared.entry.Act.{Act}
 use Rattle.serve_hub.specs.declared.entry.Entry.{Entry}
 use Rattle.serve_hub.specs.declared.entry.Seat.TheVariants.{Stream}
 use Rattle.serve_hub.specs.Books.{specs_of}
-use Rattle.serve_hub.specs.Ends.{AreFree, acts_of}
-use Rattle.serve_hub.specs.Journal.{IsJournal, clock_in, transcript_of}
-use Rattle.serve_hub.specs.Seats.{StreamSeatValue}
+use Rattle.serve_hub.specs.Ends.{acts_of}
+use Rattle.serve_hub.specs.Journal.{IsJournal}
+use Rattle.serve_hub.specs.Seats.{StreamSeatValue, left_by}
 use Rattle.serve_client.specs.declared.stop.Stop.TheVariants.{Whole}
-use Rattle.serve_client.specs.Streams.{ServedValue}
-use Rattle.serve_client.specs.Clients.{AllowsStop, ClientIsDone, ClientStart, IsAtMoment}
-use Rattle.serve_client.specs.Clients.{StreamEnds}
-use Rattle.serve_client.specs.Workers.{HaveSpent}
+use Rattle.serve_client.specs.Rests.{Unbegun}
+use Rattle.serve_client.specs.Streams.{ServedValue, StreamValue, Waiting}
+use Rattle.serve_client.specs.Clients.{AllowsStop, ClientIsDone, ClientStart, StreamEnds}
+use Rattle.serve_work.specs.declared.session.SessionFault.{SessionFault}
+use Rattle.serve_work.specs.declared.session.SessionFault.TheVariants as faults
+use Rattle.serve_work.specs.declared.session.unended.Unended.{Unended}
+use Rattle.serve_work.specs.declared.session.unended.Unended.TheVariants as unended
+use Rattle.serve_work.specs.Entries.{AreTimed, open_streams}
+use Rattle.serve_work.specs.History.{EpochValue, IsHistory, journal_of, terms_with}
 
 -- nothing was read of a stream's frames, and its header has the size of the stream's chain
 pub record IsInput {W : Type 0} (spec : StreamSpec) (input : ReaderState × W) : Type 0 where
@@ -75,73 +76,82 @@ pub record IsStreamTold (served : ServedValue) (stream : KeptStream) : Type 0 wh
   pub accepted : stream.state.accepted ≡ served.outcome.accepted
   pub charged : stream.state.charged ≡ served.charged
 
--- a stream was served by the calls that it made in this journal, and is told as it stood at last. Where its
--- session wasn't cut it wasn't given up: its client came to its end, and no image is left at its seat
-pub record IsServedBy (is_cut : Bool) (journal : List Entry) (last : ScheduleValue) (start : ClientStart)
+-- a stream was served by the calls that it made in the journals of these epochs, and is told as it stood at the
+-- end of the latest, in which its seat left just this. Where its session wasn't cut it wasn't given up: its
+-- client came to its end, and no image is left at its seat
+pub record IsServedBy (is_cut : Bool) (epochs : List EpochValue) (latest : EpochValue) (start : ClientStart)
     (served : ServedValue) : Type 0 where
   pub is_served : IsServed start served
   pub own : IsFalse is_cut → ClientIsDone start is_served.past is_served.seat served.outcome
-  pub calls : is_served.past ++ is_served.seat.calls.list ≡ acts_in journal start
-  pub stream : HasStream last start.seat.number (IsStreamTold served)
+  pub calls : is_served.past ++ is_served.seat.calls.list ≡ acts_in (journal_of epochs) start
+  pub stream : HasStream latest.last start.seat.number (IsStreamTold served)
+  pub left : Contains latest.rests (left_by is_served.seat)
 
--- by a journal from an opening state on, the latest entry first, each entry of a frame of stream s has a
--- moment that the clock may give, by the journal's own clock as it was before that entry
-abbrev pub AreTimed : (Gives : ℕ → Type 0) → (s : ℕ) → List StreamSpec → (opening : State Blank) → List Entry
-    → Type 0
-AreTimed Gives s specs opening [] = ⊤
-AreTimed Gives s specs opening (e ∷ past) =
-    AreTimed Gives s specs opening past
-    × (e.seat ≡ Stream s → IsAtMoment Gives (clock_in specs opening past) e.act)
-
--- and so for each of these streams, from where a schedule stood
+-- each entry of a frame of these streams, by a journal from where a schedule stood, has a moment that the clock
+-- may give
 abbrev pub AllTimed : (Gives : ℕ → Type 0) → ScheduleValue → List Entry → List ClientStart → Type 0
 AllTimed Gives opening journal starts =
     AllByRecursion (λ start.
     AreTimed Gives start.seat.number (specs_of opening) (desk_state opening) journal) starts
 
--- how many streams aren't closed
-abbrev pub open_streams : State Blank → ℕ
-open_streams m = sum_by (λ x. if x.is_closed then 0 else 1) m.streams
+-- the epoch's journal has no room for a lease and its settlement, beside a close of each open stream
+abbrev pub IsFull : (limit : ℕ) → EpochValue → Type 0
+IsFull limit epoch = limit < length epoch.journal + open_streams (desk_state epoch.last) + 2
 
--- an epoch with this journal ends in this state: each lease was settled with its whole grant, and the journal
--- has room for a close of each open stream. Where a stream waits for another, it has none for a lease and its
--- settlement beside these
-pub record IsEpoch (limit : ℕ) (waits : Bool) (epoch : List Entry) (m : State Blank) : Type 0 where
-  pub free : AreFree m.workers
-  pub spent : HaveSpent (length m.workers) epoch
-  pub fits : length epoch + open_streams m ≤ limit
-  pub full : IsTrue waits → limit < length epoch + open_streams m + 2
+-- an epoch opens here behind these, which are all full: where the latest of them ended, and behind none where
+-- the session opens
+abbrev pub OpensInTurn : (limit : ℕ) (first opening : ScheduleValue) → List EpochValue → Type 0
+OpensInTurn limit first opening [] = opening ≡ first
+OpensInTurn limit first opening (epoch ∷ before) =
+    (opening ≡ epoch.last) × IsFull limit epoch × OpensInTurn limit first epoch.opening before
 
--- these are the journals of epochs, the latest first, from an opening state on. A stream waited at the end of
--- each but the latest, and perhaps at that of the latest
-abbrev pub AreEpochs : (limit : ℕ) → List StreamSpec → (opening : State Blank) → (waits : Bool)
-    → List (List Entry) → Type 0
-AreEpochs limit specs opening waits [] = ⊤
-AreEpochs limit specs opening waits (epoch ∷ before) =
-    AreEpochs limit specs opening true before
-    × IsEpoch limit waits epoch
-    (state_from opening (transcript_of specs opening (flat_map (λ journal. journal) (epoch ∷ before))))
+-- these are the epochs of a session that opens here, one behind the other. Where a stream waits for another, the
+-- latest is full too, or it has no entry, and isn't the first
+abbrev pub AreInTurn : (limit : ℕ) (first : ScheduleValue) (waits : Bool) → List EpochValue → Type 0
+AreInTurn limit first waits [] = ⊥
+AreInTurn limit first false (epoch ∷ before) = OpensInTurn limit first epoch.opening before
+AreInTurn limit first true (epoch ∷ before) =
+    OpensInTurn limit first epoch.opening before
+    × (IsFull limit epoch ⊎ ((epoch.journal ≡ []) × (before ≢ [])))
 
--- a journal is that of epochs, one behind the other from where a schedule stood. Where a stream waits for
--- another, there was one
-pub record IsOfEpochs (limit : ℕ) (opening : ScheduleValue) (waits : Bool) (journal : List Entry)
-    : Type 0 where
-  pub epochs : List (List Entry)
-  pub joined : flat_map (λ epoch. epoch) epochs ≡ journal
-  pub each : AreEpochs limit (specs_of opening) (desk_state opening) waits epochs
-  pub some : IsTrue waits → epochs ≢ []
-
--- one journal, the latest entry first, leads from where the setup opens to where the session ended. It is
--- that of epochs of at most so many entries each. Each stream was served by its calls in it, with each frame
--- at a moment that the clock may give, and stopped as the clock allows. Only where the session was cut may
--- one have been given up: behind a full journal, where streams wait for another epoch
-pub record IsSession (Gives : ℕ → Type 0) (setup : Setup) (limit : ℕ) (starts : List ClientStart)
-    (served : List ServedValue) : Type 0 where
-  pub journal : List Entry
-  pub last : ScheduleValue
+-- these epochs, the latest first, lead from where the setup opens to where the session ended. Each stream was
+-- served by its calls in their journals, with each frame at a moment that the clock may give, and stopped as the
+-- clock allows. Only where the session was cut may one have been given up: behind a full journal, where streams
+-- wait for another epoch
+pub record IsSessionOf (Gives : ℕ → Type 0) (setup : Setup) (limit : ℕ) (epochs : List EpochValue)
+    (starts : List ClientStart) (served : List ServedValue) : Type 0 where
   pub is_cut : Bool
-  pub epochs : IsOfEpochs limit (opened_schedule setup) is_cut journal
-  pub leads : IsJournal setup.streams (desk_state (opened_schedule setup)) journal (desk_state last)
-  pub streams : AllZip (IsServedBy is_cut journal last) starts served
-  pub moments : AllTimed Gives (opened_schedule setup) journal starts
+  pub history : IsHistory (terms_with setup limit) Gives epochs
+  pub in_turn : AreInTurn limit (opened_schedule setup) is_cut epochs
+  pub latest : EpochValue
+  pub before : List EpochValue
+  pub epochs_are : epochs ≡ latest ∷ before
+  pub leads : IsJournal setup.streams (desk_state (opened_schedule setup)) (journal_of epochs)
+      (desk_state latest.last)
+  pub streams : AllZip (IsServedBy is_cut epochs latest) starts served
+  pub moments : AllTimed Gives (opened_schedule setup) (journal_of epochs) starts
   pub stops : AllByRecursion (λ s. AllowsStop Gives s.outcome.stop) served
+
+-- the same, whatever epochs these were
+abbrev pub IsSession : (Gives : ℕ → Type 0) → Setup → (limit : ℕ) → List ClientStart → List ServedValue → Type 0
+IsSession Gives setup limit starts served =
+    (epochs : List EpochValue) × IsSessionOf Gives setup limit epochs starts served
+
+-- the fault that a session tells that came to no end
+abbrev pub fault_of : {R W : Type 0} → Unended R W → SessionFault
+fault_of (unended.Unopened fault inputs) = fault
+fault_of (unended.Unbegun streams) = faults.NoMemory
+fault_of unended.Mismatch = faults.Mismatch
+
+-- nothing was done of the stream of this input
+abbrev pub unread : {W : Type 0} (contents : W → Option (List ℕ)) (failures : W → ℕ) → ReaderState × W
+    → StreamValue
+unread contents failures input = Waiting (Unbegun input.0 (contents input.1) (failures input.1))
+
+-- what comes back of a session in which no frame was offered: its inputs as they were, or their streams with
+-- nothing done of them
+abbrev pub GivesBack : {R W : Type 0} (contents : W → Option (List ℕ)) (failures : W → ℕ)
+    → List (ReaderState × W) → Unended R W → Type 0
+GivesBack contents failures inputs (unended.Unopened fault back) = back.items ≡ inputs
+GivesBack contents failures inputs (unended.Unbegun back) = back.items ≡ map (unread contents failures) inputs
+GivesBack contents failures inputs unended.Mismatch = ⊤

@@ -1,4 +1,4 @@
-//! What is told of a session whose streams come and go, epoch by epoch.
+//! What is told of a session, epoch by epoch.
 ghost use Rattle.std.specs.Prelude.{ℕ, ◌≡◌, ◌≤◌, List, ◌∷◌, Option, IsFalse};
 ghost use Rattle.serve_work.specs.History.{EpochValue, HasEnded, Terms, epoch_of, given_up, gone_to};
 ghost use Rattle.serve_work.specs.Live.{AreAllIn, Waiting};
@@ -18,7 +18,7 @@ pub trait Chronicle {
     ghost stands: { Self → List EpochValue → List Waiting → Type 0 };
 
     /// An epoch has ended, in which all requests that wait had their streams. Their tickets are by the numbers
-    /// of their streams. There is none of a stream that was told before.
+    /// of their streams. There is none of a stream that was told before, or that no request asked for.
     fn epoch_ended(&mut self, ended: &Ended, tickets: &[Option<u64>])
         requires epoch { (es : List EpochValue) × (ws : List Waiting) × stands self.old es ws
             × HasEnded terms times es (epoch_of ended.now tickets.now)

@@ -1,8 +1,10 @@
 //! A session: streams that clients serve, each by a thread, and workers beside them.
-ghost use Rattle.std.specs.Prelude.{◌≡◌, ◌↔◌, IfOk, IsErrOf, length};
+ghost use Rattle.std.specs.Prelude.{ℕ, ◌≡◌, ◌↔◌, List, [], IfErr, IfOk, IsErrOf, OnOk, length};
 ghost use Rattle.serve_hub.specs.Books.{IsLimit};
 ghost use Rattle.serve_hub.specs.Seats.{opened_streams};
-ghost use Rattle.serve_work.specs.Sessions.{AreInputs, AreServed, IsSession, starts_of};
+ghost use Rattle.serve_work.specs.History.{EpochValue, terms_with};
+ghost use Rattle.serve_work.specs.Sessions.{AreInputs, AreServed, GivesBack, IsSession, IsSessionOf};
+ghost use Rattle.serve_work.specs.Sessions.{fault_of, starts_of};
 
 mod epochs;
 mod interval;
@@ -12,7 +14,9 @@ pub(crate) mod room;
 pub(crate) mod threads;
 pub(crate) mod turn;
 mod unended;
+mod untold;
 
+use crate::chronicle::Chronicle;
 use crate::setting::Setting;
 use epochs::{begin, go_on};
 use interval::report;
@@ -26,6 +30,9 @@ use std::sync::Wait;
 use std::sync::ledger::Blank;
 use std::thread::Threads;
 use thiserror::Error;
+pub use turn::Stream;
+pub use unended::Unended;
+use untold::{HasTerms, Untold};
 use y4m_stream::{Sink, Source, StreamReader};
 
 /// Why a session tells nothing of its streams.
@@ -103,6 +110,114 @@ pub fn serve_session<
         served.items) }
     ensures bad_limit { IsErrOf result SessionFault.BadLimit ↔ ¬ IsLimit (length setup.streams) limit }
 {
+    match serve_session_or_return(rt, alloc, setup, inputs, limit, gate, clock) {
+        Ok(served) => Ok(served),
+        Err(unended) => Err(unended.fault()),
+    }
+}
+
+/// Serves as [`serve_session`] does. Where no frame was offered, since the limit is none, or memory or a
+/// worker's thread was refused in the first epoch, the inputs come back as they were.
+pub fn serve_session_or_return<
+    R: Source + Drop + Send,
+    W: Sink + Drop + Send,
+    G: Gate + Sync,
+    K: Clock + Sync,
+    T: Threads + Wait + Sync,
+>(
+    rt: &T,
+    alloc: Global,
+    setup: Setup,
+    inputs: Vec<(StreamReader<R>, W)>,
+    limit: usize,
+    gate: &G,
+    clock: &K,
+) -> Result<Vec<Served<R, W>>, Unended<R, W>>
+    requires inputs { AreInputs setup.streams inputs.items }
+    ensures streams { IfOk result (λ served. AreServed
+        (starts_of W.contents W.failures (opened_streams limit 0 setup.streams) inputs.items)
+        served.items) }
+    ensures session { IfOk result (λ served. IsSession (K.gives clock.now) setup limit
+        (starts_of W.contents W.failures (opened_streams limit 0 setup.streams) inputs.items)
+        served.items) }
+    ensures limit { OnOk result (IsLimit (length setup.streams) limit) }
+    ensures bad_limit { IfErr result (λ unended.
+        (fault_of unended ≡ SessionFault.BadLimit) ↔ ¬ IsLimit (length setup.streams) limit) }
+    ensures returns_inputs { IfErr result (GivesBack W.contents W.failures inputs.items) }
+{
+    serve_untold::<R, W, G, K, T, Brand>(rt, alloc, setup, inputs, limit, gate, clock)
+}
+
+/// The same, by a chronicle that keeps nothing, whose type tells what is served by.
+fn serve_untold<
+    R: Source + Drop + Send,
+    W: Sink + Drop + Send,
+    G: Gate + Sync,
+    K: Clock + Sync,
+    T: Threads + Wait + Sync,
+    L: HasTerms,
+>(
+    rt: &T,
+    alloc: Global,
+    setup: Setup,
+    inputs: Vec<(StreamReader<R>, W)>,
+    limit: usize,
+    gate: &G,
+    clock: &K,
+) -> Result<Vec<Served<R, W>>, Unended<R, W>>
+    requires inputs { AreInputs setup.streams inputs.items }
+    requires terms { terms_with setup limit ≡ L.terms }
+    ensures streams { IfOk result (λ served. AreServed
+        (starts_of W.contents W.failures (opened_streams limit 0 setup.streams) inputs.items)
+        served.items) }
+    ensures session { IfOk result (λ served. IsSession (K.gives clock.now) setup limit
+        (starts_of W.contents W.failures (opened_streams limit 0 setup.streams) inputs.items)
+        served.items) }
+    ensures limit { OnOk result (IsLimit (length setup.streams) limit) }
+    ensures bad_limit { IfErr result (λ unended.
+        (fault_of unended ≡ SessionFault.BadLimit) ↔ ¬ IsLimit (length setup.streams) limit) }
+    ensures returns_inputs { IfErr result (GivesBack W.contents W.failures inputs.items) }
+{
+    let mut untold: Untold<L> = Untold::new();
+    serve_session_told(rt, alloc, setup, inputs, limit, &mut untold, gate, clock)
+}
+
+/// Serves as [`serve_session_or_return`] does, and tells the chronicle of each epoch where it ends. No stream of
+/// it has a ticket. The clock stays between two epochs, and no stream is taken out.
+pub fn serve_session_told<
+    R: Source + Drop + Send,
+    W: Sink + Drop + Send,
+    C: Chronicle,
+    G: Gate + Sync,
+    K: Clock + Sync,
+    T: Threads + Wait + Sync,
+>(
+    rt: &T,
+    alloc: Global,
+    setup: Setup,
+    inputs: Vec<(StreamReader<R>, W)>,
+    limit: usize,
+    chronicle: &mut C,
+    gate: &G,
+    clock: &K,
+) -> Result<Vec<Served<R, W>>, Unended<R, W>>
+    requires inputs { AreInputs setup.streams inputs.items }
+    requires terms { terms_with setup limit ≡ C.terms }
+    requires times { (at : ℕ) → K.gives clock.now at → C.times at }
+    requires untold { C.stands chronicle.old [] [] }
+    ensures streams { IfOk result (λ served. AreServed
+        (starts_of W.contents W.failures (opened_streams limit 0 setup.streams) inputs.items)
+        served.items) }
+    ensures session { IfOk result (λ served. (epochs : List EpochValue) × C.stands chronicle.new epochs []
+        × IsSessionOf (K.gives clock.now) setup limit epochs
+        (starts_of W.contents W.failures (opened_streams limit 0 setup.streams) inputs.items)
+        served.items) }
+    ensures limit { OnOk result (IsLimit (length setup.streams) limit) }
+    ensures bad_limit { IfErr result (λ unended.
+        (fault_of unended ≡ SessionFault.BadLimit) ↔ ¬ IsLimit (length setup.streams) limit) }
+    ensures returns_inputs { IfErr result (GivesBack W.contents W.failures inputs.items) }
+{
+    setup.recall_limits();
     let blank = Blank::new(MOST_SEATS);
     let setting = Setting {
         rt,
@@ -110,10 +225,11 @@ pub fn serve_session<
         gate,
         clock,
     };
-    let interval = match begin::<Brand, R, W, G, K, T>(setting, blank, setup, inputs, limit) {
-        Ok(interval) => interval,
-        Err(unended) => return Err(unended.fault()),
-    };
-    let interval = go_on(setting, interval)?;
-    Ok(report(interval))
+    let interval = begin::<Brand, R, W, C, G, K, T>(
+        setting, blank, setup, inputs, limit, chronicle,
+    )?;
+    match go_on(setting, interval, chronicle) {
+        Ok(interval) => Ok(report(interval)),
+        Err(_) => Err(Unended::Mismatch),
+    }
 }

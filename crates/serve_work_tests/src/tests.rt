@@ -13,6 +13,7 @@ mod pauses;
 mod sessions;
 mod slow;
 mod stops;
+mod told;
 
 use sessions::{Open, PLAIN, Plan, Still, served, stream_of, writer_of};
 use std::fmt::{Debug, Display};

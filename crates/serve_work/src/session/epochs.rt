@@ -1,12 +1,14 @@
 //! The epochs of a session, each with a journal of its own.
-ghost use Rattle.std.specs.Prelude.{◌≡◌, ◌<◌, ◌≤◌, ◌↔◌, true, [], IfErr, IfOk, IsFalse, IsTrue};
+ghost use Rattle.std.specs.Prelude.{ℕ, ◌≡◌, ◌<◌, ◌≤◌, ◌↔◌, [], IfErr, IfOk, IsFalse, IsTrue};
 ghost use Rattle.std.specs.Prelude.{OnErr, OnOk, length};
 ghost use Rattle.serve_core.specs.Schedule.{opened_schedule};
+ghost use Rattle.serve_core.specs.Setup.{IsSetup};
 ghost use Rattle.serve_hub.specs.Books.{IsLimit, entries_left};
-ghost use Rattle.serve_work.specs.Intervals.{CanName, Continues, GoesLater, IsBetweenEpochs, IsLater};
-ghost use Rattle.serve_work.specs.Intervals.{MayBegin, beginning_of};
-ghost use Rattle.serve_work.specs.Sessions.{AreInputs};
-ghost use Rattle.serve_work.specs.SessionInside.{AreAllOver, AreAllowed, GivesBack, IsUnended, fault_of};
+ghost use Rattle.serve_work.specs.History.{terms_with};
+ghost use Rattle.serve_work.specs.Intervals.{CanName, Continues, GoesLater, MayBegin, StandsBetween};
+ghost use Rattle.serve_work.specs.Intervals.{StandsSo, beginning_of};
+ghost use Rattle.serve_work.specs.Sessions.{AreInputs, GivesBack, fault_of};
+ghost use Rattle.serve_work.specs.SessionInside.{AreAllOver, AreAllowed, IsUnended};
 ghost use Rattle.serve_work.specs.SessionInside.{held_with};
 
 use super::SessionFault;
@@ -18,6 +20,7 @@ use super::threads::run_threads;
 use super::turn::{Stream, pair_with_seats};
 use super::unended::Unended;
 use crate::bounds::{Host, LentClock, LentGate, SentSink, SentSource};
+use crate::chronicle::Chronicle;
 use crate::setting::Setting;
 use serve_client::have_spent;
 use serve_core::Setup;
@@ -60,14 +63,27 @@ fn is_cut(ended: &Ended, waits: bool, is_first: bool) -> Result<bool, SessionFau
 }
 
 /// The streams go on with their seats of this epoch, until all are over or the journal is full. In the first
-/// epoch all workers have to start; in a later one it goes on with those that do.
-fn epoch<L: Epoch + Send + Sync, R: SentSource, W: SentSink, G: LentGate, K: LentClock, T: Host>(
+/// epoch all workers have to start; in a later one it goes on with those that do. The chronicle is told of the
+/// epoch where it came to its end.
+fn epoch<
+    L: Epoch + Send + Sync,
+    R: SentSource,
+    W: SentSink,
+    C: Chronicle,
+    G: LentGate,
+    K: LentClock,
+    T: Host,
+>(
     setting: Setting<'_, G, K, T>,
     opening: Opening<L, R, W>,
     is_first: bool,
+    chronicle: &mut C,
 ) -> Result<Interval<R, W>, Unended<R, W>>
-    requires can_begin { MayBegin L.opening opening }
-    ensures later { IfOk result (Continues (K.gives setting.entry.clock.now) is_first L.opening opening) }
+    requires can_begin { MayBegin (C.stands chronicle.old) C.terms (K.gives setting.clock.now) is_first
+        L.opening opening }
+    requires times { (at : ℕ) → K.gives setting.clock.now at → C.times at }
+    ensures later { IfOk result (Continues (C.stands chronicle.old) (C.stands chronicle.new) C.terms
+        (K.gives setting.entry.clock.now) is_first L.opening opening) }
     ensures unended { IfErr result (IsUnended is_first
         (held_with opening.opened.1.items opening.streams.items)) }
 {
@@ -102,6 +118,7 @@ fn epoch<L: Epoch + Send + Sync, R: SentSource, W: SentSink, G: LentGate, K: Len
     let Ok(is_cut) = is_cut(&ended, waits, is_first) else {
         return Err(Unended::Mismatch);
     };
+    chronicle.epoch_ended(&ended, &[]);
     Ok(Interval {
         ended,
         streams,
@@ -118,6 +135,7 @@ pub(super) fn begin<
     L: Epoch + Send + Sync,
     R: SentSource,
     W: SentSink,
+    C: Chronicle,
     G: LentGate,
     K: LentClock,
     T: Host,
@@ -127,11 +145,16 @@ pub(super) fn begin<
     setup: Setup,
     inputs: Vec<(StreamReader<R>, W)>,
     limit: usize,
+    chronicle: &mut C,
 ) -> Result<Interval<R, W>, Unended<R, W>>
     requires blank { CanName blank.name blank.parts (opened_schedule setup) L.name L.parts L.opening }
     requires inputs { AreInputs setup.streams inputs.items }
-    ensures between { IfOk result (IsLater (K.gives setting.entry.clock.now)
-        (beginning_of W.contents W.failures setup limit inputs.items) (λ journal. journal ≡ []) []) }
+    requires is_setup { IsSetup setup }
+    requires terms { terms_with setup limit ≡ C.terms }
+    requires times { (at : ℕ) → K.gives setting.clock.now at → C.times at }
+    requires untold { C.stands chronicle.old [] [] }
+    ensures between { IfOk result (StandsBetween (C.stands chronicle.new) C.terms
+        (K.gives setting.entry.clock.now) (beginning_of W.contents W.failures setup limit inputs.items)) }
     ensures stops { IfOk result (λ interval.
         AreAllowed (K.gives setting.entry.clock.now) interval.streams.items) }
     ensures limit { OnOk result (IsLimit (length setup.streams) limit) }
@@ -140,23 +163,36 @@ pub(super) fn begin<
     ensures returns_inputs { IfErr result (GivesBack W.contents W.failures inputs.items) }
 {
     let opening = open_first::<L, R, W>(setting.alloc, blank, setup, inputs, limit)?;
-    epoch(setting, opening, true)
+    epoch(setting, opening, true, chronicle)
 }
 
 /// The next epoch of a session. Where none can be opened, the session is cut.
-fn run_next<L: Epoch + Send + Sync, R: SentSource, W: SentSink, G: LentGate, K: LentClock, T: Host>(
+fn run_next<
+    L: Epoch + Send + Sync,
+    R: SentSource,
+    W: SentSink,
+    C: Chronicle,
+    G: LentGate,
+    K: LentClock,
+    T: Host,
+>(
     setting: Setting<'_, G, K, T>,
     blank: Blank,
     interval: Interval<R, W>,
+    chronicle: &mut C,
 ) -> Result<Interval<R, W>, SessionFault>
     requires blank { CanName blank.name blank.parts interval.ended.book.desk L.name L.parts L.opening }
-    requires between { IsBetweenEpochs interval }
-    ensures later { IfOk result (GoesLater (K.gives setting.entry.clock.now) true interval) }
+    requires between { StandsSo (C.stands chronicle.old) C.terms (K.gives setting.clock.now) interval }
+    requires waits { IsTrue interval.waits }
+    requires goes_on { IsFalse interval.is_cut }
+    requires times { (at : ℕ) → K.gives setting.clock.now at → C.times at }
+    ensures later { IfOk result (GoesLater (C.stands chronicle.old) (C.stands chronicle.new) C.terms
+        (K.gives setting.entry.clock.now) interval) }
     ensures fault { IfErr result (λ e. e ≡ SessionFault.Mismatch) }
 {
     match open_next::<L, R, W>(setting.alloc, blank, interval) {
         Err(interval) => Ok(interval),
-        Ok(opening) => match epoch(setting, opening, false) {
+        Ok(opening) => match epoch(setting, opening, false, chronicle) {
             Ok(interval) => Ok(interval),
             Err(unended) => Err(unended.fault()),
         },
@@ -164,12 +200,15 @@ fn run_next<L: Epoch + Send + Sync, R: SentSource, W: SentSink, G: LentGate, K: 
 }
 
 /// Goes on with a session from epoch to epoch, until all its streams are over or it is cut.
-pub(super) fn go_on<R: SentSource, W: SentSink, G: LentGate, K: LentClock, T: Host>(
+pub(super) fn go_on<R: SentSource, W: SentSink, C: Chronicle, G: LentGate, K: LentClock, T: Host>(
     setting: Setting<'_, G, K, T>,
     interval: Interval<R, W>,
+    chronicle: &mut C,
 ) -> Result<Interval<R, W>, SessionFault>
-    requires between { IsBetweenEpochs interval }
-    ensures later { IfOk result (GoesLater (K.gives setting.entry.clock.now) interval.waits interval) }
+    requires between { StandsSo (C.stands chronicle.old) C.terms (K.gives setting.clock.now) interval }
+    requires times { (at : ℕ) → K.gives setting.clock.now at → C.times at }
+    ensures later { IfOk result (GoesLater (C.stands chronicle.old) (C.stands chronicle.new) C.terms
+        (K.gives setting.entry.clock.now) interval) }
     ensures fault { IfErr result (λ e. e ≡ SessionFault.Mismatch) }
 {
     let mut interval = interval;
@@ -179,7 +218,7 @@ pub(super) fn go_on<R: SentSource, W: SentSink, G: LentGate, K: LentClock, T: Ho
             return Ok(interval);
         }
         let blank = Blank::new(MOST_SEATS);
-        interval = run_next::<Brand, R, W, G, K, T>(setting, blank, interval)?;
+        interval = run_next::<Brand, R, W, C, G, K, T>(setting, blank, interval, chronicle)?;
     }
     unreachable!()
 }

@@ -2,7 +2,7 @@
 ghost use Rattle.std.specs.Prelude.{◌≡◌, ◌<◌, ◌≤◌, ◌^◌, ℕ, ⊤, List, [], vec_capacity, vec_len};
 ghost use Rattle.std.specs.List.{AllZip};
 ghost use Rattle.serve_core.specs.Schedule.{HasStream};
-ghost use Rattle.serve_hub.specs.declared.entry.Entry.{Entry};
+ghost use Rattle.serve_work.specs.History.{EpochValue, epoch_of};
 ghost use Rattle.serve_work.specs.Intervals.{Beginning, IsBetween, IsBetweenEpochs};
 ghost use Rattle.serve_work.specs.SessionInside.{AreOver, AreTold, BringNoEnd, outcomes_of};
 ghost use Rattle.serve_work.specs.Sessions.{IsServedBy};
@@ -32,8 +32,8 @@ pub(super) fn report<R: Source + Drop, W: Sink + Drop>(
     interval: Interval<R, W>,
 ) -> Vec<Served<R, W>>
     requires between { IsBetweenEpochs interval }
-    ensures served { (b : Beginning) (journal : List Entry) → IsBetween b journal interval
-        → AllZip (IsServedBy interval.waits journal interval.ended.book.desk) b.starts result.items }
+    ensures served { (b : Beginning) (epochs : List EpochValue) → IsBetween b epochs interval
+        → AllZip (IsServedBy interval.waits epochs (epoch_of interval.ended [])) b.starts result.items }
     ensures stops { BringNoEnd interval.streams.items result.items }
 {
     let Interval {

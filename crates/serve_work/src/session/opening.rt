@@ -1,14 +1,13 @@
 //! What an epoch begins with.
-ghost use Rattle.std.specs.Prelude.{◌≡◌, ◌≤◌, ◌↔◌, List, [], IfErr, IfOk, IsErrOf, IsTrue, OnOk, length};
-ghost use Rattle.std.specs.Prelude.{map, vec_capacity};
+ghost use Rattle.std.specs.Prelude.{◌≡◌, ◌≤◌, ◌↔◌, List, [], IfErr, IfOk, IsErrOf, IsFalse, IsTrue, OnOk};
+ghost use Rattle.std.specs.Prelude.{length, map, vec_capacity};
 ghost use Rattle.serve_core.specs.Schedule.{opened_schedule};
 ghost use Rattle.serve_hub.specs.Books.{IsLimit};
-ghost use Rattle.serve_hub.specs.declared.entry.Entry.{Entry};
 ghost use Rattle.serve_hub.specs.Seats.{hub_of, opened_streams};
+ghost use Rattle.serve_work.specs.History.{EpochValue};
 ghost use Rattle.serve_work.specs.Intervals.{Beginning, CanBegin, CanName, IsBetween, IsRoomFor};
 ghost use Rattle.serve_work.specs.Intervals.{beginning_of};
-ghost use Rattle.serve_work.specs.Sessions.{AreInputs};
-ghost use Rattle.serve_work.specs.SessionInside.{GivesBack, fault_of, unread};
+ghost use Rattle.serve_work.specs.Sessions.{AreInputs, GivesBack, fault_of, unread};
 
 use super::SessionFault;
 use super::interval::Interval;
@@ -100,10 +99,12 @@ pub(super) fn open_next<L: Epoch, R: Source + Drop, W: Sink + Drop>(
     interval: Interval<R, W>,
 ) -> Result<Opening<L, R, W>, Interval<R, W>>
     requires blank { CanName blank.name blank.parts interval.ended.book.desk L.name L.parts L.opening }
-    ensures can_begin { (b : Beginning) (journal : List Entry) → IsBetween b journal interval
-        → IfOk result (CanBegin b journal L.opening) }
-    ensures still_between { (b : Beginning) (journal : List Entry) → IsBetween b journal interval
-        → IfErr result (IsBetween b journal) }
+    requires waits { IsTrue interval.waits }
+    requires goes_on { IsFalse interval.is_cut }
+    ensures can_begin { (b : Beginning) (epochs : List EpochValue) → IsBetween b epochs interval
+        → IfOk result (CanBegin b epochs L.opening) }
+    ensures still_between { (b : Beginning) (epochs : List EpochValue) → IsBetween b epochs interval
+        → IfErr result (IsBetween b epochs) }
     ensures streams { IfOk result (λ opening. opening.streams ≡ interval.streams) }
     ensures same { IfErr result (λ back. back.streams ≡ interval.streams) }
     ensures waits { IfErr result (λ back. back.waits ≡ interval.waits) }

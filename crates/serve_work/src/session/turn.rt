@@ -5,7 +5,8 @@ ghost use Rattle.std.specs.List.{AllByRecursion};
 ghost use Rattle.serve_client.specs.Streams.{IsOver};
 ghost use Rattle.serve_client.specs.Streams as rules;
 ghost use Rattle.serve_work.specs.SessionInside.{AreUnread, GoesOn, IsReady, Runs, held_at};
-ghost use Rattle.serve_work.specs.SessionInside.{held_with, unread};
+ghost use Rattle.serve_work.specs.SessionInside.{held_with};
+ghost use Rattle.serve_work.specs.Sessions.{unread};
 
 use serve_client::{ClientEnd, ClientRest, ClientTurn, Clock, Served, client};
 use serve_hub::{Epoch, Hub, StreamSeat};
@@ -17,7 +18,7 @@ use y4m_stream::{Sink, Source, StreamReader};
 
 /// A stream of a session, whatever the epoch. Contracts see the `StreamValue` of `specs/StreamInside.antt`.
 #[derive(Drop)]
-pub(crate) struct Stream<R: Source, W: Sink> {
+pub struct Stream<R: Source, W: Sink> {
     state: State<R, W>,
 }
 

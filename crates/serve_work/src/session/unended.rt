@@ -1,17 +1,18 @@
-//! Why an epoch came to no end.
+//! Why an epoch, or a session, came to no end.
 ghost use Rattle.std.specs.Prelude.{◌≡◌};
-ghost use Rattle.serve_work.specs.SessionInside.{fault_of};
+ghost use Rattle.serve_work.specs.Sessions.{fault_of};
 
 use super::SessionFault;
 use super::turn::Stream;
 use y4m_stream::{Sink, Source, StreamReader};
 
-/// Why an epoch came to no end.
+/// Why an epoch came to no end, or why a session tells nothing of its streams, with what comes back.
 #[derive(Drop)]
-pub(super) enum Unended<R: Source, W: Sink> {
+pub enum Unended<R: Source, W: Sink> {
     /// The first one wasn't opened, and the inputs come back.
     Unopened(SessionFault, Vec<(StreamReader<R>, W)>),
-    /// The thread of a worker was refused, where all are needed. None began, and the streams come back.
+    /// The thread of a worker was refused in the first epoch, where all are needed. None began, and the
+    /// streams come back with nothing done of them.
     Unbegun(Vec<Stream<R, W>>),
     /// The journal isn't what the seats and the hub tell, a lease wasn't settled with its whole grant, or the
     /// journal isn't full where a stream waits.
@@ -20,7 +21,7 @@ pub(super) enum Unended<R: Source, W: Sink> {
 
 impl<R: Source + Drop, W: Sink + Drop> Unended<R, W> {
     /// The fault that a session tells.
-    pub(super) fn fault(self) -> SessionFault
+    pub fn fault(self) -> SessionFault
         ensures { result ≡ fault_of self }
     {
         match self {

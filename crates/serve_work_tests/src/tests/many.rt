@@ -23,6 +23,9 @@ pub(super) struct Stream<'a> {
 /// Where a stream is read from, and written to.
 type Input<'a> = (StreamReader<OverRead<Tape<'a>>>, OverWrite<Room>);
 
+/// The inputs of a session.
+pub(super) type AllInputs<'a> = Vec<Input<'a>>;
+
 /// What became of a stream.
 pub(super) type OneServed<'a> = Served<OverRead<Tape<'a>>, OverWrite<Room>>;
 
@@ -56,11 +59,11 @@ fn opened<'a>(rt: &impl Abort, alloc: Global, stream: &Stream<'a>) -> (StreamSpe
 }
 
 /// Reads the headers of these streams.
-fn all_opened<'a>(
+pub(super) fn all_opened<'a>(
     rt: &impl Abort,
     alloc: Global,
     streams: &[Stream<'a>],
-) -> (Vec<StreamSpec>, Vec<Input<'a>>)
+) -> (Vec<StreamSpec>, AllInputs<'a>)
     ensures { AreInputs result.0.items result.1.items }
 {
     let mut specs = Vec::new(alloc);

@@ -1,7 +1,8 @@
 //! What the streams of a session come to, each by itself.
-use super::many::{AllServed, Hall, OneServed, Stream, WIDE, serve_all};
-use super::{PLAIN, Plan, same_at};
-use serve_work::{Cause, SessionFault, Stop};
+use super::many::{AllServed, Hall, OneServed, Stream, WIDE, all_opened, serve_all};
+use super::{Open, PLAIN, Plan, Still, same_at};
+use serve_core::Setup;
+use serve_work::{Cause, SessionFault, Stop, Unended, serve_session_or_return};
 use std::alloc::{AllocError, Global};
 use std::process::Abort;
 use std::sync::Wait;
@@ -312,4 +313,33 @@ fn a_journal_has_limits(rt: HostRuntime) {
         let came = limited(&rt, rt.alloc(), *streams, *limit);
         same_at(&rt, came, wanted, *limit);
     }
+}
+
+/// How many of two streams are served, or come back with no frame read of them.
+fn kept_or_served(
+    rt: &(impl Abort + Threads + Wait + Sync),
+    alloc: Global,
+    limit: usize,
+) -> (usize, Option<SessionFault>) {
+    let (specs, inputs) = all_opened(rt, alloc, &[PLAIN_THREE, PLAIN_THREE]);
+    let setup = Setup::new(1, 4, specs).expect(rt, "no setup");
+    match serve_session_or_return(rt, alloc, setup, inputs, limit, &Open, &Still(0)) {
+        Ok(served) => (served.len(), None),
+        Err(Unended::Unopened(fault, inputs)) => (inputs.len(), Some(fault)),
+        Err(Unended::Unbegun(streams)) => (streams.len(), Some(SessionFault::NoMemory)),
+        Err(Unended::Mismatch) => (0, Some(SessionFault::Mismatch)),
+    }
+}
+
+#[test]
+fn a_session_that_cannot_begin_returns_its_inputs(rt: HostRuntime) {
+    let came = kept_or_served(&rt, rt.alloc(), 15);
+    same_at(&rt, came, (2, Some(SessionFault::BadLimit)), "the inputs");
+}
+
+/// It holds whichever growth is refused: `bench/growths` refuses each in turn.
+#[test]
+fn no_input_is_lost_where_memory_is_refused(rt: HostRuntime) {
+    let (kept, _) = kept_or_served(&rt, rt.alloc(), 1000);
+    same_at(&rt, kept, 2, "the streams");
 }

@@ -1,4 +1,4 @@
-use Rattle.std.proofs.Common.{◌∙◌, [], ◌∷◌, ap, length, refl}
+use Rattle.std.proofs.Common.{◌∙◌, [], ◌∷◌, ap, length, refl, sym}
 use Rattle.serve_core.specs.Setup.{setup_of}
 use Rattle.serve_work.specs.History.{Terms}
 use Rattle.serve_work.specs.Live.{Waiting, waiting_of}
@@ -18,6 +18,7 @@ first_epoch-requires-clause-first g c κs within =
       rw c.in-Some.ensures.waits at.2,
       record {
         given = refl;
+        one_by_one = sym (ap (λ (t : Terms). t.together) c.requires.terms);
         ticket = stream.1;
         is_request = record { header = c.requires.input.header; is_open = c.requires.input.is_open };
         is_setup = c.in-Some.ensures.is_setup;

@@ -1,5 +1,6 @@
 use Rattle.std.proofs.Common.{ℕ, ◌≡◌, ◌≤◌, ◌++◌, ◌∷◌, ◌∙◌, List, Option, Some, ap, arith, inl, length, map, refl, subst, sym}
 use Rattle.std.specs.Prelude.{All, None, replicate, reverse, vec_len}
+use Rattle.std.specs.List.{AllByRecursion, Contains}
 use Rattle.std.proofs.Common.{◌<◌, length-append}
 use Rattle.serve_core.specs.Schedule.{ScheduleValue}
 use Rattle.serve_hub.specs.Ends.{AreStreamCalls, AreStreamsOf, ClocksReached, HaveStreams, IsCharged}
@@ -13,6 +14,7 @@ use Rattle.serve_work.specs.SessionInside.{HeldValue}
 use Rattle.serve_work.specs.History.{EpochValue, epoch_of, left_at}
 use Rattle.serve_work.proofs.Left.{all_told, gone_on, kept_gone, numbers_within, one_epoch_more, rests_within, streams_gone}
 use Rattle.serve_work.proofs.Living.{all_had, all_in, guests_at, has_ended, reached_at}
+use Rattle.serve_work.proofs.Rests.{left_beside}
 use Rattle.serve_work.proofs.SessionTurns.{same_length}
 use Rattle.serve_work.proofs.live.epochs.epoch.Goals as goal
 
@@ -158,6 +160,8 @@ epoch_ended-requires g c =
     c.tickets_of.ensures
     ∙ ap (λ (these : List StreamRest). with_tickets these c.append_idle.new.guests.items (replicate 64 None)) (end.left ∙ ap (map left_by) own)
     ∙ ap (λ (gs : List (Option (Guest _ _))). with_tickets (map left_by seats) gs (replicate 64 None)) guests in
+    let lefts = subst (λ (these : List StreamRest). AllByRecursion (λ (held : HeldValue). Contains these (left_by held.seat)) ran.0)
+    (sym (end.left ∙ ap (map left_by) own)) (left_beside (λ (held : HeldValue). held.seat) idle ran.0) in
     let mine = all_told _ _ _ _ desk ws streams seated.helds ran.0 idle whose table seated.each ran.2
     (c.fill.ensures.streams ran.0 ran.1) few many have kept in
     record {
@@ -166,11 +170,11 @@ epoch_ended-requires g c =
         ws,
         c.admit_all.ensures.seated.2,
         has_ended terms times es g.L.Epoch.opening ended.book end.is_book from end.history.same of_limit end.agree.free spent
-            whose desk (inl refl) gives c.requires.times ws seated.helds ran.0 idle seated.each ran.2 seated.idle calls reached
+            ended.streams whose desk (inl refl) gives c.requires.times ws seated.helds ran.0 idle seated.each ran.2 seated.idle calls reached
             have seated.opens seated.history,
         all_in terms times (epoch_of ended whose ∷ es) desk ws ran.0
             (all_had terms times es g.L.Epoch.opening ended.book end.is_book from end.history.same of_limit end.agree.free spent
-            whose desk (inl refl) gives c.requires.times ws seated.helds ran.0 idle seated.each ran.2 calls kept mine),
+            ended.streams whose desk (inl refl) gives c.requires.times ws seated.helds ran.0 idle seated.each ran.2 calls kept mine lefts),
       );
     }
 
@@ -233,13 +237,15 @@ returns-clause-guests g c =
     c.tickets_of.ensures
     ∙ ap (λ (these : List StreamRest). with_tickets these c.append_idle.new.guests.items (replicate 64 None)) rests
     ∙ ap (λ (gs : List (Option (Guest _ _))). with_tickets (map left_by seats) gs (replicate 64 None)) guests in
+    let lefts = subst (λ (these : List StreamRest). AllByRecursion (λ (held : HeldValue). Contains these (left_by held.seat)) ran.0)
+    (sym (end.left ∙ ap (map left_by) own)) (left_beside (λ (held : HeldValue). held.seat) idle ran.0) in
     let mine = all_told _ _ _ _ desk ws streams seated.helds ran.0 idle whose table seated.each ran.2
     (c.fill.ensures.streams ran.0 ran.1) few many have kept in
     let is = has_ended terms times es g.L.Epoch.opening ended.book end.is_book from end.history.same of_limit end.agree.free spent
-    whose gone is_gone gives c.requires.times ws seated.helds ran.0 idle seated.each ran.2 seated.idle calls reached
+    ended.streams whose gone is_gone gives c.requires.times ws seated.helds ran.0 idle seated.each ran.2 seated.idle calls reached
     have seated.opens seated.history in
-    let had = all_had terms times es g.L.Epoch.opening ended.book end.is_book from end.history.same of_limit end.agree.free spent whose
-    gone is_gone gives c.requires.times ws seated.helds ran.0 idle seated.each ran.2 calls kept mine in
+    let had = all_had terms times es g.L.Epoch.opening ended.book end.is_book from end.history.same of_limit end.agree.free spent
+    ended.streams whose gone is_gone gives c.requires.times ws seated.helds ran.0 idle seated.each ran.2 calls kept mine lefts in
     let epoch : EpochValue = left_at gone (epoch_of ended whose) in
     let now : List EpochValue = epoch ∷ es in (
       now,

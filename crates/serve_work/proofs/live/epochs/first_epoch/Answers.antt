@@ -7,7 +7,7 @@ use Rattle.serve_client.specs.Streams.{StreamValue}
 use Rattle.serve_work.specs.Live.{IsNewIn, RequestValue, Waiting}
 use Rattle.serve_work.specs.LiveInside.{AreSeated, Begins, HasTurn, TakesSeat}
 use Rattle.serve_work.specs.SessionInside.{IsReadyAt, held_at}
-use Rattle.serve_work.proofs.Living.{began, empty_seated, may_go, opens_for, seated_more}
+use Rattle.serve_work.proofs.Living.{began, empty_seated, may_go, opens_alone, opens_for, seated_more}
 use Rattle.serve_work.proofs.live.epochs.first_epoch.Goals as goal
 
 pub tell-requires : goal.tell-requires
@@ -83,7 +83,7 @@ epoch-requires-clause-seated g c κs within =
     let turn : HasTurn terms times es opening w held =
     subst (λ (v : StreamValue). Begins terms times es opening w v seat) (sym is) b in
     let empty_hall : AreSeated terms times es opening [] hall =
-    empty_seated terms times es opening hall c.in-Some.ensures.places c.requires.first.1 (inl (request.spec, opens)) empty.0 empty.1
+    empty_seated terms times es opening hall c.in-Some.ensures.places c.requires.first.1 (opens_alone terms es request.spec opening first.one_by_one opens) empty.0 empty.1
     empty.2 (omega (arith, ap length empty.0, ap length empty.2, hall.room.turns.ok.0, hall.idle.ok.0)) in (
       es,
       w ∷ [],
@@ -111,7 +111,7 @@ admitted-requires g c =
         sym at.4.ticket,
         record {
           opening = g.L.Epoch.opening;
-          opens = inl (request.spec, opens);
+          opens = opens_alone terms at.0 request.spec g.L.Epoch.opening at.4.one_by_one opens;
           number = seat.number;
           is_new = inl (opens, new.2, refl);
         },

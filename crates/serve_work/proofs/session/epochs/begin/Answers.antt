@@ -1,23 +1,39 @@
 use Rattle.std.proofs.Common.{◌≡◌, ◌∙◌, [], ap, arith, length}
 use Rattle.serve_work.specs.Intervals.{beginning_of}
-use Rattle.serve_work.specs.Sessions.{IsInput}
-use Rattle.serve_work.specs.SessionInside.{BeginsAgain, held_with, unread}
+use Rattle.serve_work.specs.Sessions.{IsInput, unread}
+use Rattle.serve_work.specs.SessionInside.{BeginsAgain, held_with}
 use Rattle.serve_work.proofs.Intervals.{all_starts, on_ok, streams_held}
 use Rattle.serve_work.proofs.SessionStops.{begin_allowed}
 use Rattle.serve_work.proofs.SessionTurns.{all_oks, all_unended, same_length, still_unread, unended_limit, zip_length}
+use Rattle.serve_work.proofs.Told.{told_first}
 use Rattle.serve_work.proofs.session.epochs.begin.Goals as goal
 
 pub epoch-requires-clause-can_begin : goal.epoch-requires-clause-can_begin
-epoch-requires-clause-can_begin g c κs within = (
-  beginning_of g.W.Sink.contents g.W.Sink.failures c.args.setup c.args.limit c.args.inputs.items,
-  [],
-  c.in_ok-opening.ensures.can_begin,
-)
+epoch-requires-clause-can_begin g c κs within =
+    let b = beginning_of g.W.Sink.contents g.W.Sink.failures c.args.setup c.args.limit c.args.inputs.items in
+    let gives = g.K.Clock.gives c.args.setting.clock.now in (
+      b,
+      [],
+      record {
+        told = told_first gives g.C.Chronicle.terms (g.C.Chronicle.stands c.args.chronicle.now) c.args.setup c.args.limit b.starts
+            c.requires.terms c.requires.is_setup c.requires.untold;
+        later = λ first. absurd (cc);
+        can = c.in_ok-opening.ensures.can_begin;
+      },
+    )
 
 pub returns-clause-between : goal.returns-clause-between
 returns-clause-between g c =
     let b = beginning_of g.W.Sink.contents g.W.Sink.failures c.args.setup c.args.limit c.args.inputs.items in
-    all_oks _ _ c.epoch.result (λ now later. later.between b [] c.in_ok-opening.ensures.can_begin) c.epoch.ensures.later
+    let gives = g.K.Clock.gives c.args.setting.clock.now in
+    all_oks _ _ c.epoch.result
+    (λ now later. later.between b []
+    (record {
+      told = told_first gives g.C.Chronicle.terms (g.C.Chronicle.stands c.args.chronicle.now) c.args.setup c.args.limit b.starts
+          c.requires.terms c.requires.is_setup c.requires.untold;
+      later = λ first. absurd (cc);
+      can = c.in_ok-opening.ensures.can_begin;
+    })) c.epoch.ensures.later
 
 pub returns-clause-limit : goal.returns-clause-limit
 returns-clause-limit g c = on_ok c.epoch.result _ c.in_ok-opening.ensures.limit

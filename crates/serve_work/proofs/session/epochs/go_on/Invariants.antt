@@ -9,4 +9,6 @@ ghosts-run_next-L-Epoch g a = record { opening = a.interval.ended.book.desk }
 
 -- the session is later than it was, whatever it began with
 abbrev pub invariant-loop : goal.invariant-loop
-invariant-loop g l = GoesLater (g.K.Clock.gives l.fn.setting.clock.now) l.fn.interval.waits l.fn.interval l.interval
+invariant-loop g l =
+    GoesLater (g.C.Chronicle.stands l.initial.chronicle) (g.C.Chronicle.stands l.chronicle) g.C.Chronicle.terms
+    (g.K.Clock.gives l.fn.setting.clock.now) l.fn.interval l.interval

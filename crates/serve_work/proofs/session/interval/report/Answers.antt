@@ -20,8 +20,8 @@ charge-requires-clause-in_desk g c n less =
     (omega (arith, less, c.tell.new.served.ok.0))
 
 pub returns-clause-served : goal.returns-clause-served
-returns-clause-served g c = λ b journal at.
-    served_told b journal c.args.interval at c.tell.new.served.items c.charge.new.served.items c.tell.ensures
+returns-clause-served g c = λ b epochs at.
+    served_told b epochs c.args.interval at c.tell.new.served.items c.charge.new.served.items c.tell.ensures
     c.charge.ensures.outcomes
     (λ k d less. c.charge.ensures.tells_charges k d (omega (arith, less, c.charge.new.served.ok.0)))
 

@@ -2,7 +2,7 @@ use Rattle.std.proofs.Common.{◌≡◌, ◌≤◌, ℕ, ap, arith, length, subs
 use Rattle.std.specs.List.{AllByRecursion}
 use Rattle.serve_hub.specs.Seats.{HubValue, opened_rests}
 use Rattle.serve_work.specs.Intervals.{HasNoCalls, IsRoomFor}
-use Rattle.serve_work.specs.SessionInside.{unread}
+use Rattle.serve_work.specs.Sessions.{unread}
 use Rattle.serve_work.proofs.Intervals.{begins_at, is_beginning, new_seats, no_entry}
 use Rattle.serve_work.proofs.SessionTurns.{are_unread, same_length}
 use Rattle.serve_work.proofs.session.opening.open_first.Goals as goal
@@ -28,6 +28,7 @@ returns-in-Ok-streams_of-clause-can_begin g c =
     let places : c.len.result ≤ vec_capacity c.in-Ok.lists.2 = c.in-Ok.ensures.places in
     record {
       begun = is_beginning contents failures c.args.limit c.args.setup inputs c.requires.inputs c.in-Ok.ensures.limit;
+      opens = sym c.requires.blank.opens;
       past = no_entry _ _ c.requires.blank.opens;
       stand = begins_at contents failures c.args.limit specs inputs c.in-Ok.lists.0.1.items c.in-Ok-streams_of.streams.items
           c.requires.inputs c.in-Ok.ensures.seats c.in-Ok-streams_of.ensures.streams;

@@ -1,5 +1,6 @@
 use Rattle.std.proofs.Common.{ap, arith, length, subst}
-use Rattle.serve_work.specs.SessionInside.{AreUnread, unread}
+use Rattle.serve_work.specs.SessionInside.{AreUnread}
+use Rattle.serve_work.specs.Sessions.{unread}
 use Rattle.serve_work.proofs.SessionTurns.{all_made, made_more}
 use Rattle.serve_work.proofs.session.turn.streams_of.Goals as goal
 

@@ -1,7 +1,8 @@
 use Rattle.std.proofs.Common.{◌≡◌, ◌+◌, ◌≤◌, ◌++◌, length, map}
 use Rattle.std.specs.Vec.{vec_capacity, vec_len}
 use Rattle.std.specs.Vec.Iter.{into_iter_items, into_iter_len}
-use Rattle.serve_work.specs.SessionInside.{AreUnread, unread}
+use Rattle.serve_work.specs.SessionInside.{AreUnread}
+use Rattle.serve_work.specs.Sessions.{unread}
 use Rattle.serve_work.proofs.session.turn.streams_of.Given as goal
 
 -- the streams so far and those of what is left are all streams

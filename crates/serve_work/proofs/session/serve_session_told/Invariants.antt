@@ -1,5 +1,5 @@
 use Rattle.serve_core.specs.Schedule.{opened_schedule}
-use Rattle.serve_work.proofs.session.serve_session.Given as goal
+use Rattle.serve_work.proofs.session.serve_session_told.Given as goal
 
 abbrev pub ghosts-begin-L-Ledger : goal.ghosts-begin-L-Ledger
 ghosts-begin-L-Ledger g a = record { name = a.blank.name; parts = a.blank.parts }
