@@ -18,6 +18,7 @@ use Rattle.y4m_stream.proofs.Known.{take-moved, take-put_mid_more}
 use Rattle.serve_report.specs.Feeds.{Fed, Line, LosesLine, Wrong, behind_first, first_fed, last_fed, line_fed}
 use Rattle.serve_report.specs.declared.control.feed.TheConstants.{LONGEST_LINE}
 use Rattle.serve_report.specs.declared.control.line.LineFault.TheVariants.{BadLine, TooLong}
+use Rattle.serve_report.specs.declared.control.quoted.TheConstants.{MOST_TOLD}
 
 abbrev pub is_feed : ℕ → Bool
 is_feed byte = byte == 10
@@ -202,23 +203,30 @@ tells_kept (Some text) None new fed keeps tells = absurd keeps
 tells_kept (Some text) (Some same) new fed keeps tells = subst (λ text. Tells (Some text) fed new) keeps tells
 
 -- more bytes than a line may have are none, ended or not
-long_last : (text : List ℕ) → LONGEST_LINE < length text → last_fed text ≡ Wrong TooLong
+long_last : (text : List ℕ) → LONGEST_LINE < length text → last_fed text ≡ Wrong TooLong (take MOST_TOLD text)
 long_last [] long = absurd (omega arith)
 long_last (byte ∷ more) long =
     let over : nat_le (length (byte ∷ more)) LONGEST_LINE ≡ false = grind (arith, nat_tests) in
-    ap (λ fits. cond fits (cond (bytes_eq (byte ∷ more) (codes "end")) (Line (byte ∷ more)) (Wrong BadLine)) (Wrong TooLong)) over
+    let head = take MOST_TOLD (byte ∷ more) in
+    ap (λ fits. cond fits (cond (bytes_eq (byte ∷ more) (codes "end")) (Line (byte ∷ more)) (Wrong BadLine head)) (Wrong TooLong head)) over
 
 long_fed : (text : List ℕ) → LONGEST_LINE < position_or_len is_feed text → LONGEST_LINE < length text
-    → first_fed text ≡ Wrong TooLong
+    → first_fed text ≡ Wrong TooLong (take MOST_TOLD text)
 long_fed text far long = go (text_after 10 text)
   where
     over : nat_le (length (before_first is_feed text)) LONGEST_LINE ≡ false
     over = rw (length-take (position_or_len is_feed text) text) (grind (arith, nat_tests))
 
+    same : take MOST_TOLD (before_first is_feed text) ≡ take MOST_TOLD text
+    same = take-take MOST_TOLD (position_or_len is_feed text) text (omega (arith, far))
+
     go : (after : Option (List ℕ))
-        → option_map_or (λ _. line_fed (before_first is_feed text)) after (last_fed text) ≡ Wrong TooLong
+        → option_map_or (λ _. line_fed (before_first is_feed text)) after (last_fed text)
+        ≡ Wrong TooLong (take MOST_TOLD text)
     go None = long_last text long
-    go (Some after) = ap (λ fits. cond fits (Line (before_first is_feed text)) (Wrong TooLong)) over
+    go (Some after) =
+        ap (λ fits. cond fits (Line (before_first is_feed text)) (Wrong TooLong (take MOST_TOLD (before_first is_feed text)))) over
+        ∙ ap (Wrong TooLong) same
 
 module _ (held : List ℕ) where
   pub tells_line : (left : Option (List ℕ)) (place : ℕ) → position is_feed held ≡ Some place → place ≤ LONGEST_LINE
@@ -231,14 +239,15 @@ module _ (held : List ℕ) where
       let long : nat_le (length (take place held)) LONGEST_LINE ≡ true = rw (length-take place held) (grind (arith, nat_tests)) in (
         sym (ap (λ after. option_map_or (λ _. line_fed (before_first is_feed (held ++ left))) after (last_fed (held ++ left))) after
             ∙ ap line_fed (before_place held left place is)
-            ∙ ap (λ fits. cond fits (Line (take place held)) (Wrong TooLong)) long),
+            ∙ ap (λ fits. cond fits (Line (take place held)) (Wrong TooLong (take MOST_TOLD (take place held)))) long),
         ap Some (sym (ap (λ found. unwrap_or found []) after)),
       )
 
   pub tells_long : (left new : Option (List ℕ)) → position is_feed held ≡ None → LONGEST_LINE < length held
-      → LosesLine (prepend_known held left) new → Tells (prepend_known held left) (Wrong TooLong) new
+      → LosesLine (prepend_known held left) new → Tells (prepend_known held left) (Wrong TooLong (take MOST_TOLD held)) new
   tells_long None new none long loses = tt
-  tells_long (Some left) new none long loses = (sym (long_fed (held ++ left) far many), loses)
+  tells_long (Some left) new none long loses =
+      (sym (long_fed (held ++ left) far many ∙ ap (Wrong TooLong) (take-append-le MOST_TOLD held left (omega (arith, long)))), loses)
     where
       far : LONGEST_LINE < position_or_len is_feed (held ++ left)
       far = let passed = (behind_front held left none).1 in omega (arith, passed, long)
@@ -261,13 +270,14 @@ module _ (held : List ℕ) where
         )
 
     pub last_is : (is_end : Bool) → 0 < length held → bytes_eq held (codes "end") ≡ is_end
-        → last_fed held ≡ cond is_end (Line held) (Wrong BadLine)
+        → last_fed held ≡ cond is_end (Line held) (Wrong BadLine (take MOST_TOLD held))
     last_is is_end some is = last_of held some few is
       where
         last_of : (held : List ℕ) → 0 < length held → length held ≤ LONGEST_LINE → bytes_eq held (codes "end") ≡ is_end
-            → last_fed held ≡ cond is_end (Line held) (Wrong BadLine)
+            → last_fed held ≡ cond is_end (Line held) (Wrong BadLine (take MOST_TOLD held))
         last_of [] some few is = absurd (omega arith)
         last_of (byte ∷ more) some few is =
             let fits : nat_le (length (byte ∷ more)) LONGEST_LINE ≡ true = grind (arith, nat_tests) in
-            ap (λ fits. cond fits (cond (bytes_eq (byte ∷ more) (codes "end")) (Line (byte ∷ more)) (Wrong BadLine)) (Wrong TooLong)) fits
-            ∙ ap (λ is_end. cond is_end (Line (byte ∷ more)) (Wrong BadLine)) is
+            let head = take MOST_TOLD (byte ∷ more) in
+            ap (λ fits. cond fits (cond (bytes_eq (byte ∷ more) (codes "end")) (Line (byte ∷ more)) (Wrong BadLine head)) (Wrong TooLong head)) fits
+            ∙ ap (λ is_end. cond is_end (Line (byte ∷ more)) (Wrong BadLine head)) is

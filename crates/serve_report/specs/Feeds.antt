@@ -1,6 +1,6 @@
 -- What a control gives, line by line.
 use Rattle.std.specs.Prelude.{ℕ, ◌≡◌, ◌≤◌, ◌<◌, ◌+◌, ◌-◌, ◌^◌, ◌==◌, min, nat_le, if◌then◌else◌}
-use Rattle.std.specs.Prelude.{List, [], ◌∷◌, length, codes, position, Option, Some, None, IfSome, unwrap_or}
+use Rattle.std.specs.Prelude.{List, [], ◌∷◌, length, codes, position, take, Option, Some, None, IfSome, unwrap_or}
 use Rattle.std.specs.Io.KnownBytes.{IsAtEnd, prepend_known}
 use Rattle.std.specs.List.{before_first}
 use Rattle.std.specs.Option.{option_map_or}
@@ -11,38 +11,42 @@ use Rattle.serve_report.specs.declared.control.feed.Feeding.TheVariants as came
 use Rattle.serve_report.specs.declared.control.feed.Found.{Found}
 use Rattle.serve_report.specs.declared.control.feed.Found.TheVariants as found
 use Rattle.serve_report.specs.declared.control.feed.TheConstants.{LONGEST_LINE}
+use Rattle.serve_report.specs.declared.control.quoted.TheConstants.{MOST_TOLD}
 use Rattle.serve_report.specs.declared.control.line.LineFault.{LineFault}
 use Rattle.serve_report.specs.declared.control.line.LineFault.TheVariants.{BadLine, TooLong}
 
--- the last line, the bytes that were read and not yet taken, what the reader has left, and how many lines
--- came
+-- the last line, the bytes that were read and not yet taken, what the reader has left, how many lines came,
+-- and how the last of them began that is too long or isn't ended
 pub record FeedState : Type 0 where
   pub line : List ℕ
   pub held : List ℕ
   pub left : Option (List ℕ)
   pub number : ℕ
+  pub head : List ℕ
 
 -- all that is to be taken
 abbrev pub rest_of : FeedState → Option (List ℕ)
 rest_of feed = prepend_known feed.held feed.left
 
--- what comes first of a text
+-- what comes first of a text; of what is no line, its first bytes
 pub data Fed : Type 0 where
   Line : (line : List ℕ) → Fed
-  Wrong : (fault : LineFault) → Fed
+  Wrong : (fault : LineFault) → (head : List ℕ) → Fed
   End : Fed
 
 -- a line that is ended, which may have so many bytes
 abbrev pub line_fed : List ℕ → Fed
-line_fed line = if nat_le (length line) LONGEST_LINE then Line line else Wrong TooLong
+line_fed line =
+    if nat_le (length line) LONGEST_LINE then Line line else Wrong TooLong (take MOST_TOLD line)
 
 -- bytes that aren't ended: they are a line only where they are the whole of `end`
 abbrev pub last_fed : List ℕ → Fed
 last_fed [] = End
 last_fed (byte ∷ more) =
     if nat_le (length (byte ∷ more)) LONGEST_LINE
-    then if bytes_eq (byte ∷ more) (codes "end") then Line (byte ∷ more) else Wrong BadLine
-    else Wrong TooLong
+    then if bytes_eq (byte ∷ more) (codes "end") then Line (byte ∷ more)
+    else Wrong BadLine (take MOST_TOLD (byte ∷ more))
+    else Wrong TooLong (take MOST_TOLD (byte ∷ more))
 
 -- the first line of a text, up to its line feed (10)
 abbrev pub first_fed : List ℕ → Fed
@@ -54,16 +58,16 @@ first_fed text =
 abbrev pub behind_first : List ℕ → List ℕ
 behind_first text = unwrap_or (text_after 10 text) []
 
--- what was told, where the line that came is this one; of a reader that failed nothing is
-abbrev pub fed_told : (line : List ℕ) → Feeding → Option Fed
-fed_told line came.Line = Some (Line line)
-fed_told line (came.Fault fault) = Some (Wrong fault)
-fed_told line came.End = Some End
-fed_told line came.ReadFailed = None
+-- what was told, where the line that came is this one, or else began so; of a reader that failed nothing is
+abbrev pub fed_told : (line head : List ℕ) → Feeding → Option Fed
+fed_told line head came.Line = Some (Line line)
+fed_told line head (came.Fault fault) = Some (Wrong fault head)
+fed_told line head came.End = Some End
+fed_told line head came.ReadFailed = None
 
 -- the first line was told, and what stands behind it is left
 pub record Feeds (old : FeedState) (answer : Feeding) (new : FeedState) : Type 0 where
-  pub told : IfSome (fed_told new.line answer)
+  pub told : IfSome (fed_told new.line new.head answer)
       (λ fed. IfSome (rest_of old)
       (λ text. (fed ≡ first_fed text) × (rest_of new ≡ Some (behind_first text))))
 

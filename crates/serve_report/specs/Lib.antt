@@ -8,5 +8,6 @@ pub mod Filtering
 pub mod Runs
 pub mod Control
 pub mod Feeds
+pub mod Quoted
 pub mod Said
 pub mod Holdings

@@ -1,6 +1,7 @@
 -- What is said while streams come and go.
 use Rattle.std.specs.Prelude.{ℕ, List, ◌++◌, codes, decimal}
 use Rattle.serve_report.specs.Control.{fault_word}
+use Rattle.serve_report.specs.Quoted.{quoted_text}
 use Rattle.serve_report.specs.ServeReport.{row_text}
 use Rattle.serve_report.specs.declared.control.answer.Holding.{Holding}
 use Rattle.serve_report.specs.declared.control.answer.Said.{Said}
@@ -22,10 +23,11 @@ abbrev pub holding_text : Holding → List ℕ
 holding_text holding =
     decimal holding.q ++ codes ":" ++ decimal holding.t ++ codes " until " ++ decimal holding.until
 
--- `line N: FAULT`, `NAME admitted`, the report of a stream that ended, how one stands, `NAME opening`,
+-- `line N: FAULT 'TEXT'`, `NAME admitted`, the report of a stream that ended, how one stands, `NAME opening`,
 -- `NAME held Q:T until M`, `shares S of W`, `now M streams N`, `units N`
 abbrev pub said_text : Said → List ℕ
-said_text (said.Wrong number fault) = codes "line " ++ decimal number ++ codes ": " ++ fault_word fault
+said_text (said.Wrong number fault line) =
+    codes "line " ++ decimal number ++ codes ": " ++ fault_word fault ++ codes " " ++ quoted_text line.now
 said_text (said.Admitted name) = name.now ++ codes " admitted"
 said_text (said.Ended row) = row_text row
 said_text (said.Stands name standing) = name.now ++ codes " " ++ standing_text standing

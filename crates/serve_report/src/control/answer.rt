@@ -7,6 +7,7 @@ ghost use Rattle.serve_report.specs.Said.{said_text};
 ghost use Rattle.serve_report.specs.declared.control.answer.TheConstants.{LONGEST};
 
 use super::line::LineFault;
+use super::quoted::Quoted;
 use crate::serve::StreamRow;
 use std::fmt;
 use std::io::{self, Write};
@@ -68,8 +69,8 @@ impl fmt::Display for Holding {
 /// An answer.
 #[derive(Clone, Copy)]
 pub enum Said<'a> {
-    /// The line of this number is wrong.
-    Wrong(u64, LineFault),
+    /// The line of this number is wrong, which begins with these bytes.
+    Wrong(u64, LineFault, &'a [u8]),
     /// The stream of this name is served from now on.
     Admitted(&'a str),
     /// A stream ended.
@@ -96,7 +97,10 @@ impl fmt::Display for Said<'_> {
 
     fn fmt<W: fmt::Write>(&self, f: &mut fmt::Formatter<W>) -> fmt::Result {
         match *self {
-            Said::Wrong(number, fault) => write!(f, "line {number}: {fault}"),
+            Said::Wrong(number, fault, line) => {
+                let text = Quoted(line);
+                write!(f, "line {number}: {fault} {text}")
+            }
             Said::Admitted(name) => write!(f, "{name} admitted"),
             Said::Ended(row) => write!(f, "{row}"),
             Said::Stands(name, standing) => write!(f, "{name} {standing}"),

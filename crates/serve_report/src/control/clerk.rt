@@ -123,7 +123,7 @@ where
         match feed.next() {
             Feeding::Line => self.take(feed.number(), feed.line()),
             Feeding::Fault(fault) => {
-                self.refuse(feed.number(), fault);
+                self.refuse(feed.number(), fault, feed.head());
                 Bidding::Done
             }
             Feeding::End => Bidding::End,
@@ -139,15 +139,16 @@ where
         match self.follow_line(line) {
             Ok(bidding) => bidding,
             Err(fault) => {
-                self.refuse(number, fault);
+                self.refuse(number, fault, line);
                 Bidding::Done
             }
         }
     }
 
-    /// Tells what is wrong with the line of this number.
-    pub fn refuse(&mut self, number: u64, fault: LineFault) {
-        self.lobby.say(self.rt, &Said::Wrong(number, fault));
+    /// Tells what is wrong with the line of this number, which begins with these bytes.
+    pub fn refuse(&mut self, number: u64, fault: LineFault, line: &[u8]) {
+        self.lobby
+            .say(self.rt, &Said::Wrong(number, fault, line));
     }
 
     /// Does what a line asks for.

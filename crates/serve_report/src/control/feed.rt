@@ -3,8 +3,10 @@ ghost use Rattle.std.specs.Prelude.{◌≡◌, ◌≤◌, ◌<◌, ◌+◌, ◌=
 ghost use Rattle.std.specs.Prelude.{IfOk, IsTrue, OnOk, false, true};
 ghost use Rattle.std.specs.Io.KnownBytes.{IsAtEnd, Keeps};
 ghost use Rattle.serve_report.specs.Feeds.{Feeds, IsFound, LosesLine, numbered, rest_of};
+ghost use Rattle.serve_report.specs.declared.control.quoted.TheConstants.{MOST_TOLD};
 
 use super::line::LineFault;
+use super::quoted::MOST_TOLD;
 use std::io::{self, ErrorKind, Read};
 use std::marker::Model;
 use y4m_header::text::place_of;
@@ -54,12 +56,16 @@ pub struct Feed<R: Read> {
     from: usize,
     to: usize,
     number: u64,
+    /// How the last line began that is too long or isn't ended.
+    head: [u8; MOST_TOLD],
+    head_to: usize,
 }
 
 impl<R: Read> Model for Feed<R> {
     ghost use Rattle.std.specs.Prelude.{◌≤◌, drop, take};
     ghost use Rattle.serve_report.specs.Feeds.{FeedState};
     ghost use Rattle.serve_report.specs.declared.control.feed.TheConstants.{ROOM};
+    ghost use Rattle.serve_report.specs.declared.control.quoted.TheConstants.{MOST_TOLD};
 
     ghost Value = { FeedState };
 
@@ -68,16 +74,18 @@ impl<R: Read> Model for Feed<R> {
       held = drop f.from (take f.to f.room);
       left = R.remaining f.reader;
       number = f.number;
+      head = take f.head_to f.head;
     } };
 
     ghost invariant = { λ f. (f.from ≤ f.to) × (f.to ≤ ROOM)
-        × (f.line_from ≤ f.line_to) × (f.line_to ≤ ROOM) };
+        × (f.line_from ≤ f.line_to) × (f.line_to ≤ ROOM) × (f.head_to ≤ MOST_TOLD) };
 }
 
 impl<R: Read> Feed<R> {
     /// Nothing is read yet, and no line was given.
     pub fn new(reader: R) -> Feed<R>
-        ensures { result ≡ record { line = []; held = []; left = R.remaining reader; number = 0 } }
+        ensures { result
+            ≡ record { line = []; held = []; left = R.remaining reader; number = 0; head = [] } }
     {
         Feed {
             reader,
@@ -87,6 +95,8 @@ impl<R: Read> Feed<R> {
             from: 0,
             to: 0,
             number: 0,
+            head: [0; MOST_TOLD],
+            head_to: 0,
         }
     }
 
@@ -103,6 +113,13 @@ impl<R: Read> Feed<R> {
         ensures { result.now ≡ self.now.line }
     {
         &self.room[self.line_from..self.line_to]
+    }
+
+    /// How the last line begins, where it is too long or isn't ended.
+    pub fn head(&self) -> &[u8]
+        ensures { result.now ≡ self.now.head }
+    {
+        &self.head[..self.head_to]
     }
 
     /// Waits for the next line.
@@ -127,10 +144,13 @@ impl<R: Read> Feed<R> {
                 self.take_line(place);
                 Feeding::Line
             }
-            Ok(Found::Long) => match self.lose_line() {
-                Ok(()) => Feeding::Fault(LineFault::TooLong),
-                Err(_) => Feeding::ReadFailed,
-            },
+            Ok(Found::Long) => {
+                self.keep_head();
+                match self.lose_line() {
+                    Ok(()) => Feeding::Fault(LineFault::TooLong),
+                    Err(_) => Feeding::ReadFailed,
+                }
+            }
             Ok(Found::Last) => self.take_last(),
             Err(_) => Feeding::ReadFailed,
         }
@@ -188,6 +208,7 @@ impl<R: Read> Feed<R> {
         ensures none { IfOk result
             (λ came. came ≡ false → (self.new.held ≡ self.old.held) × IsAtEnd self.new.left) }
         ensures number { self.new.number ≡ self.old.number }
+        ensures head { self.new.head ≡ self.old.head }
     {
         let held = self.to - self.from;
         self.room.copy_within(self.from..self.to, 0);
@@ -213,6 +234,15 @@ impl<R: Read> Feed<R> {
         self.from += place + 1;
     }
 
+    /// Keeps how that begins which is held.
+    fn keep_head(&mut self)
+        ensures { self.new ≡ record self.old { head = take MOST_TOLD self.old.held } }
+    {
+        let (head, count) = head_of(self.bytes());
+        self.head = head;
+        self.head_to = count;
+    }
+
     /// Loses all that is held.
     fn lose_held(&mut self)
         ensures { self.new ≡ record self.old { held = [] } }
@@ -224,6 +254,7 @@ impl<R: Read> Feed<R> {
     fn lose_line(&mut self) -> io::Result<()>
         ensures line { OnOk result (LosesLine (rest_of self.old) (rest_of self.new)) }
         ensures number { self.new.number ≡ self.old.number }
+        ensures head { self.new.head ≡ self.old.head }
     {
         for _ in 0..u64::MAX {
             if let Some(place) = self.line_end() {
@@ -248,6 +279,7 @@ impl<R: Read> Feed<R> {
             return Feeding::End;
         }
         if self.bytes() != END {
+            self.keep_head();
             self.lose_held();
             return Feeding::Fault(LineFault::BadLine);
         }
@@ -263,4 +295,15 @@ impl<R: Read> Feed<R> {
         self.line_to = self.to;
         self.from = self.to;
     }
+}
+
+/// The first bytes of these, and how many they are.
+fn head_of(bytes: &[u8]) -> ([u8; MOST_TOLD], usize)
+    ensures count { result.1 ≤ MOST_TOLD }
+    ensures head { take result.1 result.0 ≡ take MOST_TOLD bytes.now }
+{
+    let mut head = [0; MOST_TOLD];
+    let count = MOST_TOLD.min(bytes.len());
+    head[..count].copy_from_slice(&bytes[..count]);
+    (head, count)
 }

@@ -52,7 +52,29 @@ const FAR_HELD: Holding = Holding {
 #[test]
 fn an_answer_is_one_line_in_one_write(rt: HostRuntime) {
     let answers = [
-        (Said::Wrong(12, LineFault::BadName), "line 12: BadName\n"),
+        (
+            Said::Wrong(12, LineFault::BadName, b"a:in:out:1:2:invert"),
+            "line 12: BadName 'a:in:out:1:2:invert'\n",
+        ),
+        (
+            Said::Wrong(2, LineFault::BadLine, b""),
+            "line 2: BadLine ''\n",
+        ),
+        // The first and the last of printable ASCII, and what stands beside them.
+        (
+            Said::Wrong(3, LineFault::BadLine, b"\x1f ~\x7f\x80\xff\0\n\t"),
+            "line 3: BadLine '\\x1F ~\\x7F\\x80\\xFF\\x00\\x0A\\x09'\n",
+        ),
+        (
+            Said::Wrong(4, LineFault::NoStream, b"close 'a\\b'"),
+            "line 4: NoStream 'close \\x27a\\x5Cb\\x27'\n",
+        ),
+        // 61 bytes, of which 60 are told.
+        (
+            Said::Wrong(5, LineFault::TooLong, &[b'"'; 61]),
+            "line 5: TooLong '\"\"\"\"\"\"\"\"\"\"\"\"\"\"\"\"\"\"\"\"\"\"\"\"\"\"\"\"\"\"\
+             \"\"\"\"\"\"\"\"\"\"\"\"\"\"\"\"\"\"\"\"\"\"\"\"\"\"\"\"\"\"'\n",
+        ),
         (Said::Admitted("a"), "a admitted\n"),
         (
             Said::Ended(stopped("a", StreamStop::Closed)),

@@ -5,35 +5,38 @@ use std::io::ErrorKind;
 use std::process::Abort;
 use test_tools::Tape;
 
-/// What came of a line: its number, and its text or a word for what else came.
-fn came<'f>(feed: &'f mut Feed<Tape<'_>>) -> (u64, &'f [u8]) {
+/// What came of a line: its number, a word for what came where that is no line, and its text, or its first
+/// bytes.
+fn came<'f>(feed: &'f mut Feed<Tape<'_>>) -> Came<'f> {
     match feed.next() {
-        Feeding::Line => (feed.number(), feed.line()),
-        Feeding::Fault(fault) => (feed.number(), fault.word().as_bytes()),
-        Feeding::End => (feed.number(), b"no line"),
-        Feeding::ReadFailed => (feed.number(), b"failed"),
+        Feeding::Line => (feed.number(), "", feed.line()),
+        Feeding::Fault(fault) => (feed.number(), fault.word(), feed.head()),
+        Feeding::End => (feed.number(), "no line", b""),
+        Feeding::ReadFailed => (feed.number(), "failed", b""),
     }
 }
 
+type Came<'f> = (u64, &'f str, &'f [u8]);
+
 /// Takes the lines of a reader, and compares what comes.
-fn all_come(rt: &impl Abort, tape: Tape<'_>, lines: &[(u64, &[u8])]) {
+fn all_come(rt: &impl Abort, tape: Tape<'_>, lines: &[Came<'_>]) {
     let mut feed = Feed::new(tape);
-    for (number, line) in lines {
-        same_at(rt, came(&mut feed), (*number, *line), *number);
+    for line in lines {
+        same_at(rt, came(&mut feed), *line, line.0);
     }
 }
 
 const TEXT: &[u8] = b"state\n\n# none\nclose a\nen";
 
-const LINES: &[(u64, &[u8])] = &[
-    (1, b"state"),
-    (2, b""),
-    (3, b"# none"),
-    (4, b"close a"),
+const LINES: &[Came<'_>] = &[
+    (1, "", b"state"),
+    (2, "", b""),
+    (3, "", b"# none"),
+    (4, "", b"close a"),
     // The last bytes aren't ended.
-    (5, b"BadLine"),
-    (5, b"no line"),
-    (5, b"no line"),
+    (5, "BadLine", b"en"),
+    (5, "no line", b""),
+    (5, "no line", b""),
 ];
 
 #[test]
@@ -47,14 +50,15 @@ fn lines_come_one_by_one(rt: HostRuntime) {
 fn an_end_may_lack_its_line_feed(rt: HostRuntime) {
     for step in [1, 3, 1000] {
         let tape = Tape::by_steps(b"state\nend", step);
-        all_come(&rt, tape, &[(1, b"state"), (2, b"end"), (2, b"no line")]);
+        let lines: [Came<'_>; 3] = [(1, "", b"state"), (2, "", b"end"), (2, "no line", b"")];
+        all_come(&rt, tape, &lines);
     }
 }
 
 #[test]
 fn a_failed_read_is_told(rt: HostRuntime) {
     let tape = Tape::torn(b"state\nend", ErrorKind::Other);
-    all_come(&rt, tape, &[(1, b"state"), (1, b"failed")]);
+    all_come(&rt, tape, &[(1, "", b"state"), (1, "failed", b"")]);
 }
 
 /// A line of 1,024 bytes, one of 1,025, and a short one; behind these 1,030 bytes that aren't ended.
@@ -74,11 +78,11 @@ fn a_line_has_1024_bytes(rt: HostRuntime) {
             &rt,
             Tape::by_steps(&text, step),
             &[
-                (1, &[b'x'; 1024]),
-                (2, b"TooLong"),
-                (3, b"xxxx"),
-                (4, b"TooLong"),
-                (4, b"no line"),
+                (1, "", &[b'x'; 1024]),
+                (2, "TooLong", &[b'x'; 60]),
+                (3, "", b"xxxx"),
+                (4, "TooLong", &[b'x'; 60]),
+                (4, "no line", b""),
             ],
         );
     }

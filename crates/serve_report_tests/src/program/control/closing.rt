@@ -32,9 +32,9 @@ fn closes<'f, R: Abort + Threads + Wait + Clock + Copy + Drop + Send + Sync + 's
         rt,
         &mut room,
         format_args!(
-            "a admitted\nline 2: NoStream\nline 4: AlreadyClosed\n\
+            "a admitted\nline 2: NoStream 'close b'\nline 4: AlreadyClosed 'close a'\n\
              a accepted {frames} delivered {frames} charged {units} stop closed\n\
-             line 5: NoStream\nunits {units}\n"
+             line 5: NoStream 'close a'\nunits {units}\n"
         ),
     );
     let came = [("", before), ("AlreadyClosed", b"FRAME\n1234")];
@@ -54,8 +54,8 @@ fn a_failed_write_is_not_told_as_a_close(rt: HostRuntime) {
     let outputs = [Made::new(rt.alloc(), "a.out", A_INVERTED.len() - 3)];
     let answers = shared_answers(&rt, rt.alloc(), usize::MAX);
     let came = [("", A), ("AlreadyClosed", b"FRAME\n".as_slice())];
-    let wanted = "a admitted\nline 3: AlreadyClosed\n\
-                  a accepted 3 delivered 2 charged 3 stop write 49\nunits 3\n";
+    let wanted = "a admitted\nline 3: AlreadyClosed 'close a'\n\
+                  a accepted 3 delivered 2 charged 3 stop read Device\nunits 3\n";
     let later: [Later<'_>; 1] = [("a.in", "", &came)];
     let talk = Talk::new(&turns, wanted).with_status(1);
     talks_of(&rt, rt.alloc(), &answers, &later, &[], "", &outputs, talk);
@@ -171,8 +171,8 @@ fn a_fifo_stays_in_use_while_a_read_of_it_waits(rt: HostRuntime) {
         ("stop closed\n", b"b:a.in:b.out:1:4:invert\nend\n"),
     ];
     let answers = "a admitted\na accepted 0 delivered 0 charged 0 stop closed\n\
-                   line 3: BadFile\nunits 0\n";
-    let slow: [Slow<'_>; 1] = [("a.in", &[("", HEADER), ("BadFile\n", b"")])];
+                   line 3: BadFile 'b:a.in:b.out:1:4:invert'\nunits 0\n";
+    let slow: [Slow<'_>; 1] = [("a.in", &[("", HEADER), ("BadFile", b"")])];
     let talk = Talk::new(&turns, answers);
     serves_fifos(&rt, rt.alloc(), &[], &slow, Some(HEADER), talk);
 }
@@ -184,7 +184,7 @@ const STUBBORN: &[(&[u8], &[u8], &str)] = &[
     (
         b"a:stubborn:a.out:1:4:invert\n",
         b"close a\nclose a\nend\n",
-        "line 3: AlreadyClosed\n",
+        "line 3: AlreadyClosed 'close a'\n",
     ),
 ];
 

@@ -34,7 +34,7 @@ fn answers_of(alloc: Global) -> Result<String, AllocError> {
         "a admitted\na accepted 3 delivered 3 charged 3 stop whole\n\
          b admitted\nb accepted 3 delivered 3 charged 3 stop whole\n\
          d accepted 0 delivered 0 charged 0 stop admit TooManyStreams\n\
-         line 132: NoStream\nunits 6\n",
+         line 132: NoStream 'close d'\nunits 6\n",
     )?;
     answers.push_str("c accepted 0 delivered 0 charged 0 stop closed\n")?;
     for k in 0..WAITING {

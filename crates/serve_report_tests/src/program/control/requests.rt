@@ -69,8 +69,8 @@ fn the_end_of_a_control_ends_it(rt: HostRuntime) {
         ("", "units 0\n"),
         ("end", "units 0\n"),
         ("end\nbad\n", "units 0\n"),
-        ("# a", "line 1: BadLine\nunits 0\n"),
-        ("\nstate", "line 2: BadLine\nunits 0\n"),
+        ("# a", "line 1: BadLine '# a'\nunits 0\n"),
+        ("\nstate", "line 2: BadLine 'state'\nunits 0\n"),
     ];
     for (said, answers) in ends {
         let files = Memory::new(&rt, &[], &[]);

@@ -265,7 +265,7 @@ fn it_is_told_which_streams_are_being_opened(rt: HostRuntime) {
 #[test]
 fn the_end_waits_for_a_stream_that_is_being_opened(rt: HostRuntime) {
     let turns: [Turn<'_>; 2] = [ASK, ("", b"bad\nend\nbad\n")];
-    let answers = "line 2: BadLine\na admitted\n\
+    let answers = "line 2: BadLine 'bad'\na admitted\n\
                    a accepted 3 delivered 3 charged 3 stop whole\nunits 3\n";
     let talk = Talk::new(&turns, answers);
     waits(
@@ -303,7 +303,7 @@ fn a_stream_that_does_not_fit_is_told(rt: HostRuntime) {
 const DOOR: &[Turn<'_>] = &[
     ("", b"close no"),
     ("", b"body\na:a.in:a.out:1:4:in"),
-    ("NoStream\n", b"vert\n"),
+    ("NoStream", b"vert\n"),
     ("a accepted 3", b"e"),
     ("", b"nd\n"),
     ("units ", b""),
@@ -311,7 +311,7 @@ const DOOR: &[Turn<'_>] = &[
 
 #[test]
 fn a_control_may_be_a_fifo(rt: HostRuntime) {
-    let answers = "line 1: NoStream\na admitted\n\
+    let answers = "line 1: NoStream 'close nobody'\na admitted\n\
                    a accepted 3 delivered 3 charged 3 stop whole\nunits 3\n";
     let talk = Talk {
         line: "serve --control door",
@@ -342,33 +342,60 @@ fn streams_go_on_where_answers_fail(rt: HostRuntime) {
 
 /// Each is wrong by the first fault of its line while a stream waits to be opened, and changes nothing.
 const WRONG: &[(&str, &[u8])] = &[
-    ("BadLine", b"b:b.in:b.out:1:4\n"),
-    ("BadLine", b"b:/dev/stdin:b.out:1:4:invert\n"),
-    ("BadLine", b"close\n"),
-    ("BadLine", b"\xFF\n"),
-    ("BadName", b"a:a.in:a.out:0:4:bad\n"),
-    ("BadFile", b"b:a.in:b.out:0:4:bad\n"),
-    ("BadFile", b"b:b.in:a.out:0:4:bad\n"),
-    ("BadFile", b"b:b.in:a.in:0:4:bad\n"),
-    ("BadFile", b"b:b.in:b.in:0:4:bad\n"),
-    ("BadFile", b"b:b.in:/dev/stdout:0:4:bad\n"),
-    ("BadOp", b"b:b.in:b.out:0:4:bad\n"),
+    ("BadLine 'b:b.in:b.out:1:4'", b"b:b.in:b.out:1:4\n"),
     (
-        "TooManyOps",
+        "BadLine 'b:/dev/stdin:b.out:1:4:invert'",
+        b"b:/dev/stdin:b.out:1:4:invert\n",
+    ),
+    ("BadLine 'close'", b"close\n"),
+    ("BadLine '\\xff\\x27\\x5c '", b"\xFF'\\ \n"),
+    (
+        "BadName 'a:a.in:a.out:0:4:bad'",
+        b"a:a.in:a.out:0:4:bad\n",
+    ),
+    (
+        "BadFile 'b:a.in:b.out:0:4:bad'",
+        b"b:a.in:b.out:0:4:bad\n",
+    ),
+    (
+        "BadFile 'b:b.in:a.out:0:4:bad'",
+        b"b:b.in:a.out:0:4:bad\n",
+    ),
+    ("BadFile 'b:b.in:a.in:0:4:bad'", b"b:b.in:a.in:0:4:bad\n"),
+    ("BadFile 'b:b.in:b.in:0:4:bad'", b"b:b.in:b.in:0:4:bad\n"),
+    (
+        "BadFile 'b:b.in:/dev/stdout:0:4:bad'",
+        b"b:b.in:/dev/stdout:0:4:bad\n",
+    ),
+    ("BadOp 'b:b.in:b.out:0:4:bad'", b"b:b.in:b.out:0:4:bad\n"),
+    (
+        "TooManyOps 'b:b.in:b.out:0:4:invert+invert+invert+invert+invert+invert+i'",
         b"b:b.in:b.out:0:4:invert+invert+invert+invert+invert+invert+invert+invert+invert\n",
     ),
-    ("BadBandwidth", b"b:b.in:b.out:0:4:invert\n"),
-    ("BadBandwidth", b"b:b.in:b.out:5:4:invert\n"),
-    ("BadBandwidth", b"b:b.in:b.out:1:1048577:invert\n"),
-    ("NoStream", b"close b\n"),
-    ("TooLong", &[b'x'; 1025]),
+    (
+        "BadBandwidth 'b:b.in:b.out:0:4:invert'",
+        b"b:b.in:b.out:0:4:invert\n",
+    ),
+    (
+        "BadBandwidth 'b:b.in:b.out:5:4:invert'",
+        b"b:b.in:b.out:5:4:invert\n",
+    ),
+    (
+        "BadBandwidth 'b:b.in:b.out:1:1048577:invert'",
+        b"b:b.in:b.out:1:1048577:invert\n",
+    ),
+    ("NoStream 'close b'", b"close b\n"),
+    (
+        "TooLong 'xxxxxxxxxxxxxxxxxxxxxxxxxxxxxxxxxxxxxxxxxxxxxxxxxxxxxxxxxxxx'",
+        &[b'x'; 1025],
+    ),
 ];
 
 #[test]
 fn a_wrong_line_changes_nothing(rt: HostRuntime) {
     for (fault, line) in WRONG {
         let turns: [Turn<'_>; 4] = [ASK, ("", *line), ("", b"\n"), ("line 2", b"end\n")];
-        let mut room = [0; 128];
+        let mut room = [0; 256];
         let ends = "a admitted\na accepted 3 delivered 3 charged 3 stop whole\nunits 3\n";
         let answers = text_by(&rt, &mut room, format_args!("line 2: {fault}\n{ends}"));
         let talk = Talk::new(&turns, answers);

@@ -17,4 +17,5 @@ loop-preserved g c =
       behind = loses_more now.held (rest_of c.args.self.now) now.left (rest_of c.read_more.new.self) c.loop.invariant.behind
           (sym c.line_end.ensures ∙ c.in_default.is) (rw c.lose_held.ensures at c.read_more.ensures.bytes);
       number = c.read_more.ensures.number ∙ ap (λ (feed : FeedState). feed.number) c.lose_held.ensures ∙ c.loop.invariant.number;
+      head = c.read_more.ensures.head ∙ ap (λ (feed : FeedState). feed.head) c.lose_held.ensures ∙ c.loop.invariant.head;
     }

@@ -7,4 +7,5 @@ abbrev pub invariant-loop : goal.invariant-loop
 invariant-loop g l = record {
   behind : Behind (rest_of l.fn.self) (rest_of l.self);
   number : l.self.number ≡ l.fn.self.number;
+  head : l.self.head ≡ l.fn.self.head;
 }
