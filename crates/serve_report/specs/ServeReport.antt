@@ -1,5 +1,5 @@
 -- What is reported of a stream that was served.
-use Rattle.std.specs.Prelude.{ℕ, List, ◌++◌, codes, decimal}
+use Rattle.std.specs.Prelude.{ℕ, Bool, true, false, List, ◌++◌, codes, decimal}
 use Rattle.serve_core.specs.declared.refusal.Refusal.TheVariants as cores
 use Rattle.serve_hub.specs.declared.refusal.Refusal.{Refusal}
 use Rattle.serve_hub.specs.declared.refusal.Refusal.TheVariants.{Core}
@@ -41,6 +41,12 @@ stop_text (stops.Refused cause) = codes "refused " ++ cause_word cause
 stop_text stops.Torn = codes "torn"
 stop_text stops.Closed = codes "closed"
 stop_text (stops.Admit fault) = codes "admit " ++ admit_word fault
+
+-- it came to no bad end
+abbrev pub is_well : StreamStop → Bool
+is_well stops.Whole = true
+is_well stops.Closed = true
+is_well stop = false
 
 -- `NAME accepted A delivered D charged U stop STOP`
 abbrev pub row_text : StreamRow → List ℕ

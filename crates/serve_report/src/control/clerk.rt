@@ -111,7 +111,7 @@ where
         for (stream, asked) in streams.into_iter().enumerate() {
             let input = self.files.place(asked.word.input);
             let output = self.files.place(asked.word.output);
-            if let Bidding::Open(errand) = self.enter(asked, input, output, stream) {
+            if let Bidding::Open(errand) = self.enter(asked, input, output, Some(stream)) {
                 errands.push(errand)?;
             }
         }
@@ -199,34 +199,36 @@ where
             return Err(LineFault::BadFile);
         }
         match check_stream(self.alloc, word) {
-            Ok(asked) => Ok(self.enter(asked, input, output, usize::MAX)),
-            Err(LineFault::NoMemory) => Ok(self.refuse_stream(word.name, AdmitFault::NoMemory)),
+            Ok(asked) => Ok(self.enter(asked, input, output, None)),
+            Err(LineFault::NoMemory) => Ok(self.refuse_stream(word.name, AdmitFault::NoMemory, false)),
             Err(fault) => Err(fault),
         }
     }
 
-    /// Takes a stream, if there is a place for it, and its share is left. It keeps that from here on.
+    /// Takes a stream, if there is a place for it, and its share is left. It keeps that from here on. One of
+    /// the words has a place among those.
     pub fn enter(
         &mut self,
         asked: Asked<'_>,
         input: Place,
         output: Place,
-        stream: usize,
+        stream: Option<usize>,
     ) -> Bidding {
         let Asked { word, ops } = asked;
+        let is_of_words = stream.is_some();
         let number = self.asked;
         self.asked = self.asked.saturating_add(1);
-        let Some((order, table_order)) = order_of(self.alloc, number, word) else {
-            return self.refuse_stream(word.name, AdmitFault::NoMemory);
+        let Some((order, table_order)) = order_of(self.alloc, number, word, is_of_words) else {
+            return self.refuse_stream(word.name, AdmitFault::NoMemory, is_of_words);
         };
         if let Err(fault) = self.keep(table_order, input, output) {
-            return self.refuse_stream(word.name, fault);
+            return self.refuse_stream(word.name, fault, is_of_words);
         }
         let may_wait = !matches!(input, Place::File(_));
         Bidding::Open(Errand {
             order,
             ops,
-            stream,
+            stream: stream.unwrap_or(usize::MAX),
             may_wait,
             is_prompt: !may_wait && !matches!(output, Place::Pipe(_)),
             output_may_wait: may_wait || !matches!(output, Place::File(_)),
@@ -246,9 +248,9 @@ where
     }
 
     /// Tells that a stream isn't taken.
-    fn refuse_stream(&self, name: &str, fault: AdmitFault) -> Bidding {
+    fn refuse_stream(&self, name: &str, fault: AdmitFault, is_of_words: bool) -> Bidding {
         let mut voice = self.lobby.voice.lock(self.rt);
-        voice.say_stopped(name, StreamStop::Admit(fault));
+        voice.say_stopped(name, StreamStop::Admit(fault), is_of_words);
         Bidding::Done
     }
 
@@ -320,8 +322,9 @@ fn order_of(
     alloc: Global,
     number: u64,
     word: StreamWord<'_>,
+    is_of_words: bool,
 ) -> Option<(Arc<Order, Global>, Arc<Order, Global>)> {
-    let order = Order::new(alloc, number, word).ok()?;
+    let order = Order::new(alloc, number, word, is_of_words).ok()?;
     let order = Arc::new(alloc, order).ok()?;
     let table_order = Arc::try_clone(&order).ok()?;
     Some((order, table_order))

@@ -128,7 +128,8 @@ where
                 is_closed: entry.order.is_closed(),
                 is_given_up: self.gives_up,
             };
-            voice.say_row(course.row(&entry.order.name, closing));
+            let row = course.row(&entry.order.name, closing);
+            voice.say_row(row, entry.order.is_of_words);
         }
     }
 

@@ -56,7 +56,8 @@ impl<'o, R: Source + Drop, W: Sink + Drop, S: Drop, O: Write, E: Write> Lobby<'o
         let table = self.table.lock(rt);
         for entry in &table.entries {
             if entry.is_unserved() {
-                voice.say_stopped(&entry.order.name, StreamStop::Closed);
+                let order = &entry.order;
+                voice.say_stopped(&order.name, StreamStop::Closed, order.is_of_words);
             }
         }
         voice.end()
@@ -67,7 +68,7 @@ impl<'o, R: Source + Drop, W: Sink + Drop, S: Drop, O: Write, E: Write> Lobby<'o
         let mut voice = self.voice.lock(rt);
         let entry = self.table.lock(rt).take(order.number);
         self.changed.notify_all();
-        voice.say_stopped(&order.name, stop);
+        voice.say_stopped(&order.name, stop, order.is_of_words);
         drop(entry);
     }
 
@@ -123,7 +124,8 @@ impl<'o, R: Source + Drop, W: Sink + Drop, S: Drop, O: Write, E: Write> Lobby<'o
         self.changed.notify_all();
         if let Some(entry) = &entry {
             entry.order.close();
-            voice.say_stopped(&entry.order.name, StreamStop::Admit(AdmitFault::NoMemory));
+            let stop = StreamStop::Admit(AdmitFault::NoMemory);
+            voice.say_stopped(&entry.order.name, stop, entry.order.is_of_words);
         }
     }
 

@@ -11,6 +11,8 @@ use std::sync::atomic::{AtomicBool, Ordering};
 pub struct Order {
     /// Its number among all that were asked for.
     pub number: u64,
+    /// Whether the words asked for it, and no line.
+    pub is_of_words: bool,
     pub name: String,
     pub input: String,
     pub output: String,
@@ -23,15 +25,22 @@ pub struct Order {
 
 impl Order {
     /// It isn't closed yet.
-    pub fn new(alloc: Global, number: u64, word: StreamWord<'_>) -> Result<Order, AllocError>
+    pub fn new(
+        alloc: Global,
+        number: u64,
+        word: StreamWord<'_>,
+        is_of_words: bool,
+    ) -> Result<Order, AllocError>
         ensures name { IfOk result (λ order. string_bytes order.name ≡ word.entry.name.now) }
         ensures input { IfOk result (λ order. string_bytes order.input ≡ word.entry.input.now) }
         ensures output { IfOk result (λ order. string_bytes order.output ≡ word.entry.output.now) }
         ensures share { IfOk result (λ order. (order.q ≡ word.entry.q) × (order.t ≡ word.entry.t)) }
         ensures number { IfOk result (λ order. order.number ≡ number) }
+        ensures is_of_words { IfOk result (λ order. order.is_of_words ≡ is_of_words) }
     {
         Ok(Order {
             number,
+            is_of_words,
             name: String::from_str(alloc, word.name)?,
             input: String::from_str(alloc, word.input)?,
             output: String::from_str(alloc, word.output)?,

@@ -57,7 +57,7 @@ fn a_failed_write_is_not_told_as_a_close(rt: HostRuntime) {
     let wanted = "a admitted\nline 3: AlreadyClosed 'close a'\n\
                   a accepted 3 delivered 2 charged 3 stop read Device\nunits 3\n";
     let later: [Later<'_>; 1] = [("a.in", "", &came)];
-    let talk = Talk::new(&turns, wanted).with_status(1);
+    let talk = Talk::new(&turns, wanted);
     talks_of(&rt, rt.alloc(), &answers, &later, &[], "", &outputs, talk);
     holds(&rt, &outputs[0], &A_INVERTED[..A_INVERTED.len() - 3]);
 }
@@ -224,7 +224,7 @@ fn a_silent_stream_holds_up_no_other(rt: HostRuntime) {
     let slow: [Slow<'_>; 1] = [("c.in", &[("", HEADER), ("units ", b"")])];
     let talk = Talk {
         line: "serve --moment 1 --control -",
-        ..Talk::new(&turns, answers).with_status(1)
+        ..Talk::new(&turns, answers)
     };
     serves_fifos(&rt, rt.alloc(), &later, &slow, Some(A_INVERTED), talk);
 }

@@ -74,7 +74,7 @@ fn fills<'f, R: Abort + Threads + Wait + Clock + Copy + Drop + Send + Sync + 'st
     let answers = shared_answers(rt, alloc, usize::MAX);
     let talk = Talk {
         is_ordered: false,
-        ..Talk::new(&turns, wanted).with_status(1)
+        ..Talk::new(&turns, wanted)
     };
     talks_of(
         rt,

@@ -34,9 +34,10 @@ fn are_told<R: Abort + Wait>(rt: &R, answers: &str, said: &str, files: &[Made<'_
         same_at(rt, (SAID.contains(&said), status), (true, 1), said);
         return;
     }
-    let a = is_whole(rt, end_of(answers, A_WHOLE.front), &files[0], A_WHOLE);
-    let b = is_whole(rt, end_of(answers, B_WHOLE.front), &files[1], B_WHOLE);
-    same_at(rt, status == 0, a && b, answers);
+    // What lines asked for doesn't count for the status, however it ends.
+    is_whole(rt, end_of(answers, A_WHOLE.front), &files[0], A_WHOLE);
+    is_whole(rt, end_of(answers, B_WHOLE.front), &files[1], B_WHOLE);
+    same_at(rt, status, 0, answers);
 }
 
 #[test]

@@ -62,6 +62,20 @@ fn those_of_the_words_are_the_first(rt: HostRuntime) {
     holds(&rt, &outputs[1], B_TURNED);
 }
 
+/// A stream that isn't whole counts for the status where the words asked for it.
+#[test]
+fn what_lines_ask_for_does_not_count_for_the_status(rt: HostRuntime) {
+    let answers = "a accepted 0 delivered 0 charged 0 stop open\nunits 0\n";
+    let by_line: [Turn<'_>; 1] = [("", b"a:none:a.out:1:2:invert\nend\n")];
+    let of_words = Talk {
+        line: "serve --control - a:none:a.out:1:2:invert",
+        ..Talk::new(&[("", b"end\n")], answers).with_status(1)
+    };
+    for talk in [Talk::new(&by_line, answers), of_words] {
+        talks_by(&rt, rt.alloc(), &Memory::new(&rt, &[], &[]), talk);
+    }
+}
+
 /// The end of what is read is the end of the requests. Last bytes that aren't ended are no line.
 #[test]
 fn the_end_of_a_control_ends_it(rt: HostRuntime) {

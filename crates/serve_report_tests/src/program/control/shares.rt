@@ -82,7 +82,7 @@ fn a_share_is_free_when_its_deadline_has_passed(rt: HostRuntime) {
                    c accepted 0 delivered 0 charged 0 stop closed\nunits 9\n";
     let talk = Talk {
         line: "serve --workers 1 --moment 3000 --control -",
-        ..Talk::new(&turns, answers).with_status(1)
+        ..Talk::new(&turns, answers)
     };
     shares(&rt, rt.alloc(), "", A_INVERTED, talk);
 }
@@ -101,7 +101,7 @@ fn the_first_line_takes_the_share(rt: HostRuntime) {
                    a admitted\na accepted 3 delivered 3 charged 3 stop whole\nunits 3\n";
     let talk = Talk {
         line: "serve --workers 1 --control -",
-        ..Talk::new(&turns, answers).with_status(1)
+        ..Talk::new(&turns, answers)
     };
     shares(&rt, rt.alloc(), "Overload\n", A_INVERTED, talk);
 }
@@ -122,7 +122,7 @@ fn a_closed_stream_keeps_no_share(rt: HostRuntime) {
                    a admitted\na accepted 3 delivered 3 charged 3 stop whole\nunits 3\n";
     let talk = Talk {
         line: "serve --workers 1 --control -",
-        ..Talk::new(&turns, answers).with_status(1)
+        ..Talk::new(&turns, answers)
     };
     shares(&rt, rt.alloc(), HELD, A_INVERTED, talk);
 }

@@ -291,7 +291,7 @@ fn a_stream_that_does_not_fit_is_told(rt: HostRuntime) {
                    b accepted 0 delivered 0 charged 0 stop closed\nunits 0\n";
     let talk = Talk {
         line: "serve --workers 1 --control -",
-        ..Talk::new(&turns, answers).with_status(1)
+        ..Talk::new(&turns, answers)
     };
     let later: [Later<'_>; 1] = [("a.in", "", &[("", A)])];
     let slow: [Slow<'_>; 1] = [("b.in", &[("", HEADER), ("units ", b"")])];
@@ -340,7 +340,8 @@ fn streams_go_on_where_answers_fail(rt: HostRuntime) {
     }
 }
 
-/// Each is wrong by the first fault of its line while a stream waits to be opened, and changes nothing.
+/// Each is wrong by the first fault of its line while a stream waits to be opened, and changes nothing. The
+/// fault is told with the line's first bytes.
 const WRONG: &[(&str, &[u8])] = &[
     ("BadLine 'b:b.in:b.out:1:4'", b"b:b.in:b.out:1:4\n"),
     (
@@ -348,19 +349,10 @@ const WRONG: &[(&str, &[u8])] = &[
         b"b:/dev/stdin:b.out:1:4:invert\n",
     ),
     ("BadLine 'close'", b"close\n"),
-    ("BadLine '\\xff\\x27\\x5c '", b"\xFF'\\ \n"),
-    (
-        "BadName 'a:a.in:a.out:0:4:bad'",
-        b"a:a.in:a.out:0:4:bad\n",
-    ),
-    (
-        "BadFile 'b:a.in:b.out:0:4:bad'",
-        b"b:a.in:b.out:0:4:bad\n",
-    ),
-    (
-        "BadFile 'b:b.in:a.out:0:4:bad'",
-        b"b:b.in:a.out:0:4:bad\n",
-    ),
+    ("BadLine '\\xFF\\x27\\x5C '", b"\xFF'\\ \n"),
+    ("BadName 'a:a.in:a.out:0:4:bad'", b"a:a.in:a.out:0:4:bad\n"),
+    ("BadFile 'b:a.in:b.out:0:4:bad'", b"b:a.in:b.out:0:4:bad\n"),
+    ("BadFile 'b:b.in:a.out:0:4:bad'", b"b:b.in:a.out:0:4:bad\n"),
     ("BadFile 'b:b.in:a.in:0:4:bad'", b"b:b.in:a.in:0:4:bad\n"),
     ("BadFile 'b:b.in:b.in:0:4:bad'", b"b:b.in:b.in:0:4:bad\n"),
     (
