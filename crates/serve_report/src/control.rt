@@ -15,6 +15,7 @@ mod listener;
 mod lobby;
 mod opener;
 mod order;
+mod pieces;
 mod quoted;
 mod run;
 mod shares;

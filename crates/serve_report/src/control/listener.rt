@@ -1,5 +1,7 @@
 //! What the lines of a control are read from.
+ghost use Rattle.std.specs.Io.{ReadsAtMost};
 
+use super::pieces::{HEAD, Pieces, length_of};
 use serve_files::{Files, Inflow, Inlet, inflow_of};
 use std::alloc::Global;
 use std::io::{self, Empty, Read};
@@ -63,11 +65,53 @@ pub fn lines_of<'c, I: Read + Drop, F: Files>(
     Ok(Lines { file, origin })
 }
 
+/// A file that is taken piece by piece.
+#[derive(Drop)]
+struct Taken<S: Read + Drop, T: Wait + Drop> {
+    inflow: Inflow<Empty, Pieces<S>, T>,
+    /// How many bytes of the last piece are left.
+    left: usize,
+}
+
+impl<S: Read + Drop, T: Wait + Clock + Drop> Taken<S, T> {
+    /// Waits until a piece is there, or the end or a fault. False where the run is over.
+    fn awaits(&self, rt: &T, is_over: &AtomicBool) -> bool {
+        for _ in rt.forever() {
+            if is_over.load(Ordering::SeqCst) {
+                return false;
+            }
+            if self.inflow.is_ready(PATIENCE, Wanted::data(HEAD)) {
+                return true;
+            }
+        }
+        unreachable!()
+    }
+
+    /// Takes the length of the next piece. No byte is left where none comes.
+    fn begin_piece(&mut self) -> io::Result<()> {
+        let mut told = [0; HEAD];
+        if self.inflow.read(&mut told)? == HEAD {
+            self.left = length_of(told);
+        }
+        Ok(())
+    }
+
+    /// Takes what is left of a piece, or a part of it.
+    fn take(&mut self, buf: &mut [u8]) -> io::Result<usize>
+        ensures { ReadsAtMost result buf.new }
+    {
+        let most = buf.len().min(self.left);
+        let count = self.inflow.read(&mut buf[..most])?;
+        self.left -= count;
+        Ok(count)
+    }
+}
+
 /// Where lines come from.
 #[derive(Drop)]
 enum Way<I: Read, S: Read + Drop, T: Wait + Drop> {
     Input(I),
-    File(Inflow<Empty, S, T>),
+    File(Taken<S, T>),
 }
 
 /// A reader that comes to its end where the run is over. Where it can't be told that a read would wait, that
@@ -94,27 +138,13 @@ where
     ) -> Listener<'r, 'f, I, S, T> {
         let way = match origin {
             Origin::Input(input) => Way::Input(input),
-            Origin::File(file) => Way::File(inflow_of(rt, alloc, Inlet::Slow(file))),
+            Origin::File(file) => Way::File(Taken {
+                inflow: inflow_of(rt, alloc, Inlet::Slow(Pieces::new(file))),
+                left: 0,
+            }),
         };
         Listener { rt, way, is_over }
     }
-}
-
-/// Waits until something is there to be read. False where the run is over.
-fn awaits<S: Read + Drop, T: Wait + Clock + Drop>(
-    rt: &T,
-    file: &Inflow<Empty, S, T>,
-    is_over: &AtomicBool,
-) -> bool {
-    for _ in rt.forever() {
-        if is_over.load(Ordering::SeqCst) {
-            return false;
-        }
-        if file.is_ready(PATIENCE, Wanted::data(1)) {
-            return true;
-        }
-    }
-    unreachable!()
 }
 
 impl<I: Read, S: Read + Drop, T: Wait + Clock + Drop> Read for Listener<'_, '_, I, S, T> {
@@ -123,10 +153,13 @@ impl<I: Read, S: Read + Drop, T: Wait + Clock + Drop> Read for Listener<'_, '_, 
             Way::Input(_) if self.is_over.load(Ordering::SeqCst) => Ok(0),
             Way::Input(input) => input.read(buf),
             Way::File(file) => {
-                if !awaits(self.rt, file, self.is_over) {
-                    return Ok(0);
+                if file.left == 0 {
+                    if !file.awaits(self.rt, self.is_over) {
+                        return Ok(0);
+                    }
+                    file.begin_piece()?;
                 }
-                file.read(buf)
+                file.take(buf)
             }
         }
     }

@@ -44,6 +44,28 @@ fn a_control_may_be_a_file(rt: HostRuntime) {
     holds(&rt, &outputs[0], A_INVERTED);
 }
 
+/// It is read in more pieces than one, and has no line.
+#[test]
+fn a_file_may_be_long(rt: HostRuntime) {
+    let inputs = [given("a.y4m", A)];
+    let outputs = [Made::new(rt.alloc(), "a.out", 4096)];
+    let files = Memory {
+        slow: &[Given {
+            name: "lines",
+            text: &[b'#'; 10_000],
+            fails: false,
+        }],
+        ..Memory::new(&rt, &inputs, &outputs)
+    };
+    let answers = "line 1: TooLong '############################################################'\n\
+                   a admitted\na accepted 3 delivered 3 charged 3 stop whole\nunits 3\n";
+    let talk = Talk {
+        is_ordered: false,
+        ..by_file(answers, "", 0)
+    };
+    talks_by(&rt, rt.alloc(), &files, talk);
+}
+
 #[test]
 fn a_read_that_fails_ends_a_control(rt: HostRuntime) {
     let inputs = [given("a.y4m", A)];
