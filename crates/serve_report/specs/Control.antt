@@ -21,6 +21,7 @@ pub data Asking : Type 0 where
   Close : (name : List ℕ) → Asking
   State : Asking
   End : Asking
+  Stop : Asking
 
 abbrev pub ask_told : Ask → Asking
 ask_told asks.Nothing = Nothing
@@ -28,6 +29,7 @@ ask_told (asks.Serve word) = Serve (stream_told word)
 ask_told (asks.Close name) = Close name.now
 ask_told asks.State = State
 ask_told asks.End = End
+ask_told asks.Stop = Stop
 
 -- the name in a line `close NAME`, if it is one
 abbrev pub name_to_close : List ℕ → Option (List ℕ)
@@ -39,6 +41,7 @@ abbrev pub text_asks : (is_input_taken : Bool) → List ℕ → Option Asking
 text_asks is_input_taken text =
     if bytes_eq text (codes "state") then Some State
     else if bytes_eq text (codes "end") then Some End
+    else if bytes_eq text (codes "stop") then Some Stop
     else option_map_or (λ name. Some (Close name)) (name_to_close text)
     (option_map Serve (stream_beside is_input_taken text))
 
@@ -67,4 +70,5 @@ fault_word faults.TooManyOps = codes "TooManyOps"
 fault_word faults.BadBandwidth = codes "BadBandwidth"
 fault_word faults.NoStream = codes "NoStream"
 fault_word faults.AlreadyClosed = codes "AlreadyClosed"
+fault_word faults.Ended = codes "Ended"
 fault_word faults.NoMemory = codes "NoMemory"

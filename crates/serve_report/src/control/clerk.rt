@@ -50,6 +50,8 @@ pub struct Clerk<
     own: [FileUse<'c>; 2],
     /// How many streams were asked for.
     asked: u64,
+    /// Whether no stream is taken any more.
+    is_ended: bool,
 }
 
 impl<'t, 'k, 'f, 'l, 'c, 'o, F, R, W, S, K, T, O, E> Clerk<
@@ -102,6 +104,7 @@ where
             is_input: lines.is_input(),
             own: [report, control],
             asked: 0,
+            is_ended: false,
         }
     }
 
@@ -147,8 +150,7 @@ where
 
     /// Tells what is wrong with the line of this number, which begins with these bytes.
     pub fn refuse(&mut self, number: u64, fault: LineFault, line: &[u8]) {
-        self.lobby
-            .say(self.rt, &Said::Wrong(number, fault, line));
+        self.lobby.say(self.rt, &Said::Wrong(number, fault, line));
     }
 
     /// Does what a line asks for.
@@ -161,7 +163,25 @@ where
                 self.ask();
                 Ok(Bidding::Done)
             }
-            Ask::End => Ok(Bidding::End),
+            Ask::End => {
+                self.lobby.end(self.rt);
+                Ok(self.end())
+            }
+            Ask::Stop => {
+                self.lobby.stop(self.rt, self.files);
+                Ok(self.end())
+            }
+        }
+    }
+
+    /// Takes no stream from here on. Of standard input no more lines are taken either, since a read of it
+    /// can't be let go where the run is over.
+    fn end(&mut self) -> Bidding {
+        self.is_ended = true;
+        if self.is_input {
+            Bidding::End
+        } else {
+            Bidding::Done
         }
     }
 
@@ -190,6 +210,9 @@ where
 
     /// Takes the stream that a line asks for.
     fn take_stream(&mut self, word: StreamWord<'_>) -> Result<Bidding, LineFault> {
+        if self.is_ended {
+            return Err(LineFault::Ended);
+        }
         if self.lobby.table.lock(self.rt).has_name(word.name) {
             return Err(LineFault::BadName);
         }
@@ -200,7 +223,11 @@ where
         }
         match check_stream(self.alloc, word) {
             Ok(asked) => Ok(self.enter(asked, input, output, None)),
-            Err(LineFault::NoMemory) => Ok(self.refuse_stream(word.name, AdmitFault::NoMemory, false)),
+            Err(LineFault::NoMemory) => Ok(self.refuse_stream(
+                word.name,
+                AdmitFault::NoMemory,
+                false,
+            )),
             Err(fault) => Err(fault),
         }
     }

@@ -27,8 +27,10 @@ pub enum Ask<'a> {
     Close(&'a str),
     /// To tell how the streams stand.
     State,
-    /// To take no line after it.
+    /// To take no stream after it.
     End,
+    /// To close all streams, and to take none after it.
+    Stop,
 }
 
 /// What is wrong with a line.
@@ -52,6 +54,8 @@ pub enum LineFault {
     NoStream,
     /// The stream was closed before.
     AlreadyClosed,
+    /// No stream is asked for any more.
+    Ended,
     /// There was no memory for it.
     NoMemory,
 }
@@ -71,6 +75,7 @@ impl LineFault {
             LineFault::BadBandwidth => "BadBandwidth",
             LineFault::NoStream => "NoStream",
             LineFault::AlreadyClosed => "AlreadyClosed",
+            LineFault::Ended => "Ended",
             LineFault::NoMemory => "NoMemory",
         }
     }
@@ -124,6 +129,9 @@ fn ask_of(text: &str, is_input_taken: bool) -> Option<Ask<'_>>
     }
     if text == "end" {
         return Some(Ask::End);
+    }
+    if text == "stop" {
+        return Some(Ask::Stop);
     }
     if let Some(name) = name_to_close(text) {
         return Some(Ask::Close(name));

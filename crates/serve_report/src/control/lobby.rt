@@ -150,6 +150,19 @@ impl<'o, R: Source + Drop, W: Sink + Drop, S: Drop, O: Write, E: Write> Lobby<'o
         self.changed.notify_all();
     }
 
+    /// Closes the streams, and notes that no stream is asked for any more. Those that are being opened come
+    /// back.
+    pub fn stop<T: Wait, F: Files<Slow = S>>(&self, rt: &T, files: &F)
+    where
+        S: 'static,
+    {
+        let mut table = self.table.lock(rt);
+        table.is_ended = true;
+        table.close_all(files);
+        drop(table);
+        self.changed.notify_all();
+    }
+
     /// Tells that nothing more can be read of the control, and notes that so no stream is asked for any more.
     pub fn fail_reading<T: Wait>(&self, rt: &T) {
         self.voice.lock(rt).tell_fault(&"control read");

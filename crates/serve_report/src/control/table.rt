@@ -218,6 +218,14 @@ impl<R: Source + Drop, W: Sink + Drop, S: Drop> Table<R, W, S> {
     {
         self.is_given_up = true;
         self.is_ended = true;
+        self.close_all(files);
+    }
+
+    /// Closes the streams. What is being opened for one is let go.
+    pub fn close_all<F: Files<Slow = S>>(&mut self, files: &F)
+    where
+        S: 'static,
+    {
         for entry in &mut self.entries {
             entry.order.close();
             entry.hold_open(files);

@@ -11,6 +11,7 @@ fn asked(line: &[u8], is_input_taken: bool) -> (&str, &str) {
         Ok(Ask::Close(name)) => ("close", name),
         Ok(Ask::State) => ("state", ""),
         Ok(Ask::End) => ("end", ""),
+        Ok(Ask::Stop) => ("stop", ""),
         Err(fault) => ("wrong", fault.word()),
     }
 }
@@ -26,6 +27,7 @@ const LINES: &[(&[u8], (&str, &str))] = &[
     (b"#\xff", ("nothing", "")),
     (b"state", ("state", "")),
     (b"end", ("end", "")),
+    (b"stop", ("stop", "")),
     (b"close cam-1_b", ("close", "cam-1_b")),
     (b"a:in:out:1:2:invert", ("serve", "a")),
     (b"a:in:out:1:2:clamp:16,235", ("serve", "a")),
@@ -44,6 +46,9 @@ const LINES: &[(&[u8], (&str, &str))] = &[
     (b"state ", BAD),
     (b" end", BAD),
     (b"END", BAD),
+    (b"stop ", BAD),
+    (b"stop a", BAD),
+    (b"STOP", BAD),
     (b"end\r", BAD),
     (b"a", BAD),
     (b"a:in:out:1:2", BAD),

@@ -20,6 +20,7 @@ mod opens;
 mod requests;
 mod script;
 mod shares;
+mod stopping;
 mod waiting;
 
 /// What may be the cause of another answer.
