@@ -227,7 +227,9 @@ class Live(Session):
         if self.is_whole(ended) and is_true:
             return None
         is_told = ended.errors in self.ENDS or (ended.errors == b"" and set(rows) == set(self.names)) or self.names_words(ended)
-        return None if ended.refused and ended.status == 1 and is_true and is_told else f"status {ended.status}, {ended.out!r}, {ended.errors!r}"
+        # where the status tells of the server alone, it is 0 without a fault on the error stream
+        is_known = ended.status == 1 or (ended.status, ended.errors) == (0, b"")
+        return None if ended.refused and is_known and is_true and is_told else f"status {ended.status}, {ended.out!r}, {ended.errors!r}"
 
 
 def tests_of(crate, kind=Test):
