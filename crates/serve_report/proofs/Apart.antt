@@ -1,9 +1,10 @@
 -- Files that are told apart, one after the other.
-use Rattle.std.proofs.Common.{ℕ, ◌+◌, ◌<◌, List, ◌++◌, length, get_or, take, drop, All, AllPairs, Any}
-use Rattle.std.proofs.Common.{◌∙◌, add-one, ap, drop-cons, subst, sym}
+use Rattle.std.proofs.Common.{◌≡◌, ℕ, ◌+◌, ◌<◌, List, [], ◌∷◌, ◌++◌, length, get_or, take, drop, All, AllPairs, Any}
+use Rattle.std.proofs.Common.{◌∙◌, add-one, ap, arith, codes, drop-cons, subst, sym, true}
 use Rattle.std.proofs.lemmas.List.{get_or_default, take-append-drop, take_more}
 use Rattle.std.proofs.lemmas.List.Quantifiers.{all_pairs_push}
-use Rattle.serve_report.specs.Apart.{Clash, IsApart, IsFirstClash}
+use Rattle.serve_report.specs.Apart.{AreErrorsApart, AreUses, Clash, IsApart, IsFirstClash, OfPlace, name_used}
+use Rattle.serve_words.specs.StreamWords.{StreamAsked}
 use Rattle.serve_report.specs.declared.serve.apart.FileUse.{FileUse}
 
 module _ (uses : List FileUse) (i : ℕ) (d : FileUse) (less : i < length uses) (apart : AllPairs IsApart (take i uses)) where
@@ -25,7 +26,28 @@ module _ (uses : List FileUse) (i : ℕ) (d : FileUse) (less : i < length uses) 
     clash = clash;
   }
 
+module _ (PlaceGives : OfPlace) (streams : List StreamAsked) where
+  -- the report's file is there
+  pub some_uses : (uses : List FileUse) → AreUses PlaceGives streams uses → 0 < length uses
+  some_uses [] are = let same = are.names in cc
+  some_uses (report ∷ uses) are = omega arith
+
 -- what clashes with none is apart from each
 pub apart_from_all : (uses : List FileUse) (found : FileUse) → (Any (λ one. Clash one found) uses → ⊥)
     → All (λ one. IsApart one found) uses
 apart_from_all uses found none k e below clash = none (k, get_or uses k e, below, get_or_default uses k _ e below, clash)
+
+-- a file that clashes with none behind the first is apart from those of the streams
+pub errors_apart : (PlaceGives : OfPlace) (streams : List StreamAsked) (uses : List FileUse) (errors : FileUse)
+    → AreUses PlaceGives streams uses → name_used errors ≡ (codes "/dev/stderr", true)
+    → PlaceGives (codes "/dev/stderr") errors.place → (Any (λ one. Clash one errors) (drop 1 uses) → ⊥)
+    → AreErrorsApart PlaceGives streams
+errors_apart PlaceGives streams [] errors are named placed none = let same = are.names in cc
+errors_apart PlaceGives streams (report ∷ uses) errors are named placed none = record {
+  report = report;
+  uses = uses;
+  are_uses = are;
+  errors = errors;
+  are_errors = (named, placed);
+  apart = apart_from_all uses errors none;
+}

@@ -66,6 +66,16 @@ abbrev pub FilesGive : OfPlace → List StreamAsked → Option Fault → Type 0
 FilesGive PlaceGives streams given =
     (uses : List FileUse) × AreUses PlaceGives streams uses × UsesGive uses given
 
+-- the file to which faults go clashes with none of the streams'; it may be the report's
+pub record AreErrorsApart (PlaceGives : OfPlace) (streams : List StreamAsked) : Type 0 where
+  pub report : FileUse
+  pub uses : List FileUse
+  pub are_uses : AreUses PlaceGives streams (report ∷ uses)
+  pub errors : FileUse
+  pub are_errors :
+      (name_used errors ≡ (codes "/dev/stderr", true)) × PlaceGives (codes "/dev/stderr") errors.place
+  pub apart : All (λ one. IsApart one errors) uses
+
 -- a file of this name, which is written, clashes with none of the report's and the streams'
 pub record IsTraceApart (PlaceGives : OfPlace) (streams : List StreamAsked) (name : List ℕ) : Type 0 where
   pub uses : List FileUse

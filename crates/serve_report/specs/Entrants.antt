@@ -8,7 +8,7 @@ use Rattle.std.specs.List.{AllByRecursion, AllZip, flat_map, list_all}
 use Rattle.std.specs.Option.{option_map}
 use Rattle.serve_core.specs.Setup.{StreamSpec, setup_of}
 use Rattle.serve_script.specs.ScriptReport.{line_text}
-use Rattle.serve_report.specs.Apart.{FilesGive, OfPlace}
+use Rattle.serve_report.specs.Apart.{AreErrorsApart, FilesGive, OfPlace}
 use Rattle.serve_report.specs.Moments.{AreMoments, IsMoment}
 use Rattle.serve_report.specs.Openings.{IsOpening, OfName, Opening, entrant_of, specs_in, starts_in}
 use Rattle.serve_words.specs.ServeChecks.{AreSaid, ChecksGive, HasOptions, all_told}
@@ -132,4 +132,5 @@ pub record ServesAll (PlaceGives : OfPlace) (OpenGives CreateGives : OfName) (wo
   pub asked : ChecksGive words (Ok (all_told checked.streams.items))
   pub said : AreSaid checked.streams.items
   pub apart : FilesGive PlaceGives (all_told checked.streams.items) None
+  pub errors_apart : AreErrorsApart PlaceGives (all_told checked.streams.items)
   pub reported : Reports OpenGives CreateGives IsMoment checked old new true

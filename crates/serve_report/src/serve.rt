@@ -10,7 +10,8 @@ ghost use Rattle.serve_words.specs.ServeChecks.{all_told};
 ghost use Rattle.serve_work.specs.Sessions.{AreInputs, starts_of};
 
 pub use self::apart::FileUse;
-use self::apart::{tell_apart, tell_control_apart, tell_trace_apart};
+pub use self::apart::errors_of;
+use self::apart::{tell_control_apart, tell_files_apart, tell_trace_apart};
 pub use self::clock::Counter;
 pub use self::gate::PlainGate;
 use self::gate::WatchedGate;
@@ -125,7 +126,7 @@ where
             Ok(checked) => checked,
             Err(fault) => return refuse(errors, fault),
         };
-        if let Err(fault) = tell_apart(self.alloc, self.files, &checked.streams) {
+        if let Err(fault) = tell_files_apart(self.alloc, self.files, &checked.streams) {
             return refuse(errors, fault);
         }
         let host = self.with_watch(self.watch_of_frames(words.is_quiet));

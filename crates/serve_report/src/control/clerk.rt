@@ -8,7 +8,7 @@ use super::listener::Lines;
 use super::lobby::Lobby;
 use super::order::Order;
 use super::{AdmitFault, StreamStop};
-use crate::serve::FileUse;
+use crate::serve::{FileUse, errors_of};
 use crate::session::Session;
 use serve_files::{Files, Place};
 use serve_words::{Asked, StreamWord};
@@ -46,8 +46,8 @@ pub struct Clerk<
     lobby: &'l Lobby<'o, R, W, S, O, E>,
     /// Whether the control is standard input.
     is_input: bool,
-    /// Where the report goes, and where the lines come from. No stream may have either.
-    own: [FileUse<'c>; 2],
+    /// Where the report goes, where faults are told, and where the lines come from. No stream may have one.
+    own: [FileUse<'c>; 3],
     /// How many streams were asked for.
     asked: u64,
     /// Whether no stream is taken any more.
@@ -102,7 +102,7 @@ where
             files,
             lobby,
             is_input: lines.is_input(),
-            own: [report, control],
+            own: [report, errors_of(files), control],
             asked: 0,
             is_ended: false,
         }

@@ -1,7 +1,8 @@
 //! Whether the files of a run are told apart.
 ghost use Rattle.std.specs.Prelude.{◌≡◌, ◌↔◌, AllPairs, Any, IfOk, IsFalse, IsTrue, MatchOption};
 ghost use Rattle.std.specs.Prelude.{MatchResult, None, Some};
-ghost use Rattle.serve_report.specs.Apart.{AreUses, Clash, FilesGive, IsApart, IsFirstClash};
+ghost use Rattle.serve_report.specs.Apart.{AreErrorsApart, AreUses, Clash, FilesGive, IsApart};
+ghost use Rattle.serve_report.specs.Apart.{IsFirstClash};
 ghost use Rattle.serve_report.specs.Apart.{IsTraceApart};
 ghost use Rattle.serve_words.specs.ServeChecks.{MayTell, all_told};
 
@@ -11,6 +12,9 @@ use std::alloc::{AllocError, Global};
 
 /// Where the report goes.
 const REPORT: &str = "/dev/stdout";
+
+/// Where faults are told.
+const ERRORS: &str = "/dev/stderr";
 
 /// A file as a run uses it.
 #[derive(Clone, Copy)]
@@ -62,9 +66,22 @@ impl<'a> FileUse<'a> {
     }
 }
 
+/// Refuses the first file that clashes with one before it, and else the first of a stream to which faults go.
+pub fn tell_files_apart<'a, F: Files>(
+    alloc: Global,
+    files: &F,
+    streams: &[Asked<'a>],
+) -> Result<(), WordFault<'a>>
+    ensures apart { IfOk result (λ _. FilesGive F.place_gives (all_told streams.now) None) }
+    ensures errors { IfOk result (λ _. AreErrorsApart F.place_gives (all_told streams.now)) }
+{
+    tell_apart(alloc, files, streams)?;
+    tell_errors_apart(alloc, files, streams)
+}
+
 /// Refuses the first file that clashes with one before it: the report's is the first, and each stream's input
 /// comes before its output. No file is opened to see that.
-pub fn tell_apart<'a, F: Files>(
+fn tell_apart<'a, F: Files>(
     alloc: Global,
     files: &F,
     streams: &[Asked<'a>],
@@ -81,7 +98,42 @@ pub fn tell_apart<'a, F: Files>(
     }
 }
 
-/// Refuses the first file of a stream that is the one from which a control's lines come.
+/// Refuses the first file of a stream that is the one to which faults go. That may be the report's.
+fn tell_errors_apart<'a, F: Files>(
+    alloc: Global,
+    files: &F,
+    streams: &[Asked<'a>],
+) -> Result<(), WordFault<'a>>
+    ensures { IfOk result (λ _. AreErrorsApart F.place_gives (all_told streams.now)) }
+{
+    let Ok(uses) = uses_of(alloc, files, streams) else {
+        return Err(WordFault::NoMemory);
+    };
+    let errors = use_of(files, ERRORS, true);
+    let asked = &uses[1..];
+    if has_clash(asked, &errors) {
+        return Err(WordFault::RepeatedFile(first_with(asked, &errors)));
+    }
+    Ok(())
+}
+
+/// The name of the first file that clashes with this one; this one's, where none does.
+fn first_with<'a>(uses: &[FileUse<'a>], file: &FileUse<'a>) -> &'a str {
+    for one in uses {
+        if one.clashes_with(file) {
+            return one.name;
+        }
+    }
+    file.name
+}
+
+/// The file to which faults go.
+pub fn errors_of<F: Files>(files: &F) -> FileUse<'static> {
+    use_of(files, ERRORS, true)
+}
+
+/// Refuses the first file of a stream that is the one from which a control's lines come, and else that one,
+/// where faults go to it.
 pub fn tell_control_apart<'a, F: Files>(
     files: &F,
     lines: &'a str,
@@ -95,10 +147,13 @@ pub fn tell_control_apart<'a, F: Files>(
             }
         }
     }
+    if lines.clashes_with(&errors_of(files)) {
+        return Err(WordFault::RepeatedFile(lines.name));
+    }
     Ok(())
 }
 
-/// Refuses the file of a trace that is the report's, or one of a stream: it is written.
+/// Refuses the file of a trace that is the report's, or one of a stream, or to which faults go: it is written.
 pub fn tell_trace_apart<'a, F: Files>(
     alloc: Global,
     files: &F,
@@ -110,6 +165,9 @@ pub fn tell_trace_apart<'a, F: Files>(
     let Ok(uses) = uses_of(alloc, files, streams) else {
         return Err(WordFault::NoMemory);
     };
+    if errors_of(files).clashes_with(&use_of(files, trace, true)) {
+        return Err(WordFault::RepeatedFile(trace));
+    }
     if has_clash(&uses, &use_of(files, trace, true)) {
         return Err(WordFault::RepeatedFile(trace));
     }

@@ -95,6 +95,43 @@ const REFUSED: &[(&str, Places, &str, u8)] = &[
         "repeated file f",
         2,
     ),
+    // Faults go to a file of the words.
+    (
+        "serve a:i:log:1:2:invert",
+        &[
+            ("/dev/stderr", Place::File(ONE)),
+            ("log", Place::File(ONE)),
+        ],
+        "repeated file log",
+        2,
+    ),
+    (
+        "serve a:i:o:1:2:invert b:j:/dev/stderr:1:2:invert",
+        &[
+            ("/dev/stdout", Place::Pipe(ONE)),
+            ("/dev/stderr", Place::Pipe(OTHER)),
+        ],
+        "repeated file /dev/stderr",
+        2,
+    ),
+    (
+        "serve --trace log a:i:o:1:2:invert",
+        &[
+            ("/dev/stderr", Place::File(ONE)),
+            ("log", Place::File(ONE)),
+        ],
+        "repeated file log",
+        2,
+    ),
+    (
+        "serve --control log",
+        &[
+            ("/dev/stderr", Place::File(ONE)),
+            ("log", Place::File(ONE)),
+        ],
+        "repeated file log",
+        2,
+    ),
     // The report goes to a file of the words.
     (
         "serve a:i:report:1:2:invert",
@@ -169,6 +206,18 @@ fn files_that_clash_are_refused(rt: HostRuntime) {
 
 /// What stands behind the names of two streams that are served.
 const SERVED: &[Places] = &[
+    // Report and faults go to one file.
+    &[
+        ("/dev/stdout", Place::File(OTHER)),
+        ("/dev/stderr", Place::File(OTHER)),
+        ("film", Place::File(ONE)),
+    ],
+    // They go to a terminal, to which a stream may go too.
+    &[
+        ("/dev/stderr", Place::Shared),
+        ("film", Place::File(ONE)),
+        ("a.out", Place::Shared),
+    ],
     // One film is read twice, and the report has a file of its own.
     &[
         ("/dev/stdout", Place::File(OTHER)),

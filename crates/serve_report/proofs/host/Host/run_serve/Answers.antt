@@ -6,7 +6,8 @@ returns-in_default-trace-clause-well g c = λ well none. record {
   asked = c.in-Ok.ensures.passed;
   options = c.in-Ok.ensures.options;
   said = c.in-Ok.ensures.ops;
-  apart = rw c.deref.ensures.value at c.in_default.ensures;
+  apart = rw c.deref.ensures.value at c.in_default.ensures.apart;
+  errors_apart = rw c.deref.ensures.value at c.in_default.ensures.errors;
   reported = rw (c.tell_served.ensures.well well) at c.serve.ensures;
 }
 
@@ -16,6 +17,7 @@ returns-clause-well g c = λ well none. record {
   asked = c.in-Ok.ensures.passed;
   options = c.in-Ok.ensures.options;
   said = c.in-Ok.ensures.ops;
-  apart = rw c.deref.ensures.value at c.in_default.ensures;
+  apart = rw c.deref.ensures.value at c.in_default.ensures.apart;
+  errors_apart = rw c.deref.ensures.value at c.in_default.ensures.errors;
   reported = rw (c.tell_traced.ensures.well well) at c.serve_traced.ensures;
 }
