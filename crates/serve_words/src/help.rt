@@ -321,8 +321,9 @@ standard input:
   NAME:IN:OUT:Q:T:OPS  A stream comes.
   close NAME           No more is read of the stream of this name.
   state                How the streams stand is told.
-  end                  No line after it is read, and the streams end
+  end                  No stream is taken after it, and the streams end
                        by themselves.
+  stop                 The same, and no more is read of all streams.
 An empty line and one that begins with '#' do nothing. Streams may be
 named on the command line too, or none may";
 
@@ -384,13 +385,14 @@ they are.
 
 With --control the line of a stream is printed when it ends. A stream that a
 line asks for is told by 'NAME admitted' when it is served from now on, or by
-its own line where it isn't. A wrong line is told by 'line N: FAULT', and changes
-nothing. Behind 'state' each stream has a line, 'NAME accepted A finished F
-collected K charged U budget C deadline E' or, until it is served, 'NAME
-opening'. One that ended and still holds its share has 'NAME held Q:T until M'.
-Then 'shares S of W' has the shares that are kept of all that there are, in
-millionths of a worker. The last, 'now M streams N', has the moment and how many
-are served.
+its own line where it isn't. A wrong line changes nothing, and is told by
+'line N: FAULT' and, between apostrophes, its first 60 bytes; there \\xHH stands
+for an apostrophe, a backslash, and what is no printable ASCII.
+Behind 'state' each stream has a line, 'NAME accepted A finished F collected K
+charged U budget C deadline E' or, until it is served, 'NAME opening'. One that
+ended and still holds its share has 'NAME held Q:T until M'. Then 'shares S of
+W' has the shares that are kept of all that there are, in millionths of a
+worker. The last, 'now M streams N', has the moment and how many are served.
 
 Where standard error is a terminal, a line for each stream of the words shows
 there how far it has come, at most five times a second: 'NAME frames in I out O'.
@@ -421,11 +423,13 @@ What may be wrong with a line of FILE; the first of these is told:
                  a last 'end' need not be.
   BadName        A stream that hasn't ended has the name.
   BadFile        A file that is written, or a FIFO, stands twice: in the line,
-                 or in another stream that hasn't ended; or it is the report's
-                 or FILE; or a read of the FIFO waits, though its stream ended.
+                 or in another stream that hasn't ended; or it is FILE, the
+                 report's or standard error's; or a read of the FIFO waits,
+                 though its stream ended.
   BadOp          A part of OPS is no operation.
   TooManyOps     OPS has more than 8 parts.
   BadBandwidth   Q and T are not 1 <= Q <= T <= 1048576.
+  Ended          It asks for a stream, behind 'end' or 'stop'.
   NoStream       No stream has the name.
   AlreadyClosed  The stream was closed before.
 
@@ -443,8 +447,8 @@ Faults, each one line on standard error behind 'y4mserve: '; status 2:
   BadOp NAME            A part of the stream's OPS is no operation.
   TooManyOps NAME       Its OPS has more than 8 parts.
   repeated file FILE    A FIFO, or a file that is written, stands twice; the
-                        report's file and those of --control and --trace count
-                        too.
+                        files of the report, of standard error, of --control
+                        and of --trace count too.
   trace and control     There are --trace and --control.
 Status 1, before any file is opened:
   control               FILE can't be opened.
@@ -459,4 +463,5 @@ Status 1, beside the report:
   control read          Reading FILE failed, and no more of it is read.
   trace                 The file of --trace couldn't be made or written whole, or
                         there was no memory for some of the trace.
-Status 1 also where a stop is not whole or closed.";
+Status 1 also where a stop is not whole or closed, but of a stream that a line
+of FILE asked for.";
