@@ -23,14 +23,17 @@ abbrev pub holding_text : Holding → List ℕ
 holding_text holding =
     decimal holding.q ++ codes ":" ++ decimal holding.t ++ codes " until " ++ decimal holding.until
 
--- `line N: FAULT 'TEXT'`, `NAME admitted`, the report of a stream that ended, how one stands, `NAME opening`,
--- `NAME held Q:T until M`, `shares S of W`, `now M streams N`, `units N`
+-- `line N: FAULT 'TEXT'`, `NAME admitted`, the report of a stream that ended, how one stands,
+-- `NAME lost its output`, `NAME opening`, `NAME held Q:T until M`, `shares S of W`, `now M streams N`, `units N`
 abbrev pub said_text : Said → List ℕ
 said_text (said.Wrong number fault line) =
     codes "line " ++ decimal number ++ codes ": " ++ fault_word fault ++ codes " " ++ quoted_text line.now
 said_text (said.Admitted name) = name.now ++ codes " admitted"
 said_text (said.Ended row) = row_text row
 said_text (said.Stands name standing) = name.now ++ codes " " ++ standing_text standing
+said_text (said.StandsLost name standing) =
+    name.now ++ codes " " ++ standing_text standing ++ codes " lost its output"
+said_text (said.LostOutput name) = name.now ++ codes " lost its output"
 said_text (said.Opening name) = name.now ++ codes " opening"
 said_text (said.Held name holding) = name.now ++ codes " held " ++ holding_text holding
 said_text (said.Shares shares whole) = codes "shares " ++ decimal shares ++ codes " of " ++ decimal whole

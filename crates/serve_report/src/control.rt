@@ -13,6 +13,7 @@ mod holdings;
 pub mod line;
 mod listener;
 mod lobby;
+mod losable;
 mod opener;
 mod order;
 mod pieces;

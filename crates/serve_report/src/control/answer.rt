@@ -77,6 +77,10 @@ pub enum Said<'a> {
     Ended(StreamRow<'a>),
     /// The stream of this name is served, and stands so.
     Stands(&'a str, Standing),
+    /// The same of one that lost its output.
+    StandsLost(&'a str, Standing),
+    /// A write to the output of the stream of this name has failed.
+    LostOutput(&'a str),
     /// The stream of this name is being opened.
     Opening(&'a str),
     /// A stream of this name has ended, and holds this.
@@ -104,6 +108,8 @@ impl fmt::Display for Said<'_> {
             Said::Admitted(name) => write!(f, "{name} admitted"),
             Said::Ended(row) => write!(f, "{row}"),
             Said::Stands(name, standing) => write!(f, "{name} {standing}"),
+            Said::StandsLost(name, standing) => write!(f, "{name} {standing} lost its output"),
+            Said::LostOutput(name) => write!(f, "{name} lost its output"),
             Said::Opening(name) => write!(f, "{name} opening"),
             Said::Held(name, holding) => write!(f, "{name} held {holding}"),
             Said::Shares(shares, whole) => write!(f, "shares {shares} of {whole}"),

@@ -124,12 +124,26 @@ where
         let entry = self.take_ended(ticket);
         self.lobby.changed.notify_all();
         if let Some(entry) = &entry {
+            if entry.has_untold_loss() {
+                voice.say(&Said::LostOutput(&entry.order.name));
+            }
             let closing = Closing {
                 is_closed: entry.order.is_closed(),
-                is_given_up: self.gives_up,
+                is_given_up: self.gives_up && !entry.order.has_lost_output(),
             };
             let row = course.row(&entry.order.name, closing);
             voice.say_row(row, entry.order.is_of_words);
+        }
+    }
+
+    /// Tells which streams lost their outputs, where that wasn't told.
+    fn say_losses(&self) {
+        let mut voice = self.lobby.voice.lock(self.rt);
+        let mut table = self.lobby.table.lock(self.rt);
+        for entry in &mut table.entries {
+            if entry.take_loss() {
+                voice.say(&Said::LostOutput(&entry.order.name));
+            }
         }
     }
 
@@ -144,7 +158,7 @@ where
     }
 }
 
-/// Whether a stream that ended was closed, and whether it was given up.
+/// Whether a stream that ended was closed, and whether it was given up while its output was there.
 #[derive(Clone, Copy)]
 struct Closing {
     is_closed: bool,
@@ -241,7 +255,13 @@ where
             Duration::from_millis(patience),
             |table| !table.has_request(),
         );
-        table.has_request()
+        let has_request = table.has_request();
+        let has_loss = table.has_untold_loss();
+        drop(table);
+        if has_loss {
+            self.say_losses();
+        }
+        has_request
     }
 }
 
@@ -318,7 +338,14 @@ where
         let mut voice = self.lobby.voice.lock(self.rt);
         let table = self.lobby.table.lock(self.rt);
         if let Some(entry) = table.entry_under(ticket) {
-            voice.say(&Said::Stands(&entry.order.name, standing_of(standing)));
+            let name = &entry.order.name;
+            let standing = standing_of(standing);
+            let said = if entry.order.has_lost_output() {
+                Said::StandsLost(name, standing)
+            } else {
+                Said::Stands(name, standing)
+            };
+            voice.say(&said);
         }
     }
 

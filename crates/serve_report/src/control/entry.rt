@@ -36,6 +36,8 @@ pub struct Entry<R: Source, W: Sink, S: Drop> {
     pub share: Share,
     /// What is held open, so that its opener doesn't wait for a FIFO's other end.
     held: Option<S>,
+    /// Whether it was told that it lost its output.
+    is_loss_told: bool,
 }
 
 impl<R: Source + Drop, W: Sink + Drop, S: Drop> Entry<R, W, S> {
@@ -55,6 +57,7 @@ impl<R: Source + Drop, W: Sink + Drop, S: Drop> Entry<R, W, S> {
             stage: Stage::Input,
             share,
             held: None,
+            is_loss_told: false,
         }
     }
 
@@ -123,6 +126,18 @@ impl<R: Source + Drop, W: Sink + Drop, S: Drop> Entry<R, W, S> {
                 None
             }
         }
+    }
+
+    /// Whether it lost its output, and that wasn't told.
+    pub fn has_untold_loss(&self) -> bool {
+        !self.is_loss_told && self.order.has_lost_output()
+    }
+
+    /// Answers whether it lost its output, and that wasn't told. It is from here on.
+    pub fn take_loss(&mut self) -> bool {
+        let is_new = self.has_untold_loss();
+        self.is_loss_told |= is_new;
+        is_new
     }
 
     /// Lets go what is held open for it.

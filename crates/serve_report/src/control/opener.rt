@@ -10,6 +10,7 @@ use super::closable::Closable;
 use super::crew::{Crew, Helpers};
 use super::errand::Errand;
 use super::lobby::Lobby;
+use super::losable::Losable;
 use super::order::Order;
 use crate::host::Host;
 use crate::serve::{Ready, job_of, spec_of};
@@ -40,7 +41,7 @@ pub type Inflows<'w, F, V, T> = WatchedSource<
 /// What the images of a run's streams are written to.
 pub type Outflows<'w, F, V, T> = WatchedSink<
     'w,
-    OverOutflow<<F as Files>::Writer, <F as Files>::SlowWriter, T>,
+    Losable<OverOutflow<<F as Files>::Writer, <F as Files>::SlowWriter, T>>,
     V,
 >;
 
@@ -187,14 +188,14 @@ where
     /// have no reader.
     fn open_output(
         &self,
-        order: &Order,
+        order: &Arc<Order, Global>,
         name: &str,
         carrier: Option<Carrier<F::SlowWriter, T>>,
         stream: usize,
     ) -> Result<Outflows<'w, F, V, T>, StreamStop>
         ensures output { IfOk result (λ sink.
-            F.create_gives name.now (Some (outflow_contents F.Writer.contents sink.sink.outflow))) }
-        ensures no_failure { IfOk result (λ sink. sink.sink.failures ≡ 0) }
+            F.create_gives name.now (Some (outflow_contents F.Writer.contents sink.sink.sink.outflow))) }
+        ensures no_failure { IfOk result (λ sink. sink.sink.sink.failures ≡ 0) }
     {
         if order.is_closed() {
             return Err(StreamStop::Closed);
@@ -205,8 +206,12 @@ where
         if order.is_closed() {
             return Err(StreamStop::Closed);
         }
+        let Ok(sink_order) = Arc::try_clone(order) else {
+            return Err(StreamStop::Create);
+        };
         let inner_sink = OverOutflow::new(outflow_by(outlet, carrier));
-        Ok(WatchedSink::new(inner_sink, stream, self.host.watch))
+        let losable_sink = Losable::new(inner_sink, sink_order);
+        Ok(WatchedSink::new(losable_sink, stream, self.host.watch))
     }
 }
 

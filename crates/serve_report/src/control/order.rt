@@ -21,6 +21,8 @@ pub struct Order {
     /// Whether its input is being read by a thread of its own.
     pub reading: Reading,
     is_closed: AtomicBool,
+    /// Whether a write to its output has failed.
+    has_lost_output: AtomicBool,
 }
 
 impl Order {
@@ -48,6 +50,7 @@ impl Order {
             t: word.t,
             reading: Reading::new(alloc)?,
             is_closed: AtomicBool::new(false),
+            has_lost_output: AtomicBool::new(false),
         })
     }
 
@@ -75,5 +78,15 @@ impl Order {
     /// No read of it is begun from here on. Answers whether that is new.
     pub fn close(&self) -> bool {
         !self.is_closed.swap(true, Ordering::SeqCst)
+    }
+
+    /// Whether a write to its output has failed.
+    pub fn has_lost_output(&self) -> bool {
+        self.has_lost_output.load(Ordering::SeqCst)
+    }
+
+    /// Notes that a write to its output has failed.
+    pub fn lose_output(&self) {
+        self.has_lost_output.store(true, Ordering::SeqCst);
     }
 }

@@ -266,6 +266,11 @@ impl<R: Source + Drop, W: Sink + Drop, S: Drop> Table<R, W, S> {
         self.asked > 0 || self.has_ready()
     }
 
+    /// Whether a stream lost its output, and that wasn't told.
+    pub fn has_untold_loss(&self) -> bool {
+        self.entries.iter().any(|entry| entry.has_untold_loss())
+    }
+
     /// Whether a stream may yet come that waits to be served.
     pub fn may_call(&self) -> bool {
         !self.is_ended || self.entries.iter().any(|entry| entry.is_unserved())

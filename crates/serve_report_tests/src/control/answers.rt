@@ -95,6 +95,11 @@ fn an_answer_is_one_line_in_one_write(rt: HostRuntime) {
              charged 18446744073709551615 budget 18446744073709551615 \
              deadline 18446744073709551615\n",
         ),
+        (
+            Said::StandsLost("b", STANDING),
+            "b accepted 5 finished 4 collected 3 charged 272 budget 10 deadline 1000 lost its output\n",
+        ),
+        (Said::LostOutput("b"), "b lost its output\n"),
         (Said::Opening("c"), "c opening\n"),
         (Said::Held("a", HELD), "a held 900:1000 until 1230\n"),
         (
