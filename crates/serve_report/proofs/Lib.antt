@@ -8,3 +8,4 @@ pub mod Noting
 pub mod Keeping
 pub mod Feeding
 pub mod TakenBack
+pub mod Backlogs

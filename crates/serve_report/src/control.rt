@@ -1,6 +1,7 @@
 //! A run whose streams come and go: what its control asks for line by line, and what is answered.
 
 pub mod answer;
+mod backlog;
 mod clerk;
 mod closable;
 mod crew;

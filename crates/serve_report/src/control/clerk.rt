@@ -121,8 +121,9 @@ where
         Ok(errands)
     }
 
-    /// Waits for the next line, and does what it asks for.
+    /// Waits for the next line, and does what it asks for. None is read before there is room for its answer.
     pub fn take_next<I: Read>(&mut self, feed: &mut Feed<I>) -> Bidding {
+        self.lobby.await_room(self.rt);
         match feed.next() {
             Feeding::Line => self.take(feed.number(), feed.line()),
             Feeding::Fault(fault) => {
@@ -187,6 +188,7 @@ where
 
     /// Asks how the streams stand.
     fn ask(&self) {
+        self.lobby.voice.lock(self.rt).ask();
         let mut table = self.lobby.table.lock(self.rt);
         table.asked = table.asked.saturating_add(1);
         drop(table);
@@ -278,6 +280,7 @@ where
     fn refuse_stream(&self, name: &str, fault: AdmitFault, is_of_words: bool) -> Bidding {
         let mut voice = self.lobby.voice.lock(self.rt);
         voice.say_stopped(name, StreamStop::Admit(fault), is_of_words);
+        self.lobby.told.notify_all();
         Bidding::Done
     }
 

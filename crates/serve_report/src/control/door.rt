@@ -133,6 +133,7 @@ where
             };
             let row = course.row(&entry.order.name, closing);
             voice.say_row(row, entry.order.is_of_words);
+            self.lobby.told.notify_all();
         }
     }
 
@@ -140,11 +141,8 @@ where
     fn say_losses(&self) {
         let mut voice = self.lobby.voice.lock(self.rt);
         let mut table = self.lobby.table.lock(self.rt);
-        for entry in &mut table.entries {
-            if entry.take_loss() {
-                voice.say(&Said::LostOutput(&entry.order.name));
-            }
-        }
+        say_losses(&mut voice, &mut table);
+        self.lobby.told.notify_all();
     }
 
     /// Takes the stream of a ticket out. What it holds is kept, unless no stream is left.
@@ -318,6 +316,7 @@ where
         let table = self.lobby.table.lock(self.rt);
         if let Some(entry) = table.entry_under(ticket) {
             voice.say(&Said::Admitted(&entry.order.name));
+            self.lobby.told.notify_all();
         }
     }
 
@@ -346,6 +345,7 @@ where
                 Said::Stands(name, standing)
             };
             voice.say(&said);
+            self.lobby.told.notify_all();
         }
     }
 
@@ -362,6 +362,20 @@ where
         voice.say(&Said::Shares(table.kept_at(latest), table.whole()));
         voice.say(&Said::Now(moment, table.count_served()));
         table.asked = table.asked.saturating_sub(1);
+        voice.end_show();
+        self.lobby.told.notify_all();
+    }
+}
+
+/// Tells which streams lost their outputs, where that wasn't told.
+fn say_losses<R: Source + Drop, W: Sink + Drop, S: Drop, O: Write, E: Write>(
+    voice: &mut Voice<'_, O, E>,
+    table: &mut Table<R, W, S>,
+) {
+    for entry in &mut table.entries {
+        if entry.take_loss() {
+            voice.say(&Said::LostOutput(&entry.order.name));
+        }
     }
 }
 

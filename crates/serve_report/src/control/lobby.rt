@@ -3,14 +3,17 @@ ghost use Rattle.std.specs.Prelude.{◌≤◌};
 ghost use Rattle.cbs_account.specs.declared.limits.TheConstants.{MOST_WORKERS};
 
 use super::answer::Said;
+use super::backlog::Backlog;
 use super::order::Order;
 use super::table::Table;
 use super::voice::Voice;
 use super::{AdmitFault, StreamStop};
 use crate::serve::{FileUse, Ready, RunFault};
+use crate::tell::tell;
 use serve_files::{Files, Place};
 use serve_work::SessionFault;
 use std::alloc::Global;
+use std::fmt::Display;
 use std::io::Write;
 use std::sync::{Arc, Condvar, Mutex, Wait};
 use y4m_stream::{Sink, Source};
@@ -25,6 +28,8 @@ pub struct Lobby<'o, R: Source, W: Sink, S: Drop, O: Write, E: Write> {
     /// Something of the table has changed.
     pub changed: Condvar,
     pub voice: Mutex<Voice<'o, O, E>>,
+    /// Something was said, or written.
+    pub told: Condvar,
 }
 
 impl<'o, R: Source + Drop, W: Sink + Drop, S: Drop, O: Write, E: Write> Lobby<'o, R, W, S, O, E> {
@@ -42,6 +47,7 @@ impl<'o, R: Source + Drop, W: Sink + Drop, S: Drop, O: Write, E: Write> Lobby<'o
                 table: Mutex::new(table),
                 changed: Condvar::new(),
                 voice: Mutex::new(voice),
+                told: Condvar::new(),
             }),
             Err(_) => Err(voice),
         }
@@ -69,6 +75,8 @@ impl<'o, R: Source + Drop, W: Sink + Drop, S: Drop, O: Write, E: Write> Lobby<'o
         let entry = self.table.lock(rt).take(order.number);
         self.changed.notify_all();
         voice.say_stopped(&order.name, stop, order.is_of_words);
+        self.told.notify_all();
+        drop(voice);
         drop(entry);
     }
 
@@ -126,12 +134,13 @@ impl<'o, R: Source + Drop, W: Sink + Drop, S: Drop, O: Write, E: Write> Lobby<'o
             entry.order.close();
             let stop = StreamStop::Admit(AdmitFault::NoMemory);
             voice.say_stopped(&entry.order.name, stop, entry.order.is_of_words);
+            self.told.notify_all();
         }
     }
 
     /// Tells why nobody can be served.
     pub fn fail<T: Wait>(&self, rt: &T, fault: SessionFault) {
-        self.voice.lock(rt).tell_fault(&RunFault::Session(fault));
+        self.tell_fault(rt, &RunFault::Session(fault));
     }
 
     /// Closes the streams, since nobody is served any more. Those that are being opened come back, and are
@@ -165,11 +174,69 @@ impl<'o, R: Source + Drop, W: Sink + Drop, S: Drop, O: Write, E: Write> Lobby<'o
 
     /// Tells that nothing more can be read of the control, and notes that so no stream is asked for any more.
     pub fn fail_reading<T: Wait>(&self, rt: &T) {
-        self.voice.lock(rt).tell_fault(&"control read");
+        self.tell_fault(rt, &"control read");
         self.end(rt);
+    }
+
+    /// Tells a fault of the run. The voice's lock isn't held over its write.
+    fn tell_fault<T: Wait, D: Display>(&self, rt: &T, fault: &D) {
+        let mut voice = self
+            .told
+            .wait_while(rt, self.voice.lock(rt), |voice| !voice.can_tell());
+        let Some(errors) = voice.lend_errors() else {
+            return;
+        };
+        drop(voice);
+        tell(errors, fault);
+        self.voice.lock(rt).take_errors_back(errors);
+        self.told.notify_all();
     }
 
     pub fn say<T: Wait>(&self, rt: &T, said: &Said<'_>) {
         self.voice.lock(rt).say(said);
+        self.told.notify_all();
+    }
+
+    /// Waits until there is room for all that may come of a further line.
+    pub fn await_room<T: Wait>(&self, rt: &T) {
+        let voice = self
+            .told
+            .wait_while(rt, self.voice.lock(rt), |voice| !voice.has_room());
+        drop(voice);
+    }
+
+    /// Notes that nobody is served any more.
+    pub fn end_serving<T: Wait>(&self, rt: &T) {
+        self.voice.lock(rt).end_serving();
+        self.told.notify_all();
+    }
+
+    /// Writes the answers that are said, until nobody is served any more and none is held. No lock is held
+    /// over a write. Where there is no memory for them, each is written where it is said.
+    pub fn write_on<T: Wait>(&self, rt: &T, alloc: Global) {
+        let (Ok(backlog), Ok(mut page)) = (Backlog::new(alloc), Backlog::new(alloc)) else {
+            return;
+        };
+        let Some(output) = self.voice.lock(rt).lend(backlog) else {
+            return;
+        };
+        for _ in rt.forever() {
+            let mut voice = self
+                .told
+                .wait_while(rt, self.voice.lock(rt), |voice| voice.is_silent());
+            voice.swap(&mut page);
+            if page.is_empty() {
+                voice.take_back(output);
+                return;
+            }
+            drop(voice);
+            self.told.notify_all();
+            let written = page.write_to(output);
+            page.clear();
+            if written.is_err() {
+                self.voice.lock(rt).fail();
+                self.told.notify_all();
+            }
+        }
     }
 }

@@ -53,7 +53,7 @@ where
 {
     /// Takes the lines of a control while those are served who come to the lobby, until no more come. Then no
     /// line is read any more. Where there is no thread for the lines none is, nor is a stream opened of which
-    /// a file may be waited for.
+    /// a file may be waited for. Where there is none for the answers, each is written where it is said.
     pub fn serve_beside<T, B, L, P, D, G>(
         &self,
         session: Session<'_, '_, RunClock<'_, T>, T>,
@@ -87,6 +87,8 @@ where
                     × L.IsAlwaysCallable openers.now.prepares × P.IsAlwaysCallable openers.now.opens
                     × D.IsAlwaysCallable openers.now.dismisses × G.IsAlwaysCallable openers.now.gives_up }
             {
+                let writing = scope.spawn(move || self.write_on(rt, alloc));
+                let _ = writing.is_ok();
                 let listening = scope.spawn(
                     move ||
                         requires { L.IsAlwaysCallable openers.now.prepares
@@ -124,6 +126,7 @@ where
     {
         let served = serve_lobby(session, self);
         is_over.store(true, Ordering::SeqCst);
+        self.end_serving(session.rt);
         if let Err(fault) = serving_of(served, is_heard) {
             self.fail(session.rt, fault);
             gives_up();
