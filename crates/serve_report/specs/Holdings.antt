@@ -1,12 +1,13 @@
 -- What streams hold of the workers.
 use Rattle.std.specs.Prelude.{ℕ, ◌+◌, ◌-◌, ◌^◌, ◌≡◌, ◌≢◌, min, Bool, nat_lt, if◌then◌else◌, List, fold}
-use Rattle.std.specs.Prelude.{insert, Option, None, Some}
+use Rattle.std.specs.Prelude.{insert, not, ◌&&◌, ◌||◌, Option, None, Some}
 use Rattle.std.specs.List.{position_or_len}
 use Rattle.cbs_account.specs.Admission.{Fits, Load, share, with_share}
 use Rattle.cbs_account.specs.Balance.{IsBandwidth}
 use Rattle.serve_core.specs.Streams.{KeptStream}
 use Rattle.serve_report.specs.declared.control.answer.Holding.{Holding}
 use Rattle.serve_report.specs.declared.control.holders.Holder.{Holder}
+use Rattle.serve_report.specs.declared.control.order.Order.{Order}
 use Rattle.serve_report.specs.declared.control.shares.Share.{Share}
 
 -- so many workers, of which so much is kept
@@ -20,6 +21,10 @@ pub record IsTaken (workers kept q t moment : ℕ) (taken : Share) : Type 0 wher
   pub fits : Fits (with_share q t (loaded workers kept))
   pub parts : taken.parts ≡ share q t
   pub since : taken.since ≡ moment
+
+-- what is kept for an order from a moment on
+abbrev pub share_since : ℕ → Order → Share
+share_since moment order = record { parts = share order.q order.t; since = moment }
 
 -- a sum of 64 bits, which stays at its last value
 abbrev pub sum_within : ℕ → ℕ → ℕ
@@ -45,6 +50,14 @@ IsNotUnder ticket noted = (holding : Holding) → noted ≢ Some (ticket, holdin
 -- whether its share isn't free yet at a moment
 abbrev pub holds_at : ℕ → Holder → Bool
 holds_at moment holder = nat_lt moment holder.holding.until
+
+-- whether that came free since the one moment, and is at the other
+abbrev pub has_passed : (freed moment : ℕ) → Holder → Bool
+has_passed freed moment holder = holds_at freed holder && not (holds_at moment holder)
+
+-- whether it isn't free yet at the one moment, or came free by the other
+abbrev pub is_free_since : (freed moment : ℕ) → Holder → Bool
+is_free_since freed moment holder = holds_at moment holder || not (holds_at freed holder)
 
 -- what it holds at a moment
 abbrev pub held_at : ℕ → Holder → ℕ

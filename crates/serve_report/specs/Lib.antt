@@ -11,3 +11,4 @@ pub mod Feeds
 pub mod Quoted
 pub mod Said
 pub mod Holdings
+pub mod Places

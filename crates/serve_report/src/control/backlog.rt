@@ -14,13 +14,13 @@ use y4m_header::text::place_of;
 /// For how many bytes of answers there is room from the start.
 const ROOM: usize = 1 << 16;
 
-/// The most bytes that come without a further line: of each stream that it is admitted, and its row; and an
-/// answer to the line that is read.
-const UNASKED: u64 = 64 * (48 + 192) + 512;
+/// The most bytes that come without a further line: of each stream that it is admitted, that it lost its
+/// output, and its row; and an answer to the line that is read.
+const UNASKED: u64 = 64 * (48 + 64 + 192) + 512;
 
-/// The most bytes by which it is told once how the streams stand: a line of each, one of each that ended and
-/// holds a share, and two.
-const STATE: u64 = 64 * (224 + 112) + 128;
+/// The most bytes by which it is told once how the streams stand: a line of each that has a place, also of
+/// those that ended, and two.
+const STATE: u64 = 64 * 240 + 128;
 
 /// Answers that aren't written yet, in order.
 #[derive(Drop)]

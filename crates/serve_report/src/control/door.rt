@@ -148,11 +148,8 @@ where
     /// Takes the stream of a ticket out. What it holds is kept, unless no stream is left.
     fn take_ended(&self, ticket: u64) -> Option<Entry<R, W, S>> {
         let mut table = self.lobby.table.lock(self.rt);
-        let entry = table.take_served(ticket, self.holdings.under(ticket));
-        if self.tickets.is_empty() {
-            table.holders.clear();
-        }
-        entry
+        let holding = self.holdings.under(ticket);
+        table.end_served(ticket, holding, self.tickets.is_empty())
     }
 }
 
@@ -246,20 +243,21 @@ where
     }
 
     fn is_there(&self, patience: u64) -> bool {
+        let moment = self.clock.moment();
         let table = self.lobby.table.lock(self.rt);
         let (table, _) = self.lobby.changed.wait_timeout_while(
             self.rt,
             table,
             Duration::from_millis(patience),
-            |table| !table.has_request(),
+            |table| !table.ends_epoch(moment),
         );
-        let has_request = table.has_request();
+        let ends_epoch = table.ends_epoch(moment);
         let has_loss = table.has_untold_loss();
         drop(table);
         if has_loss {
             self.say_losses();
         }
-        has_request
+        ends_epoch
     }
 }
 
@@ -286,14 +284,16 @@ where
     }
 
     fn goes_on(&mut self, at: u64) {
-        self.lobby.table.lock(self.rt).holders.release(at);
+        self.lobby.table.lock(self.rt).goes_on(at);
     }
 
     fn gives_up(&mut self) {
         self.gives_up = true;
     }
 
-    fn retired(&mut self) {}
+    fn retired(&mut self) {
+        self.lobby.table.lock(self.rt).retired();
+    }
 }
 
 impl<'l, 'o, R, W, S, O, E, K, T, L> Door<R, W> for Doorway<'l, 'o, R, W, S, O, E, K, T, L>
@@ -359,7 +359,7 @@ where
         say_unserved(&mut voice, &table);
         let latest = table.latest(moment);
         say_holders(&mut voice, table.holders.all(), latest);
-        voice.say(&Said::Shares(table.kept_at(latest), table.whole()));
+        voice.say(&table.shares_said(latest));
         voice.say(&Said::Now(moment, table.count_served()));
         table.asked = table.asked.saturating_sub(1);
         voice.end_show();

@@ -1,5 +1,6 @@
 //! A stream of a run that hasn't ended.
-ghost use Rattle.std.specs.Prelude.{◌≡◌};
+ghost use Rattle.std.specs.Prelude.{◌≡◌, None, Some, IsFalse, MatchOption, false, not};
+ghost use Rattle.serve_report.specs.Places.{is_ready, is_served, is_under};
 
 use super::order::Order;
 use super::shares::Share;
@@ -12,7 +13,7 @@ use y4m_stream::{Sink, Source};
 
 /// How far a stream has come.
 #[derive(Drop)]
-enum Stage<R: Source, W: Sink> {
+pub enum Stage<R: Source, W: Sink> {
     /// Its input is being opened.
     Input,
     /// Its header is being read.
@@ -48,7 +49,16 @@ impl<R: Source + Drop, W: Sink + Drop, S: Drop> Entry<R, W, S> {
         input: Place,
         output: Place,
     ) -> Entry<R, W, S>
-        ensures { result.share ≡ share }
+        ensures entry { result ≡ record {
+          order = order;
+          input = input;
+          output = output;
+          stage = Stage.Input;
+          share = share;
+          held = None;
+          is_loss_told = false;
+        } }
+        ensures share { result.share ≡ share }
     {
         Entry {
             order,
@@ -65,7 +75,9 @@ impl<R: Source + Drop, W: Sink + Drop, S: Drop> Entry<R, W, S> {
         self.order.name.as_str() == name
     }
 
-    pub fn is_served(&self, ticket: u64) -> bool {
+    pub fn is_served(&self, ticket: u64) -> bool
+        ensures { result ≡ is_under ticket self.now.stage }
+    {
         match self.stage {
             Stage::Served(number) => number == ticket,
             _ => false,
@@ -73,12 +85,16 @@ impl<R: Source + Drop, W: Sink + Drop, S: Drop> Entry<R, W, S> {
     }
 
     /// Whether it isn't served yet.
-    pub fn is_unserved(&self) -> bool {
+    pub fn is_unserved(&self) -> bool
+        ensures { result ≡ not (is_served self.now.stage) }
+    {
         !matches!(self.stage, Stage::Served(_))
     }
 
     /// Whether it waits to be served.
-    pub fn is_ready(&self) -> bool {
+    pub fn is_ready(&self) -> bool
+        ensures { result ≡ is_ready self.now.stage }
+    {
         matches!(self.stage, Stage::Ready(_))
     }
 
@@ -90,35 +106,49 @@ impl<R: Source + Drop, W: Sink + Drop, S: Drop> Entry<R, W, S> {
     }
 
     /// What stands behind the name of its input.
-    pub fn input(&self) -> Place {
+    pub fn input(&self) -> Place
+        ensures { result ≡ self.now.input }
+    {
         self.input
     }
 
     /// Notes where its input stands, which was opened. Its header is read next.
-    pub fn set_input(&mut self, input: Place) {
+    pub fn set_input(&mut self, input: Place)
+        ensures { self.new ≡ record self.old { input = input; stage = Stage.Header; held = None } }
+    {
         self.input = input;
         self.held = None;
         self.stage = Stage::Header;
     }
 
     /// Notes that its header was read. Its output is made next.
-    pub fn end_header(&mut self) {
+    pub fn end_header(&mut self)
+        ensures { self.new ≡ record self.old { stage = Stage.Output } }
+    {
         self.stage = Stage::Output;
     }
 
     /// Notes where its output stands, which was made.
-    pub fn set_output(&mut self, output: Place) {
+    pub fn set_output(&mut self, output: Place)
+        ensures { self.new ≡ record self.old { output = output } }
+    {
         self.output = output;
     }
 
     /// Has the stream wait to be served, now that it is opened.
-    pub fn make_ready(&mut self, ready: Ready<R, W>) {
+    pub fn make_ready(&mut self, ready: Ready<R, W>)
+        ensures { self.new ≡ record self.old { stage = Stage.Ready ready; held = None } }
+    {
         self.held = None;
         self.stage = Stage::Ready(ready);
     }
 
     /// Notes that it is served under this ticket, where it waits to be, and answers what it is served with.
-    pub fn serve(&mut self, ticket: u64) -> Option<Ready<R, W>> {
+    pub fn serve(&mut self, ticket: u64) -> Option<Ready<R, W>>
+        ensures { MatchOption result (IsFalse (is_ready self.old.stage) × (self.new ≡ self.old))
+            (λ ready. (self.old.stage ≡ Stage.Ready ready)
+            × (self.new ≡ record self.old { stage = Stage.Served ticket })) }
+    {
         match mem::replace(&mut self.stage, Stage::Served(ticket)) {
             Stage::Ready(ready) => Some(ready),
             other => {
@@ -141,7 +171,9 @@ impl<R: Source + Drop, W: Sink + Drop, S: Drop> Entry<R, W, S> {
     }
 
     /// Lets go what is held open for it.
-    pub fn drop_held(&mut self) {
+    pub fn drop_held(&mut self)
+        ensures { self.new ≡ record self.old { held = None } }
+    {
         self.held = None;
     }
 
@@ -150,6 +182,7 @@ impl<R: Source + Drop, W: Sink + Drop, S: Drop> Entry<R, W, S> {
     pub fn hold_open<F: Files<Slow = S>>(&mut self, files: &F)
     where
         S: 'static,
+        ensures { self.new ≡ record self.old { held = self.new.held } }
     {
         let (name, place) = match self.stage {
             Stage::Input => (&self.order.input, self.input),

@@ -1,10 +1,12 @@
-//! Streams that have ended and still hold a share of the workers.
-ghost use Rattle.std.specs.Prelude.{◌≡◌, ◌≤◌, ◌<◌, [], IfOk, filter, if◌then◌else◌, length, nat_lt};
+//! Streams that have ended and still hold a share of the workers, or a place.
+ghost use Rattle.std.specs.Prelude.{◌≡◌, ◌≤◌, ◌<◌, [], IfOk, filter, nat_lt};
 ghost use Rattle.std.specs.Prelude.{position, vec_len};
-ghost use Rattle.std.specs.List.{list_all};
+ghost use Rattle.std.specs.List.{list_all, list_any};
 ghost use Rattle.std.specs.Vec.{vec_capacity};
 ghost use Rattle.cbs_account.specs.declared.limits.TheConstants.{MOST_STREAMS};
-ghost use Rattle.serve_report.specs.Holdings.{held_at, held_by, holds_at, place_behind, with_holder};
+ghost use Rattle.serve_report.specs.Holdings.{has_passed, held_at, held_by, holds_at, is_free_since};
+ghost use Rattle.serve_report.specs.Holdings.{place_behind, with_holder};
+ghost use Rattle.serve_report.specs.Places.{is_of};
 
 use super::answer::Holding;
 use super::order::Order;
@@ -30,6 +32,13 @@ impl Holder {
         moment < self.holding.until
     }
 
+    /// Whether its stream has this number among all that were asked for.
+    pub fn is_of(&self, number: u64) -> bool
+        ensures { result ≡ is_of self.now number }
+    {
+        self.order.number == number
+    }
+
     /// What it holds at a moment, in millionths of a worker.
     fn parts_at(&self, moment: u64) -> u64
         ensures { result ≡ held_at moment self.now }
@@ -38,7 +47,9 @@ impl Holder {
     }
 }
 
-/// Those who hold shares, in the order of their tickets, which is that of their streams' numbers.
+/// Those who hold shares or places, in the order of their tickets, which is that of their streams' numbers. A
+/// share is free when its deadline has passed. The place is when the workers have let the stream go, which
+/// they do of all together whose shares are free, or of none.
 #[derive(Drop)]
 pub struct Holders {
     all: Vec<Holder>,
@@ -50,7 +61,8 @@ pub struct Holders {
 impl Holders {
     /// Nobody yet. There is memory for as many as there may be streams.
     pub fn new(alloc: Global) -> Result<Holders, AllocError>
-        ensures { IfOk result (λ holders. holders.all.items ≡ []) }
+        ensures nobody { IfOk result (λ holders. holders.all.items ≡ []) }
+        ensures moment { IfOk result (λ holders. holders.moment ≡ 0) }
     {
         Ok(Holders {
             all: Vec::with_capacity(alloc, MOST_STREAMS)?,
@@ -64,17 +76,14 @@ impl Holders {
         &self.all
     }
 
-    /// Takes one more, unless its share came free already.
+    /// Takes one more.
     pub fn take(&mut self, holder: Holder)
-        ensures holder { vec_len self.old.all < MOST_STREAMS → self.new.all.items
-            ≡ (if holds_at self.old.moment holder then with_holder holder self.old.all.items
-            else self.old.all.items) }
+        ensures holder { vec_len self.old.all < MOST_STREAMS
+            → self.new.all.items ≡ with_holder holder self.old.all.items }
         ensures moment { self.new.moment ≡ self.old.moment }
     {
-        if holder.holds_at(self.moment) {
-            let place = self.place_behind(holder.ticket);
-            let _ = self.all.insert(place, holder).is_ok();
-        }
+        let place = self.place_behind(holder.ticket);
+        let _ = self.all.insert(place, holder).is_ok();
     }
 
     /// The place behind those whose tickets are lower.
@@ -95,33 +104,36 @@ impl Holders {
         self.all.iter().position(|one| ticket < one.ticket)
     }
 
-    /// Lets those go whose shares are free at a moment, at which others may have them.
+    /// Frees the shares that are free at a moment, for others. Who had them keep their places.
     pub fn release(&mut self, moment: u64)
-        ensures left { self.new.all.items ≡ filter (holds_at moment) self.old.all.items }
+        ensures all { self.new.all.items ≡ self.old.all.items }
         ensures moment { self.new.moment ≡ moment }
     {
         self.moment = moment;
+    }
+
+    /// Lets those go whose shares came free.
+    pub fn retire(&mut self)
+        ensures left { self.new.all.items ≡ filter (holds_at self.old.moment) self.old.all.items }
+        ensures moment { self.new.moment ≡ self.old.moment }
+    {
+        let moment = self.moment;
         self.all.retain(|holder| holder.holds_at(moment));
     }
 
     /// Lets all go, since the workers serve nobody any more.
     pub fn clear(&mut self)
-        ensures { self.new.all.items ≡ [] }
+        ensures nobody { self.new.all.items ≡ [] }
+        ensures moment { self.new.moment ≡ self.old.moment }
     {
         self.all.clear();
     }
 
-    /// How many hold theirs at a moment.
-    pub fn count_at(&self, moment: u64) -> usize
-        ensures { result ≡ length (filter (holds_at moment) self.now.all.items) }
+    /// Whether a share is free at a moment that came free at none yet.
+    pub fn have_passed(&self, moment: u64) -> bool
+        ensures { result ≡ list_any (has_passed self.now.moment moment) self.now.all.items }
     {
-        let mut count = 0;
-        for holder in &self.all {
-            if holder.holds_at(moment) {
-                count += 1;
-            }
-        }
-        count
+        self.all.iter().any(|holder| holder.holds_at(self.moment) && !holder.holds_at(moment))
     }
 
     /// The shares that are held at a moment, in millionths of a worker. A number of 64 bits stays at its last
@@ -138,8 +150,8 @@ impl Holders {
 
     /// Whether the shares that were free at a moment came free: none of them is held any more.
     pub fn are_free_since(&self, moment: u64) -> bool
-        ensures { result ≡ list_all (holds_at moment) self.now.all.items }
+        ensures { result ≡ list_all (is_free_since self.now.moment moment) self.now.all.items }
     {
-        self.all.iter().all(|holder| holder.holds_at(moment))
+        self.all.iter().all(|holder| holder.holds_at(moment) || !holder.holds_at(self.moment))
     }
 }

@@ -1,13 +1,17 @@
 //! The streams of a run that haven't ended.
-ghost use Rattle.std.specs.Prelude.{ℕ, ◌≡◌, ◌≤◌, ◌<◌, ◌*◌, ◌↔◌, IfOk, IsOk, OnErr, OnOk, vec_len};
+ghost use Rattle.std.specs.Prelude.{ℕ, ◌≡◌, ◌≤◌, ◌<◌, ◌*◌, ◌-◌, ◌⊎◌, ◌↔◌, [], IfErr, IfOk, IsErrOf};
+ghost use Rattle.std.specs.Prelude.{◌++◌, ◌∷◌, IsOk, IsTrue, None, OnErr, OnOk, false, filter, position};
+ghost use Rattle.std.specs.Prelude.{vec_len};
 ghost use Rattle.std.specs.Arc.{arc_value};
 ghost use Rattle.cbs_account.specs.Admission.{Fits, share, with_share};
 ghost use Rattle.cbs_account.specs.Balance.{IsBandwidth};
-ghost use Rattle.cbs_account.specs.declared.limits.TheConstants.{MOST_WORKERS, WHOLE};
-ghost use Rattle.serve_report.specs.Holdings.{IsTaken, kept_by, loaded, sum_within};
+ghost use Rattle.cbs_account.specs.declared.limits.TheConstants.{MOST_STREAMS, MOST_WORKERS, WHOLE};
+ghost use Rattle.serve_report.specs.Holdings.{IsTaken, holds_at, kept_by, loaded, share_since, sum_within};
+ghost use Rattle.serve_report.specs.Places.{IsTakenOut, is_next, places_taken};
+ghost use Rattle.serve_report.specs.declared.control.entry.Stage.TheVariants.{Input};
 
 use super::AdmitFault;
-use super::answer::Holding;
+use super::answer::{Holding, Said};
 use super::entry::Entry;
 use super::holders::{Holder, Holders};
 use super::order::Order;
@@ -90,10 +94,30 @@ impl<R: Source + Drop, W: Sink + Drop, S: Drop> Table<R, W, S> {
             ≡ sum_within
             (kept_by (λ entry. entry.share) at self.old.entries.items self.old.holders.all.items)
             (share (arc_value order).q (arc_value order).t)) }
+        ensures entered { OnOk result (self.new.entries.items ≡ self.old.entries.items
+            ++ (record {
+              order = order;
+              input = input;
+              output = output;
+              stage = Input;
+              share = share_since moment (arc_value order);
+              held = None;
+              is_loss_told = false;
+            }) ∷ []) }
         ensures err { OnErr result (self.new.entries.items ≡ self.old.entries.items) }
+        ensures no_place { IsErrOf result AdmitFault.TooManyStreams ↔ (MOST_STREAMS
+            ≤ places_taken (vec_len self.old.entries) self.old.holders.all.items
+            self.new.still_read.inputs.items) }
+        ensures overload { IsErrOf result AdmitFault.Overload
+            → IsBandwidth (arc_value order).q (arc_value order).t
+            × ¬ Fits (with_share (arc_value order).q (arc_value order).t (loaded self.old.workers
+            (kept_by (λ entry. entry.share) moment self.old.entries.items self.old.holders.all.items))) }
+        ensures bad_bandwidth { IsErrOf result AdmitFault.BadBandwidth
+            → ¬ IsBandwidth (arc_value order).q (arc_value order).t }
+        ensures holders { self.new.holders ≡ self.old.holders }
+        ensures workers { self.new.workers ≡ self.old.workers }
     {
-        let others = self.still_read.count().max(self.holders.count_at(moment));
-        if self.entries.len().saturating_add(others) >= MOST_STREAMS {
+        if self.places_left() == 0 {
             return Err(AdmitFault::TooManyStreams);
         }
         let share = self.share_of(&order, moment)?;
@@ -106,6 +130,20 @@ impl<R: Source + Drop, W: Sink + Drop, S: Drop> Table<R, W, S> {
         }
     }
 
+    /// How many places are left.
+    fn places_left(&mut self) -> usize
+        ensures places { result ≡ MOST_STREAMS - places_taken (vec_len self.old.entries)
+            self.old.holders.all.items self.new.still_read.inputs.items }
+        ensures entries { self.new.entries ≡ self.old.entries }
+        ensures holders { self.new.holders ≡ self.old.holders }
+        ensures workers { self.new.workers ≡ self.old.workers }
+    {
+        let holders = self.holders.all();
+        let others = self.still_read.count_beside(holders);
+        let room = MOST_STREAMS.saturating_sub(self.entries.len());
+        room.saturating_sub(holders.len()).saturating_sub(others)
+    }
+
     /// The share of a stream, if it is left at this moment.
     fn share_of(&self, order: &Order, moment: u64) -> Result<Share, AdmitFault>
         ensures accepted { IsOk result ↔ (IsBandwidth order.now.q order.now.t
@@ -114,6 +152,10 @@ impl<R: Source + Drop, W: Sink + Drop, S: Drop> Table<R, W, S> {
         ensures taken { IfOk result (IsTaken self.now.workers
             (kept_by (λ entry. entry.share) moment self.now.entries.items self.now.holders.all.items)
             order.now.q order.now.t moment) }
+        ensures since { IfOk result (λ kept. kept ≡ share_since moment order.now) }
+        ensures fault { IfErr result (λ e.
+            ((e ≡ AdmitFault.BadBandwidth) × ¬ IsBandwidth order.now.q order.now.t)
+            ⊎ ((e ≡ AdmitFault.Overload) × IsBandwidth order.now.q order.now.t)) }
     {
         let kept = self.kept_at(moment);
         match share_beside(kept, self.workers, order.q, order.t) {
@@ -128,7 +170,7 @@ impl<R: Source + Drop, W: Sink + Drop, S: Drop> Table<R, W, S> {
 
     /// The shares that are kept at a moment, in millionths of a worker. A number of 64 bits stays at its last
     /// value.
-    pub fn kept_at(&self, moment: u64) -> u64
+    fn kept_at(&self, moment: u64) -> u64
         ensures { result
             ≡ kept_by (λ entry. entry.share) moment self.now.entries.items self.now.holders.all.items }
     {
@@ -149,8 +191,17 @@ impl<R: Source + Drop, W: Sink + Drop, S: Drop> Table<R, W, S> {
         latest
     }
 
+    /// What is told of the shares that are kept at a moment.
+    pub fn shares_said(&self, moment: u64) -> Said<'_>
+        ensures { result ≡ Said.Shares
+            (kept_by (λ entry. entry.share) moment self.now.entries.items self.now.holders.all.items)
+            (WHOLE * self.now.workers) }
+    {
+        Said::Shares(self.kept_at(moment), self.whole())
+    }
+
     /// What the workers have, in millionths of one.
-    pub fn whole(&self) -> u64
+    fn whole(&self) -> u64
         ensures { result ≡ WHOLE * self.now.workers }
     {
         whole_of(self.workers)
@@ -182,8 +233,25 @@ impl<R: Source + Drop, W: Sink + Drop, S: Drop> Table<R, W, S> {
         Some(self.take_at(place))
     }
 
+    /// Takes the stream out that is served under this ticket. From here on it holds this, unless it is the
+    /// last one that is served: then nobody holds anything.
+    pub fn end_served(
+        &mut self,
+        ticket: u64,
+        holding: Option<Holding>,
+        is_last: bool,
+    ) -> Option<Entry<R, W, S>>
+        ensures last { IsTrue is_last → self.new.holders.all.items ≡ [] }
+    {
+        let entry = self.take_served(ticket, holding);
+        if is_last {
+            self.holders.clear();
+        }
+        entry
+    }
+
     /// Takes the stream out that is served under this ticket, which holds this from here on.
-    pub fn take_served(&mut self, ticket: u64, holding: Option<Holding>) -> Option<Entry<R, W, S>> {
+    fn take_served(&mut self, ticket: u64, holding: Option<Holding>) -> Option<Entry<R, W, S>> {
         let place = self
             .entries
             .iter()
@@ -204,11 +272,32 @@ impl<R: Source + Drop, W: Sink + Drop, S: Drop> Table<R, W, S> {
     /// Takes a stream out. A FIFO of it that is still being read stays in use.
     fn take_at(&mut self, place: usize) -> Entry<R, W, S>
         requires { place < vec_len self.old.entries }
+        ensures taken { IsTakenOut place self.old.entries.items self.new.entries.items result }
+        ensures holders { self.new.holders ≡ self.old.holders }
     {
         let mut entry = self.entries.remove(place);
         entry.drop_held();
         self.still_read.keep(&entry);
         entry
+    }
+
+    /// The clock of the workers has gone on to a moment: the shares that are free at it are free from here on.
+    pub fn goes_on(&mut self, at: u64)
+        ensures holders { self.new.holders.all.items ≡ self.old.holders.all.items }
+        ensures moment { self.new.holders.moment ≡ at }
+        ensures entries { self.new.entries ≡ self.old.entries }
+    {
+        self.holders.release(at);
+    }
+
+    /// The workers have let those go whose shares are free. Their places are free from here on.
+    pub fn retired(&mut self)
+        ensures holders { self.new.holders.all.items
+            ≡ filter (holds_at self.old.holders.moment) self.old.holders.all.items }
+        ensures moment { self.new.holders.moment ≡ self.old.holders.moment }
+        ensures entries { self.new.entries ≡ self.old.entries }
+    {
+        self.holders.retire();
     }
 
     /// Nobody is served any more: the streams are closed, and those that are being opened come back.
@@ -234,15 +323,26 @@ impl<R: Source + Drop, W: Sink + Drop, S: Drop> Table<R, W, S> {
 
     /// What the first stream is served with that waits to be, and whose share has come free. It is served
     /// under this ticket from here on.
-    pub fn serve_next(&mut self, ticket: u64) -> Option<Ready<R, W>> {
-        for entry in &mut self.entries {
-            if self.holders.are_free_since(entry.share.since) {
-                if let Some(ready) = entry.serve(ticket) {
-                    return Some(ready);
-                }
-            }
-        }
-        None
+    pub fn serve_next(&mut self, ticket: u64) -> Option<Ready<R, W>>
+        ensures { self.new.holders ≡ self.old.holders }
+    {
+        let place = self.next_place()?;
+        self.entries[place].serve(ticket)
+    }
+
+    /// Where the first stream stands that waits to be served, and whose share has come free.
+    fn next_place(&self) -> Option<usize>
+        ensures { result ≡ position (is_next self.now.holders.all.items self.now.holders.moment)
+            self.now.entries.items }
+    {
+        self.entries.iter().position(|entry| self.is_next(entry))
+    }
+
+    /// Whether a stream waits to be served, and its share has come free.
+    fn is_next(&self, entry: &Entry<R, W, S>) -> bool
+        ensures { result ≡ is_next self.now.holders.all.items self.now.holders.moment entry.now }
+    {
+        entry.is_ready() && self.holders.are_free_since(entry.share.since)
     }
 
     /// How many streams are served.
@@ -269,6 +369,12 @@ impl<R: Source + Drop, W: Sink + Drop, S: Drop> Table<R, W, S> {
     /// Whether a stream lost its output, and that wasn't told.
     pub fn has_untold_loss(&self) -> bool {
         self.entries.iter().any(|entry| entry.has_untold_loss())
+    }
+
+    /// Whether an epoch is to end at a moment: a stream waits to be served, it is asked how they stand, or a
+    /// share is free with which a place may come free.
+    pub fn ends_epoch(&self, moment: u64) -> bool {
+        self.has_request() || self.holders.have_passed(moment)
     }
 
     /// Whether a stream may yet come that waits to be served.
