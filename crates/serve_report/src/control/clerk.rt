@@ -15,6 +15,7 @@ use serve_words::{Asked, StreamWord};
 use serve_work::Clock as Moments;
 use std::alloc::{AllocError, Global};
 use std::io::{Read, Write};
+use std::sync::atomic::{AtomicBool, Ordering};
 use std::sync::{Arc, Wait};
 use y4m_stream::{Sink, Source};
 
@@ -46,12 +47,14 @@ pub struct Clerk<
     lobby: &'l Lobby<'o, R, W, S, O, E>,
     /// Whether the control is standard input.
     is_input: bool,
-    /// Where the report goes, where faults are told, and where the lines come from. No stream may have one.
+    /// Where the report goes, where faults are told, and where the lines come from. No stream may have these.
     own: [FileUse<'c>; 3],
     /// How many streams were asked for.
     asked: u64,
     /// Whether no stream is taken any more.
     is_ended: bool,
+    /// Whether the run is over.
+    is_over: &'l AtomicBool,
 }
 
 impl<'t, 'k, 'f, 'l, 'c, 'o, F, R, W, S, K, T, O, E> Clerk<
@@ -86,6 +89,7 @@ where
         files: &'f F,
         lobby: &'l Lobby<'o, R, W, S, O, E>,
         lines: &Lines<'c, I, S>,
+        is_over: &'l AtomicBool,
     ) -> Clerk<'t, 'k, 'f, 'l, 'c, 'o, F, R, W, S, K, T, O, E> {
         let Session {
             rt,
@@ -105,6 +109,7 @@ where
             own: [report, errors_of(files), control],
             asked: 0,
             is_ended: false,
+            is_over,
         }
     }
 
@@ -121,11 +126,13 @@ where
         Ok(errands)
     }
 
-    /// Waits for the next line, and does what it asks for. None is read before there is room for its answer.
+    /// Waits for the next line, and does what it asks for. None is read before there is room for its answer. A
+    /// line of which a part was read when the run was over is none.
     pub fn take_next<I: Read>(&mut self, feed: &mut Feed<I>) -> Bidding {
         self.lobby.await_room(self.rt);
         match feed.next() {
             Feeding::Line => self.take(feed.number(), feed.line()),
+            Feeding::Fault(_) if self.is_over.load(Ordering::SeqCst) => Bidding::End,
             Feeding::Fault(fault) => {
                 self.refuse(feed.number(), fault, feed.head());
                 Bidding::Done
@@ -295,7 +302,7 @@ where
         table.has_clash(None, &input) || table.has_clash(None, &output)
     }
 
-    /// Whether the file is that of the report or of the control.
+    /// Whether the file is one of the run's own.
     fn is_own(&self, file: &FileUse<'_>) -> bool {
         for own in &self.own {
             if own.clashes_with(file) {

@@ -165,12 +165,12 @@ where
     {
         let Agenda { checked, lines } = agenda;
         let Session { rt, alloc, .. } = session;
-        let mut clerk = Clerk::new(session, files, self, &lines);
+        let is_over = AtomicBool::new(false);
+        let mut clerk = Clerk::new(session, files, self, &lines, &is_over);
         let Ok(first) = clerk.enter_all(checked.streams) else {
             self.fail(rt, SessionFault::NoMemory);
             return;
         };
-        let is_over = AtomicBool::new(false);
         let feed = Feed::new(Listener::new(rt, alloc, lines.origin, &is_over));
         let hearing = Hearing {
             first,

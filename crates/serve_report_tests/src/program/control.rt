@@ -16,11 +16,13 @@ use std::time::Clock;
 mod closing;
 mod full;
 mod growths;
+mod losing;
 mod opens;
 mod requests;
 mod script;
 mod shares;
 mod stopping;
+mod unread;
 mod waiting;
 
 /// What may be the cause of another answer.
@@ -35,6 +37,8 @@ pub struct Talk<'a> {
     pub step: usize,
     /// The bytes of answers that are taken.
     pub room: usize,
+    /// What is waited for before any is taken.
+    pub awaited: &'a str,
     pub answers: &'a str,
     /// Whether the answers come in this order; else no two are the same.
     pub is_ordered: bool,
@@ -50,6 +54,7 @@ impl<'a> Talk<'a> {
             turns,
             step: usize::MAX,
             room: usize::MAX,
+            awaited: "",
             answers,
             is_ordered: true,
             errors: "",
@@ -87,7 +92,11 @@ where
     let mut faults = [0; 512];
     let mut rest = faults.as_mut_slice();
     let input = Asking::new(rt, answers, talk.turns, talk.step);
-    let mut output = Answering { rt, answers };
+    let mut output = Answering {
+        rt,
+        answers,
+        awaited: talk.awaited,
+    };
     let status = main_on(rt, alloc, &words, input, &mut output, &mut rest, files);
     let left = rest.len();
     let said = str::from_utf8(written(&faults, left)).ok();

@@ -42,7 +42,7 @@ fn closes<'f, R: Abort + Threads + Wait + Clock + Copy + Drop + Send + Sync + 's
     waits(rt, alloc, "", &came, Some(written), talk);
 }
 
-/// The last image doesn't fit into the output, as is seen before the stream is closed.
+/// The last image doesn't fit into the output, which is told before or behind the line.
 #[test]
 fn a_failed_write_is_not_told_as_a_close(rt: HostRuntime) {
     let turns: [Turn<'_>; 4] = [
@@ -54,10 +54,13 @@ fn a_failed_write_is_not_told_as_a_close(rt: HostRuntime) {
     let outputs = [Made::new(rt.alloc(), "a.out", A_INVERTED.len() - 3)];
     let answers = shared_answers(&rt, rt.alloc(), usize::MAX);
     let came = [("", A), ("AlreadyClosed", b"FRAME\n".as_slice())];
-    let wanted = "a admitted\nline 3: AlreadyClosed 'close a'\n\
+    let wanted = "a admitted\nline 3: AlreadyClosed 'close a'\na lost its output\n\
                   a accepted 3 delivered 2 charged 3 stop read Device\nunits 3\n";
     let later: [Later<'_>; 1] = [("a.in", "", &came)];
-    let talk = Talk::new(&turns, wanted);
+    let talk = Talk {
+        is_ordered: false,
+        ..Talk::new(&turns, wanted)
+    };
     talks_of(&rt, rt.alloc(), &answers, &later, &[], "", &outputs, talk);
     holds(&rt, &outputs[0], &A_INVERTED[..A_INVERTED.len() - 3]);
 }

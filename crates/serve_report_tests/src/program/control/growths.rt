@@ -96,7 +96,11 @@ fn ends<'f, R: Abort + Threads + Wait + Clock + Copy + Drop + Send + Sync + 'sta
     let mut faults = [0; 512];
     let mut errors = faults.as_mut_slice();
     let input = Asking::new(rt, answers, WAITING, usize::MAX);
-    let mut output = Answering { rt, answers };
+    let mut output = Answering {
+        rt,
+        answers,
+        awaited: "",
+    };
     let status = main_on(rt, alloc, &words, input, &mut output, &mut errors, &files);
     let unsaid = errors.len();
     let said = str::from_utf8(written(&faults, unsaid)).expect(rt, "what is said is no text");

@@ -74,12 +74,18 @@ impl Answers {
 
     /// Waits until the answers have this part, for a while.
     pub fn expect<T: Wait + Clock>(&self, rt: &T, part: &str) {
+        let _ = self.is_there(rt, part);
+    }
+
+    /// The same, and answers whether they have it.
+    fn is_there<T: Wait + Clock>(&self, rt: &T, part: &str) -> bool {
         let answered = self.answered.lock(rt);
         let is_paused = part == PAUSED;
         let patience = Duration::from_secs(if is_paused { PAUSE } else { PATIENCE });
-        let _ = self
+        let (answered, _) = self
             .changed
             .wait_timeout_while(rt, answered, patience, |answered| !answered.has(part));
+        answered.has(part)
     }
 
     /// A file is held, but for so many times at first. Answers whether it is.
@@ -116,8 +122,7 @@ impl Answers {
         same_at(rt, counts.0, counts.1, format_args!("{text}: {REFUSED}"));
     }
 
-    /// Compares what was answered, line by line. Of a moment only its line is told, of the end of a share its
-    /// first digits.
+    /// Compares what was answered, line by line, as [`is_as_wanted`] says.
     pub fn are<T: Abort + Wait>(&self, rt: &T, wanted: &str) {
         let answered = self.answered.lock(rt);
         let text = str::from_utf8(&answered.text).unwrap_or("no text");
@@ -131,8 +136,12 @@ impl Answers {
     }
 }
 
-/// Whether a line is this one. Of a moment only its line is told, of the end of a share its first digits.
+/// Whether a line is this one. Of a moment only its line is told, of the end of a share its first digits, and
+/// anything may stand in place of `..`.
 fn is_as_wanted(line: &str, wanted: &str) -> bool {
+    if let Some((front, end)) = wanted.split_once("..") {
+        return line.starts_with(front) && line.ends_with(end);
+    }
     if wanted.contains(" until ") {
         return line.starts_with(wanted);
     }
@@ -147,10 +156,16 @@ fn is_as_wanted(line: &str, wanted: &str) -> bool {
 pub struct Answering<'a, T: Wait + Sync> {
     pub rt: &'a T,
     pub answers: &'a Answers,
+    /// What the first write waits for. Where that doesn't come it fails.
+    pub awaited: &'a str,
 }
 
-impl<T: Wait + Sync> Write for Answering<'_, T> {
+impl<T: Wait + Clock + Sync> Write for Answering<'_, T> {
     fn write(&mut self, buf: &[u8]) -> io::Result<usize> {
+        if !self.answers.is_there(self.rt, self.awaited) {
+            return Err(io::Error::from(ErrorKind::TimedOut));
+        }
+        self.awaited = "";
         let mut answered = self.answers.answered.lock(self.rt);
         if answered.room < buf.len() {
             return Err(io::Error::from(ErrorKind::BrokenPipe));

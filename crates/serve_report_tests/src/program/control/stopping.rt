@@ -56,3 +56,23 @@ fn lines_are_taken_behind_an_end(rt: HostRuntime) {
     let slow: [Slow<'_>; 2] = [SILENT, ("door", DOOR)];
     serves_fifos(&rt, rt.alloc(), &[], &slow, Some(HEADER), talk);
 }
+
+/// A line of which only a part comes before the run is over.
+const PART: &[Turn<'_>] = &[
+    ("", b"a:a.in:a.out:1:4:invert\n"),
+    ("a admitted\n", b"stop\nclose "),
+    ("units ", b"a\n"),
+];
+
+#[test]
+fn a_part_of_a_line_is_none(rt: HostRuntime) {
+    let talk = Talk {
+        line: "serve --control door",
+        ..Talk::new(
+            &[],
+            "a admitted\na accepted 0 delivered 0 charged 0 stop closed\nunits 0\n",
+        )
+    };
+    let slow: [Slow<'_>; 2] = [SILENT, ("door", PART)];
+    serves_fifos(&rt, rt.alloc(), &[], &slow, Some(HEADER), talk);
+}
