@@ -1,13 +1,15 @@
 -- The lines that show how far the streams of a run have come.
-use Rattle.std.specs.Prelude.{ℕ, Bool, true, false, List, ◌++◌, codes, decimal, length}
+use Rattle.std.specs.Prelude.{ℕ, suc, List, [], ◌++◌, codes, decimal, if◌then◌else◌, length}
 use Rattle.std.specs.List.{flat_map}
-use Rattle.serve_watch.specs.declared.board.StreamProgress.{StreamProgress}
-use Rattle.serve_watch.specs.Terminal.{cleared, unwrapped, up, wrapped}
+use Rattle.serve_watch.specs.declared.row.StreamProgress.{StreamProgress}
+use Rattle.serve_watch.specs.Terminal.{cleared, cleared_below, unwrapped, up, wrapped}
 
--- `NAME frames in I out O`
+-- `NAME frames in I out O`, and `waiting for NAME` while that is shown
 abbrev pub progress_text : StreamProgress → List ℕ
 progress_text stream =
-    stream.name.now ++ codes " frames in " ++ decimal stream.read ++ codes " out " ++ decimal stream.written
+    if stream.is_awaited
+    then codes "waiting for " ++ stream.name.now
+    else stream.name.now ++ codes " frames in " ++ decimal stream.read ++ codes " out " ++ decimal stream.written
 
 -- the line of a stream
 abbrev pub line_drawn : StreamProgress → List ℕ
@@ -16,7 +18,12 @@ line_drawn stream = progress_text stream ++ cleared ++ codes "\n"
 abbrev pub lines_drawn : List StreamProgress → List ℕ
 lines_drawn streams = flat_map line_drawn streams
 
--- a line for each stream, none of which wraps; where they were drawn before, over those
-abbrev pub drawing_text : Bool → List StreamProgress → List ℕ
-drawing_text false streams = unwrapped ++ lines_drawn streams ++ wrapped
-drawing_text true streams = unwrapped ++ up (length streams) ++ lines_drawn streams ++ wrapped
+-- to the first of so many lines above
+abbrev pub over : ℕ → List ℕ
+over zero = []
+over (suc lines) = up (suc lines)
+
+-- a line for each stream, none of which wraps, over those that were drawn before
+abbrev pub drawing_text : ℕ → List StreamProgress → List ℕ
+drawing_text before streams =
+    unwrapped ++ over before ++ lines_drawn streams ++ cleared_below ++ wrapped

@@ -1,46 +1,19 @@
 //! The lines that show how far streams that are served together have come, one for each. Each drawing stands
 //! over the one before. Times are milliseconds from the start of the run.
-ghost use Rattle.std.specs.Prelude.{◌≡◌, ◌≤◌, ◌+◌, ◌↔◌, IsTrue, OnOk, IfOk, map, string_bytes, unwrap_or};
+ghost use Rattle.std.specs.Prelude.{◌≤◌, ◌+◌, ◌↔◌, IsTrue, OnOk, unwrap_or};
 ghost use Rattle.std.specs.Io.KnownBytes.{Appends};
 ghost use Rattle.serve_watch.specs.Board.{drawing_text, line_drawn, lines_drawn};
 
 use crate::due::has_passed;
+use crate::presence::Presence;
+use crate::row::{Row, StreamProgress, progress_of, rows_of};
 use std::alloc::{AllocError, Global};
-use std::fmt;
 use std::io::{self, Write};
-use std::marker::Model;
-use std::sync::Mutex;
-use std::sync::atomic::{AtomicU64, Ordering};
+use std::sync::atomic::{AtomicBool, Ordering};
+use std::sync::{Mutex, Wait};
 
 /// The time between two drawings of the lines of streams.
 const BETWEEN_DRAWINGS: u64 = 200;
-
-/// How far a stream has come.
-#[derive(Clone, Copy)]
-struct StreamProgress<'a> {
-    name: &'a str,
-    /// The frames that were read whole.
-    read: u64,
-    /// The images that were written whole.
-    written: u64,
-}
-
-/// At most 64 columns, where the name has at most 32 and each number at most 8 digits.
-impl fmt::Display for StreamProgress<'_> {
-    ghost use Rattle.std.specs.Prelude.{Some};
-    ghost use Rattle.serve_watch.specs.Board.{progress_text};
-
-    ghost output = { λ stream. Some (progress_text stream) };
-
-    fn fmt<W: fmt::Write>(&self, f: &mut fmt::Formatter<W>) -> fmt::Result {
-        let StreamProgress {
-            name,
-            read,
-            written,
-        } = *self;
-        write!(f, "{name} frames in {read} out {written}")
-    }
-}
 
 /// Whether the lines of streams may be drawn at this time: at least a fifth of a second after they were last
 /// drawn, or after the start.
@@ -50,23 +23,22 @@ fn is_due(drawn: Option<u64>, time: u64) -> bool
     has_passed(BETWEEN_DRAWINGS, drawn, time)
 }
 
-/// Writes a line for each stream; where they were drawn before, over those. Meanwhile the terminal doesn't
-/// wrap, so that each is one row of it, however narrow it is.
+/// Writes a line for each stream, over the lines that were drawn before. Meanwhile the terminal doesn't wrap,
+/// so that each is one row of it, however narrow it is.
 fn write_drawing<W: Write>(
     output: &mut W,
-    is_again: bool,
+    before: usize,
     streams: &[StreamProgress<'_>],
 ) -> io::Result<()>
     ensures { OnOk result
-        (Appends (W.contents output.old) (W.contents output.new) (drawing_text is_again streams.now)) }
+        (Appends (W.contents output.old) (W.contents output.new) (drawing_text before streams.now)) }
 {
     write!(output, "\x1B[?7l")?;
-    if is_again {
-        let lines = streams.len();
-        write!(output, "\x1B[{lines}A")?;
+    if before > 0 {
+        write!(output, "\x1B[{before}A")?;
     }
     write_lines(output, streams)?;
-    write!(output, "\x1B[?7h")
+    write!(output, "\x1B[J\x1B[?7h")
 }
 
 /// Writes a line for each stream.
@@ -88,121 +60,157 @@ fn write_line<W: Write>(output: &mut W, stream: &StreamProgress<'_>) -> io::Resu
     writeln!(output, "{stream}\x1B[K")
 }
 
-/// A stream of a run, whose frames are counted by any thread.
+/// What was drawn, and when.
 #[derive(Drop)]
-struct Row {
-    name: String,
-    read: AtomicU64,
-    written: AtomicU64,
+struct Drawing {
+    text: Vec<u8>,
+    lines: usize,
 }
 
-impl Row {
-    fn new(alloc: Global, name: &str) -> Result<Row, AllocError>
-        ensures { IfOk result (λ row. string_bytes row.name ≡ name.now) }
-    {
-        Ok(Row {
-            name: String::from_str(alloc, name)?,
-            read: AtomicU64::new(0),
-            written: AtomicU64::new(0),
-        })
-    }
-
-    fn progress(&self) -> StreamProgress<'_>
-        ensures { result.name.now ≡ string_bytes self.now.name }
-    {
-        StreamProgress {
-            name: &self.name,
-            read: self.read.load(Ordering::SeqCst),
-            written: self.written.load(Ordering::SeqCst),
-        }
-    }
+/// What stands on a terminal.
+#[derive(Drop)]
+struct Shown {
+    /// When the lines were last drawn, or would have been.
+    time: Option<u64>,
+    /// The latest drawing, over which the next one is drawn.
+    latest: Option<Drawing>,
 }
 
-/// The streams of a run, and when their lines were last drawn.
+/// The streams of a run, and what was drawn of them. Any thread may count, also while another one draws: what
+/// a count waits for isn't held over a write.
 #[derive(Drop)]
 pub struct Board {
     alloc: Global,
-    rows: Vec<Row>,
-    drawn: Mutex<Option<u64>>,
-}
-
-/// The names of the streams, in order.
-impl Model for Board {
-    ghost use Rattle.std.specs.Prelude.{ℕ, List, map, string_bytes};
-
-    ghost Value = { List (List ℕ) };
-
-    ghost view = { λ board. map (λ row. string_bytes row.name) board.rows.items };
+    rows: Mutex<Vec<Row>>,
+    shown: Mutex<Shown>,
+    /// Whether something else stands behind the latest drawing.
+    is_left: AtomicBool,
 }
 
 impl Board {
-    /// A board for streams of these names. None of their frames was read yet.
-    pub fn new(alloc: Global, names: &[&str]) -> Result<Board, AllocError>
-        ensures { IfOk result (λ board. board ≡ map (λ name. name.now) names.now) }
-    {
-        let mut rows = Vec::new(alloc);
-        for name in names {
-            rows.push(Row::new(alloc, name)?)?;
-        }
+    /// A board for streams of these names, which begin at this time, and have the numbers from 0 on.
+    pub fn new(alloc: Global, names: &[&str], time: u64) -> Result<Board, AllocError> {
         Ok(Board {
             alloc,
-            rows,
-            drawn: Mutex::new(None),
+            rows: Mutex::new(rows_of(alloc, names, time)?),
+            shown: Mutex::new(Shown {
+                time: None,
+                latest: None,
+            }),
+            is_left: AtomicBool::new(false),
         })
     }
 
+    /// Adds a stream, which begins at this time, and whose line stands as long as this says. Those of streams
+    /// that are over go.
+    pub fn add<T: Wait>(
+        &self,
+        rt: &T,
+        stream: usize,
+        name: &str,
+        presence: Presence,
+        time: u64,
+    ) -> Result<(), AllocError> {
+        let row = Row::new(self.alloc, stream, name, Some(presence), time)?;
+        let mut rows = self.rows.lock(rt);
+        rows.retain(|row| row.lasts());
+        rows.push(row)?;
+        Ok(())
+    }
+
+    /// The files of a stream are open, or it stopped before they were.
+    pub fn set_open<T: Wait>(&self, rt: &T, stream: usize) {
+        if let Some(row) = row_mut(&mut self.rows.lock(rt), stream) {
+            row.is_open = true;
+        }
+    }
+
     /// So many frames more of a stream have been read whole.
-    pub fn add_read(&self, stream: usize, frames: u64) {
-        if let Some(row) = self.rows.get(stream) {
-            row.read.fetch_add(frames, Ordering::SeqCst);
+    pub fn add_read<T: Wait>(&self, rt: &T, stream: usize, frames: u64) {
+        if let Some(row) = row_mut(&mut self.rows.lock(rt), stream) {
+            row.read = row.read.saturating_add(frames);
         }
     }
 
     /// So many images more of a stream have been written whole.
-    pub fn add_written(&self, stream: usize, frames: u64) {
-        if let Some(row) = self.rows.get(stream) {
-            row.written.fetch_add(frames, Ordering::SeqCst);
+    pub fn add_written<T: Wait>(&self, rt: &T, stream: usize, frames: u64) {
+        if let Some(row) = row_mut(&mut self.rows.lock(rt), stream) {
+            row.written = row.written.saturating_add(frames);
         }
     }
 
-    /// How far each stream has come.
-    fn progress(&self) -> Result<Vec<StreamProgress<'_>>, AllocError>
-        ensures { IfOk result (λ streams. map (λ stream. stream.name.now) streams.items ≡ self.now) }
-    {
-        let mut streams = Vec::new(self.alloc);
-        for row in &self.rows {
-            streams.push(row.progress())?;
-        }
-        Ok(streams)
-    }
-
-    /// Draws the lines in one write, if they may be drawn at this time and no other thread is drawing them.
-    pub fn draw<E: Write>(&self, errors: &mut E, time: u64) {
-        let Some(mut drawn) = self.drawn.try_lock() else {
+    /// Draws the lines in one write, if they may be drawn at this time, differ from those that stand there,
+    /// and no other thread is drawing them.
+    pub fn draw<T: Wait, E: Write>(&self, rt: &T, errors: &mut E, time: u64) {
+        let Some(mut shown) = self.shown.try_lock() else {
             return;
         };
-        let before = *drawn;
-        if is_due(before, time) {
-            *drawn = Some(time);
-            let _ = self.show(errors, before.is_some());
+        if is_due(shown.time, time) {
+            shown.time = Some(time);
+            let _ = self.show(rt, errors, &mut shown, time);
         }
     }
 
     /// Draws the lines a last time, where they were drawn before.
-    pub fn draw_last<E: Write>(&self, errors: &mut E) {
-        let Some(drawn) = self.drawn.try_lock() else {
+    pub fn draw_last<T: Wait, E: Write>(&self, rt: &T, errors: &mut E, time: u64) {
+        let Some(mut shown) = self.shown.try_lock() else {
             return;
         };
-        let before = *drawn;
-        if before.is_some() {
-            let _ = self.show(errors, true);
+        if shown.latest.is_some() {
+            let _ = self.show(rt, errors, &mut shown, time);
         }
     }
 
-    fn show<E: Write>(&self, errors: &mut E, is_again: bool) -> io::Result<()> {
-        let streams = self.progress()?;
-        let mut text = Vec::new(self.alloc);
-        write_drawing(&mut text, is_again, &streams)?;
-        errors.write_all(&text)
+    /// Something else was written behind the latest drawing, so that the next one stands over none.
+    pub fn leave(&self) {
+        self.is_left.store(true, Ordering::SeqCst);
     }
+
+    /// Draws the lines, where they differ from those that stand there.
+    fn show<T: Wait, E: Write>(
+        &self,
+        rt: &T,
+        errors: &mut E,
+        shown: &mut Shown,
+        time: u64,
+    ) -> io::Result<()> {
+        if self.is_left.swap(false, Ordering::SeqCst) {
+            shown.latest = None;
+        }
+        let before = match &shown.latest {
+            Some(drawing) => drawing.lines,
+            None => 0,
+        };
+        let drawing = self.drawing(rt, before, time)?;
+        if before == 0 && drawing.lines == 0 {
+            return Ok(());
+        }
+        let is_new = !shown
+            .latest
+            .as_ref()
+            .is_some_and(|latest| latest.text == drawing.text);
+        if is_new {
+            errors.write_all(&drawing.text)?;
+            shown.latest = Some(drawing);
+        }
+        Ok(())
+    }
+
+    /// The lines at a time, to be drawn over so many.
+    fn drawing<T: Wait>(&self, rt: &T, before: usize, time: u64) -> io::Result<Drawing> {
+        let mut rows = self.rows.lock(rt);
+        rows.retain(|row| row.lasts());
+        let streams = progress_of(self.alloc, &rows, time)?;
+        let mut text = Vec::new(self.alloc);
+        write_drawing(&mut text, before, &streams)?;
+        Ok(Drawing {
+            text,
+            lines: streams.len(),
+        })
+    }
+}
+
+/// The row of the stream of this number.
+fn row_mut(rows: &mut Vec<Row>, stream: usize) -> Option<&mut Row> {
+    rows.iter_mut().find(|row| row.stream == stream)
 }

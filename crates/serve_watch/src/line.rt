@@ -3,16 +3,23 @@
 ghost use Rattle.std.specs.Prelude.{◌≡◌, ◌≤◌, ◌+◌, ◌-◌, ◌*◌, ◌/◌, ◌%◌, ◌^◌, ◌↔◌, IsTrue, max, min, unwrap_or};
 
 use crate::due::has_passed;
+use crate::row::PATIENCE;
 use std::fmt;
 use std::io::Write;
 use std::sync::Mutex;
-use std::sync::atomic::{AtomicU64, Ordering};
+use std::sync::atomic::{AtomicBool, AtomicU64, Ordering};
 
 /// The time between two lines of a stream that is alone.
 const BETWEEN_LINES: u64 = 100;
 
 /// Room for the longest line of a stream that is alone, with what it orders of the terminal.
 const LONGEST: usize = 128;
+
+/// The line while a stream is waited for.
+const AWAITED: &[u8] = b"\x1B[?7l\rwaiting for a stream (.y4m) on standard input\x1B[K\x1B[?7h";
+
+/// No line.
+const NONE: &[u8] = b"\r\x1B[K";
 
 /// What the line tells: the images, their rate in whole ones and a tenth, and the megabytes of each second.
 #[derive(Clone, Copy)]
@@ -73,10 +80,20 @@ fn is_due(drawn: Option<u64>, time: u64) -> bool
     has_passed(BETWEEN_LINES, drawn, time)
 }
 
+/// What a line tells.
+#[derive(Clone, Copy)]
+enum Tidings {
+    /// A stream is waited for.
+    Awaited,
+    /// Images were written, and so many bytes.
+    Written { frames: u64, bytes: u64 },
+}
+
 /// The line of a stream that is alone, or of all together where there was no memory for a board. Any thread
 /// may count, also while another one draws.
 #[derive(Drop)]
 pub struct Line {
+    is_awaited: AtomicBool,
     frames: AtomicU64,
     bytes: AtomicU64,
     /// When it was last drawn.
@@ -84,13 +101,24 @@ pub struct Line {
 }
 
 impl Line {
-    /// None of the stream's images was written yet.
+    /// None of the stream's images was written yet, and nobody waits for it.
     pub fn new() -> Line {
         Line {
+            is_awaited: AtomicBool::new(false),
             frames: AtomicU64::new(0),
             bytes: AtomicU64::new(0),
             drawn: Mutex::new(None),
         }
+    }
+
+    /// The stream is waited for.
+    pub fn await_stream(&self) {
+        self.is_awaited.store(true, Ordering::SeqCst);
+    }
+
+    /// The stream is no longer waited for.
+    pub fn begin(&self) {
+        self.is_awaited.store(false, Ordering::SeqCst);
     }
 
     /// So many images more have been written whole, and so many bytes.
@@ -99,19 +127,44 @@ impl Line {
         self.bytes.fetch_add(bytes, Ordering::SeqCst);
     }
 
-    /// Draws the line, if it may be drawn at this time and no other thread is drawing it.
+    /// What the line tells, if it does.
+    fn tidings(&self) -> Option<Tidings> {
+        let frames = self.frames.load(Ordering::SeqCst);
+        if frames > 0 {
+            let bytes = self.bytes.load(Ordering::SeqCst);
+            return Some(Tidings::Written { frames, bytes });
+        }
+        if self.is_awaited.load(Ordering::SeqCst) {
+            Some(Tidings::Awaited)
+        } else {
+            None
+        }
+    }
+
+    /// Draws the line, if it may be drawn at this time and no other thread is drawing it. That a stream is
+    /// waited for is told a second after the start.
     pub fn draw<E: Write>(&self, errors: &mut E, time: u64) {
         let Some(mut drawn) = self.drawn.try_lock() else {
             return;
         };
-        if is_due(*drawn, time) {
-            *drawn = Some(time);
-            self.show(errors, time);
+        if !is_due(*drawn, time) {
+            return;
         }
+        match self.tidings() {
+            Some(Tidings::Written { frames, bytes }) => show(
+                errors,
+                Rates::of(frames, bytes, time),
+            ),
+            Some(Tidings::Awaited) if drawn.is_none() && time >= PATIENCE => {
+                let _ = errors.write_all(AWAITED);
+            }
+            _ => return,
+        }
+        *drawn = Some(time);
     }
 
     /// Draws the line a last time, where the time is known, and ends it, where it was drawn before and no other
-    /// thread is drawing it.
+    /// thread is drawing it. Where no image was written it goes.
     pub fn draw_last<E: Write>(&self, errors: &mut E, time: Option<u64>) {
         let Some(drawn) = self.drawn.try_lock() else {
             return;
@@ -119,21 +172,22 @@ impl Line {
         if drawn.is_none() {
             return;
         }
+        let Some(Tidings::Written { frames, bytes }) = self.tidings() else {
+            let _ = errors.write_all(NONE);
+            return;
+        };
         if let Some(time) = time {
-            self.show(errors, time);
+            show(errors, Rates::of(frames, bytes, time));
         }
         let _ = errors.write_all(b"\n");
     }
+}
 
-    /// Shows the line, with the rates up to this time, in one write.
-    fn show<E: Write>(&self, errors: &mut E, time: u64) {
-        let frames = self.frames.load(Ordering::SeqCst);
-        let bytes = self.bytes.load(Ordering::SeqCst);
-        let rates = Rates::of(frames, bytes, time);
-        let mut room = [0; LONGEST];
-        let mut rest = room.as_mut_slice();
-        let _ = write!(rest, "{rates}");
-        let left = rest.len().min(LONGEST);
-        let _ = errors.write_all(&room[..LONGEST - left]);
-    }
+/// Shows the line, in one write.
+fn show<E: Write>(errors: &mut E, rates: Rates) {
+    let mut room = [0; LONGEST];
+    let mut rest = room.as_mut_slice();
+    let _ = write!(rest, "{rates}");
+    let left = rest.len().min(LONGEST);
+    let _ = errors.write_all(&room[..LONGEST - left]);
 }

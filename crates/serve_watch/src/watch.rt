@@ -1,12 +1,14 @@
 //! What watches a run: it is asked about terminals, and told of the frames of each stream, of what clients
 //! do, and of leases.
+use crate::presence::Presence;
 use crate::trace::Doing;
 use lease::LeaseReport;
 
 /// A watch is asked about the terminals of a run, and told of its frames as they go by. It changes no byte of
 /// them. One that says nothing of its own sees no terminal, and is told nothing.
 ///
-/// Streams are numbered from 0: the one of `filter` is 0, and those of `serve` have the order of their words.
+/// Streams are numbered from 0: the one of `filter` is 0, and those of `serve` have the order of their words,
+/// with those of a control behind them, in the order of its lines.
 /// Each stream of `serve` is told of by its client's thread.
 pub trait Watch {
     /// Whether the input is a terminal, from which nothing comes before somebody types it.
@@ -26,6 +28,15 @@ pub trait Watch {
 
     /// Streams of these names begin. A stream that is alone has no name, and begins untold.
     fn begins(&self, _names: &[&str]) {}
+
+    /// A stream that is alone is waited for.
+    fn awaits_stream(&self) {}
+
+    /// One more stream begins, of this name and number, which lasts as long as this says.
+    fn joins(&self, _stream: usize, _name: &str, _presence: Presence) {}
+
+    /// The files of a stream are open, or it stopped before they were.
+    fn opened(&self, _stream: usize) {}
 
     /// One more frame of a stream has been read whole.
     fn frame_read(&self, _stream: usize) {}

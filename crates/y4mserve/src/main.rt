@@ -2,9 +2,12 @@
 #![tactic(auto)]
 
 mod host_files;
+mod scribe;
 mod terminals;
+mod told;
 
 ghost use Rattle.std.specs.Prelude.{◌≡◌, ◌≤◌};
+ghost use Rattle.std.specs.Thread.{IsSync};
 
 use host_files::HostFiles;
 use serve_files::Patient;
@@ -13,9 +16,10 @@ use std::alloc::AllocError;
 use std::io::{ErrorKind, Lock, Write};
 use std::process::ExitCode;
 use std::sync::Wait;
-use std::thread::{Builder, Threads};
+use std::thread::{self, Builder, Threads};
 use std::time::Clock;
 use terminals::Terminals;
+use told::{Answers, Errors};
 
 /// The bytes of the stack of the thread that does the work, four times what its deepest calls take. It is
 /// reserved whole when the thread is made. The first thread's own grows by pages, and one that is refused
@@ -42,20 +46,37 @@ fn run<T: Threads + Wait + Clock + Copy + Drop + Send + Sync + 'static>(
 {
     // `lock` of a standard stream holds no lock here, so that others may call it while this one lives.
     let input = Patient::new(system.stdin().lock(), *system);
-    let mut output = Patient::new(system.stdout().lock(), *system);
+    let output = Patient::new(system.stdout().lock(), *system);
     let mut errors = Patient::new(system.stderr().lock(), *system);
     let Ok(words) = own_words(system) else {
         return refuse(&mut errors);
     };
     let files = HostFiles::new(system);
-    let terminals = Terminals::new(system);
+    let terminals = &Terminals::new(rt, system);
+    let mut output = Answers::new(terminals, output);
+    let mut errors = Errors::new(terminals, errors);
     let host = Host {
         rt,
         alloc: system.alloc(),
         files: &files,
-        watch: Some(&terminals),
+        watch: Some(terminals),
     };
-    host.run(&words, input, &mut output, &mut errors)
+    thread::scope(
+        thread::scope_env(),
+        rt,
+        |scope| -> u8
+            requires { IsSync T.row }
+            ensures { result ≤ 2 }
+        {
+            if terminals.want_scribe() {
+                let writing = scope.spawn(move || terminals.write_on());
+                let _ = writing.is_ok();
+            }
+            let status = host.run(&words, input, &mut output, &mut errors);
+            terminals.end_writing();
+            status
+        },
+    )
 }
 
 /// Tells that there was no memory to begin with, and answers the program's status.

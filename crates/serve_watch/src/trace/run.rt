@@ -5,6 +5,7 @@ use super::record::Doing;
 use super::spool::Spool;
 use super::stream::StreamLane;
 use super::worker::WorkerLane;
+use crate::presence::Presence;
 use crate::watch::Watch;
 use lease::LeaseReport;
 use std::alloc::{AllocError, Global};
@@ -117,6 +118,24 @@ impl<'t, 'n, 'w, W: Write + Drop, V: Watch, T: Wait + Clock> Watch for Trace<'t,
         self.has_begun.store(true, Ordering::SeqCst);
         if let Some(inner) = self.inner {
             inner.begins(names);
+        }
+    }
+
+    fn awaits_stream(&self) {
+        if let Some(inner) = self.inner {
+            inner.awaits_stream();
+        }
+    }
+
+    fn joins(&self, stream: usize, name: &str, presence: Presence) {
+        if let Some(inner) = self.inner {
+            inner.joins(stream, name, presence);
+        }
+    }
+
+    fn opened(&self, stream: usize) {
+        if let Some(inner) = self.inner {
+            inner.opened(stream);
         }
     }
 

@@ -1,5 +1,5 @@
 use Rattle.std.proofs.Common.{◌≡◌, map, string_bytes, take}
-use Rattle.serve_watch.proofs.board.Board.new.Given as goal
+use Rattle.serve_watch.proofs.row.rows_of.Given as goal
 
 -- the rows so far have the names so far
 abbrev pub invariant-loop-name : goal.invariant-loop-name
