@@ -186,10 +186,12 @@ impl<'t, 'f, 'w, F, V: LentWatch, T: Threads> Host<'t, 'f, 'w, F, V, T> {
                 return fault.status();
             }
         };
+        let watch = self.watch_of_frames(asked.is_quiet);
         if !asked.is_quiet && self.watch.is_some_and(|watch| watch.input_is_terminal()) {
             tell(errors, &AWAITED);
+        } else if let Some(watch) = watch {
+            watch.awaits_stream();
         }
-        let watch = self.watch_of_frames(asked.is_quiet);
         let filtering = Filtering {
             rt: self.rt,
             alloc: self.alloc,

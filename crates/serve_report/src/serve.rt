@@ -363,7 +363,7 @@ pub fn refuse<E: Write>(errors: &mut E, fault: WordFault<'_>) -> u8
 
 /// Tells a watch which streams begin, and answers it. Where there is no memory for their names, none is told
 /// of the run.
-pub fn announce_streams<'w, V: Watch>(
+fn announce_streams<'w, V: Watch>(
     alloc: Global,
     streams: &[Asked<'_>],
     watch: Option<&'w V>,

@@ -116,10 +116,10 @@ where
     /// Takes the streams of the words. Those that aren't taken are told.
     pub fn enter_all(&mut self, streams: Vec<Asked<'_>>) -> Result<Vec<Errand>, AllocError> {
         let mut errands = Vec::with_capacity(self.alloc, streams.len())?;
-        for (stream, asked) in streams.into_iter().enumerate() {
+        for asked in streams {
             let input = self.files.place(asked.word.input);
             let output = self.files.place(asked.word.output);
-            if let Bidding::Open(errand) = self.enter(asked, input, output, Some(stream)) {
+            if let Bidding::Open(errand) = self.enter(asked, input, output, true) {
                 errands.push(errand)?;
             }
         }
@@ -231,7 +231,7 @@ where
             return Err(LineFault::BadFile);
         }
         match check_stream(self.alloc, word) {
-            Ok(asked) => Ok(self.enter(asked, input, output, None)),
+            Ok(asked) => Ok(self.enter(asked, input, output, false)),
             Err(LineFault::NoMemory) => Ok(self.refuse_stream(
                 word.name,
                 AdmitFault::NoMemory,
@@ -241,17 +241,15 @@ where
         }
     }
 
-    /// Takes a stream, if there is a place for it, and its share is left. It keeps that from here on. One of
-    /// the words has a place among those.
+    /// Takes a stream, if there is a place for it, and its share is left. It keeps that from here on.
     pub fn enter(
         &mut self,
         asked: Asked<'_>,
         input: Place,
         output: Place,
-        stream: Option<usize>,
+        is_of_words: bool,
     ) -> Bidding {
         let Asked { word, ops } = asked;
-        let is_of_words = stream.is_some();
         let number = self.asked;
         self.asked = self.asked.saturating_add(1);
         let Some((order, table_order)) = order_of(self.alloc, number, word, is_of_words) else {
@@ -264,7 +262,6 @@ where
         Bidding::Open(Errand {
             order,
             ops,
-            stream: stream.unwrap_or(usize::MAX),
             may_wait,
             is_prompt: !may_wait && !matches!(output, Place::Pipe(_)),
             output_may_wait: may_wait || !matches!(output, Place::File(_)),

@@ -124,6 +124,7 @@ where
         let entry = self.take_ended(ticket);
         self.lobby.changed.notify_all();
         if let Some(entry) = &entry {
+            entry.order.presence.end();
             if entry.has_untold_loss() {
                 voice.say(&Said::LostOutput(&entry.order.name));
             }

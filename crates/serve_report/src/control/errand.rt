@@ -11,8 +11,6 @@ use std::sync::Arc;
 pub struct Errand {
     pub order: Arc<Order, Global>,
     pub ops: Vec<Op>,
-    /// Its place among the streams that a watch is told of; past all of them where it isn't.
-    pub stream: usize,
     /// Whether a read of its input may wait. It may where nothing stands there yet.
     pub may_wait: bool,
     /// Whether its files are opened at once, since none is a FIFO.

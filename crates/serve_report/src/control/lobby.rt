@@ -74,6 +74,7 @@ impl<'o, R: Source + Drop, W: Sink + Drop, S: Drop, O: Write, E: Write> Lobby<'o
         let mut voice = self.voice.lock(rt);
         let entry = self.table.lock(rt).take(order.number);
         self.changed.notify_all();
+        order.presence.end();
         voice.say_stopped(&order.name, stop, order.is_of_words);
         self.told.notify_all();
         drop(voice);
@@ -132,6 +133,7 @@ impl<'o, R: Source + Drop, W: Sink + Drop, S: Drop, O: Write, E: Write> Lobby<'o
         self.changed.notify_all();
         if let Some(entry) = &entry {
             entry.order.close();
+            entry.order.presence.end();
             let stop = StreamStop::Admit(AdmitFault::NoMemory);
             voice.say_stopped(&entry.order.name, stop, entry.order.is_of_words);
             self.told.notify_all();

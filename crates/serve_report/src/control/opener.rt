@@ -85,22 +85,29 @@ where
 {
     /// Opens a stream: it waits to be served then, or it is told why it doesn't.
     pub fn open_errand(&self, errand: Errand) {
-        let Errand {
-            order,
-            ops,
-            stream,
-            ..
-        } = errand;
+        let Errand { order, ops, .. } = errand;
         let rt = self.host.rt;
+        let stream = order.number as usize;
+        self.show(&order, stream);
         let helpers = self.crew.take(rt, order.number);
         let asked = Asked {
             word: order.word(),
             ops,
         };
         let ready = self.open_files(&order, asked, helpers, stream);
+        if let Some(watch) = self.host.watch {
+            watch.opened(stream);
+        }
         match ready {
             Ok(ready) => self.lobby.make_ready(rt, &order, ready),
             Err(stop) => self.lobby.tell_stop(rt, &order, stop_of(&order, stop)),
+        }
+    }
+
+    /// Has the watch show a stream, until it is told what the stream came to.
+    fn show(&self, order: &Order, stream: usize) {
+        if let (Some(watch), Some(presence)) = (self.host.watch, order.presence.for_another()) {
+            watch.joins(stream, &order.name, presence);
         }
     }
 

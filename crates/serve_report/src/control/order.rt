@@ -2,6 +2,7 @@
 ghost use Rattle.std.specs.Prelude.{◌≡◌, IfOk, string_bytes};
 
 use serve_files::Reading;
+use serve_watch::Presence;
 use serve_words::StreamWord;
 use std::alloc::{AllocError, Global};
 use std::sync::atomic::{AtomicBool, Ordering};
@@ -20,6 +21,8 @@ pub struct Order {
     pub t: u64,
     /// Whether its input is being read by a thread of its own.
     pub reading: Reading,
+    /// Whether it isn't told yet what it came to.
+    pub presence: Presence,
     is_closed: AtomicBool,
     /// Whether a write to its output has failed.
     has_lost_output: AtomicBool,
@@ -49,6 +52,7 @@ impl Order {
             q: word.q,
             t: word.t,
             reading: Reading::new(alloc)?,
+            presence: Presence::new(alloc)?,
             is_closed: AtomicBool::new(false),
             has_lost_output: AtomicBool::new(false),
         })

@@ -13,13 +13,12 @@ use super::threads::{Hearing, Openers};
 use super::voice::Voice;
 use crate::bounds::SentReader;
 use crate::host::Host;
-use crate::serve::{RunClock, RunFault, announce_streams};
+use crate::serve::{RunClock, RunFault};
 use crate::session::{Form, Session};
 use serve_files::Files;
 use serve_watch::Watch;
-use serve_words::{Asked, Checked};
+use serve_words::Checked;
 use serve_work::SessionFault;
-use std::alloc::Global;
 use std::io::{Read, Write};
 use std::sync::Wait;
 use std::sync::atomic::AtomicBool;
@@ -59,11 +58,12 @@ where
         requires { IsForm agenda.checked.workers agenda.checked.quantum }
         ensures { result ≤ 1 }
     {
-        let watch = announce_some(self.alloc, &agenda.checked.streams, self.watch);
-        let status = self
-            .with_watch(watch)
-            .serve_control(agenda, clock, output, errors);
-        if let Some(watch) = watch {
+        // Each stream joins as it is opened.
+        if let Some(watch) = self.watch {
+            watch.begins(&[]);
+        }
+        let status = self.serve_control(agenda, clock, output, errors);
+        if let Some(watch) = self.watch {
             watch.ends();
         }
         status
@@ -191,16 +191,4 @@ fn form_of(checked: &Checked<'_>) -> Form
         quantum: checked.quantum,
         journal: checked.journal.max(FEWEST_ENTRIES),
     }
-}
-
-/// Tells a watch which streams begin, and answers it, where some do.
-fn announce_some<'w, V: Watch>(
-    alloc: Global,
-    streams: &[Asked<'_>],
-    watch: Option<&'w V>,
-) -> Option<&'w V> {
-    if streams.is_empty() {
-        return None;
-    }
-    announce_streams(alloc, streams, watch)
 }

@@ -173,6 +173,9 @@ where
         let name = asked.word.name;
         let mut files = StreamFiles::new(self.files);
         let ready = self.open_stream(asked, height, &mut files, stream);
+        if let Some(watch) = self.watch {
+            watch.opened(stream);
+        }
         Tried {
             name,
             opened: files.opened,
