@@ -59,8 +59,8 @@ impl Backlog {
         say(&mut self.held, said)
     }
 
-    /// Whether there is room for all that comes behind one more line, where it was asked so many times how the
-    /// streams stand and isn't told yet.
+    /// Whether there is room for all that comes behind one more line, where it was asked so many times how
+    /// the streams stand and isn't told yet.
     pub fn has_room(&self, states: u64) -> bool
         ensures { IsTrue result → (length self.now + UNASKED + (states + 1) * STATE ≤ ROOM) }
     {

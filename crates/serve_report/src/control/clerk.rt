@@ -126,8 +126,8 @@ where
         Ok(errands)
     }
 
-    /// Waits for the next line, and does what it asks for. None is read before there is room for its answer. A
-    /// line of which a part was read when the run was over is none.
+    /// Waits for the next line, and does what it asks for. None is read before there is room for its answer.
+    /// One of which only a part was read when the run was over is none.
     pub fn take_next<I: Read>(&mut self, feed: &mut Feed<I>) -> Bidding {
         self.lobby.await_room(self.rt);
         match feed.next() {

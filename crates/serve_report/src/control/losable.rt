@@ -1,4 +1,6 @@
 //! A sink whose stream is told where it was lost.
+ghost use Rattle.std.specs.Prelude.{◌≡◌};
+
 use super::order::Order;
 use std::alloc::Global;
 use std::io;

@@ -281,7 +281,7 @@ impl<R: Source + Drop, W: Sink + Drop, S: Drop> Table<R, W, S> {
         entry
     }
 
-    /// The clock of the workers has gone on to a moment: the shares that are free at it are free from here on.
+    /// The clock of the workers has gone on to a moment: the shares that are free at it are so from here on.
     pub fn goes_on(&mut self, at: u64)
         ensures holders { self.new.holders.all.items ≡ self.old.holders.all.items }
         ensures moment { self.new.holders.moment ≡ at }

@@ -87,8 +87,7 @@ where
                     × L.IsAlwaysCallable openers.now.prepares × P.IsAlwaysCallable openers.now.opens
                     × D.IsAlwaysCallable openers.now.dismisses × G.IsAlwaysCallable openers.now.gives_up }
             {
-                let writing = scope.spawn(move || self.write_on(rt, alloc));
-                let _ = writing.is_ok();
+                let _is_written = scope.spawn(move || self.write_on(rt, alloc)).is_ok();
                 let listening = scope.spawn(
                     move ||
                         requires { L.IsAlwaysCallable openers.now.prepares

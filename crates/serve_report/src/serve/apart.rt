@@ -153,7 +153,7 @@ pub fn tell_control_apart<'a, F: Files>(
     Ok(())
 }
 
-/// Refuses the file of a trace that is the report's, or one of a stream, or to which faults go: it is written.
+/// Refuses the file of a trace that is the report's, or one of a stream, or where faults go: it is written.
 pub fn tell_trace_apart<'a, F: Files>(
     alloc: Global,
     files: &F,
