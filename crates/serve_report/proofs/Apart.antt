@@ -1,6 +1,6 @@
 -- Files that are told apart, one after the other.
 use Rattle.std.proofs.Common.{◌≡◌, ℕ, ◌+◌, ◌<◌, List, [], ◌∷◌, ◌++◌, length, get_or, take, drop, All, AllPairs, Any}
-use Rattle.std.proofs.Common.{◌∙◌, add-one, ap, arith, codes, drop-cons, subst, sym, true}
+use Rattle.std.proofs.Common.{◌∙◌, add-one, ap, codes, drop-cons, subst, sym, true}
 use Rattle.std.proofs.lemmas.List.{get_or_default, take-append-drop, take_more}
 use Rattle.std.proofs.lemmas.List.Quantifiers.{all_pairs_push}
 use Rattle.serve_report.specs.Apart.{AreErrorsApart, AreUses, Clash, IsApart, IsFirstClash, OfPlace, name_used}
@@ -25,12 +25,6 @@ module _ (uses : List FileUse) (i : ℕ) (d : FileUse) (less : i < length uses) 
     apart = apart;
     clash = clash;
   }
-
-module _ (PlaceGives : OfPlace) (streams : List StreamAsked) where
-  -- the report's file is there
-  pub some_uses : (uses : List FileUse) → AreUses PlaceGives streams uses → 0 < length uses
-  some_uses [] are = let same = are.names in cc
-  some_uses (report ∷ uses) are = omega arith
 
 -- what clashes with none is apart from each
 pub apart_from_all : (uses : List FileUse) (found : FileUse) → (Any (λ one. Clash one found) uses → ⊥)

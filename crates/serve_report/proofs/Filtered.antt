@@ -2,7 +2,7 @@
 use Rattle.std.proofs.Common.{ℕ, List, Option, Result, Ok, Err, IsOk, arith, inl, inr, refl}
 use Rattle.filters.specs.declared.op.Op.{Op}
 use Rattle.row_bands.specs.declared.band_height.BandHeight.{BandHeight}
-use Rattle.y4m_stream.specs.Filtered.{Ends, IsFiltered, IsFilteredAhead, IsLineAhead, Progress, StopsAt}
+use Rattle.y4m_stream.specs.Filtered.{Ends, IsFiltered, IsLineAhead, Progress, StopsAt}
 use Rattle.y4m_stream.specs.Front.{IsFrameAhead}
 use Rattle.y4m_stream.specs.declared.fault.FilterFault.{FilterFault}
 use Rattle.y4m_stream.specs.declared.fault.FilterFault.TheVariants.{Read, Ops, Write, TooManyFrames}

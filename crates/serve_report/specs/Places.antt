@@ -3,6 +3,8 @@ use Rattle.std.specs.Prelude.{ℕ, ◌+◌, ◌≡◌, Bool, true, false, nat_eq
 use Rattle.std.specs.Prelude.{None, slice_index_or}
 use Rattle.std.specs.Arc.{arc_value}
 use Rattle.std.specs.List.{list_all, list_any}
+use Rattle.y4m_stream.specs.declared.device.Sink as sinks
+use Rattle.y4m_stream.specs.declared.device.Source as sources
 use Rattle.serve_report.specs.Holdings.{is_free_since}
 use Rattle.serve_report.specs.declared.control.entry.Entry.{Entry}
 use Rattle.serve_report.specs.declared.control.entry.Stage.{Stage}
@@ -24,32 +26,33 @@ is_beside holders left = not (list_any (λ holder. is_of holder left.number) hol
 abbrev pub places_taken : (entries : ℕ) → List Holder → List Left → ℕ
 places_taken entries holders inputs = entries + length holders + length (filter (is_beside holders) inputs)
 
-module _ {R W : Type 0} where
+module _ {R W : Type 0} {source : sources.Ghosts R} {sink : sinks.Ghosts W} where
   -- whether a stream is served under this ticket
-  abbrev pub is_under : ℕ → Stage R W → Bool
+  abbrev pub is_under : ℕ → Stage R W source sink → Bool
   is_under ticket (stages.Served one) = nat_eq one ticket
   is_under ticket stage = false
 
   -- whether it waits to be served
-  abbrev pub is_ready : Stage R W → Bool
+  abbrev pub is_ready : Stage R W source sink → Bool
   is_ready (stages.Ready ready) = true
   is_ready stage = false
 
   -- whether it is served
-  abbrev pub is_served : Stage R W → Bool
+  abbrev pub is_served : Stage R W source sink → Bool
   is_served (stages.Served ticket) = true
   is_served stage = false
 
-module _ {R W S : Type 0} where
+module _ {R W S : Type 0} {source : sources.Ghosts R} {sink : sinks.Ghosts W} where
   -- whether it is served next, if the first such is: it waits to be, and no share of those is held any more
   -- that was free when its own was taken
-  abbrev pub is_next : (holders : List Holder) (freed : ℕ) → Entry R W S → Bool
+  abbrev pub is_next : (holders : List Holder) (freed : ℕ) → Entry R W S source sink → Bool
   is_next holders freed entry =
       is_ready entry.stage && list_all (is_free_since freed entry.share.since) holders
 
   -- the one at this place is taken out, and nothing is held open for it any more
-  pub record IsTakenOut (place : ℕ) (old new : List (Entry R W S)) (taken : Entry R W S) : Type 0 where
-    pub entry : Entry R W S
+  pub record IsTakenOut (place : ℕ) (old new : List (Entry R W S source sink))
+      (taken : Entry R W S source sink) : Type 0 where
+    pub entry : Entry R W S source sink
     pub stood : entry ≡ slice_index_or old place entry
     pub is : taken ≡ record entry { held = None }
     pub left : new ≡ remove old place

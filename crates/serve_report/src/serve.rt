@@ -9,8 +9,7 @@ ghost use Rattle.serve_report.specs.Openings.{openings_of};
 ghost use Rattle.serve_words.specs.ServeChecks.{all_told};
 ghost use Rattle.serve_work.specs.Sessions.{AreInputs, starts_of};
 
-pub use self::apart::FileUse;
-pub use self::apart::errors_of;
+pub use self::apart::{FileUse, errors_of};
 use self::apart::{tell_control_apart, tell_files_apart, tell_trace_apart};
 pub use self::clock::Counter;
 pub use self::gate::PlainGate;

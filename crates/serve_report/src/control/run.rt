@@ -166,7 +166,7 @@ where
         let Agenda { checked, lines } = agenda;
         let Session { rt, alloc, .. } = session;
         let is_over = AtomicBool::new(false);
-        let mut clerk = Clerk::new(session, files, self, &lines, &is_over);
+        let mut clerk = Clerk::new(session, files, &*self, &lines, &is_over);
         let Ok(first) = clerk.enter_all(checked.streams) else {
             self.fail(rt, SessionFault::NoMemory);
             return;

@@ -1,7 +1,7 @@
 //! Answers that nobody takes.
+use super::Talk;
 use super::script::{AWAITED, Turn};
 use super::waiting::{ASK, waits};
-use super::Talk;
 use crate::program::serving::{A, A_INVERTED};
 
 /// None is taken until all frames of the stream were read.

@@ -98,10 +98,7 @@ const REFUSED: &[(&str, Places, &str, u8)] = &[
     // Faults go to a file of the words.
     (
         "serve a:i:log:1:2:invert",
-        &[
-            ("/dev/stderr", Place::File(ONE)),
-            ("log", Place::File(ONE)),
-        ],
+        &[("/dev/stderr", Place::File(ONE)), ("log", Place::File(ONE))],
         "repeated file log",
         2,
     ),
@@ -116,19 +113,13 @@ const REFUSED: &[(&str, Places, &str, u8)] = &[
     ),
     (
         "serve --trace log a:i:o:1:2:invert",
-        &[
-            ("/dev/stderr", Place::File(ONE)),
-            ("log", Place::File(ONE)),
-        ],
+        &[("/dev/stderr", Place::File(ONE)), ("log", Place::File(ONE))],
         "repeated file log",
         2,
     ),
     (
         "serve --control log",
-        &[
-            ("/dev/stderr", Place::File(ONE)),
-            ("log", Place::File(ONE)),
-        ],
+        &[("/dev/stderr", Place::File(ONE)), ("log", Place::File(ONE))],
         "repeated file log",
         2,
     ),

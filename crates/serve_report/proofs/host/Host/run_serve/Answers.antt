@@ -21,3 +21,6 @@ returns-clause-well g c = λ well none. record {
   errors_apart = rw c.deref.ensures.value at c.in_default.ensures.errors;
   reported = rw (c.tell_traced.ensures.well well) at c.serve_traced.ensures;
 }
+
+pub serve_traced-requires-clause-apart : goal.serve_traced-requires-clause-apart
+serve_traced-requires-clause-apart g c κs within = rw c.deref.ensures.value at c.in_default.ensures.apart
