@@ -227,6 +227,23 @@ fn the_line_of_a_stream_that_is_over_goes(rt: HostRuntime) {
 }
 
 #[test]
+fn what_else_is_written_stands_where_lines_were_cleared(rt: HostRuntime) {
+    let board = board_of(&rt, rt.alloc(), &["a", "b"]);
+    let mut screen = Room::endless(rt.alloc());
+    board.clear(&mut screen);
+    shows(&rt, &mut screen, "", 0);
+    let text = "\x1B[?7la frames in 0 out 0\x1B[K\nb frames in 0 out 0\x1B[K\n\x1B[J\x1B[?7h";
+    board.draw(&rt, &mut screen, 200);
+    shows(&rt, &mut screen, text, 1);
+    board.clear(&mut screen);
+    shows(&rt, &mut screen, "\x1B[2A\x1B[J", 1);
+    board.clear(&mut screen);
+    shows(&rt, &mut screen, "", 0);
+    board.draw(&rt, &mut screen, 400);
+    shows(&rt, &mut screen, text, 1);
+}
+
+#[test]
 fn lines_are_drawn_below_what_else_was_written(rt: HostRuntime) {
     let board = board_of(&rt, rt.alloc(), &["a"]);
     let mut screen = Room::endless(rt.alloc());
@@ -234,6 +251,8 @@ fn lines_are_drawn_below_what_else_was_written(rt: HostRuntime) {
     board.draw(&rt, &mut screen, 200);
     shows(&rt, &mut screen, text, 1);
     board.leave();
+    board.clear(&mut screen);
+    shows(&rt, &mut screen, "", 0);
     board.draw(&rt, &mut screen, 400);
     shows(&rt, &mut screen, text, 1);
 }

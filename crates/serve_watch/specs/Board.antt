@@ -1,5 +1,5 @@
 -- The lines that show how far the streams of a run have come.
-use Rattle.std.specs.Prelude.{ℕ, suc, List, [], ◌++◌, codes, decimal, if◌then◌else◌, length}
+use Rattle.std.specs.Prelude.{ℕ, List, [], ◌++◌, codes, decimal, if◌then◌else◌, nat_lt}
 use Rattle.std.specs.List.{flat_map}
 use Rattle.serve_watch.specs.declared.row.StreamProgress.{StreamProgress}
 use Rattle.serve_watch.specs.Terminal.{cleared, cleared_below, unwrapped, up, wrapped}
@@ -20,8 +20,11 @@ lines_drawn streams = flat_map line_drawn streams
 
 -- to the first of so many lines above
 abbrev pub over : ℕ → List ℕ
-over zero = []
-over (suc lines) = up (suc lines)
+over lines = if nat_lt 0 lines then up lines else []
+
+-- nothing stands where so many lines were drawn
+abbrev pub clearing_text : ℕ → List ℕ
+clearing_text lines = over lines ++ cleared_below
 
 -- a line for each stream, none of which wraps, over those that were drawn before
 abbrev pub drawing_text : ℕ → List StreamProgress → List ℕ

@@ -2,7 +2,7 @@
 //! over the one before. Times are milliseconds from the start of the run.
 ghost use Rattle.std.specs.Prelude.{◌≤◌, ◌+◌, ◌↔◌, IsTrue, OnOk, unwrap_or};
 ghost use Rattle.std.specs.Io.KnownBytes.{Appends};
-ghost use Rattle.serve_watch.specs.Board.{drawing_text, line_drawn, lines_drawn};
+ghost use Rattle.serve_watch.specs.Board.{clearing_text, drawing_text, line_drawn, lines_drawn, over};
 
 use crate::due::has_passed;
 use crate::presence::Presence;
@@ -34,11 +34,28 @@ fn write_drawing<W: Write>(
         (Appends (W.contents output.old) (W.contents output.new) (drawing_text before streams.now)) }
 {
     write!(output, "\x1B[?7l")?;
+    write_over(output, before)?;
+    write_lines(output, streams)?;
+    write!(output, "\x1B[J\x1B[?7h")
+}
+
+/// Goes back over the lines that were drawn before.
+fn write_over<W: Write>(output: &mut W, before: usize) -> io::Result<()>
+    ensures { OnOk result (Appends (W.contents output.old) (W.contents output.new) (over before)) }
+{
     if before > 0 {
         write!(output, "\x1B[{before}A")?;
     }
-    write_lines(output, streams)?;
-    write!(output, "\x1B[J\x1B[?7h")
+    Ok(())
+}
+
+/// Clears the lines that were drawn, so that something else may stand there.
+fn write_clearing<W: Write>(output: &mut W, before: usize) -> io::Result<()>
+    ensures { OnOk result
+        (Appends (W.contents output.old) (W.contents output.new) (clearing_text before)) }
+{
+    write_over(output, before)?;
+    write!(output, "\x1B[J")
 }
 
 /// Writes a line for each stream.
@@ -161,7 +178,24 @@ impl Board {
         }
     }
 
-    /// Something else was written behind the latest drawing, so that the next one stands over none.
+    /// Clears the lines that stand there, unless another thread is drawing them, so that something else may be
+    /// written in their place.
+    pub fn clear<E: Write>(&self, errors: &mut E) {
+        let Some(mut shown) = self.shown.try_lock() else {
+            return;
+        };
+        if self.is_left.load(Ordering::SeqCst) {
+            return;
+        }
+        if let Some(drawing) = shown.latest.take() {
+            let mut text = Vec::new(self.alloc);
+            if write_clearing(&mut text, drawing.lines).is_ok() {
+                let _ = errors.write_all(&text);
+            }
+        }
+    }
+
+    /// Something else was written, maybe behind the latest drawing, so that the next one stands over none.
     pub fn leave(&self) {
         self.is_left.store(true, Ordering::SeqCst);
     }

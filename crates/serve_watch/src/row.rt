@@ -1,5 +1,5 @@
 //! The row of a stream on a board.
-ghost use Rattle.std.specs.Prelude.{◌≡◌, ◌≤◌, ◌+◌, ◌×◌, ◌↔◌, IfOk, IsTrue, map, string_bytes};
+ghost use Rattle.std.specs.Prelude.{◌≡◌, ◌≤◌, ◌+◌, ◌↔◌, IfOk, IsTrue, false, map, string_bytes};
 
 use crate::due::has_passed;
 use crate::presence::Presence;

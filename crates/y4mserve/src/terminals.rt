@@ -106,9 +106,16 @@ impl<'a, T: Wait + Clock> Terminals<'a, T> {
         if text.is_empty() {
             return;
         }
-        self.leave();
+        self.clear();
         let mut errors = Patient::new(self.system.stderr().lock(), *self.system);
         let _ = errors.write_all(text);
+    }
+
+    /// Clears what is shown, so that something else may be written in its place.
+    pub fn clear(&self) {
+        if let Some(board) = self.board.get() {
+            board.clear(&mut self.system.stderr().lock());
+        }
     }
 
     /// Has what is shown drawn anew from where the cursor stands, since something else was written.

@@ -25,23 +25,21 @@ impl<'t, 'a, T: Wait + Clock, W> Answers<'t, 'a, T, W> {
             output,
         }
     }
-
-    /// Has what is shown drawn below what is written, where that goes to a terminal.
-    fn leave_shown(&self) {
-        if self.is_terminal {
-            self.terminals.leave();
-        }
-    }
 }
 
 impl<'t, 'a, T: Wait + Clock, W: Write> Write for Answers<'t, 'a, T, W> {
     ghost contents = { λ answers. W.contents answers.output };
 
-    /// Something may be drawn while it is written, and then stands above it or below.
+    /// On a terminal it stands in the place of what was drawn, which is drawn below it then. Something may be
+    /// drawn while it is written, and stays.
     fn write(&mut self, buf: &[u8]) -> io::Result<usize> {
-        self.leave_shown();
+        if self.is_terminal {
+            self.terminals.clear();
+        }
         let answer = self.output.write(buf);
-        self.leave_shown();
+        if self.is_terminal {
+            self.terminals.leave();
+        }
         answer
     }
 
