@@ -42,7 +42,7 @@ fn closes<'f, R: Abort + Threads + Wait + Clock + Copy + Drop + Send + Sync + 's
     waits(rt, alloc, "", &came, Some(written), talk);
 }
 
-/// The last image doesn't fit into the output, which is told before or behind the line.
+/// The last image doesn't fit into the output, as is seen before the stream is closed.
 #[test]
 fn a_failed_write_is_not_told_as_a_close(rt: HostRuntime) {
     let turns: [Turn<'_>; 4] = [
@@ -55,7 +55,7 @@ fn a_failed_write_is_not_told_as_a_close(rt: HostRuntime) {
     let answers = shared_answers(&rt, rt.alloc(), usize::MAX);
     let came = [("", A), ("AlreadyClosed", b"FRAME\n".as_slice())];
     let wanted = "a admitted\nline 3: AlreadyClosed 'close a'\na lost its output\n\
-                  a accepted 3 delivered 2 charged 3 stop read Device\nunits 3\n";
+                  a accepted 3 delivered 2 charged 3 stop write 49\nunits 3\n";
     let later: [Later<'_>; 1] = [("a.in", "", &came)];
     let talk = Talk {
         is_ordered: false,
