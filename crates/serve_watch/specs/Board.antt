@@ -9,7 +9,8 @@ abbrev pub progress_text : StreamProgress → List ℕ
 progress_text stream =
     if stream.is_awaited
     then codes "waiting for " ++ stream.name.now
-    else stream.name.now ++ codes " frames in " ++ decimal stream.read ++ codes " out " ++ decimal stream.written
+    else stream.name.now ++ codes " frames in " ++ decimal stream.read ++ codes " out "
+    ++ decimal stream.written
 
 -- the line of a stream
 abbrev pub line_drawn : StreamProgress → List ℕ

@@ -168,18 +168,19 @@ impl Board {
         }
     }
 
-    /// Draws the lines a last time, where they were drawn before.
+    /// Draws the lines a last time, where they were drawn before. They stay there.
     pub fn draw_last<T: Wait, E: Write>(&self, rt: &T, errors: &mut E, time: u64) {
         let Some(mut shown) = self.shown.try_lock() else {
             return;
         };
         if shown.latest.is_some() {
             let _ = self.show(rt, errors, &mut shown, time);
+            shown.latest = None;
         }
     }
 
-    /// Clears the lines that stand there, unless another thread is drawing them, so that something else may be
-    /// written in their place.
+    /// Clears the lines that stand there, unless another thread is drawing them, so that something else may
+    /// stand in their place.
     pub fn clear<E: Write>(&self, errors: &mut E) {
         let Some(mut shown) = self.shown.try_lock() else {
             return;

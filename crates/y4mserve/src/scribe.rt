@@ -1,4 +1,5 @@
 //! What a thread writes on the error stream beside those that serve: it draws, and writes what is told.
+ghost use Rattle.std.specs.Prelude.{◌≤◌, IfSome, length};
 
 use std::alloc::{AllocError, Global};
 use std::mem;
@@ -54,7 +55,9 @@ impl Desk {
     }
 
     /// Takes as much of a text as there is room for, and answers how much that is. None where there is none.
-    fn take(&mut self, text: &[u8]) -> Option<usize> {
+    fn take(&mut self, text: &[u8]) -> Option<usize>
+        ensures { IfSome result (λ taken. taken ≤ length text.now) }
+    {
         let room = ROOM.saturating_sub(self.text.len());
         let taken = text.len().min(room);
         self.text.extend_from_slice(&text[..taken]).ok()?;
@@ -127,7 +130,9 @@ impl Scribe {
 
     /// Has the thread that writes write a text, or the first part of it, and answers how long that is. None
     /// where no thread of its own writes.
-    pub fn tell<T: Wait>(&self, rt: &T, text: &[u8]) -> Option<usize> {
+    pub fn tell<T: Wait>(&self, rt: &T, text: &[u8]) -> Option<usize>
+        ensures { IfSome result (λ taken. taken ≤ length text.now) }
+    {
         let desk = self.desk.lock(rt);
         let mut desk = self.changed.wait_while(rt, desk, |desk| desk.is_full());
         if !desk.pen.is_held() {

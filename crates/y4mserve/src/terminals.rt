@@ -1,4 +1,6 @@
 //! The terminals that the program's streams may be, and what the error stream's shows of a run.
+ghost use Rattle.std.specs.Prelude.{◌≤◌, IfSome, length};
+
 use crate::scribe::{ROOM, Scribe};
 use serve_files::Patient;
 use serve_watch::{Board, Line, Presence, Watch};
@@ -127,7 +129,9 @@ impl<'a, T: Wait + Clock> Terminals<'a, T> {
 
     /// Has the thread that writes on the error stream write a text, or its first part, and answers how long
     /// that is. None where there is none.
-    pub fn tell(&self, text: &[u8]) -> Option<usize> {
+    pub fn tell(&self, text: &[u8]) -> Option<usize>
+        ensures { IfSome result (λ taken. taken ≤ length text.now) }
+    {
         self.scribe.as_ref()?.tell(self.rt, text)
     }
 
