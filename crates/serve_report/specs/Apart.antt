@@ -16,11 +16,12 @@ abbrev pub HasWriter : FileUse → FileUse → Type 0
 HasWriter one other = IsTrue (one.is_written || other.is_written)
 
 -- two that clash: of one FIFO, or of one file that one of them writes; one that is missing is known by its
--- name
+-- name, whatever was found at the other
 abbrev pub ClashAt : (one other : FileUse) → Place → Place → Type 0
 ClashAt one other (places.File id) (places.File id') = (id ≡ id') × HasWriter one other
 ClashAt one other (places.Pipe id) (places.Pipe id') = id ≡ id'
-ClashAt one other places.Missing places.Missing = (one.name.now ≡ other.name.now) × HasWriter one other
+ClashAt one other places.Missing place' = (one.name.now ≡ other.name.now) × HasWriter one other
+ClashAt one other place places.Missing = (one.name.now ≡ other.name.now) × HasWriter one other
 ClashAt one other place place' = ⊥
 
 abbrev pub Clash : FileUse → FileUse → Type 0

@@ -60,7 +60,7 @@ impl<'a> FileUse<'a> {
         match (self.place, other.place) {
             (Place::File(one), Place::File(other)) => one == other && is_written,
             (Place::Pipe(one), Place::Pipe(other)) => one == other,
-            (Place::Missing, Place::Missing) => self.name == other.name && is_written,
+            (Place::Missing, _) | (_, Place::Missing) => self.name == other.name && is_written,
             _ => false,
         }
     }
