@@ -16,7 +16,7 @@ pub const PAGE: &str = "Examples:
 Status:
   0  All went well.
   1  A fault of a stream or of the script, a stop of 'serve' that is not whole
-     or closed, or no memory.
+     or closed, but of a stream that a line of FILE asked for, or no memory.
   2  Wrong words, or a stream that would go to a terminal.
 A pipe has the status of its last program, but with 'set -o pipefail' that of
 one that failed.
@@ -389,13 +389,17 @@ its own line where it isn't. A wrong line changes nothing, and is told by
 'line N: FAULT' and, between apostrophes, its first 60 bytes; there \\xHH stands
 for an apostrophe, a backslash, and what is no printable ASCII.
 Behind 'state' each stream has a line, 'NAME accepted A finished F collected K
-charged U budget C deadline E' or, until it is served, 'NAME opening'. One that
-ended and still holds its share has 'NAME held Q:T until M'. Then 'shares S of
-W' has the shares that are kept of all that there are, in millionths of a
-worker. The last, 'now M streams N', has the moment and how many are served.
+charged U budget C deadline E' or, until it is served, 'NAME opening'. That of
+one whose write failed ends in 'lost its output'; 'NAME lost its output' is told
+once when that happens. One that ended and still holds its share has 'NAME held
+Q:T until M'. Then 'shares S of W' has the shares that are kept of all that
+there are, in millionths of a worker. The last, 'now M streams N', has the
+moment and how many are served.
 
-Where standard error is a terminal, a line for each stream of the words shows
-there how far it has come, at most five times a second: 'NAME frames in I out O'.
+Where standard error is a terminal, a line for each stream shows there how far
+it has come, at most five times a second: 'NAME frames in I out O', or after a
+second 'waiting for NAME' until its files are open. With --control it goes when
+it is told what its stream came to.
 
 Stops, the ends of these lines:
   whole          All frames were read, and all images written.
