@@ -417,7 +417,8 @@ Stops, the ends of these lines:
                  to go on with when the journal was full.
   torn           An answer of the server contradicts the stream's own count.
   closed         It was closed, and the images of all that was read are
-                 written. Where one is missing, 'read Device' is told.
+                 written. Where one is missing, 'write N' or 'read Device'
+                 is told.
   admit E        It isn't served: E is TooManyStreams, BadLimits, BadBandwidth,
                  Overload or NoMemory.
 
