@@ -202,7 +202,7 @@ class Model:
             may.add("NoStream")
         if any(not one.is_left(line.given) for one in named):
             may.add(None)
-            if any(other.kind == "close" and other.name == line.name for other in self.lines[:line.place]):
+            if any(other.kind == "stop" or (other.kind == "close" and other.name == line.name) for other in self.lines[:line.place]):
                 may.add("AlreadyClosed")
         return may
 
