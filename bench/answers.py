@@ -8,7 +8,7 @@ import re
 WHOLE = 1000000
 MOST_STREAMS = 64
 LONGEST = 1024
-WRONG = re.compile(rb"line (\d+): (\w+)(?: '(.*)')?")
+WRONG = re.compile(rb"line (\d+): (\w+) '(.*)'")
 ROW = re.compile(rb"([\w-]+) accepted (\d+) delivered (\d+) charged (\d+) stop (.+)")
 STANDS = re.compile(rb"([\w-]+) accepted (\d+) finished (\d+) collected (\d+) charged (\d+) budget (\d+) deadline (\d+)( lost its output)?")
 HELD = re.compile(rb"([\w-]+) held (\d+):(\d+) until (\d+)")
@@ -23,22 +23,6 @@ class Wrong(Exception):
 def check(holds, said):
     if not holds:
         raise Wrong(said)
-
-
-class Language:
-    """Of what may be said in several ways, which way the program has: whether a fault says its line again, whether there is `stop`, and whether the
-    status tells of the streams of the words alone."""
-
-    def __init__(self, echoes, has_stop, counts_words_alone):
-        self.echoes, self.has_stop, self.counts_words_alone = echoes, has_stop, counts_words_alone
-
-    @classmethod
-    def of(cls, try_lines):
-        """By what is answered to some lines, and the status."""
-        said, _ = try_lines(b"bad\nend\n")
-        stops, _ = try_lines(b"stop\n")
-        _, status = try_lines(b"a:absent:a.out:1:9:invert\nend\n")
-        return cls(b"'bad'" in said, b"BadLine" not in stops, status == 0)
 
 
 def echo(line):
@@ -81,10 +65,9 @@ class Stream(Line):
 class Model:
     """Takes lines as they are given and answers as they come."""
 
-    def __init__(self, language, workers, reads_on, tell_end):
-        """`reads_on` tells whether lines behind the end are read where the language has `stop`: until the last stream is over."""
-        self.language, self.whole, self.tell_end = language, workers * WHOLE, tell_end
-        self.reads_on = reads_on and language.has_stop
+    def __init__(self, workers, reads_on, tell_end):
+        """`reads_on` tells whether lines behind the end are read: until the last stream is over."""
+        self.whole, self.reads_on, self.tell_end = workers * WHOLE, reads_on, tell_end
         self.lines, self.numbered, self.streams, self.answers, self.now = [], {}, [], [], 0
         self.told_units, self.is_well = 0, True
         self.last_wrong, self.asked, self.shown, self.block, self.units, self.ended = 0, [], 0, None, None, None
@@ -168,7 +151,7 @@ class Model:
         self.last_wrong, line.answer = number, at
         if isinstance(line, Stream):
             line.is_taken = False
-        check((text is not None) == self.language.echoes and text in (None, echo(line.text)), f"line {number} is told as {text!r}")
+        check(text == echo(line.text), f"line {number} is told as {text!r}")
         check(fault in self.faults(line, at), f"line {number} is told as {fault}, and {line.text[:200]!r} may be {self.faults(line, at)}")
 
     def faults(self, line, at):
@@ -314,9 +297,9 @@ class Model:
     # the end
 
     def wells(self):
-        """Whether each stream that counts for the status came to a good end."""
-        counted = [one for one in self.streams if one.row is not None and (one.number == 0 or not self.language.counts_words_alone)]
-        return self.is_well and all(one.row[3] in ("whole", "closed") for one in counted)
+        """Whether each stream of the words came to a good end; one of a line counts not for the status."""
+        of_words = [one for one in self.streams if one.row is not None and one.number == 0]
+        return self.is_well and all(one.row[3] in ("whole", "closed") for one in of_words)
 
     def told(self):
         """The units of all rows."""
