@@ -28,7 +28,7 @@ def leases():
 def drawn():
     first, served = leases()
     total = sum(units for _, units, _ in served)
-    picture = d.Picture(446, "Two deadlines that move: the earliest one is served")
+    picture = d.Picture(446, "Two deadlines that move: the earliest one is served", [SAID])
     for number, line in enumerate(d.lines_within(SAID, d.WIDTH - 60, 12)):
         picture.text(20, 52 + 16 * number, line, "soft")
 

@@ -46,10 +46,10 @@ LEFT, WAY, RIGHT, SAID, TOP, FLOOR, STEP = 20, 150, 446, 462, 112, 40, 18
 
 
 def crates():
-    """The crates from the roof down, without those that hold tests."""
+    """The crates from the roof down, without those that hold tests or an example."""
     with open(os.path.join(s.TOP, "crates.txt")) as file:
         names = re.findall(r"^(\w+)[^:]*:", file.read(), re.M)
-    floors = [name for name in reversed(names) if not name.endswith("_tests") and name != "test_tools"]
+    floors = [name for name in reversed(names) if not name.endswith("_tests") and name not in ("test_tools", "example_filter")]
     with open(os.path.join(s.TOP, "docs", "PROOFS.md")) as page:
         told = re.findall(r"^### (\w+)$", page.read(), re.M)
     for name in floors:
@@ -62,7 +62,8 @@ def crates():
 
 def drawn():
     floors = crates()
-    picture = d.Picture(TOP + FLOOR * len(floors) + 120, "The crates, the way of a frame through them, and what is proved of each")
+    picture = d.Picture(TOP + FLOOR * len(floors) + 120, "The crates, the way of a frame through them, and what is proved of each",
+                        [f"{name}: {FLOORS[name][1]}" for name in floors])
     picture.text(SAID, 60, "Want of memory aside, and in short words:", "soft", 11.5)
     picture.text(SAID, 75, "docs/PROOFS.md says which contract.", "soft", 11.5)
     heights = {name: TOP + FLOOR * number for number, name in enumerate(floors)}

@@ -28,7 +28,7 @@ def style():
 
 
 class Picture:
-    """A card so high, with a title, what it shows in words, and the lines of numbers that it is drawn from."""
+    """A card so high, with a title, and the lines that describe it: of a run the numbers that it is drawn from."""
 
     def __init__(self, height, title, numbers=()):
         self.height, self.title, self.numbers, self.parts = height, title, list(numbers), []
