@@ -5,7 +5,7 @@ import re
 import drawing as d
 
 STREAMS = (("fast", "blue"), ("slow", "orange"))
-LEFT, RIGHT, TOP, BOTTOM = 86, 690, 108, 370
+LEFT, RIGHT, TOP, BOTTOM = 86, 690, 124, 386
 # the steps that an axis may have
 STEPS = [step * 10 ** power for power in range(8) for step in (1, 2, 5)]
 
@@ -14,7 +14,7 @@ def drawn(lines):
     points = [tuple(map(float, line.split())) for line in lines if re.fullmatch(r"[\d.]+ \d+ \d+", line)]
     shares = dict(line.split()[1:3] for line in lines if line.startswith("share "))
     last, most = points[-1][0], max(max(point[1:]) for point in points)
-    picture = d.Picture(436, "Two streams that share one worker: units done for each", lines)
+    picture = d.Picture(452, "Two streams that share one worker: units done for each", lines)
     for number, line in enumerate(d.lines_within(said(lines, shares), d.WIDTH - 60, 12)):
         picture.text(20, 52 + 16 * number, line, "soft")
 
@@ -35,12 +35,13 @@ def drawn(lines):
 
 def said(lines, shares):
     """What the run was, and what both had when the first one ended."""
-    streams = next(line.removeprefix("streams ") for line in lines if line.startswith("streams "))
+    streams, machine, date = (next(line.split(" ", 1)[1] for line in lines if line.startswith(word)) for word in ("streams", "machine", "date"))
     end = next(re.fullmatch(r"ended (\w+) \S+ (\d+) (\d+)", line) for line in lines if line.startswith("ended "))
     name, fast, slow = end.groups()
-    told = ", ".join(f"{stream} has {share.replace(':', ' units in ')} moments" for stream, share in shares.items())
-    return (f"A run of {streams}, which always wait: {told}. When the end of {name} was told, {int(fast):,} units were done for fast and "
-            f"{int(slow):,} for slow, {int(fast) / int(slow):.2f} to 1. From there on slow has the worker alone.")
+    told = ", ".join(f"{share} for {stream}" for stream, share in shares.items())
+    return (f"A run of {streams}. Frames of both are always waiting, and the shares are {told}. When {name} ended, {int(fast):,} units were "
+            f"done for fast and {int(slow):,} for slow, {int(fast) / int(slow):.2f} to 1. From then on slow has the worker alone. On {machine}, "
+            f"{date}.")
 
 
 def draw_axes(picture, along, up, last, most):

@@ -1,6 +1,7 @@
 """What the bench scripts share: what they need, the program, streams made by ffmpeg, and timed runs."""
 
 import os
+import re
 import shutil
 import statistics
 import subprocess
@@ -123,6 +124,15 @@ def make_stream(path, frames, pixels, size="1920x1080"):
     """A made picture that moves, in one of ffmpeg's pixel formats."""
     subprocess.run(["ffmpeg", "-loglevel", "error", "-y", "-f", "lavfi", "-i", f"testsrc2=size={size}:rate=25",
                     "-frames:v", str(frames), "-pix_fmt", pixels, "-strict", "-1", "-f", "yuv4mpegpipe", path], check=True)
+
+
+def machine():
+    """How many processors there are, which, and by which numbers their maker tells them apart: a virtual machine may hide the name."""
+    with open("/proc/cpuinfo", encoding="utf-8") as told:
+        page = told.read()
+    name, *numbers = (re.search(rf"^{field}\s*: (.*)$", page, re.M) for field in ("model name", "cpu family", "model", "stepping"))
+    told = ", ".join(f"{field} {number.group(1)}" for field, number in zip(("family", "model", "stepping"), numbers) if number)
+    return f"{os.cpu_count()} x {name.group(1) if name else 'an unknown processor'}{f' ({told})' if told else ''}"
 
 
 def ffmpeg(picture_filter, source="pipe:0", target="pipe:1"):
