@@ -8,7 +8,7 @@ import sources
 CRATES = ("y4m_header", "frame_view", "row_bands", "filters", "y4m_stream", "stream_queue", "cbs_account", "edf_pool", "lease",
           "serve_core", "serve_hub", "serve_audit", "serve_client", "serve_work")
 HEAD = """The public calls of the libraries, from the lowest up, without their contracts; made by `bench/documents calls`.
-A `..` stands for fields that are private. Laws, which do nothing and take nothing, stand in `src/laws`.
+A `..` stands for fields that are private. Laws, which do nothing and take nothing, are in `src/laws`.
 """
 PAGE = "docs/calls.txt"
 WIDTH = 110
@@ -40,8 +40,9 @@ def of_crate(crate):
     for path in sources.files(crate, "src", ".rt"):
         types.update(sources.types(path))
         calls += sources.functions(path)
-    lines = [f"{crate}: {about(crate)}"]
-    for name in exported(crate):
+    lines, names = [f"{crate}: {about(crate)}"], exported(crate)
+    aliases = [name for name, line in types.items() if line.startswith("pub type ") and name not in names]
+    for name in names + aliases:
         if name in types:
             is_trait = types[name].startswith("pub trait ")
             lines.append("    " + types[name].removeprefix("pub "))
