@@ -12,6 +12,9 @@ use clap::{Arg, ArgAction, Command, value_parser};
 use row_bands::{FEWEST_BAND_ROWS, MOST_BAND_ROWS};
 use std::alloc::{AllocError, Global};
 
+/// The program's version, and the kit and the logic that it is proved with.
+const VERSION: &str = "0.1.0 (rattle-kit-13f logic dac8208d650f15bf)";
+
 /// An option that takes a number.
 fn number_option<'a>(
     alloc: Global,
@@ -199,7 +202,7 @@ pub fn command<'a>(alloc: Global) -> Result<Command<'a>, AllocError>
     ensures { IfOk result (λ command. app_of command ≡ line.y4mserve) }
 {
     Command::new(alloc, "y4mserve")
-        .version("0.1.0")
+        .version(VERSION)
         .about(help::ABOUT)
         .after_long_help(help::PAGE)
         .no_binary_name(true)

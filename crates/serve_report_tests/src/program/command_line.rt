@@ -118,8 +118,20 @@ const RIGHT_WORDS: &[Run<'_>] = &[
         1,
     ),
     // The program tells its version.
-    ("--version", b"", b"y4mserve 0.1.0\n", "", 0),
-    ("-V", b"", b"y4mserve 0.1.0\n", "", 0),
+    (
+        "--version",
+        b"",
+        b"y4mserve 0.1.0 (rattle-kit-13f logic dac8208d650f15bf)\n",
+        "",
+        0,
+    ),
+    (
+        "-V",
+        b"",
+        b"y4mserve 0.1.0 (rattle-kit-13f logic dac8208d650f15bf)\n",
+        "",
+        0,
+    ),
 ];
 
 #[test]
