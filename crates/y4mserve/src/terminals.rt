@@ -10,9 +10,9 @@ use std::time::{Clock, Instant};
 
 /// The program's own streams. Where the error stream is a terminal, it shows how far a run has come.
 #[derive(Drop)]
-pub struct Terminals<'a, T> {
-    rt: &'a T,
-    system: &'a HostRuntime,
+pub struct Terminals<'t, 's, T> {
+    rt: &'t T,
+    system: &'s HostRuntime,
     /// None where nothing is shown: the error stream is no terminal, or there is no clock.
     start: Option<Instant>,
     /// What is shown of a stream that is alone.
@@ -23,9 +23,9 @@ pub struct Terminals<'a, T> {
     scribe: Option<Scribe>,
 }
 
-impl<'a, T: Wait + Clock> Terminals<'a, T> {
+impl<'t, 's, T: Wait + Clock> Terminals<'t, 's, T> {
     /// The terminals at the start of a run.
-    pub fn new(rt: &'a T, system: &'a HostRuntime) -> Terminals<'a, T> {
+    pub fn new(rt: &'t T, system: &'s HostRuntime) -> Terminals<'t, 's, T> {
         let start = if system.stderr().is_terminal() {
             Instant::now(system).ok()
         } else {
@@ -143,7 +143,7 @@ impl<'a, T: Wait + Clock> Terminals<'a, T> {
     }
 }
 
-impl<T: Wait + Clock> Watch for Terminals<'_, T> {
+impl<T: Wait + Clock> Watch for Terminals<'_, '_, T> {
     fn input_is_terminal(&self) -> bool {
         self.system.stdin().is_terminal()
     }

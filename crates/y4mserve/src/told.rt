@@ -10,15 +10,15 @@ use std::time::Clock;
 
 /// An output that may go to the terminal that shows a run.
 #[derive(Drop)]
-pub struct Answers<'t, 'a, T, W> {
-    terminals: &'t Terminals<'a, T>,
+pub struct Answers<'w, 't, 's, T, W> {
+    terminals: &'w Terminals<'t, 's, T>,
     is_terminal: bool,
     output: W,
 }
 
-impl<'t, 'a, T: Wait + Clock, W> Answers<'t, 'a, T, W> {
+impl<'w, 't, 's, T: Wait + Clock, W> Answers<'w, 't, 's, T, W> {
     /// An output beside what is shown by these terminals.
-    pub fn new(terminals: &'t Terminals<'a, T>, output: W) -> Answers<'t, 'a, T, W> {
+    pub fn new(terminals: &'w Terminals<'t, 's, T>, output: W) -> Answers<'w, 't, 's, T, W> {
         Answers {
             terminals,
             is_terminal: terminals.output_is_terminal(),
@@ -27,7 +27,7 @@ impl<'t, 'a, T: Wait + Clock, W> Answers<'t, 'a, T, W> {
     }
 }
 
-impl<'t, 'a, T: Wait + Clock, W: Write> Write for Answers<'t, 'a, T, W> {
+impl<'w, 't, 's, T: Wait + Clock, W: Write> Write for Answers<'w, 't, 's, T, W> {
     ghost contents = { λ answers. W.contents answers.output };
 
     /// On a terminal it stands in the place of what was drawn, which is drawn below it then. Something may be
@@ -50,19 +50,19 @@ impl<'t, 'a, T: Wait + Clock, W: Write> Write for Answers<'t, 'a, T, W> {
 
 /// The error stream, where a thread of its own may write.
 #[derive(Drop)]
-pub struct Errors<'t, 'a, T, E> {
-    terminals: &'t Terminals<'a, T>,
+pub struct Errors<'w, 't, 's, T, E> {
+    terminals: &'w Terminals<'t, 's, T>,
     errors: E,
 }
 
-impl<'t, 'a, T, E> Errors<'t, 'a, T, E> {
+impl<'w, 't, 's, T, E> Errors<'w, 't, 's, T, E> {
     /// An error stream beside what is shown by these terminals.
-    pub fn new(terminals: &'t Terminals<'a, T>, errors: E) -> Errors<'t, 'a, T, E> {
+    pub fn new(terminals: &'w Terminals<'t, 's, T>, errors: E) -> Errors<'w, 't, 's, T, E> {
         Errors { terminals, errors }
     }
 }
 
-impl<'t, 'a, T: Wait + Clock, E: Write> Write for Errors<'t, 'a, T, E> {
+impl<'w, 't, 's, T: Wait + Clock, E: Write> Write for Errors<'w, 't, 's, T, E> {
     ghost contents = { λ _. None };
 
     fn write(&mut self, buf: &[u8]) -> io::Result<usize> {
