@@ -19,4 +19,4 @@ module _ (Gives : ℕ → Type 0) (most : AreMoments Gives) where
   pub left_in_time : (workers quantum journal : ℕ) (specs : List StreamSpec) (starts : List ClientStart) (left : List ServedValue)
       → Leaves Gives workers quantum journal specs starts left → AllByRecursion IsInTime left
   left_in_time workers quantum journal specs starts left (inl none) = subst (AllByRecursion IsInTime) (sym none.1) tt
-  left_in_time workers quantum journal specs starts left (inr session) = stopped_in_time left session.stops
+  left_in_time workers quantum journal specs starts left (inr session) = stopped_in_time left session.1.stops
