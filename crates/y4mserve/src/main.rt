@@ -52,27 +52,46 @@ fn run<T: Threads + Wait + Clock + Copy + Drop + Send + Sync + 'static>(
         return refuse(&mut errors);
     };
     let files = HostFiles::new(system);
-    let terminals = &Terminals::new(rt, system);
-    let mut output = Answers::new(terminals, output);
-    let mut errors = Errors::new(terminals, errors);
+    let terminals = Terminals::new(rt, system);
+    let mut output = Answers::new(&terminals, output);
+    let mut errors = Errors::new(&terminals, errors);
     let host = Host {
         rt,
         alloc: system.alloc(),
         files: &files,
-        watch: Some(terminals),
+        watch: Some(&terminals),
     };
+    run_beside(
+        rt,
+        &terminals,
+        || -> u8
+            ensures { result ≤ 2 }
+        { host.run(&words, input, &mut output, &mut errors) },
+    )
+}
+
+/// Does the work while a thread of its own writes on the error stream, where that is a terminal, and answers
+/// what the work does.
+fn run_beside<T: Threads + Wait + Clock + Sync, R: FnOnce() -> u8>(
+    rt: &T,
+    terminals: &Terminals<'_, '_, T>,
+    work: R,
+) -> u8
+    requires { R.pre work tt }
+    ensures { R.post work tt result }
+{
     thread::scope(
         thread::scope_env(),
         rt,
         |scope| -> u8
-            requires { IsSync T.row }
-            ensures { result ≤ 2 }
+            requires { IsSync T.row × R.pre work tt }
+            ensures { R.post work tt result }
         {
             if terminals.want_scribe() {
                 let writing = scope.spawn(move || terminals.write_on());
                 let _ = writing.is_ok();
             }
-            let status = host.run(&words, input, &mut output, &mut errors);
+            let status = work();
             terminals.end_writing();
             status
         },
