@@ -77,15 +77,15 @@ fn run_beside<T: Threads + Wait + Clock + Sync, R: FnOnce() -> u8>(
     terminals: &Terminals<'_, '_, T>,
     work: R,
 ) -> u8
-    requires { R.pre work tt }
-    ensures { R.post work tt result }
+    requires { R.pre work }
+    ensures { R.post work result }
 {
     thread::scope(
         thread::scope_env(),
         rt,
         |scope| -> u8
-            requires { IsSync T.row × R.pre work tt }
-            ensures { R.post work tt result }
+            requires { IsSync T.row × R.pre work }
+            ensures { R.post work result }
         {
             if terminals.want_scribe() {
                 let writing = scope.spawn(move || terminals.write_on());
