@@ -64,7 +64,7 @@ def drawn():
     floors = crates()
     picture = d.Picture(TOP + FLOOR * len(floors) + 120, "The crates, the way of a frame through them, and what is proved of each",
                         [f"{name}: {FLOORS[name][1]}" for name in floors])
-    picture.text(SAID, 60, "Want of memory aside, and in short words:", "soft", 11.5)
+    picture.text(SAID, 60, "Lack of memory aside, and in short words:", "soft", 11.5)
     picture.text(SAID, 75, "docs/PROOFS.md says which contract.", "soft", 11.5)
     heights = {name: TOP + FLOOR * number for number, name in enumerate(floors)}
     draw_roof(picture, heights[floors[0]])
