@@ -13,7 +13,7 @@ use std::sync::atomic::{AtomicU64, Ordering};
 use std::thread::Threads;
 use test_tools::streams::{CUT, HEADER, ONE, ONE_INVERTED, THREE, THREE_INVERTED};
 use test_tools::{Room, Tape};
-use y4m_stream::{OverRead, OverWrite, ReadFault, Sink, Source, StreamReader, Wanted, WriteFault};
+use y4m_stream::{OverRead, OverWrite, Sink, Source, StreamReader, Wanted, WriteFault};
 
 /// How often a source is asked at most whether it is ready. Then it says so, and its read fails: what it
 /// waits for doesn't come any more, as where another stream had no memory.
@@ -273,12 +273,12 @@ const CASES: &[Case<'_>] = &[
         },
     },
     Case {
-        name: "a fault of the input comes before one that is held",
+        name: "a fault that is held comes before one of the input",
         input: CUT,
         first: 32,
         room: 22,
         told: Told {
-            end: (Stop::Read(ReadFault::Truncated), 1, 0, 1),
+            end: (Stop::Write(WriteFault::Device(22)), 1, 0, 1),
             written: HEADER,
         },
     },

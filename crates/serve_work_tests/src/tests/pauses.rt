@@ -12,7 +12,7 @@ use self::steps::{After, Case, LOUD, Step, follow};
 use super::PLAIN;
 use serve_work::Stop;
 use test_tools::streams::{HEADER, ONE_INVERTED, THREE, THREE_INVERTED, numbered};
-use y4m_stream::{ReadFault, WriteFault};
+use y4m_stream::WriteFault;
 
 /// Two frames, and a third one that is cut.
 const CUT_LATE: &[u8] =
@@ -20,8 +20,6 @@ const CUT_LATE: &[u8] =
 
 /// The writer takes the header line alone.
 const BROKEN: Stop = Stop::Write(WriteFault::Device(22));
-
-const CUT_OFF: Stop = Stop::Read(ReadFault::Truncated);
 
 /// Three frames, whose images are written.
 const THREE_FRAMES: Case<'_> = Case {
@@ -218,7 +216,7 @@ const HOLDING: &[Case<'_>] = &[
             },
             Step {
                 finished: 1,
-                after: After::Ended(CUT_OFF, 2, 0),
+                after: After::Ended(BROKEN, 2, 0),
                 ..LOUD
             },
         ],
@@ -236,7 +234,7 @@ const HOLDING: &[Case<'_>] = &[
             },
             Step {
                 finished: 1,
-                after: After::Ended(CUT_OFF, 2, 0),
+                after: After::Ended(BROKEN, 2, 0),
                 ..LOUD
             },
         ],
@@ -406,7 +404,7 @@ const TORN: &[Case<'_>] = &[
             },
             Step {
                 finished: 1,
-                after: After::Ended(CUT_OFF, 2, 0),
+                after: After::Ended(Stop::Torn, 2, 0),
                 ..LOUD
             },
         ],
