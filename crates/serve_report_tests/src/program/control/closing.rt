@@ -1,5 +1,5 @@
 //! Streams that are closed.
-use super::script::{AWAITED, HELD, PAUSED, Turn};
+use super::script::{AWAITED, HELD, Turn};
 use super::waiting::{ASK, Later, Slow, serves_fifos, shared_answers, talks_of, waits};
 use super::{Talk, text_by};
 use crate::program::memory::Made;
@@ -45,10 +45,9 @@ fn closes<'f, R: Abort + Threads + Wait + Clock + Copy + Drop + Send + Sync + 's
 /// The last image doesn't fit into the output, as is seen before the stream is closed.
 #[test]
 fn a_failed_write_is_not_told_as_a_close(rt: HostRuntime) {
-    let turns: [Turn<'_>; 4] = [
+    let turns: [Turn<'_>; 3] = [
         ASK,
-        (AWAITED, b""),
-        (PAUSED, b"close a\nclose a\n"),
+        ("a lost its output\n", b"close a\nclose a\n"),
         ("stop write 49\n", b"end\n"),
     ];
     let outputs = [Made::new(rt.alloc(), "a.out", A_INVERTED.len() - 3)];
