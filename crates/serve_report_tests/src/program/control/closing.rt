@@ -2,8 +2,7 @@
 use super::script::{AWAITED, HELD, Turn};
 use super::waiting::{ASK, Later, Slow, serves_fifos, shared_answers, talks_of, waits};
 use super::{Talk, text_by};
-use crate::program::memory::Made;
-use crate::program::serving::{A, A_INVERTED, holds};
+use crate::program::serving::{A, A_INVERTED};
 use std::alloc::Global;
 use std::process::Abort;
 use std::sync::Wait;
@@ -40,28 +39,6 @@ fn closes<'f, R: Abort + Threads + Wait + Clock + Copy + Drop + Send + Sync + 's
     let came = [("", before), ("AlreadyClosed", b"FRAME\n1234")];
     let talk = Talk::new(&turns, answers);
     waits(rt, alloc, "", &came, Some(written), talk);
-}
-
-/// The last image doesn't fit into the output, as is seen before the stream is closed.
-#[test]
-fn a_failed_write_is_not_told_as_a_close(rt: HostRuntime) {
-    let turns: [Turn<'_>; 3] = [
-        ASK,
-        ("a lost its output\n", b"close a\nclose a\n"),
-        ("stop write 49\n", b"end\n"),
-    ];
-    let outputs = [Made::new(rt.alloc(), "a.out", A_INVERTED.len() - 3)];
-    let answers = shared_answers(&rt, rt.alloc(), usize::MAX);
-    let came = [("", A), ("AlreadyClosed", b"FRAME\n".as_slice())];
-    let wanted = "a admitted\nline 3: AlreadyClosed 'close a'\na lost its output\n\
-                  a accepted 3 delivered 2 charged 3 stop write 49\nunits 3\n";
-    let later: [Later<'_>; 1] = [("a.in", "", &came)];
-    let talk = Talk {
-        is_ordered: false,
-        ..Talk::new(&turns, wanted)
-    };
-    talks_of(&rt, rt.alloc(), &answers, &later, &[], "", &outputs, talk);
-    holds(&rt, &outputs[0], &A_INVERTED[..A_INVERTED.len() - 3]);
 }
 
 #[test]
