@@ -108,6 +108,15 @@ impl Tally {
         self.rows.get(s as usize).map(|row| row.counts())
     }
 
+    /// Whether stream `s` is released at the present moment: closed, its frames finished and collected, its
+    /// deadline reached.
+    pub fn is_released(&self, s: u32) -> Option<bool>
+        ensures { result ≡ option_map (is_released self.now.clock) (slice_get self.now.streams s) }
+    {
+        let clock = self.clock;
+        self.rows.get(s as usize).map(|row| row.is_released(clock))
+    }
+
     /// What worker `w` holds.
     pub fn lease_of_worker(&self, w: u32) -> Option<Held>
         ensures some { IfSome result (λ held. slice_get self.now.workers w ≡ Some (Some held)) }

@@ -363,6 +363,15 @@ fn retired(tally: &mut Tally) -> (bool, usize, Option<(u64, u64)>) {
     (tally.retire(), tally.streams(), tally.account(0))
 }
 
+/// Whether each of three streams is released.
+fn released(tally: &Tally) -> [Option<bool>; 3] {
+    [
+        tally.is_released(0),
+        tally.is_released(1),
+        tally.is_released(2),
+    ]
+}
+
 #[test]
 fn a_tally_takes_released_streams_out(rt: HostRuntime) -> Result<(), Fail> {
     let alloc = rt.alloc();
@@ -374,6 +383,7 @@ fn a_tally_takes_released_streams_out(rt: HostRuntime) -> Result<(), Fail> {
         &mut tally,
         &[(Close(0), Closing, true), (Tick(7), Ticked, true)],
     )?;
+    same(&rt, released(&tally), [Some(true), Some(false), None]);
     same(&rt, retired(&mut tally), (true, 1, Some((1, 8))));
     judges(&rt, alloc, &mut tally, &[(Tick(8), Ticked, true)])?;
     same(&rt, retired(&mut tally), (false, 1, Some((1, 8))));
