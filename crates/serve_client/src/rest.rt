@@ -1,6 +1,6 @@
 //! What is left to do of a stream where the journal is full.
-ghost use Rattle.std.specs.Prelude.{◌≡◌};
-ghost use Rattle.serve_client.specs.Rests.{Unbegun, accepted_in, collected_in, delivered_in};
+ghost use Rattle.std.specs.Prelude.{◌≡◌, IfNone, IfSome};
+ghost use Rattle.serve_client.specs.Rests.{Begun, BegunValue, Unbegun, accepted_in, collected_in, delivered_in};
 ghost use Rattle.serve_client.specs.Streams.{IsOver, Waiting};
 
 use crate::begun::State;
@@ -86,6 +86,20 @@ impl<R: Source + Drop, W: Sink> ClientRest<R, W> {
                 writer,
             },
             State::Begun(begun) => begun.give_up(),
+        }
+    }
+}
+
+impl<R: Source + Drop, W: Sink + Drop> ClientRest<R, W> {
+    /// The reader and the writer of a stream of which no frame was read, and nothing written.
+    pub fn into_unread(self) -> Option<(StreamReader<R>, W)>
+        ensures unread { IfSome result (λ input.
+            self ≡ Unbegun input.0 (W.contents input.1) (W.failures input.1)) }
+        ensures begun { IfNone result ((begun : BegunValue) × (self ≡ Begun begun)) }
+    {
+        match self.state {
+            State::Unbegun(reader, writer) => Some((reader, writer)),
+            State::Begun(_) => None,
         }
     }
 }

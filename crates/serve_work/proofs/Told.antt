@@ -14,9 +14,9 @@ use Rattle.serve_work.specs.declared.session.interval.Interval.{Interval}
 use Rattle.serve_work.specs.Entries.{AreTimed}
 use Rattle.serve_work.specs.History.{EpochValue, HasEnded, IsAtTimes, IsEpochBy, IsHistory, IsLeftAt, IsTimed, OpensBehind, OpensHub, Terms}
 use Rattle.serve_work.specs.History.{epoch_of, journal_of, terms_with}
-use Rattle.serve_work.specs.Intervals.{AreFrom, AreTold, Beginning, HasNoCalls, IsBeginning, IsBetween, IsByTerms, IsJustEnded, LeadsTo}
+use Rattle.serve_work.specs.Intervals.{AreFrom, AreTold, Beginning, HasNoCalls, IsBeginning, IsBetween, IsByTerms, LeadsTo}
 use Rattle.serve_work.specs.Live.{Waiting}
-use Rattle.serve_work.specs.Sessions.{AllTimed, OpensInTurn}
+use Rattle.serve_work.specs.Sessions.{AllTimed, IsJustEnded, OpensInTurn}
 use Rattle.serve_work.specs.SessionInside.{AllBegin, AllGoOn, BeginsAgain, HeldValue}
 use Rattle.serve_client.specs.Clients.{ClientStart}
 use Rattle.serve_work.proofs.Intervals.{leads_on}

@@ -19,7 +19,7 @@ use Rattle.serve_work.specs.declared.session.opening.Opening.{Opening}
 use Rattle.serve_work.specs.declared.session.places.Places.{Places}
 use Rattle.serve_work.specs.declared.session.room.Room.{Room}
 use Rattle.serve_work.specs.History.{EpochValue, IsHistory, OpensHub, Terms, epoch_of, journal_of}
-use Rattle.serve_work.specs.Sessions.{AllTimed, AreInTurn, OpensInTurn, starts_of}
+use Rattle.serve_work.specs.Sessions.{AllTimed, AreInTurn, IsJustEnded, OpensInTurn, starts_of}
 use Rattle.serve_work.specs.Live.{Waiting}
 use Rattle.serve_work.specs.SessionInside.{AllBegin, AllStand, AreAllOver, AreAllowed, HeldValue, held_with}
 
@@ -85,11 +85,6 @@ pub record IsBetween {R W : Type 0} (b : Beginning) (epochs : List EpochValue) (
 -- a session stands so between two epochs, whatever it began with
 abbrev pub IsBetweenEpochs : {R W : Type 0} → Interval R W → Type 0
 IsBetweenEpochs now = (b : Beginning) × (epochs : List EpochValue) × IsBetween b epochs now
-
--- nothing came behind the end of the epoch
-pub record IsJustEnded (epoch : EpochValue) : Type 0 where
-  pub stays : epoch.gone ≡ epoch.last
-  pub goes_on : IsFalse epoch.is_given_up
 
 -- a session that began so serves by these terms
 pub record IsByTerms (terms : Terms) (b : Beginning) : Type 0 where

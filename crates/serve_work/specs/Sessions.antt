@@ -114,6 +114,11 @@ AreInTurn limit first true (epoch ∷ before) =
     OpensInTurn limit first epoch.opening before
     × (IsFull limit epoch ⊎ ((epoch.journal ≡ []) × (before ≢ [])))
 
+-- nothing was told behind the end of the epoch
+pub record IsJustEnded (epoch : EpochValue) : Type 0 where
+  pub stays : epoch.gone ≡ epoch.last
+  pub goes_on : IsFalse epoch.is_given_up
+
 -- these epochs, the latest first, lead from where the setup opens to where the session ended. Each stream was
 -- served by its calls in their journals, with each frame at a moment that the clock may give, and stopped as the
 -- clock allows. Only where the session was cut may one have been given up: behind a full journal, where streams
@@ -123,6 +128,7 @@ pub record IsSessionOf (Gives : ℕ → Type 0) (setup : Setup) (limit : ℕ) (e
   pub is_cut : Bool
   pub history : IsHistory (terms_with setup limit) Gives epochs
   pub in_turn : AreInTurn limit (opened_schedule setup) is_cut epochs
+  pub at_end : AllByRecursion IsJustEnded epochs
   pub latest : EpochValue
   pub before : List EpochValue
   pub epochs_are : epochs ≡ latest ∷ before

@@ -1,7 +1,9 @@
 //! The streams of a session: each waits for its client, which goes on with it in each epoch, until it is
 //! over.
-ghost use Rattle.std.specs.Prelude.{◌≡◌, ◌≤◌, [], IfErr, IfOk, Some, map, vec_capacity, vec_len};
+ghost use Rattle.std.specs.Prelude.{◌≡◌, ◌≤◌, [], IfErr, IfOk, IfSome, None, Some, map, vec_capacity};
+ghost use Rattle.std.specs.Prelude.{vec_len};
 ghost use Rattle.std.specs.List.{AllByRecursion};
+ghost use Rattle.y4m_stream.specs.Reader.{ReaderState};
 ghost use Rattle.serve_client.specs.Streams.{IsOver};
 ghost use Rattle.serve_client.specs.Streams as rules;
 ghost use Rattle.serve_work.specs.SessionInside.{AreUnread, GoesOn, IsReady, Runs, held_at};
@@ -55,6 +57,18 @@ impl<R: Source + Drop, W: Sink + Drop> Stream<R, W> {
     {
         Stream {
             state: State::Waiting(ClientRest::new(reader, writer)),
+        }
+    }
+
+    /// The reader and the writer, where nothing was done of the stream.
+    pub fn into_input(self) -> Option<(StreamReader<R>, W)>
+        ensures unread { IfSome result (λ input. self ≡ unread W.contents W.failures input) }
+        ensures returned { (input : ReaderState × W) → self ≡ unread W.contents W.failures input
+            → ¬ (result ≡ None) }
+    {
+        match self.state {
+            State::Waiting(rest) => rest.into_unread(),
+            State::Over(_) => None,
         }
     }
 

@@ -12,7 +12,7 @@ pub enum Unended<R: Source, W: Sink> {
     /// The first one wasn't opened, and the inputs come back.
     Unopened(SessionFault, Vec<(StreamReader<R>, W)>),
     /// The thread of a worker was refused in the first epoch, where all are needed. None began, and the
-    /// streams come back with nothing done of them.
+    /// streams come back with nothing done of them ([`Stream::into_input`]).
     Unbegun(Vec<Stream<R, W>>),
     /// The journal isn't what the seats and the hub tell, a lease wasn't settled with its whole grant, or the
     /// journal isn't full where a stream waits.

@@ -39,6 +39,7 @@ returns-in-Ok-clause-session g c =
         is_cut = now.waits;
         history = subst (λ (t : Terms). IsHistory t gives last.0) (sym c.requires.terms) last.1.history;
         in_turn = last.2.in_turn;
+        at_end = last.1.at_end;
         latest = epoch_of now.ended [];
         before = last.2.before;
         epochs_are = last.2.latest;
