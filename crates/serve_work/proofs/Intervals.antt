@@ -1,5 +1,5 @@
 -- How a session comes from one epoch to the next.
-use Rattle.std.specs.Prelude.{IsTrue}
+use Rattle.std.specs.Prelude.{IsTrue, OnErr}
 use Rattle.std.specs.List.{AllByRecursion}
 use Rattle.std.proofs.Common.{append-nil, ◌≡◌, ℕ, suc, ◌≤◌, List, [], ◌∷◌, ◌++◌}
 use Rattle.std.proofs.Common.{Option, Result, Ok, Err, OnOk, length, map, refl, sym, ap, ◌∙◌, subst}
@@ -227,6 +227,10 @@ stand_again limit journal starts helds seats streams p e f =
 pub on_ok : {T E : Type 0} (r : Result T E) (P : Type 0) → P → OnOk r P
 on_ok (Ok t) P p = p
 on_ok (Err e) P p = tt
+
+pub on_err : {T E : Type 0} (r : Result T E) (P : Type 0) → P → OnErr r P
+on_err (Ok t) P p = tt
+on_err (Err e) P p = p
 
 -- an interval that is left as it was, but that no epoch comes any more
 pub still_between : {R W : Type 0} (b : Beginning) (epochs : List EpochValue) (old new : Interval R W) → new.ended ≡ old.ended

@@ -119,6 +119,10 @@ pub record IsJustEnded (epoch : EpochValue) : Type 0 where
   pub stays : epoch.gone ≡ epoch.last
   pub goes_on : IsFalse epoch.is_given_up
 
+-- a chronicle was told of some epochs, of each where it ended, and of nothing else
+abbrev pub IsToldAtEnds : {Request : Type 0} (stands : List EpochValue → List Request → Type 0) → Type 0
+IsToldAtEnds stands = (epochs : List EpochValue) × stands epochs [] × AllByRecursion IsJustEnded epochs
+
 -- these epochs, the latest first, lead from where the setup opens to where the session ended. Each stream was
 -- served by its calls in their journals, with each frame at a moment that the clock may give, and stopped as the
 -- clock allows. Only where the session was cut may one have been given up: behind a full journal, where streams

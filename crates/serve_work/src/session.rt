@@ -1,10 +1,11 @@
 //! A session: streams that clients serve, each by a thread, and workers beside them.
-ghost use Rattle.std.specs.Prelude.{ℕ, ◌≡◌, ◌↔◌, List, [], IfErr, IfOk, IsErrOf, OnOk, length};
+ghost use Rattle.std.specs.Prelude.{ℕ, ◌≡◌, ◌↔◌, List, [], IfErr, IfOk, IsErrOf, OnErr};
+ghost use Rattle.std.specs.Prelude.{OnOk, length};
 ghost use Rattle.serve_hub.specs.Books.{IsLimit};
 ghost use Rattle.serve_hub.specs.Seats.{opened_streams};
 ghost use Rattle.serve_work.specs.History.{EpochValue, terms_with};
 ghost use Rattle.serve_work.specs.Sessions.{AreInputs, AreServed, GivesBack, IsSession, IsSessionOf};
-ghost use Rattle.serve_work.specs.Sessions.{fault_of, starts_of};
+ghost use Rattle.serve_work.specs.Sessions.{IsToldAtEnds, fault_of, starts_of};
 
 mod epochs;
 mod interval;
@@ -216,6 +217,7 @@ pub fn serve_session_told<
     ensures bad_limit { IfErr result (λ unended.
         (fault_of unended ≡ SessionFault.BadLimit) ↔ ¬ IsLimit (length setup.streams) limit) }
     ensures returns_inputs { IfErr result (GivesBack W.contents W.failures inputs.items) }
+    ensures told { OnErr result (IsToldAtEnds (C.stands chronicle.new)) }
 {
     setup.recall_limits();
     let blank = Blank::new(MOST_SEATS);

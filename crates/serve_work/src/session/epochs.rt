@@ -7,7 +7,7 @@ ghost use Rattle.serve_hub.specs.Books.{IsLimit, entries_left};
 ghost use Rattle.serve_work.specs.History.{terms_with};
 ghost use Rattle.serve_work.specs.Intervals.{CanName, Continues, GoesLater, MayBegin, StandsBetween};
 ghost use Rattle.serve_work.specs.Intervals.{StandsSo, beginning_of};
-ghost use Rattle.serve_work.specs.Sessions.{AreInputs, GivesBack, fault_of};
+ghost use Rattle.serve_work.specs.Sessions.{AreInputs, GivesBack, IsToldAtEnds, fault_of};
 ghost use Rattle.serve_work.specs.SessionInside.{AreAllOver, AreAllowed, IsUnended};
 ghost use Rattle.serve_work.specs.SessionInside.{held_with};
 
@@ -86,6 +86,7 @@ fn epoch<
         (K.gives setting.entry.clock.now) is_first L.opening opening) }
     ensures unended { IfErr result (IsUnended is_first
         (held_with opening.opened.1.items opening.streams.items)) }
+    ensures untold { OnErr result (chronicle.new ≡ chronicle.old) }
 {
     let (hub, seats, work_seats) = opening.opened;
     let Room {
@@ -161,6 +162,7 @@ pub(super) fn begin<
     ensures bad_limit { IfErr result (λ e.
         (fault_of e ≡ SessionFault.BadLimit) ↔ ¬ IsLimit (length setup.streams) limit) }
     ensures returns_inputs { IfErr result (GivesBack W.contents W.failures inputs.items) }
+    ensures untold { OnErr result (chronicle.new ≡ chronicle.old) }
 {
     let opening = open_first::<L, R, W>(setting.alloc, blank, setup, inputs, limit)?;
     epoch(setting, opening, true, chronicle)
@@ -189,6 +191,7 @@ fn run_next<
     ensures later { IfOk result (GoesLater (C.stands chronicle.old) (C.stands chronicle.new) C.terms
         (K.gives setting.entry.clock.now) interval) }
     ensures fault { IfErr result (λ e. e ≡ SessionFault.Mismatch) }
+    ensures untold { OnErr result (chronicle.new ≡ chronicle.old) }
 {
     match open_next::<L, R, W>(setting.alloc, blank, interval) {
         Err(interval) => Ok(interval),
@@ -210,6 +213,7 @@ pub(super) fn go_on<R: SentSource, W: SentSink, C: Chronicle, G: LentGate, K: Le
     ensures later { IfOk result (GoesLater (C.stands chronicle.old) (C.stands chronicle.new) C.terms
         (K.gives setting.entry.clock.now) interval) }
     ensures fault { IfErr result (λ e. e ≡ SessionFault.Mismatch) }
+    ensures told { OnErr result (IsToldAtEnds (C.stands chronicle.new)) }
 {
     let mut interval = interval;
     for _ in setting.rt.forever() {

@@ -1,4 +1,5 @@
 use Rattle.std.proofs.Common.{refl}
+use Rattle.serve_work.proofs.Intervals.{on_err}
 use Rattle.serve_work.proofs.session.epochs.go_on.Goals as goal
 
 pub run_next-requires-clause-blank : goal.run_next-requires-clause-blank
@@ -17,3 +18,9 @@ loop-preserved g c = record {
   between = λ b at. c.in_ok-interval.ensures.later.between b (c.loop.invariant.between b at);
   stops = λ allowed. c.in_ok-interval.ensures.later.stops (c.loop.invariant.stops allowed);
 }
+
+pub returns-in_err-interval-clause-told : goal.returns-in_err-interval-clause-told
+returns-in_err-interval-clause-told g c =
+    let b = c.requires.between.0 in
+    let last = c.loop.invariant.between b c.requires.between.1 in
+    on_err c.from_residual.result _ (rw c.in_err-interval.ensures.untold (last.0, last.1.told, last.1.at_end))
