@@ -11,8 +11,8 @@ use Rattle.serve_core.specs.declared.collected.Collected.{Collected}
 use Rattle.serve_hub.specs.declared.entry.Act.{Act}
 use Rattle.serve_hub.specs.Seats.{StreamSeatValue}
 use Rattle.serve_client.specs.declared.stop.Stop.{Stop}
-use Rattle.serve_client.specs.Clients.{ClientEnds, ClientOutcome, ClientStart, ClientStopsAt, CutsHeader}
-use Rattle.serve_client.specs.Clients.{WroteNothing, closes_in, collections_in, offers_in}
+use Rattle.serve_client.specs.Clients.{ClientEnds, ClientIsDone, ClientOutcome, ClientStart, ClientStopsAt, CutsHeader}
+use Rattle.serve_client.specs.Clients.{IsClosedUnlessTorn, WroteNothing, closes_in, collections_in, offers_in}
 use Rattle.serve_client.specs.ClientInside.{Feeds, HasInHand, IsCounted, IsUseful, Moves, Passes, ShowsClose, Stays, texts_of}
 use Rattle.serve_client.specs.Sends.{IsSpoilt, Serves}
 use Rattle.serve_client.specs.Hands.{IsBegunPair, counted_with, with_kept}
@@ -120,6 +120,10 @@ module _ (past : List Act) (old new : StreamSeatValue) (r : IsReopened old new) 
   spoilt_across : (writer : WriterState) → IsSpoilt writer old → IsSpoilt writer new
   spoilt_across writer spoilt = spoilt_stays old new writer r.torn spoilt
 
+  closed_across : IsClosedUnlessTorn old → IsClosedUnlessTorn new
+  closed_across (inl torn) = inl (subst IsSome (sym r.torn) torn)
+  closed_across (inr closed) = inr (r.is_closed ∙ closed)
+
   kept_across : (writer : WriterState) (n : ℕ) → IsSpoilt writer old ⊎ (writer.frames + length old.kept ≡ n)
       → IsSpoilt writer new ⊎ (writer.frames + length new.kept ≡ n)
   kept_across writer n (inl spoilt) = inl (spoilt_across writer spoilt)
@@ -162,12 +166,15 @@ module _ (past : List Act) (old new : StreamSeatValue) (r : IsReopened old new) 
     is_open = a.is_open;
   }
   IsAt-across (Draining stop None) o reader writer a =
-      (a.0, Feeds-across past old new r stop o.reader reader o.seat o.writer writer a.0 a.1)
+      (a.0, Feeds-across past old new r stop o.reader reader o.seat o.writer writer a.0 a.1, closed_across a.2)
   IsAt-across (Draining stop (Some pair)) o reader writer a =
       let later = Feeds-across past (with_kept pair old) (with_kept pair new) (IsReopened-kept pair old new r) stop o.reader reader o.seat
       o.writer a.1.0 a.0 a.1.2 in
-      (a.0, (a.1.0, begun_across pair a.1.0 writer a.1.1, later))
-  IsAt-across (Discarding stop) o reader writer a = (a.0, spoilt_across writer a.1, Serves-across stop o.reader reader o.seat o.writer writer a.2)
+      (a.0, (a.1.0, begun_across pair a.1.0 writer a.1.1, later), closed_across a.2)
+  IsAt-across (Discarding stop) o reader writer a = (
+    (a.0.0, spoilt_across writer a.0.1, Serves-across stop o.reader reader o.seat o.writer writer a.0.2),
+    closed_across a.1,
+  )
 
   rest_across : (start : ClientStart) (rest : RestValue) → IsRestOf start past old rest → IsRestOf start more new rest
   rest_across start (Unbegun reader contents failures) a = record {
@@ -264,8 +271,11 @@ module _ (past : List Act) (old new : StreamSeatValue) (r : IsReopened old new) 
     told = λ is. subst IsSome (sym r.torn) (a.told is);
   }
 
+  done_across : (start : ClientStart) (end : ClientOutcome) → ClientIsDone start past old end → ClientIsDone start more new end
+  done_across start end a = (end_across start end a.0, r.kept ∙ a.1, closed_across a.2)
+
 pub streams_cross : StreamsCross
-streams_cross start past old new r = (λ rest a. rest_across past old new r start rest a, λ end a. end_across past old new r start end a)
+streams_cross start past old new r = (λ rest a. rest_across past old new r start rest a, λ end a. done_across past old new r start end a)
 
 pub new_stream_is_unbegun : NewStreamIsUnbegun
 new_stream_is_unbegun start fresh is_open =

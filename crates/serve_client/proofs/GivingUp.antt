@@ -260,8 +260,8 @@ module _ (past : List Act) (o : Outset) (is : IsOutset o) (reader : ReaderState)
             (drained_fault stop first pair seat at.1.0 writer writer' cut.0 at.0 then at.1.1 a cut.2)
       ]
   given_up (Discarding stop) seat writer writer' ended first told ahead shown at e now behind =
-      rw (e.1, given_for_fault ended first told behind stop at.0 (first_kept stop ended first at.0 now))
-      (serves_more past stop o reader seat writer at.2)
+      rw (e.1, given_for_fault ended first told behind stop at.0.0 (first_kept stop ended first at.0.0 now))
+      (serves_more past stop o reader seat writer at.0.2)
 
 -- a client's end is told as that of its stream
 

@@ -1,11 +1,12 @@
 -- What became of a stream's images.
-use Rattle.std.proofs.Common.{◌≡◌, ◌⊎◌, ◌+◌, List, [], length, ap, arith, refl, inl, inr, subst, sym, IsSome}
+use Rattle.std.proofs.Common.{◌≡◌, ◌⊎◌, ◌+◌, Bool, true, false, List, [], length, ap, arith, refl, inl, inr, subst, sym, ◌∙◌, IsSome, IsTrue}
 use Rattle.y4m_header.specs.StreamText.{FrameText}
 use Rattle.y4m_stream.specs.Writer.{WriterState}
 use Rattle.serve_hub.specs.Seats.{StreamSeatValue}
 use Rattle.serve_client.specs.declared.stop.Halt.TheVariants.{Stopped}
 use Rattle.serve_client.specs.declared.stop.Stop.{Stop}
 use Rattle.serve_client.specs.declared.stop.Stop.TheVariants.{Whole, Read, Write, Refused, Torn}
+use Rattle.serve_client.specs.Clients.{IsClosedUnlessTorn}
 use Rattle.serve_client.specs.ClientInside.{IsOfCollection, IsUseful, Moves, StopsWith, TalliesSeat}
 use Rattle.serve_client.specs.Sends.{IsSpoilt}
 use Rattle.serve_client.proofs.Moving.{moved_kept}
@@ -19,6 +20,16 @@ spoilt_stays old new writer same (inr torn) = inr (subst IsSome (sym same) torn)
 pub spoilt_later : (old new : StreamSeatValue) (writer : WriterState) → TalliesSeat old new → IsSpoilt writer old → IsSpoilt writer new
 spoilt_later old new writer tally (inl failed) = inl failed
 spoilt_later old new writer tally (inr torn) = inr (torn_still old new tally torn)
+
+-- a stream that was closed stays so
+not_open : (b : Bool) → (b ≡ false → ⊥) → IsTrue b
+not_open true not = refl
+not_open false not = absurd (not refl)
+
+pub closed_later : (old new : StreamSeatValue) → TalliesSeat old new → IsClosedUnlessTorn old → IsClosedUnlessTorn new
+closed_later old new tally (inl torn) = inl (torn_still old new tally torn)
+closed_later old new tally (inr closed) = inr (not_open new.is_closed (λ is_open.
+    let both : true ≡ false = sym closed ∙ (tally.unclosed is_open).0 in absurd (cc)))
 
 -- and so it is behind a stop of no use
 pub stopped_spoilt : (stop : Stop) (seat seat' : StreamSeatValue) (writer writer' : WriterState) (frames : List FrameText)

@@ -126,15 +126,15 @@ module _ (past : List Act) (o : Outset) (is : IsOutset o) where
       came_part pair a.read.rest (as_open seat) at.1.0 writer a.frames a.read.each a.read.taken at.1.1
       (moves_until stop o.seat (as_open (with_kept pair seat)) o.writer at.1.0 a.frames at.0 a.moved)
   came_to (Discarding stop) reader seat writer at = record {
-    frames = at.2.frames;
-    rest = at.2.read.rest;
-    each = at.2.read.each;
-    taken = at.2.read.taken;
-    count = at.2.count;
+    frames = at.0.2.frames;
+    rest = at.0.2.read.rest;
+    each = at.0.2.read.each;
+    taken = at.0.2.read.taken;
+    count = at.0.2.count;
     stop = stop;
     now = writer;
-    sent = at.2.sent;
-    writing = λ e. absurd (at.0 e);
+    sent = at.0.2.sent;
+    writing = λ e. absurd (at.0.0 e);
     same = refl;
   }
 

@@ -223,7 +223,7 @@ module _ (past : List Act) (o : Outset) (is : IsOutset o) (size : IsWriterFor o.
     can = can_drain stop reader (with_kept pair seat) at.1.0 most at.0 at.1.2;
     left = m;
   }
-  can_go_on (courses.Discarding stop) reader seat writer buffers most counted header at m = at.0
+  can_go_on (courses.Discarding stop) reader seat writer buffers most counted header at m = at.0.0
 
 -- where nothing was done yet, it can begin
 pub can_begin : (past : List Act) (reader : ReaderState) (seat : StreamSeatValue) (writer : WriterState) (buffers : Buffers) → IsFresh seat

@@ -1,7 +1,7 @@
 -- What a client's frames come to: those that are accepted, why there are no more, and what went out.
 use Rattle.std.proofs.Common.{ℕ, ◌≡◌, ◌≢◌, ◌+◌, ◌⊎◌, ◌≤◌, List, [], ◌∷◌, ◌++◌, length, refl, sym, ap, ◌∙◌}
 use Rattle.std.proofs.Common.{append-nil, append_assoc, arith, subst, inl, inr, false, Result, Ok, Err, OnOk}
-use Rattle.std.proofs.Common.{IfErr, IfSome, IsSome, Option}
+use Rattle.std.proofs.Common.{IfErr, IfSome, IsSome, IsTrue, Option}
 use Rattle.filters.specs.ChainImage.{FrameValue}
 use Rattle.y4m_header.specs.StreamText.{FrameText}
 use Rattle.y4m_stream.specs.declared.fault.WriteFault.{WriteFault}
@@ -9,17 +9,19 @@ use Rattle.y4m_stream.specs.Reader.{ReaderState, data_len_of}
 use Rattle.y4m_stream.specs.Writer.{IsWriterFor, WriterState}
 use Rattle.y4m_header.specs.declared.limits.TheConstants.{MOST_FRAMES}
 use Rattle.serve_core.specs.declared.collected.Collected.{Collected}
+use Rattle.serve_core.specs.declared.refusal.Refusal as core
+use Rattle.serve_core.specs.declared.refusal.Refusal.TheVariants as cores
 use Rattle.serve_hub.specs.declared.entry.Act.{Act}
 use Rattle.serve_hub.specs.declared.entry.Act.TheVariants as acts
 use Rattle.serve_hub.specs.declared.refusal.Refusal.{Refusal}
 use Rattle.serve_hub.specs.declared.refusal.Refusal.TheVariants as hub
-use Rattle.serve_hub.specs.Calls.{Closes, IsCloseTold, noted}
+use Rattle.serve_hub.specs.Calls.{AllowsClose, Closes, IsCloseTold, noted}
 use Rattle.serve_hub.specs.Seats.{StreamSeatValue, collected_by}
 use Rattle.serve_client.specs.declared.stop.Cause.TheVariants.{TooManyFrames, ClockEnd, NoMemory}
 use Rattle.serve_client.specs.declared.stop.Halt.TheVariants.{Stopped}
 use Rattle.serve_client.specs.declared.stop.Stop.{Stop}
 use Rattle.serve_client.specs.declared.stop.Stop.TheVariants.{Whole, Read, Write, Refused, Torn}
-use Rattle.serve_client.specs.Clients.{ClientProgress, ClientStopsAt, HasLaterFault, HasMoreOrEnds, HasOtherNumber, IsDrained}
+use Rattle.serve_client.specs.Clients.{ClientProgress, ClientStopsAt, HasLaterFault, HasMoreOrEnds, HasOtherNumber, IsClosedUnlessTorn, IsDrained}
 use Rattle.serve_client.specs.ClientInside.{Accounted, Cuts, Feeds, IsFirst, IsNoWrite, IsOfCollection, IsUseful}
 use Rattle.serve_client.specs.ClientInside.{KeepsMoments, MayClose, Moves, StopsReading, StopsWith, TalliesSeat, texts_of}
 use Rattle.serve_client.specs.Sends.{BreaksOff, IsSent, IsSpoilt, SendsWhole, Serves}
@@ -28,7 +30,7 @@ use Rattle.serve_client.specs.Hands.{Behind}
 use Rattle.serve_client.proofs.Hands.{Behind-map, stood_tally}
 use Rattle.serve_client.proofs.Keeping.{spoilt_later, stopped_kept, stopped_spoilt}
 use Rattle.serve_client.proofs.Tallying.{TalliesSeat-torn, TalliesSeat-trans, collections_both, none_accepted, offers_both, seat_same}
-use Rattle.serve_client.proofs.Tallying.{torn_still}
+use Rattle.serve_client.proofs.Tallying.{some_torn, torn_still}
 use Rattle.serve_client.proofs.Moving.{Accounted-later, Moves-none, Moves-trans, StopsWith-later, few_of, size_later}
 
 -- what went out
@@ -93,6 +95,28 @@ module _ (seat : StreamSeatValue) (writer : WriterState) (frames : List FrameTex
 
 -- a seat that is closed
 
+already_closed : (e : core.Refusal) (seat : StreamSeatValue) → AllowsClose seat e → IsTrue seat.is_closed
+already_closed cores.NoStream seat allows = absurd allows
+already_closed cores.Closed seat allows = absurd allows
+already_closed cores.WrongSize seat allows = absurd allows
+already_closed cores.TooManyFrames seat allows = absurd allows
+already_closed cores.Full seat allows = absurd allows
+already_closed cores.NoMemory seat allows = absurd allows
+already_closed cores.NoWorker seat allows = absurd allows
+already_closed cores.Busy seat allows = absurd allows
+already_closed cores.NoneReady seat allows = absurd allows
+already_closed cores.NoLease seat allows = absurd allows
+already_closed cores.GrantSpent seat allows = absurd allows
+already_closed cores.Past seat allows = absurd allows
+already_closed cores.ClockEnd seat allows = absurd allows
+already_closed cores.AlreadyClosed seat allows = allows
+already_closed cores.TooManyStreams seat allows = absurd allows
+already_closed cores.BadLimits seat allows = absurd allows
+already_closed cores.BadBandwidth seat allows = absurd allows
+already_closed cores.Overload seat allows = absurd allows
+already_closed cores.Empty seat allows = absurd allows
+already_closed cores.Drained seat allows = absurd allows
+
 pub may_close : {T : Type 0} (old new : StreamSeatValue) (result : Result T Refusal) → OnOk result (Closes old new)
     → IfErr result (λ e. IsCloseTold old e × (new ≡ noted e old)) → MayClose old new
 may_close old new (Ok t) closed refused = rw closed refl
@@ -100,6 +124,15 @@ may_close old new (Err (hub.Core e)) closed refused = rw refused.1 refl
 may_close old new (Err hub.HistoryFull) closed refused = rw refused.1 refl
 may_close old new (Err hub.StrayLease) closed refused = rw refused.1 refl
 may_close old new (Err (hub.Torn c)) closed refused = rw refused.1 refl
+
+pub close_closes : {T : Type 0} (old new : StreamSeatValue) (result : Result T Refusal) → OnOk result (Closes old new)
+    → IfErr result (λ e. IsCloseTold old e × (new ≡ noted e old)) → IfErr result (λ e. e ≢ hub.HistoryFull) → IsClosedUnlessTorn new
+close_closes old new (Ok t) closed refused reserved = inr (ap (λ (s : StreamSeatValue). s.is_closed) closed)
+close_closes old new (Err (hub.Core e)) closed refused reserved =
+    inr (ap (λ (s : StreamSeatValue). s.is_closed) refused.1 ∙ already_closed e old refused.0)
+close_closes old new (Err hub.HistoryFull) closed refused reserved = absurd (reserved refl)
+close_closes old new (Err hub.StrayLease) closed refused reserved = absurd refused.0
+close_closes old new (Err (hub.Torn c)) closed refused reserved = inl (some_torn (collected_by old) old new refused.1)
 
 pub close_tally : {T : Type 0} (old new : StreamSeatValue) (result : Result T Refusal) → OnOk result (Closes old new)
     → IfErr result (λ e. IsCloseTold old e × (new ≡ noted e old)) → TalliesSeat old new

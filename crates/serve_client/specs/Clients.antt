@@ -111,6 +111,10 @@ pub record IsDrained (seat : StreamSeatValue) : Type 0 where
   pub closed : IsTrue seat.is_closed
   pub none : seat.kept ≡ []
 
+-- the seat is closed, unless it was told Torn
+abbrev pub IsClosedUnlessTorn : StreamSeatValue → Type 0
+IsClosedUnlessTorn seat = IsSome seat.torn ⊎ IsTrue seat.is_closed
+
 -- how far an input was read: the bytes of a frame's data, how many frames were accepted and how many may be,
 -- what stands behind them, what the source has left, and the seat's calls
 pub record ClientProgress : Type 0 where
@@ -269,9 +273,9 @@ pub record Ends (StopsAt : Stop → ClientProgress → Type 0) (start : ClientSt
 abbrev pub ClientEnds : ClientStart → List Act → StreamSeatValue → ClientOutcome → Type 0
 ClientEnds = Ends ClientStopsAt
 
--- and no image is left at its seat
+-- and no image is left at its seat, which is closed
 abbrev pub ClientIsDone : ClientStart → List Act → StreamSeatValue → ClientOutcome → Type 0
-ClientIsDone start past seat end = ClientEnds start past seat end × (seat.kept ≡ [])
+ClientIsDone start past seat end = ClientEnds start past seat end × (seat.kept ≡ []) × IsClosedUnlessTorn seat
 
 -- what a stream comes to, whose client may have been given up between epochs
 abbrev pub StreamEnds : ClientStart → List Act → StreamSeatValue → ClientOutcome → Type 0

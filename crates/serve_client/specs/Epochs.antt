@@ -3,7 +3,7 @@ use Rattle.std.specs.Prelude.{◌≡◌, List, [], ◌++◌}
 use Rattle.y4m_stream.specs.declared.reader.Phase.TheVariants.{Open}
 use Rattle.serve_hub.specs.declared.entry.Act.{Act}
 use Rattle.serve_hub.specs.Seats.{StreamSeatValue, collected_by, spec_told}
-use Rattle.serve_client.specs.Clients.{ClientEnds, ClientOutcome, ClientStart, IsNewSeat}
+use Rattle.serve_client.specs.Clients.{ClientIsDone, ClientOutcome, ClientStart, IsNewSeat}
 use Rattle.serve_client.specs.Rests.{IsRestOf, RestValue, Unbegun}
 
 -- the seat of the same stream in the next epoch: it has made no call
@@ -27,5 +27,5 @@ abbrev pub StreamsCross : Type 0
 StreamsCross = (start : ClientStart) (past : List Act) (old new : StreamSeatValue) → IsReopened old new
     → ((rest : RestValue) → IsRestOf start past old rest
     → IsRestOf start (past ++ old.calls.list) new rest)
-    × ((end : ClientOutcome) → ClientEnds start past old end
-    → ClientEnds start (past ++ old.calls.list) new end)
+    × ((end : ClientOutcome) → ClientIsDone start past old end
+    → ClientIsDone start (past ++ old.calls.list) new end)

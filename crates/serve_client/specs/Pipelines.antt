@@ -2,9 +2,10 @@
 use Rattle.std.specs.Prelude.{ℕ, ◌≡◌, List, Option, Some, None, IfSome}
 use Rattle.y4m_stream.specs.declared.reader.Phase.TheVariants.{Open}
 use Rattle.y4m_stream.specs.Reader.{IsOfHeader, ReaderState}
-use Rattle.y4m_stream.specs.Writer.{IsWriterFor}
+use Rattle.y4m_stream.specs.Writer.{IsWriterFor, WriterState}
 use Rattle.serve_core.specs.declared.collected.Collected.{Collected}
 use Rattle.serve_hub.specs.declared.entry.Act.{Act}
+use Rattle.serve_hub.specs.Seats.{StreamSeatValue}
 use Rattle.serve_client.specs.declared.course.Course.{Course}
 use Rattle.serve_client.specs.declared.feeding.Fed.{Fed}
 use Rattle.serve_client.specs.declared.pipeline.Pipeline.{Pipeline}
@@ -58,11 +59,11 @@ pub record HasFed {L R W : Type 0} (Gives : ℕ → Type 0) (fed : Option Fed) (
 abbrev pub CanFollow : {L R W : Type 0} → Option Course → Pipeline L R W → Type 0
 CanFollow course pipeline = CanGoOn course pipeline.reader pipeline.seat pipeline.writer pipeline.buffers
 
--- a client went on with this course, until it was done or the journal was full
-pub record Follows {L R W : Type 0} (Gives : ℕ → Type 0) (course : Option Course) (old new : Pipeline L R W)
-    (step : Step) : Type 0 where
+-- a client went on with this course from where it was, until it was done or the journal was full
+pub record FollowsFrom {L R W : Type 0} (Was : List Act → Outset → ReaderState → StreamSeatValue → WriterState → Type 0)
+    (Gives : ℕ → Type 0) (course : Option Course) (old new : Pipeline L R W) (step : Step) : Type 0 where
   pub answer : (past : List Act) (o : Outset) → IsOutset o → IsCounted past old.seat
-      → IsBefore course past o old.reader old.seat old.writer
+      → Was past o old.reader old.seat old.writer
       → Comes step past o new.reader new.seat new.writer
   pub tally : Tallies old.seat new.seat (counted_with (image_before course) old.writer)
       (counted_with (step_image step) new.writer)
@@ -72,3 +73,7 @@ pub record Follows {L R W : Type 0} (Gives : ℕ → Type 0) (course : Option Co
   pub fault : KeepsFault (course_stop_before course) (step_stop step)
   pub memory : HasMemoryAt new.reader new.writer new.buffers step
   pub header : new.reader.header ≡ old.reader.header
+
+-- the same, from where the course begins
+abbrev pub Follows : {L R W : Type 0} → (Gives : ℕ → Type 0) → Option Course → (old new : Pipeline L R W) → Step → Type 0
+Follows Gives course old new step = FollowsFrom (IsBefore course) Gives course old new step

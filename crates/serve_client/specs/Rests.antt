@@ -22,7 +22,7 @@ use Rattle.serve_client.specs.declared.serving.Step.TheVariants as steps
 use Rattle.serve_client.specs.declared.stop.Stop.{Stop}
 use Rattle.serve_client.specs.declared.stop.Stop.TheVariants.{Torn, Whole}
 use Rattle.serve_core.specs.declared.collected.Collected.{Collected}
-use Rattle.serve_client.specs.Clients.{ClientStart, collections_in}
+use Rattle.serve_client.specs.Clients.{ClientStart, IsClosedUnlessTorn, collections_in}
 use Rattle.serve_client.specs.Hands.{Behind, CanPutOn, IsBegunPair, IsPairOf, counted_with, with_kept}
 use Rattle.serve_client.specs.ClientInside.{Accounted, AreBuffersFor, Feeds, HasInHand, Holds, IsCounted}
 use Rattle.serve_client.specs.ClientInside.{IsSized, IsUseful, ShowsClose, Stays, Takes, text_in}
@@ -150,7 +150,13 @@ pub record Spoils (held : Stop) (o : Outset) (reader : ReaderState) (seat : Stre
   pub holds : Holds before reader in_hand
   pub is_open : reader.phase ≡ Open
 
--- how far a client came from its outset, by what it does next; where an image is in hand, how far it had come
+-- a client stopped, for this reason, which is no end, and writes no image any more
+abbrev pub HasStopped : Stop → List Act → Outset → ReaderState → StreamSeatValue → WriterState → Type 0
+HasStopped stop past o reader seat writer =
+    (stop ≢ Whole) × IsSpoilt writer seat × Serves past stop o.reader reader o.seat seat o.writer writer
+
+-- how far a client came from its outset, by what it does next; where it reads no more, it has closed its
+-- stream, and where an image is in hand, how far it had come
 -- before that was begun
 abbrev pub IsAt : CourseValue → List Act → Outset → ReaderState → StreamSeatValue → WriterState → Type 0
 IsAt (Feeding in_hand image) past o reader seat writer =
@@ -158,20 +164,20 @@ IsAt (Feeding in_hand image) past o reader seat writer =
 IsAt (Holding in_hand held) past o reader seat writer = Spoils held o reader seat writer in_hand
 IsAt (Draining stop image) past o reader seat writer =
     IsUseful stop × Behind image seat writer (λ s w.
-    Feeds past stop o.reader reader o.seat (as_open s) o.writer w)
+    Feeds past stop o.reader reader o.seat (as_open s) o.writer w) × IsClosedUnlessTorn seat
 IsAt (Discarding stop) past o reader seat writer =
-    (stop ≢ Whole) × IsSpoilt writer seat × Serves past stop o.reader reader o.seat seat o.writer writer
+    HasStopped stop past o reader seat writer × IsClosedUnlessTorn seat
 
 abbrev pub IsBefore : Option code.Course → List Act → Outset → ReaderState → StreamSeatValue → WriterState
     → Type 0
 IsBefore None past o reader seat writer = HasInHand o.reader reader o.seat seat o.writer writer None
 IsBefore (Some course) past o reader seat writer = IsAt (course_of course) past o reader seat writer
 
--- the client paused, or it is done, and no image is left at its seat
+-- the client paused, or it is done, and no image is left at its seat, which is closed
 abbrev pub Comes : Step → List Act → Outset → ReaderState → StreamSeatValue → WriterState → Type 0
 Comes (steps.Paused course) past o reader seat writer = IsAt (course_of course) past o reader seat writer
 Comes (steps.Done stop) past o reader seat writer =
-    Serves past stop o.reader reader o.seat seat o.writer writer × (seat.kept ≡ [])
+    Serves past stop o.reader reader o.seat seat o.writer writer × (seat.kept ≡ []) × IsClosedUnlessTorn seat
 
 -- none of the stream's frames was accepted yet, and it is open
 pub record IsFresh (seat : StreamSeatValue) : Type 0 where

@@ -34,8 +34,7 @@ abbrev pub turn_stop : {L R W : Type 0} → ClientTurn L R W → Option Stop
 turn_stop (turns.Ended end) = Some end.outcome.stop
 turn_stop (turns.Paused seat rest told) = rest_stop rest
 
--- what a client comes to in an epoch, from this beginning of its stream: its end, where no image is left at
--- its seat, or what is left to do
+-- what a client comes to in an epoch, from this beginning of its stream: its end, or what is left to do
 abbrev pub Turns : {L R W : Type 0} → ClientStart → List Act → ClientTurn L R W → Type 0
 Turns start past (turns.Ended end) = ClientIsDone start past end.seat end.outcome
 Turns start past (turns.Paused seat rest told) = IsRestOf start past seat rest

@@ -8,7 +8,7 @@ ghost use Rattle.y4m_stream.specs.Served.{IsHeaderOfImages};
 ghost use Rattle.y4m_stream.specs.Writer.{IsOpenedFor, WriterState};
 ghost use Rattle.serve_client.specs.ClientInside.{AreBuffersFor, HasPlaces, IsCounted, IsNoNewEnd};
 ghost use Rattle.serve_client.specs.ClientInside.{KeepsAllowed, KeepsFault, KeepsMoments, TalliesSeat};
-ghost use Rattle.serve_client.specs.Clients.{AllowsStop, ClientEnds, ClientStart};
+ghost use Rattle.serve_client.specs.Clients.{AllowsStop, ClientEnds, ClientStart, IsClosedUnlessTorn};
 ghost use Rattle.serve_client.specs.Pipelines.{CanFollow};
 ghost use Rattle.serve_client.specs.Rests.{IsFresh, IsRest, IsRestOf, IsRunning, IsTallied, IsUnbegun};
 ghost use Rattle.serve_client.specs.Rests.{course_stop_before, reader_in, rest_stop};
@@ -102,6 +102,7 @@ fn end_unopened<L: Epoch, R: Source + Drop, W: Sink, K, T: Wait>(
     ensures tally { TalliesSeat seat result.seat }
     ensures accepted { result.seat.accepted ≡ seat.accepted }
     ensures kept { result.seat.kept ≡ seat.kept }
+    ensures closed { IsClosedUnlessTorn result.seat }
     ensures outcome { result.outcome ≡ left_unread reader (W.contents writer) (W.failures writer)
         (W.is_flushed writer) stop }
 {

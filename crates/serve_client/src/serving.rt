@@ -3,7 +3,9 @@ ghost use Rattle.std.specs.Prelude.{◌≡◌, None, Some, IsFalse, IsSome, IsTr
 ghost use Rattle.y4m_stream.specs.Reader.{IsOfHeader};
 ghost use Rattle.serve_client.specs.declared.course.Course.TheVariants as courses;
 ghost use Rattle.serve_client.specs.ClientInside.{MayClose, TalliesSeat};
-ghost use Rattle.serve_client.specs.Pipelines.{CanFollow, Follows};
+ghost use Rattle.serve_client.specs.Clients.{IsClosedUnlessTorn};
+ghost use Rattle.serve_client.specs.Pipelines.{CanFollow, Follows, FollowsFrom};
+ghost use Rattle.serve_client.specs.Rests.{HasStopped};
 
 use crate::course::Course;
 use crate::delivery::{discard, drain};
@@ -32,6 +34,7 @@ pub(crate) enum Step {
 /// Closes a stream, and tells whether the answer contradicts the seat.
 fn close_torn<L: Epoch, T: Wait>(rt: &T, hub: &Hub<L>, seat: &mut StreamSeat<L>) -> bool
     ensures closed { MayClose seat.old seat.new }
+    ensures shut { IsClosedUnlessTorn seat.new }
     ensures torn { IsTrue result → IsSome seat.new.torn }
     ensures untorn { IsFalse result → seat.new.torn ≡ seat.old.torn }
     ensures tally { TalliesSeat seat.old seat.new }
@@ -56,8 +59,8 @@ impl<L: Epoch, R: Source + Drop, W: Sink> Pipeline<L, R, W> {
     /// Closes the stream, and throws away what is left.
     fn spoil_left<K: Clock, T: Wait>(&mut self, post: Post<'_, L, K, T>, stop: Stop) -> Step
         requires can { CanFollow (Some (courses.Discarding stop)) self.old }
-        ensures { Follows (K.gives post.entry.clock.now) (Some (courses.Discarding stop))
-            self.old self.new result }
+        ensures { FollowsFrom (HasStopped stop) (K.gives post.entry.clock.now)
+            (Some (courses.Discarding stop)) self.old self.new result }
     {
         let _ = close_torn(post.rt, post.hub, &mut self.seat);
         self.discard_left(post, stop)

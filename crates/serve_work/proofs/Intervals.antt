@@ -181,7 +181,7 @@ reopened limit seat = record {
 pub stands_across : (start : ClientStart) (past : List Act) (old new : StreamSeatValue) (stream : StreamValue) → IsReopened old new
     → StandsAt stream start past old → StandsAt stream start (past ++ old.calls.list) new
 stands_across start past old new (Waiting rest) r a = (streams_cross start past old new r).0 rest a
-stands_across start past old new (Over outcome) r a = ((streams_cross start past old new r).1 outcome a.0, r.kept ∙ a.1)
+stands_across start past old new (Over outcome) r a = (streams_cross start past old new r).1 outcome a
 
 -- what the seats of an epoch leave
 abbrev pub rests_of : List HeldValue → List StreamRest

@@ -129,11 +129,12 @@ module _ (n : ℕ) where
     is_open = a.is_open;
   }
   IsAt-numbered (Draining stop None) past first reader reader' writer writer' seat a =
-      (a.0, Feeds-numbered past stop reader reader' first (as_open seat) writer writer' a.0 a.1)
+      (a.0, Feeds-numbered past stop reader reader' first (as_open seat) writer writer' a.0 a.1, a.2)
   IsAt-numbered (Draining stop (Some pair)) past first reader reader' writer writer' seat a =
-      (a.0, (a.1.0, a.1.1, Feeds-numbered past stop reader reader' first (as_open (with_kept pair seat)) writer a.1.0 a.0 a.1.2))
+      let fed = Feeds-numbered past stop reader reader' first (as_open (with_kept pair seat)) writer a.1.0 a.0 a.1.2 in
+      (a.0, (a.1.0, a.1.1, fed), a.2)
   IsAt-numbered (Discarding stop) past first reader reader' writer writer' seat a =
-      (a.0, a.1, Serves-numbered past stop reader reader' first seat writer writer' a.2)
+      ((a.0.0, a.0.1, Serves-numbered past stop reader reader' first seat writer writer' a.0.2), a.1)
 
   rest_numbered : (start : ClientStart) (past : List Act) (seat : StreamSeatValue) (rest : RestValue)
       → IsRestOf start past seat rest → IsRestOf (starting n start) past (numbered n seat) rest
@@ -264,7 +265,7 @@ module _ (n : ℕ) where
   pub stands_numbered : (start : ClientStart) (past : List Act) (seat : StreamSeatValue) (stream : StreamValue)
       → StandsAt stream start past seat → StandsAt stream (starting n start) past (numbered n seat)
   stands_numbered start past seat (Waiting rest) a = rest_numbered start past seat rest a
-  stands_numbered start past seat (Over outcome) a = (end_numbered start past seat outcome a.0, a.1)
+  stands_numbered start past seat (Over outcome) a = (end_numbered start past seat outcome a.0, a.1, a.2)
 
 -- what is picked twice is picked once
 

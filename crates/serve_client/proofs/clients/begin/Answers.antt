@@ -27,7 +27,7 @@ returns-in_default-clause-turn g c = λ start past is.
       kept = subst (λ b. Keeps b contents) is.same_contents (Keeps-refl contents);
       no_failure = is.same_failures;
     }))) in
-    (ends, u.kept ∙ is.fresh.kept)
+    (ends, u.kept ∙ is.fresh.kept, u.closed)
 
 pub returns-in-Err-clause-turn : goal.returns-in-Err-clause-turn
 returns-in-Err-clause-turn g c = λ start past is.
@@ -52,7 +52,7 @@ returns-in-Err-clause-turn g c = λ start past is.
           (subst (λ b. CutsShort b contents (h.line ++ 10 ∷ []) 0 c.in-Err.fault) is.same_contents c.in-Err.ensures.cut);
       failure = c.in-Err.ensures.failures ∙ ap one_more is.same_failures;
     }))) in
-    (ends, u.kept ∙ is.fresh.kept)
+    (ends, u.kept ∙ is.fresh.kept, u.closed)
 
 pub run-requires-clause-can : goal.run-requires-clause-can
 run-requires-clause-can g c =

@@ -1,5 +1,6 @@
 use Rattle.std.proofs.Common.{◌∙◌, Some, ap, arith, subst, sym}
 use Rattle.serve_hub.specs.Seats.{StreamSeatValue}
+use Rattle.serve_client.specs.Clients.{IsClosedUnlessTorn}
 use Rattle.serve_client.specs.ClientInside.{KeepsMoments}
 use Rattle.serve_client.specs.Rests.{Outset, course_stop_before}
 use Rattle.serve_client.proofs.Allowing.{fault_kept, kept_allowed}
@@ -17,6 +18,7 @@ returns-in-Done-clause-turn g c = λ start past running.
           (untorn_or_silent c.args.course past first old.reader old.seat old.writer c.serve.new.self.writer _ running.before
           c.in-Done.ensures.silent) c.in-Done.ensures.tally),
       ap (λ (s : StreamSeatValue). s.kept) c.end.ensures.seat ∙ serves.1,
+      subst IsClosedUnlessTorn (sym c.end.ensures.seat) serves.2,
     )
 
 pub returns-in-Paused-clause-turn : goal.returns-in-Paused-clause-turn

@@ -1,6 +1,6 @@
 use Rattle.std.proofs.Common.{ap, refl}
 use Rattle.serve_hub.specs.Seats.{StreamSeatValue}
-use Rattle.serve_client.proofs.Keeping.{spoilt_later}
+use Rattle.serve_client.proofs.Keeping.{closed_later, spoilt_later}
 use Rattle.serve_client.proofs.Stopping.{Serves-later}
 use Rattle.serve_client.proofs.Tallying.{Tallies-seat, none_given}
 use Rattle.serve_client.proofs.pipeline.Pipeline.discard_left.Goals as goal
@@ -11,10 +11,13 @@ returns-then-discard g c =
     let on = c.discard.ensures in
     record {
       answer = λ past o is counted before. (
-        before.0,
-        spoilt_later old.seat c.discard.new.seat old.writer on.tally before.1,
-        Serves-later past c.args.stop o.reader old.reader o.seat old.seat c.discard.new.seat o.writer old.writer before.0 before.1
-            on.tally (ap (λ (s : StreamSeatValue). s.accepted) on.stays) before.2,
+        (
+          before.0.0,
+          spoilt_later old.seat c.discard.new.seat old.writer on.tally before.0.1,
+          Serves-later past c.args.stop o.reader old.reader o.seat old.seat c.discard.new.seat o.writer old.writer before.0.0 before.0.1
+              on.tally (ap (λ (s : StreamSeatValue). s.accepted) on.stays) before.0.2,
+        ),
+        closed_later old.seat c.discard.new.seat on.tally before.1,
       );
       tally = Tallies-seat _ _ _ _ on.tally refl;
       silent = λ is. (refl, refl);
@@ -31,9 +34,10 @@ returns-else-discard g c =
     let on = c.discard.ensures in
     record {
       answer = λ past o is counted before. (
-        Serves-later past c.args.stop o.reader old.reader o.seat old.seat c.discard.new.seat o.writer old.writer before.0 before.1
-            on.tally (ap (λ (s : StreamSeatValue). s.accepted) on.stays) before.2,
+        Serves-later past c.args.stop o.reader old.reader o.seat old.seat c.discard.new.seat o.writer old.writer before.0.0 before.0.1
+            on.tally (ap (λ (s : StreamSeatValue). s.accepted) on.stays) before.0.2,
         on.none c.if-discard.false,
+        closed_later old.seat c.discard.new.seat on.tally before.1,
       );
       tally = Tallies-seat _ _ _ _ on.tally refl;
       silent = λ is. (refl, refl);

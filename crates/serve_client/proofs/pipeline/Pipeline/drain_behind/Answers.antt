@@ -33,6 +33,7 @@ returns-in-Ok g c =
         at.0,
         Feeds-drained past c.args.stop o.reader old.reader o.seat (with_kept c.args.pair old.seat) old.seat o.writer at.1.0
             c.finish.new.writer at.0 at.1.2 (c.in-Ok.ensures.answer old.seat at.1.0 at.1.1) (TalliesSeat-kept c.args.pair old.seat),
+        at.2,
       );
       tally = Tallies-trans _ _ _ _ _ _ refl
           (Tallies-less old.seat (counted_with (Some c.args.pair) old.writer) c.finish.new.writer c.in-Ok.ensures.count) left.tally;
@@ -54,6 +55,7 @@ returns-in-Err-Full g c =
         Feeds-paused past c.args.stop o.reader old.reader o.seat (with_kept c.args.pair old.seat) old.seat o.writer at.1.0
             c.finish.new.writer image at.0 at.1.2
             (rw c.in-Err-Full.field-0-is at (c.in-Err-Full.ensures.answer old.seat at.1.0 at.1.1)) (TalliesSeat-kept c.args.pair old.seat),
+        at.2,
       );
       tally = Tallies-less old.seat (counted_with (Some c.args.pair) old.writer) (counted_with image c.finish.new.writer)
           (rw c.in-Err-Full.field-0-is at c.in-Err-Full.ensures.count);
@@ -83,11 +85,14 @@ returns g c =
           let stops : StopsWith last kept old.seat at.1.0 c.finish.new.writer [] = rw c.in-Err-Stopped.field-0-is at
           (c.in-Err-Stopped.ensures.answer old.seat at.1.0 at.1.1) in
           left.answer past o is counted (
-            first_fault c.args.stop last c.or.result c.or.ensures (writing_delivers (Stopped last) own),
-            stopped_spoilt last kept old.seat at.1.0 c.finish.new.writer [] (writing_delivers (Stopped last) own) stops,
-            Serves-drained past o.reader old.reader o.seat o.writer is.fresh.kept is.writing c.args.stop last c.or.result kept old.seat
-                at.1.0 c.finish.new.writer at.0 at.1.2 stops (writing_collects (Stopped last) own)
-                (λ e. writing_unfinished _ (Stopped last) own (ap Stopped e)) refl (TalliesSeat-kept c.args.pair old.seat) c.or.ensures,
+            (
+              first_fault c.args.stop last c.or.result c.or.ensures (writing_delivers (Stopped last) own),
+              stopped_spoilt last kept old.seat at.1.0 c.finish.new.writer [] (writing_delivers (Stopped last) own) stops,
+              Serves-drained past o.reader old.reader o.seat o.writer is.fresh.kept is.writing c.args.stop last c.or.result kept old.seat
+                  at.1.0 c.finish.new.writer at.0 at.1.2 stops (writing_collects (Stopped last) own)
+                  (λ e. writing_unfinished _ (Stopped last) own (ap Stopped e)) refl (TalliesSeat-kept c.args.pair old.seat) c.or.ensures,
+            ),
+            at.2,
           );
       tally = tally_silent _ _ _ _ _ _ _
           (Tallies-less old.seat (counted_with (Some c.args.pair) old.writer) c.finish.new.writer

@@ -4,7 +4,7 @@ use Rattle.serve_client.specs.declared.stop.Halt.TheVariants.{Stopped}
 use Rattle.serve_client.specs.ClientInside.{IsUseful}
 use Rattle.serve_client.proofs.Allowing.{drained_stop, first_kept, kept_allowed}
 use Rattle.serve_client.proofs.Hands.{left_can, tally_silent}
-use Rattle.serve_client.proofs.Keeping.{collected_whole, stopped_spoilt}
+use Rattle.serve_client.proofs.Keeping.{closed_later, collected_whole, stopped_spoilt}
 use Rattle.serve_client.proofs.Stopping.{Feeds-paused, Serves-drained, first_fault}
 use Rattle.serve_client.proofs.Tallying.{KeepsMoments-trans, counted_later, none_given}
 use Rattle.serve_client.proofs.pipeline.Pipeline.drain_left.Goals as goal
@@ -18,6 +18,7 @@ returns-in-Full g c =
         at.0,
         Feeds-paused past c.args.stop o.reader old.reader o.seat old.seat c.drain.new.seat o.writer old.writer c.drain.new.writer
             image at.0 at.1 c.in-Full.ensures.answer c.drain.ensures.tally.seat,
+        closed_later old.seat c.drain.new.seat c.drain.ensures.tally.seat at.2,
       );
       tally = c.in-Full.ensures.tally;
       silent = λ is. absurd is;
@@ -41,11 +42,14 @@ returns-then-is_spoilt g c =
           let spoilt : IsUseful last → ⊥ = λ useful.
           let both : true ≡ false = sym c.if-is_spoilt.true ∙ c.is_spoilt.ensures.useful.1 useful in absurd (cc) in
           left.answer past o is (counted_later past _ _ on.tally.seat counted) (
-            first_fault c.args.stop last c.or-told.result c.or-told.ensures spoilt,
-            stopped_spoilt last old.seat c.drain.new.seat old.writer c.drain.new.writer [] spoilt on.answer,
-            Serves-drained past o.reader old.reader o.seat o.writer is.fresh.kept is.writing c.args.stop last c.or-told.result
-                old.seat c.drain.new.seat old.writer c.drain.new.writer at.0 at.1 on.answer on.own
-                (λ e. on.drained (ap Stopped e)) accepted on.tally.seat c.or-told.ensures,
+            (
+              first_fault c.args.stop last c.or-told.result c.or-told.ensures spoilt,
+              stopped_spoilt last old.seat c.drain.new.seat old.writer c.drain.new.writer [] spoilt on.answer,
+              Serves-drained past o.reader old.reader o.seat o.writer is.fresh.kept is.writing c.args.stop last c.or-told.result
+                  old.seat c.drain.new.seat old.writer c.drain.new.writer at.0 at.1 on.answer on.own
+                  (λ e. on.drained (ap Stopped e)) accepted on.tally.seat c.or-told.ensures,
+            ),
+            closed_later old.seat c.drain.new.seat on.tally.seat at.2,
           );
       tally = tally_silent _ _ _ _ _ _ _ on.tally left.tally.seat (left.silent tt);
       silent = λ is. absurd is;
@@ -72,6 +76,7 @@ returns-else-is_spoilt g c =
             (λ e. on.drained (ap Stopped e)) (ap (λ (s : StreamSeatValue). s.accepted) c.drain.ensures.stays) on.tally.seat
             c.or-told.ensures,
         (on.drained (ap Stopped (collected_whole last (c.is_spoilt.ensures.useful.0 c.if-is_spoilt.false) on.own))).none,
+        closed_later old.seat c.drain.new.seat on.tally.seat at.2,
       );
       tally = on.tally;
       silent = λ is. absurd is;

@@ -114,11 +114,14 @@ returns-then-is_spoilt g c =
           let all = fed_from (feds.Stopped stop) (text_in c.args.in_hand) past o old.reader new.reader old.seat new.seat old.writer
           new.writer at (λ before h. c.in-Stopped.ensures.answer past before counted h) in
           left.answer past o is (counted_later past _ _ close.tally (counted_later past _ _ kept.tally.seat counted)) (
-            of_no_use stop spoilt,
-            spoilt_later new.seat c.close_torn-is_torn.new.seat new.writer close.tally
-                (stopped_spoilt stop o.seat new.seat o.writer new.writer all.frames spoilt all.moved),
-            Serves-spoilt past o.reader new.reader o.seat o.writer is.fresh.kept is.writing stop new.seat c.close_torn-is_torn.new.seat
-                new.writer spoilt all (ap (λ (s : StreamSeatValue). s.accepted) close.closed) close.tally,
+            (
+              of_no_use stop spoilt,
+              spoilt_later new.seat c.close_torn-is_torn.new.seat new.writer close.tally
+                  (stopped_spoilt stop o.seat new.seat o.writer new.writer all.frames spoilt all.moved),
+              Serves-spoilt past o.reader new.reader o.seat o.writer is.fresh.kept is.writing stop new.seat c.close_torn-is_torn.new.seat
+                  new.writer spoilt all (ap (λ (s : StreamSeatValue). s.accepted) close.closed) close.tally,
+            ),
+            close.shut,
           );
       tally = tally_silent _ _ _ _ _ _ _ (Tallies-still _ _ _ _ _ kept.tally close.tally) left.tally.seat (left.silent tt);
       silent = λ is. absurd is;
@@ -150,11 +153,14 @@ returns-then-is_torn g c =
           let all = fed_from (feds.Stopped stop) (text_in c.args.in_hand) past o old.reader new.reader old.seat new.seat old.writer
           new.writer at (λ before h. c.in-Stopped.ensures.answer past before counted h) in
           left.answer past o is (counted_later past _ _ close.tally (counted_later past _ _ kept.tally.seat counted)) (
-            first_fault stop Torn c.or.result c.or.ensures (λ useful. useful),
-            inr (close.torn c.if-is_torn.true),
-            Serves-torn past o.reader new.reader o.seat o.writer is.fresh.kept is.writing stop c.or.result new.seat
-                c.close_torn-is_torn.new.seat new.writer is.fresh.is_open (c.is_spoilt.ensures.useful.0 c.if-is_spoilt.false) all
-                (ap (λ (s : StreamSeatValue). s.accepted) close.closed) close.tally (close.torn c.if-is_torn.true) c.or.ensures,
+            (
+              first_fault stop Torn c.or.result c.or.ensures (λ useful. useful),
+              inr (close.torn c.if-is_torn.true),
+              Serves-torn past o.reader new.reader o.seat o.writer is.fresh.kept is.writing stop c.or.result new.seat
+                  c.close_torn-is_torn.new.seat new.writer is.fresh.is_open (c.is_spoilt.ensures.useful.0 c.if-is_spoilt.false) all
+                  (ap (λ (s : StreamSeatValue). s.accepted) close.closed) close.tally (close.torn c.if-is_torn.true) c.or.ensures,
+            ),
+            close.shut,
           );
       tally = tally_silent _ _ _ _ _ _ _ (Tallies-still _ _ _ _ _ kept.tally close.tally) left.tally.seat (left.silent tt);
       silent = λ is. absurd is;
@@ -210,6 +216,7 @@ returns-else-is_torn g c =
             useful,
             Feeds-closed past stop o.reader new.reader o.seat new.seat c.close_torn-is_torn.new.seat o.writer new.writer
                 is.fresh.is_open useful close.closed untorn close.tally all,
+            close.shut,
           );
       tally = Tallies-trans _ _ _ _ _ _ (untorn ∙ moved.seat_stays.torn) (Tallies-still _ _ _ _ _ kept.tally close.tally) left.tally;
       silent = λ is. absurd is;

@@ -14,10 +14,13 @@ returns g c =
     record {
       answer = λ past o is counted before.
           left.answer past o is (counted_later past _ _ close.tally counted) (
-            before.0,
-            spoilt_later old.seat c.close_torn.new.seat old.writer close.tally before.1,
-            Serves-later past c.args.stop o.reader old.reader o.seat old.seat c.close_torn.new.seat o.writer old.writer before.0 before.1
-                close.tally (ap (λ (s : StreamSeatValue). s.accepted) close.closed) before.2,
+            (
+              before.0,
+              spoilt_later old.seat c.close_torn.new.seat old.writer close.tally before.1,
+              Serves-later past c.args.stop o.reader old.reader o.seat old.seat c.close_torn.new.seat o.writer old.writer before.0 before.1
+                  close.tally (ap (λ (s : StreamSeatValue). s.accepted) close.closed) before.2,
+            ),
+            close.shut,
           );
       tally = tally_silent _ _ _ _ _ _ _ (Tallies-still _ _ _ _ _ (Tallies-none _ _) close.tally) left.tally.seat (left.silent tt);
       silent = left.silent;
