@@ -10,6 +10,7 @@ mod lists;
 mod live;
 mod many;
 mod pauses;
+mod returned;
 mod sessions;
 mod slow;
 mod stops;

@@ -21,7 +21,7 @@ pub(super) struct Stream<'a> {
 }
 
 /// Where a stream is read from, and written to.
-type Input<'a> = (StreamReader<OverRead<Tape<'a>>>, OverWrite<Room>);
+pub(super) type Input<'a> = (StreamReader<OverRead<Tape<'a>>>, OverWrite<Room>);
 
 /// The inputs of a session.
 pub(super) type AllInputs<'a> = Vec<Input<'a>>;
@@ -48,7 +48,11 @@ pub(super) const WIDE: Hall = Hall {
 };
 
 /// Reads the header of a stream.
-fn opened<'a>(rt: &impl Abort, alloc: Global, stream: &Stream<'a>) -> (StreamSpec, Input<'a>)
+pub(super) fn opened<'a>(
+    rt: &impl Abort,
+    alloc: Global,
+    stream: &Stream<'a>,
+) -> (StreamSpec, Input<'a>)
     ensures { IsInput result.0 result.1 }
 {
     let writer = writer_of(rt, alloc, stream.plan.room);

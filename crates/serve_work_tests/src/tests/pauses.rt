@@ -8,8 +8,8 @@ mod parts;
 mod shy;
 mod steps;
 
-use self::steps::{After, Case, LOUD, Step, follow};
-use super::PLAIN;
+use self::steps::{After, Case, LOUD, Step, follow, gives_back};
+use super::{PLAIN, same_at};
 use serve_work::Stop;
 use test_tools::streams::{HEADER, ONE_INVERTED, THREE, THREE_INVERTED, numbered};
 use y4m_stream::WriteFault;
@@ -152,6 +152,12 @@ fn a_client_pauses_while_it_feeds_and_drains(rt: HostRuntime) {
     for case in FEEDING {
         follow(&rt, rt.alloc(), case);
     }
+}
+
+#[test]
+fn a_stream_that_began_gives_no_reader_back(rt: HostRuntime) {
+    let came = gives_back(&rt, rt.alloc(), TWO_OFFERED);
+    same_at(&rt, came, false, "a stream that paused");
 }
 
 /// No image is written.

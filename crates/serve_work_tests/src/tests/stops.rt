@@ -68,7 +68,7 @@ pub(super) fn was_served(rt: &impl Abort, served: OneServed<'_>, told: &Told<'_>
 }
 
 /// The streams were served so.
-fn were_served(rt: &impl Abort, all: AllServed<'_>, wanted: &[Told<'_>], name: &str) {
+pub(super) fn were_served(rt: &impl Abort, all: AllServed<'_>, wanted: &[Told<'_>], name: &str) {
     same_at(rt, all.len(), wanted.len(), name);
     for (served, told) in all.into_iter().zip(wanted) {
         was_served(rt, served, told, name);

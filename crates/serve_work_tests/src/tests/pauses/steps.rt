@@ -24,6 +24,7 @@ use std::marker::{Brand, Model};
 use std::process::Abort;
 use std::sync::ledger::Blank;
 use std::sync::{Arc, Wait};
+use test_tools::streams::THREE;
 use test_tools::{Room, frame_of};
 use y4m_header::Header;
 use y4m_stream::reader::Phase;
@@ -449,4 +450,20 @@ pub(super) fn follow<T: Abort + Wait>(rt: &T, alloc: Global, case: &Case<'_>) {
     let (torn, written) = go_on(rt, alloc, came, &bell, &tries, later, case.name);
     same_at(rt, torn, case.torn, case.name);
     same_at(rt, written.as_slice(), case.written, case.name);
+}
+
+/// Whether a stream of three frames gives its reader back behind its first epoch, in which it paused.
+pub(super) fn gives_back<T: Abort + Wait>(rt: &T, alloc: Global, step: Step) -> bool {
+    let (bell, tries) = (Bell::new(), Tries::new());
+    let source = Shy {
+        source: Framed::over(THREE),
+        bell: &bell,
+    };
+    bell.ring(!step.is_silent);
+    tries.allow(step.takes);
+    let room = Room::new(alloc, PLAIN.room).expect(rt, "no room");
+    match begin(rt, alloc, source, output(room, &tries), step) {
+        Came::Paused(paused) => paused.rest.into_unread().is_some(),
+        Came::Ended(_, _, _, _, _) => panic!(rt; "it ended early"),
+    }
 }
