@@ -128,24 +128,6 @@ const FAULTS: &[Case<'_>] = &[
         written: ONE_INVERTED,
     },
     Case {
-        name: "a writer fails after the header, and the input is cut behind the frame",
-        input: CUT,
-        plan: Plan { room: 22, ..PLAIN },
-        end: (Stop::Read(ReadFault::Truncated), 1, 0),
-        written: HEADER,
-    },
-    Case {
-        name: "a writer fails after the header, and a second frame is one too many",
-        input: TWO,
-        plan: Plan {
-            room: 22,
-            frames: 1,
-            ..PLAIN
-        },
-        end: (Stop::Refused(Cause::TooManyFrames), 1, 0),
-        written: HEADER,
-    },
-    Case {
         name: "the clock is past its end",
         input: TWO,
         plan: Plan {

@@ -10,9 +10,9 @@ mod steps;
 
 use self::steps::{After, Case, LOUD, Step, follow, gives_back};
 use super::{PLAIN, same_at};
-use serve_work::Stop;
-use test_tools::streams::{HEADER, ONE_INVERTED, THREE, THREE_INVERTED, numbered};
-use y4m_stream::WriteFault;
+use serve_work::{Cause, Stop};
+use test_tools::streams::{CUT, HEADER, ONE_INVERTED, THREE, THREE_INVERTED, numbered};
+use y4m_stream::{ReadFault, WriteFault};
 
 /// Two frames, and a third one that is cut.
 const CUT_LATE: &[u8] =
@@ -26,6 +26,7 @@ const THREE_FRAMES: Case<'_> = Case {
     name: "",
     input: THREE,
     room: PLAIN.room,
+    frames: PLAIN.frames,
     steps: &[],
     written: THREE_INVERTED,
     torn: None,
@@ -276,6 +277,50 @@ const HOLDING: &[Case<'_>] = &[
 #[test]
 fn a_client_pauses_while_it_holds_a_fault(rt: HostRuntime) {
     for case in HOLDING {
+        follow(&rt, rt.alloc(), case);
+    }
+}
+
+/// Two entries are left: the frame is offered, no more are accepted, and its image can't be collected.
+const CLOSED: Step = Step {
+    busy: 12,
+    after: After::Paused(1, 0, 0),
+    ..LOUD
+};
+
+/// The image isn't written, behind a fault that came before.
+const SPOILT: &[Case<'_>] = &[
+    Case {
+        name: "the input is cut, and then an image fails",
+        input: CUT,
+        steps: &[
+            CLOSED,
+            Step {
+                finished: 1,
+                after: After::Ended(Stop::Read(ReadFault::Truncated), 1, 0),
+                ..LOUD
+            },
+        ],
+        ..NO_IMAGES
+    },
+    Case {
+        name: "a frame is one too many, and then an image fails",
+        frames: 1,
+        steps: &[
+            CLOSED,
+            Step {
+                finished: 1,
+                after: After::Ended(Stop::Refused(Cause::TooManyFrames), 1, 0),
+                ..LOUD
+            },
+        ],
+        ..NO_IMAGES
+    },
+];
+
+#[test]
+fn a_fault_is_told_that_came_before_a_failed_image(rt: HostRuntime) {
+    for case in SPOILT {
         follow(&rt, rt.alloc(), case);
     }
 }

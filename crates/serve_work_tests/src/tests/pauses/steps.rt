@@ -10,7 +10,7 @@ use super::shy::{Bell, Framed, Shy};
 use crate::tests::lists::{both, one_of, sole, two_of};
 use crate::tests::sessions::{hub_of, setup_over};
 use crate::tests::slow::{Output, Tries, output};
-use crate::tests::{PLAIN, Still, same_at, stream_of};
+use crate::tests::{PLAIN, Plan, Still, same_at, stream_of};
 use frame_view::{Frame, Geometry};
 use lease::{Job, Lease, Scratch};
 use serve_core::{Setup, StreamSpec};
@@ -73,6 +73,8 @@ pub(super) struct Case<'a> {
     pub(super) name: &'a str,
     pub(super) input: &'a [u8],
     pub(super) room: usize,
+    /// How many frames the stream may accept.
+    pub(super) frames: u64,
     pub(super) steps: &'a [Step],
     pub(super) written: &'a [u8],
     pub(super) torn: Option<u64>,
@@ -143,12 +145,12 @@ fn other_of(rt: &impl Abort, alloc: Global, header: &Header) -> StreamSpec {
     StreamSpec::new(Geometry::of(header), spec, 1, 64, 64, 4, 1 << 24)
 }
 
-/// A setup of one worker and two streams, whose frames are of this header.
-fn pair_of(rt: &impl Abort, alloc: Global, header: &Header) -> Setup
+/// A setup of one worker and two streams, whose frames are of this header. The first may accept so many.
+fn pair_of(rt: &impl Abort, alloc: Global, header: &Header, frames: u64) -> Setup
     ensures { (stream : rules.StreamSpec) × (other : rules.StreamSpec)
         × (result.streams ≡ stream ∷ other ∷ []) × IsOfHeader header.now stream.chain.geometry }
 {
-    let stream = stream_of(rt, alloc, header, PLAIN);
+    let stream = stream_of(rt, alloc, header, Plan { frames, ..PLAIN });
     let other = other_of(rt, alloc, header);
     setup_over(rt, 1, two_of(rt, alloc, stream, other))
 }
@@ -385,16 +387,17 @@ fn next_epoch<'a, L: Epoch, R: Source + Drop, T: Abort + Wait>(
     )
 }
 
-/// The first epoch of the stream of this source.
+/// The first epoch of the stream of this source, which may accept so many frames.
 fn begin<'a, R: Source + Drop, T: Abort + Wait>(
     rt: &T,
     alloc: Global,
     source: R,
+    frames: u64,
     sink: Output<'a>,
     step: Step,
 ) -> Came<'a, R> {
     let reader = StreamReader::open(alloc, source).expect(rt, "no reader");
-    let setup = pair_of(rt, alloc, reader.header());
+    let setup = pair_of(rt, alloc, reader.header(), frames);
     first_epoch::<Brand, _, _>(rt, alloc, Blank::new(80), setup, reader, sink, step)
 }
 
@@ -445,7 +448,8 @@ pub(super) fn follow<T: Abort + Wait>(rt: &T, alloc: Global, case: &Case<'_>) {
     bell.ring(!first.is_silent);
     tries.allow(first.takes);
     let room = Room::new(alloc, case.room).expect(rt, "no room");
-    let came = begin(rt, alloc, source, output(room, &tries), *first);
+    let sink = output(room, &tries);
+    let came = begin(rt, alloc, source, case.frames, sink, *first);
     came.is_after(rt, first.after, case.name);
     let (torn, written) = go_on(rt, alloc, came, &bell, &tries, later, case.name);
     same_at(rt, torn, case.torn, case.name);
@@ -462,7 +466,8 @@ pub(super) fn gives_back<T: Abort + Wait>(rt: &T, alloc: Global, step: Step) -> 
     bell.ring(!step.is_silent);
     tries.allow(step.takes);
     let room = Room::new(alloc, PLAIN.room).expect(rt, "no room");
-    match begin(rt, alloc, source, output(room, &tries), step) {
+    let sink = output(room, &tries);
+    match begin(rt, alloc, source, PLAIN.frames, sink, step) {
         Came::Paused(paused) => paused.rest.into_unread().is_some(),
         Came::Ended(_, _, _, _, _) => panic!(rt; "it ended early"),
     }
