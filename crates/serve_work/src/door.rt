@@ -19,6 +19,9 @@ pub trait Bell {
 
     /// Waits for a request or a question, for at most so many milliseconds, and answers whether one is there.
     fn is_there(&self, patience: u64) -> bool;
+
+    /// Is told that the epoch is over whose clients may still wait for their inputs.
+    fn epoch_is_over(&self) {}
 }
 
 /// Where requests come from, where they are answered, and where it is shown how their streams stand. It is

@@ -20,17 +20,18 @@ use std::thread;
 const PATIENCE: u64 = 5;
 
 /// Ends the epoch where a request is at the door, or a question of how the streams stand
-/// ([`Bell::is_there`]). The watch is over when the epoch is.
+/// ([`Bell::is_there`]). The watch is over when the epoch is, and tells the door so.
 fn watch<L: Epoch, B: Bell, T: Wait>(rt: &T, owner: &EpochOwner<L>, door: &B) {
     for _ in rt.forever() {
         if owner.hub().is_full(rt) {
-            return;
+            break;
         }
         if door.is_there(PATIENCE) {
             owner.end_epoch(rt);
-            return;
+            break;
         }
     }
+    door.epoch_is_over();
 }
 
 /// Runs each client that waits, in a thread of its own, or on the one that asked for it where it is refused.
