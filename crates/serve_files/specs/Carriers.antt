@@ -1,14 +1,16 @@
 -- A relay's state: what a carrier is asked to write, what it is lent, and what it gives back.
 use Rattle.std.specs.Prelude.{ℕ, ◌≡◌, ◌≢◌, Bool, true, false, List, take, Option, None, Some, IsSomeAnd}
-use Rattle.std.specs.Prelude.{Result, IsErr}
+use Rattle.std.specs.Prelude.{◌⊎◌, Result, IsErr}
+use Rattle.std.specs.Option.{option_transpose}
 use Rattle.std.specs.Io.{StartsWith}
 use Rattle.std.specs.Io.KnownBytes.{Keeps}
 use Rattle.std.specs.declared.io.Error.{Error}
 use Rattle.serve_files.specs.declared.load.Answer.TheVariants as answers
 use Rattle.serve_files.specs.declared.load.TheConstants.{MOST}
+use Rattle.serve_files.specs.declared.relay.Lent.{Lent}
 use Rattle.serve_files.specs.declared.relay.State.{State}
 use Rattle.serve_files.specs.declared.relay.State.TheVariants as states
-use Rattle.serve_files.specs.Relays.{IsTold, LoadState}
+use Rattle.serve_files.specs.Relays.{AppendsHanded, IsTold, LoadState}
 
 -- bytes are on their way
 abbrev pub is_busy : {W : Type 0} → State W → Bool
@@ -40,11 +42,21 @@ abbrev pub Asks : {W : Type 0} → List ℕ → Bool → State W → State W →
 Asks buf answer (states.Resting load) new = WritesOrRests buf load new × (answer ≡ has_task new)
 Asks buf answer old new = (answer ≡ false) × (new ≡ old)
 
+-- these bytes, and no others, were asked to be written, where the carrier rested
+abbrev pub WereAsked : {W : Type 0} → List ℕ → State W → State W → Type 0
+WereAsked buf old new = (answer : Bool) × Asks buf answer old new
+
 -- the writer is lent with what is asked, and the carrier writes then; where nothing is asked the state stays
-abbrev pub Lends : {W : Type 0} → Option LoadState → State W → State W → Type 0
-Lends (Some load) old new = (old ≡ states.Asked load) × (new ≡ states.Carrying)
+abbrev pub Lends : {W : Type 0} → Option (Lent W) → State W → State W → Type 0
+Lends (Some lent) old new =
+    (old ≡ states.Asked lent.load) × (new ≡ states.Carrying) × (lent.before.value ≡ lent.load)
 Lends None (states.Asked load) new = ⊥
 Lends None old new = new ≡ old
+
+-- what was handed over was written once, and that is answered
+pub record IsCarried (old new : LoadState) : Type 0 where
+  pub handed : new.handed ≡ old.handed
+  pub bytes : AppendsHanded old.contents new.contents old.handed new.answer
 
 -- the writer is given back with what its write answered; where the client is gone the state stays
 abbrev pub Settles : {W : Type 0} → LoadState → State W → State W → Type 0
@@ -60,6 +72,15 @@ Answers buf told (states.Resting load) new =
 Answers buf told (states.Asked load) new = (told ≡ None) × (new ≡ states.Asked load)
 Answers buf told states.Carrying new = (told ≡ None) × (new ≡ states.Carrying)
 Answers buf told old new = IsSomeAnd told IsErr × (new ≡ old)
+
+-- what a client is told that waited for a while
+abbrev pub Tells : {W : Type 0} → List ℕ → Result (Option ℕ) Error → State W → State W → Type 0
+Tells buf result old new =
+    (told : Option (Result ℕ Error)) × Answers buf told old new × (result ≡ option_transpose told)
+
+-- what one is told that waited until its bytes were written; a fault where there were none of its own
+abbrev pub TellsAtOnce : {W : Type 0} → List ℕ → Result ℕ Error → State W → State W → Type 0
+TellsAtOnce buf told old new = Answers buf (Some told) old new ⊎ (IsErr told × Answers buf None old new)
 
 -- a writer that is here is flushed, and nothing else changes; it fails where the writer isn't here
 abbrev pub Flushes : {W T E : Type 0} → Result T E → State W → State W → Type 0

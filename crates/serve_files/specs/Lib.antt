@@ -4,3 +4,4 @@ pub mod Outlets
 pub mod Relays
 pub mod Carriers
 pub mod Lookers
+pub mod Calls

@@ -13,7 +13,7 @@ use std::mem;
 use y4m_stream::Wanted;
 
 /// How many bytes may be read ahead at first: as many as a pipe holds.
-const ROOM: usize = 1 << 16;
+pub const ROOM: usize = 1 << 16;
 
 /// What a read told that gave no bytes.
 #[derive(Drop)]

@@ -1,6 +1,7 @@
 //! What the streams of a run are read from.
-ghost use Rattle.std.specs.Prelude.{◌≡◌};
+ghost use Rattle.std.specs.Prelude.{◌≡◌, true};
 ghost use Rattle.std.specs.Io.KnownBytes.{Keeps};
+ghost use Rattle.serve_files.specs.Calls.{IfUnwatched};
 ghost use Rattle.serve_files.specs.Inlets.{IsInflowOf, inflow_remaining, inlet_remaining};
 ghost use Rattle.serve_files.specs.declared.inlet.Inlet.TheVariants.{Slow};
 
@@ -45,7 +46,9 @@ impl<R: Read, S: Read + Drop, T: Wait + Drop> Read for Inflow<R, S, T> {
 impl<R: Read, S: Read + Drop, T: Wait + Clock + Drop> Inflow<R, S, T> {
     /// Whether reads of what is wanted would be answered at once, where that can be told. It waits for that
     /// at most so many milliseconds.
-    pub fn is_ready(&self, milliseconds: u64, wanted: Wanted) -> bool {
+    pub fn is_ready(&self, milliseconds: u64, wanted: Wanted) -> bool
+        ensures unwatched { IfUnwatched (result ≡ true) self.now }
+    {
         match self {
             Inflow::Watched(lookout) => lookout.is_ready(milliseconds, wanted),
             _ => true,
@@ -141,7 +144,9 @@ impl<R: Read, S: Read + Drop, T: Wait + Clock + Drop> Source for OverInflow<R, S
         answer
     }
 
-    fn is_ready(&self, milliseconds: u64, wanted: Wanted) -> bool {
+    fn is_ready(&self, milliseconds: u64, wanted: Wanted) -> bool
+        ensures unwatched { IfUnwatched (result ≡ true) self.now.inflow }
+    {
         self.inflow.is_ready(milliseconds, wanted)
     }
 }

@@ -15,7 +15,7 @@ mod stock;
 
 pub use files::{FileId, Files, Place, StreamFiles};
 pub use inlet::{Inflow, Inlet, OverInflow, inflow_by, inflow_of};
-pub use lookout::{Looker, Lookout};
+pub use lookout::{Looker, Lookout, Outlook};
 pub use outlet::{Outflow, Outlet, OverOutflow, outflow_by, outflow_of};
 pub use patient::Patient;
 pub use reading::Reading;

@@ -1,14 +1,16 @@
 //! A reader that can be asked whether reads would wait.
-ghost use Rattle.std.specs.Prelude.{◌≡◌, not, IfErr};
+ghost use Rattle.std.specs.Prelude.{◌≡◌, not, IfErr, IfOk};
 ghost use Rattle.std.specs.Io.{ReadsAtMost};
-ghost use Rattle.serve_files.specs.Lookers.{Asks, Lends, Reads, ReadsOrRests, Settles};
-ghost use Rattle.serve_files.specs.Lookers.{has_task, is_looking, is_unknown};
+ghost use Rattle.serve_files.specs.Lookers.{Asks, IsLooked, Lends, Reads, ReadsOrRests, Settles};
+ghost use Rattle.serve_files.specs.Lookers.{WasAsked, has_task, is_looking, is_unknown};
+ghost use Rattle.serve_files.specs.Calls.{HasRead, LooksOut};
 
 use crate::ahead::Ahead;
 use crate::reading::Reading;
 use std::alloc::Global;
 use std::io::{self, ErrorKind, Read};
 use std::mem;
+use std::snapshot::Snapshot;
 use std::sync::{Arc, Condvar, CondvarTimeouts, Mutex, Wait};
 use std::thread::{self, Threads};
 use std::time::{Clock, Duration};
@@ -34,6 +36,15 @@ enum State<R: Read> {
 }
 
 impl<R: Read + Drop> State<R> {
+    /// Nothing is read yet. Where there is no memory the reader comes back.
+    fn begun(alloc: Global, reader: R) -> Result<State<R>, R>
+        ensures ok { IfOk result (λ state. LooksOut (R.remaining reader) state) }
+        ensures err { IfErr result (λ back. back ≡ reader) }
+    {
+        let ahead = Ahead::new(alloc, reader)?;
+        Ok(State::Resting(ahead))
+    }
+
     /// Whether it isn't known yet if reads would wait.
     fn is_unknown(&self) -> bool
         ensures { result ≡ is_unknown self.now }
@@ -81,13 +92,18 @@ impl<R: Read + Drop> State<R> {
     }
 
     /// The reader for the looker, where it is to read, and what is wanted.
-    fn lend(&mut self) -> Option<(Ahead<R>, Wanted)>
+    fn lend(&mut self) -> Option<Lent<R>>
         ensures { Lends result self.old self.new }
     {
         match mem::replace(self, State::Over) {
             State::Asked(ahead, wanted) => {
                 *self = State::Looking(wanted);
-                Some((ahead, wanted))
+                let before = Snapshot::of(&ahead);
+                Some(Lent {
+                    ahead,
+                    wanted,
+                    before,
+                })
             }
             other => {
                 *self = other;
@@ -98,12 +114,13 @@ impl<R: Read + Drop> State<R> {
 
     /// The looker has read once: it is to read on, where what is wanted isn't held yet. Where the client is
     /// gone the reader is given up. It answers whether the client is to be told.
-    fn settle(&mut self, ahead: Ahead<R>) -> bool
-        ensures state { Settles ahead self.old self.new }
+    fn settle(&mut self, lent: Lent<R>) -> bool
+        requires { IsLooked lent.wanted lent.before.value lent.ahead }
+        ensures state { Settles lent.ahead self.old self.new }
         ensures told { result ≡ not (is_unknown self.new) }
     {
         if let State::Looking(wanted) = *self {
-            *self = State::of_ask(ahead, wanted);
+            *self = State::of_ask(lent.ahead, wanted);
         }
         !self.is_unknown()
     }
@@ -124,6 +141,14 @@ impl<R: Read + Drop> State<R> {
     }
 }
 
+/// A reader that is lent to a looker, what is wanted of it, and how it was then.
+#[derive(Drop)]
+struct Lent<R: Read> {
+    ahead: Ahead<R>,
+    wanted: Wanted,
+    before: Snapshot<Ahead<R>>,
+}
+
 /// What a client and its looker share.
 #[derive(Drop)]
 struct Post<R: Read> {
@@ -142,26 +167,50 @@ impl<R: Read> Post<R> {
     }
 }
 
-/// Reads of what the client wants, once and again, until the client is gone.
-fn look_out<R: Read + Drop, T: Wait>(rt: &T, post: &Post<R>) {
+impl<R: Read + Drop> Post<R> {
+    /// Reads for the client, behind a read of the looker's. It shows the state as it came back, and as it was
+    /// left.
+    fn read<T: Wait>(
+        &self,
+        rt: &T,
+        buf: &mut [u8],
+    ) -> (io::Result<usize>, Snapshot<State<R>>, Snapshot<State<R>>)
+        ensures bound { ReadsAtMost result.0 buf.new }
+        ensures read { HasRead result.0 buf.new result.1.value result.2.value }
+    {
+        let mut state = self
+            .changed
+            .wait_while(rt, self.state.lock(rt), |state| state.is_looking());
+        let came = Snapshot::of(&*state);
+        let answer = state.read(buf);
+        let left = Snapshot::of(&*state);
+        (answer, came, left)
+    }
+}
+
+/// Reads of what the client wants, once and again, until the client is gone. It shows the state then.
+fn look_out<R: Read + Drop, T: Wait>(rt: &T, post: &Post<R>) -> Snapshot<State<R>>
+    ensures { result.value ≡ State.Over }
+{
     for _ in rt.forever() {
         let mut state = post
             .changed
             .wait_while(rt, post.state.lock(rt), |state| !state.has_task());
-        let Some((mut ahead, wanted)) = state.lend() else {
-            return;
+        let Some(mut lent) = state.lend() else {
+            return Snapshot::of(&*state);
         };
         post.tell(true);
         drop(state);
-        ahead.look(wanted);
+        lent.ahead.look(lent.wanted);
         let mut state = post.state.lock(rt);
-        let is_to_tell = state.settle(ahead);
+        let is_to_tell = state.settle(lent);
         post.tell(false);
         drop(state);
         if is_to_tell {
             post.changed.notify_all();
         }
     }
+    unreachable!()
 }
 
 /// A reader that can be asked whether reads would wait.
@@ -194,25 +243,64 @@ impl<R: Read + Drop, T: Wait + Drop> Lookout<R, T> {
         }
     }
 
-    /// Whether reads of what is wanted would be answered at once: with bytes, with the end, or with a fault.
-    /// It waits for that at most so many milliseconds, but for a glance only where that wasn't asked before.
+    /// Whether reads of what is wanted would be answered at once, as [`Lookout::outlook`] tells.
     pub fn is_ready(&self, milliseconds: u64, wanted: Wanted) -> bool
     where
         T: Clock,
     {
+        self.outlook(milliseconds, wanted).is_ready
+    }
+
+    /// Tells whether reads of what is wanted would be answered at once: with bytes, with the end, or with a
+    /// fault. It waits for that at most so many milliseconds, but for a glance only where that wasn't asked
+    /// before.
+    pub fn outlook(&self, milliseconds: u64, wanted: Wanted) -> Outlook<R>
+    where
+        T: Clock,
+        ensures asked { WasAsked wanted result.found.value result.asked.value }
+        ensures ready { result.is_ready ≡ not (is_unknown result.left.value) }
+    {
         let mut state = self.post.state.lock(&self.rt);
+        let found = Snapshot::of(&*state);
         let is_new = state.ask(wanted);
+        let asked = Snapshot::of(&*state);
         if is_new {
             self.post.changed.notify_all();
         } else if milliseconds <= GLANCE {
-            return !state.is_unknown();
+            return Outlook::new(found, asked, &*state);
         }
         let patience = Duration::from_millis(milliseconds);
         let (state, _) = self
             .post
             .changed
             .wait_timeout_while(&self.rt, state, patience, |state| state.is_unknown());
-        !state.is_unknown()
+        Outlook::new(found, asked, &*state)
+    }
+}
+
+/// Whether reads would be answered at once.
+#[derive(Drop)]
+pub struct Outlook<R: Read> {
+    pub is_ready: bool,
+    /// How the state was found, asked and left. No byte of these is kept.
+    found: Snapshot<State<R>>,
+    asked: Snapshot<State<R>>,
+    left: Snapshot<State<R>>,
+}
+
+impl<R: Read + Drop> Outlook<R> {
+    fn new(found: Snapshot<State<R>>, asked: Snapshot<State<R>>, state: &State<R>) -> Outlook<R>
+        ensures found { result.found ≡ found }
+        ensures asked { result.asked ≡ asked }
+        ensures left { result.left.value ≡ state.now }
+        ensures ready { result.is_ready ≡ not (is_unknown state.now) }
+    {
+        Outlook {
+            is_ready: !state.is_unknown(),
+            found,
+            asked,
+            left: Snapshot::of(state),
+        }
     }
 }
 
@@ -231,14 +319,18 @@ impl<R: Read + Drop, T: Wait + Drop> Looker<R, T> {
         T: Threads + Copy + Send + 'static,
     {
         let rt = *rt;
+        let state = State::Idle;
         let post = Post {
-            state: Mutex::new(State::Idle),
+            state: Mutex::new(state),
             changed: Condvar::new(),
             reading,
         };
         let post = Arc::new(alloc, post).ok()?;
         let looker_post = Arc::try_clone(&post).ok()?;
-        if thread::spawn(&rt, move || look_out(&rt, &looker_post)).is_err() {
+        let looks = move || {
+            look_out(&rt, &looker_post);
+        };
+        if thread::spawn(&rt, looks).is_err() {
             return None;
         }
         let lookout = Lookout { rt, post };
@@ -249,20 +341,15 @@ impl<R: Read + Drop, T: Wait + Drop> Looker<R, T> {
     pub fn look_out(self, alloc: Global, reader: R) -> Result<Lookout<R, T>, R>
         ensures { IfErr result (λ back. back ≡ reader) }
     {
-        let ahead = Ahead::new(alloc, reader)?;
+        let state = State::begun(alloc, reader)?;
         let Self { lookout } = self;
-        *lookout.post.state.lock(&lookout.rt) = State::Resting(ahead);
+        *lookout.post.state.lock(&lookout.rt) = state;
         Ok(lookout)
     }
 }
 
 impl<R: Read + Drop, T: Wait + Drop> Read for Lookout<R, T> {
     fn read(&mut self, buf: &mut [u8]) -> io::Result<usize> {
-        let mut state = self.post.changed.wait_while(
-            &self.rt,
-            self.post.state.lock(&self.rt),
-            |state| state.is_looking(),
-        );
-        state.read(buf)
+        self.post.read(&self.rt, buf).0
     }
 }

@@ -1,14 +1,16 @@
 //! A writer whose writes can be waited for a while.
 ghost use Rattle.std.specs.Prelude.{◌≡◌, ◌≤◌, length, IfOk, IfSome};
 ghost use Rattle.std.specs.Io.{WritesAtMost};
-ghost use Rattle.serve_files.specs.Carriers.{Answers, Asks, Flushes, Lends, Settles, WritesOrRests};
-ghost use Rattle.serve_files.specs.Carriers.{has_task, is_busy};
+ghost use Rattle.serve_files.specs.Carriers.{Answers, Asks, Flushes, IsCarried, Lends, Settles, WritesOrRests};
+ghost use Rattle.serve_files.specs.Carriers.{WereAsked, has_task, is_busy};
+ghost use Rattle.serve_files.specs.Calls.{Carries, Flushed, Tried, Wrote};
 
 use crate::load::{Load, Room};
 use std::alloc::Global;
 use std::io::{self, ErrorKind, Write};
 use std::mem;
-use std::sync::{Arc, Condvar, CondvarTimeouts, Mutex, Wait};
+use std::snapshot::Snapshot;
+use std::sync::{Arc, Condvar, CondvarTimeouts, Mutex, MutexGuard, Wait};
 use std::thread::{self, Threads};
 use std::time::{Clock, Duration};
 
@@ -28,6 +30,13 @@ enum State<W: Write> {
 }
 
 impl<W: Write + Drop> State<W> {
+    /// Nothing is handed over yet.
+    fn begun(writer: W, room: Room) -> State<W>
+        ensures { Carries (W.contents writer) result }
+    {
+        State::Resting(Load::new(writer, room))
+    }
+
     /// Whether bytes are on their way.
     fn is_busy(&self) -> bool
         ensures { result ≡ is_busy self.now }
@@ -71,13 +80,14 @@ impl<W: Write + Drop> State<W> {
     }
 
     /// The writer for the carrier, where it is to write.
-    fn lend(&mut self) -> Option<Load<W>>
+    fn lend(&mut self) -> Option<Lent<W>>
         ensures { Lends result self.old self.new }
     {
         match mem::replace(self, State::Over) {
             State::Asked(load) => {
                 *self = State::Carrying;
-                Some(load)
+                let before = Snapshot::of(&load);
+                Some(Lent { load, before })
             }
             other => {
                 *self = other;
@@ -87,11 +97,12 @@ impl<W: Write + Drop> State<W> {
     }
 
     /// The carrier has written once.
-    fn settle(&mut self, load: Load<W>)
-        ensures { Settles load self.old self.new }
+    fn settle(&mut self, lent: Lent<W>)
+        requires { IsCarried lent.before.value lent.load }
+        ensures { Settles lent.load self.old self.new }
     {
         if let State::Carrying = *self {
-            *self = State::Resting(load);
+            *self = State::Resting(lent.load);
         }
     }
 
@@ -119,6 +130,23 @@ impl<W: Write + Drop> State<W> {
     }
 }
 
+/// A writer that is lent to a carrier, and how it was then.
+#[derive(Drop)]
+struct Lent<W: Write> {
+    load: Load<W>,
+    before: Snapshot<Load<W>>,
+}
+
+/// What a write answers, and the state as it was found, as it was asked, as it came back, and as it was left.
+#[derive(Drop)]
+struct Call<W: Write, A> {
+    answer: A,
+    found: Snapshot<State<W>>,
+    asked: Snapshot<State<W>>,
+    came: Snapshot<State<W>>,
+    left: Snapshot<State<W>>,
+}
+
 /// What a client and its carrier share.
 #[derive(Drop)]
 struct Post<W: Write> {
@@ -126,20 +154,110 @@ struct Post<W: Write> {
     changed: Condvar,
 }
 
-/// Writes what the client hands over, once and again, until the client is gone.
-fn carry_on<W: Write + Drop, T: Wait>(rt: &T, post: &Post<W>) {
+impl<W: Write + Drop> Post<W> {
+    /// Takes the lock, and hands these bytes over, unless others are on their way or are still to be told of.
+    /// It shows the state as it was found, and as it was left.
+    fn ask<'p, T: Wait>(
+        &'p self,
+        rt: &T,
+        buf: &[u8],
+    ) -> (
+        MutexGuard<'p, State<W>>,
+        Snapshot<State<W>>,
+        Snapshot<State<W>>,
+    )
+        ensures { WereAsked buf.now result.1.value result.2.value }
+    {
+        let mut state = self.state.lock(rt);
+        let found = Snapshot::of(&*state);
+        if state.ask(buf) {
+            self.changed.notify_all();
+        }
+        let asked = Snapshot::of(&*state);
+        (state, found, asked)
+    }
+
+    /// Writes as [`Relay::try_write`] does.
+    fn try_write<T: Wait + Clock>(
+        &self,
+        rt: &T,
+        buf: &[u8],
+        milliseconds: u64,
+    ) -> Call<W, io::Result<Option<usize>>>
+        ensures bound { IfOk result.answer (λ told. IfSome told (λ n. n ≤ length buf.now)) }
+        ensures tried { Tried buf.now result }
+    {
+        let (state, found, asked) = self.ask(rt, buf);
+        let patience = Duration::from_millis(milliseconds);
+        let (mut state, _) = self
+            .changed
+            .wait_timeout_while(rt, state, patience, |state| state.is_busy());
+        let came = Snapshot::of(&*state);
+        let told = state.answer_to(buf);
+        let left = Snapshot::of(&*state);
+        Call {
+            answer: told.transpose(),
+            found,
+            asked,
+            came,
+            left,
+        }
+    }
+
+    /// Writes, and waits until that is done.
+    fn write<T: Wait>(&self, rt: &T, buf: &[u8]) -> Call<W, io::Result<usize>>
+        ensures bound { WritesAtMost result.answer buf.now }
+        ensures wrote { Wrote buf.now result }
+    {
+        let (state, found, asked) = self.ask(rt, buf);
+        let mut state = self.changed.wait_while(rt, state, |state| state.is_busy());
+        let came = Snapshot::of(&*state);
+        let answer = state.answer_to(buf);
+        let left = Snapshot::of(&*state);
+        let answer = match answer {
+            Some(answer) => answer,
+            None => Err(io::Error::from(ErrorKind::Other)),
+        };
+        Call {
+            answer,
+            found,
+            asked,
+            came,
+            left,
+        }
+    }
+
+    /// Flushes behind what is on its way. It shows the state as it came back, and as it was left.
+    fn flush<T: Wait>(&self, rt: &T) -> (io::Result<()>, Snapshot<State<W>>, Snapshot<State<W>>)
+        ensures { Flushed result.0 result.1.value result.2.value }
+    {
+        let mut state = self
+            .changed
+            .wait_while(rt, self.state.lock(rt), |state| state.is_busy());
+        let came = Snapshot::of(&*state);
+        let answer = state.flush();
+        let left = Snapshot::of(&*state);
+        (answer, came, left)
+    }
+}
+
+/// Writes what the client hands over, once and again, until the client is gone. It shows the state then.
+fn carry_on<W: Write + Drop, T: Wait>(rt: &T, post: &Post<W>) -> Snapshot<State<W>>
+    ensures { result.value ≡ State.Over }
+{
     for _ in rt.forever() {
         let mut state = post
             .changed
             .wait_while(rt, post.state.lock(rt), |state| !state.has_task());
-        let Some(mut load) = state.lend() else {
-            return;
+        let Some(mut lent) = state.lend() else {
+            return Snapshot::of(&*state);
         };
         drop(state);
-        load.carry();
-        post.state.lock(rt).settle(load);
+        lent.load.carry();
+        post.state.lock(rt).settle(lent);
         post.changed.notify_all();
     }
+    unreachable!()
 }
 
 /// A writer whose writes can be waited for a while.
@@ -172,42 +290,17 @@ impl<W: Write + Drop, T: Wait + Drop> Relay<W, T> {
         T: Clock,
         ensures { IfOk result (λ told. IfSome told (λ n. n ≤ length buf.now)) }
     {
-        let mut state = self.post.state.lock(&self.rt);
-        if state.ask(buf) {
-            self.post.changed.notify_all();
-        }
-        let patience = Duration::from_millis(milliseconds);
-        let (mut state, _) = self
-            .post
-            .changed
-            .wait_timeout_while(&self.rt, state, patience, |state| state.is_busy());
-        state.answer_to(buf).transpose()
+        self.post.try_write(&self.rt, buf, milliseconds).answer
     }
 }
 
 impl<W: Write + Drop, T: Wait + Drop> Write for Relay<W, T> {
     fn write(&mut self, buf: &[u8]) -> io::Result<usize> {
-        let mut state = self.post.state.lock(&self.rt);
-        if state.ask(buf) {
-            self.post.changed.notify_all();
-        }
-        let mut state = self
-            .post
-            .changed
-            .wait_while(&self.rt, state, |state| state.is_busy());
-        match state.answer_to(buf) {
-            Some(answer) => answer,
-            None => Err(io::Error::from(ErrorKind::Other)),
-        }
+        self.post.write(&self.rt, buf).answer
     }
 
     fn flush(&mut self) -> io::Result<()> {
-        let mut state = self.post.changed.wait_while(
-            &self.rt,
-            self.post.state.lock(&self.rt),
-            |state| state.is_busy(),
-        );
-        state.flush()
+        self.post.flush(&self.rt).0
     }
 }
 
@@ -227,13 +320,17 @@ impl<W: Write + Drop, T: Wait + Drop> Carrier<W, T> {
     {
         let rt = *rt;
         let room = Room::new(alloc).ok()?;
+        let state = State::Idle;
         let post = Post {
-            state: Mutex::new(State::Idle),
+            state: Mutex::new(state),
             changed: Condvar::new(),
         };
         let post = Arc::new(alloc, post).ok()?;
         let carrier_post = Arc::try_clone(&post).ok()?;
-        if thread::spawn(&rt, move || carry_on(&rt, &carrier_post)).is_err() {
+        let carries = move || {
+            carry_on(&rt, &carrier_post);
+        };
+        if thread::spawn(&rt, carries).is_err() {
             return None;
         }
         let relay = Relay { rt, post };
@@ -243,7 +340,7 @@ impl<W: Write + Drop, T: Wait + Drop> Carrier<W, T> {
     /// Gives the carrier its writer. Nothing is written yet.
     pub fn carry(self, writer: W) -> Relay<W, T> {
         let Self { relay, room } = self;
-        *relay.post.state.lock(&relay.rt) = State::Resting(Load::new(writer, room));
+        *relay.post.state.lock(&relay.rt) = State::begun(writer, room);
         relay
     }
 }
