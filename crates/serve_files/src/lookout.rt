@@ -11,7 +11,7 @@ use std::alloc::Global;
 use std::io::{self, ErrorKind, Read};
 use std::mem;
 use std::snapshot::Snapshot;
-use std::sync::{Arc, Condvar, CondvarTimeouts, Mutex, Wait};
+use std::sync::{Arc, Condvar, Mutex, MutexGuard, Wait};
 use std::thread::{self, Threads};
 use std::time::{Clock, Duration};
 use y4m_stream::Wanted;
@@ -165,6 +165,47 @@ impl<R: Read> Post<R> {
             reading.set(is_reading);
         }
     }
+
+    /// What client and looker wait by.
+    fn changed(&self) -> &Condvar {
+        match &self.reading {
+            Some(reading) => reading.changed(),
+            None => &self.changed,
+        }
+    }
+
+    /// Answers a call of the client, and tells whether there was one.
+    fn end_call(&self) -> bool {
+        match &self.reading {
+            Some(reading) => reading.end_call(),
+            None => false,
+        }
+    }
+}
+
+impl<R: Read + Drop> Post<R> {
+    /// Waits for at most so many milliseconds, unless it is known whether reads would wait. Where that is more
+    /// than a glance, the wait ends too where the client is called.
+    fn await_news<'p, T: Wait>(
+        &'p self,
+        rt: &T,
+        state: MutexGuard<'p, State<R>>,
+        milliseconds: u64,
+    ) -> MutexGuard<'p, State<R>> {
+        let changed = self.changed();
+        // Before it is looked whether the client is called, so that no call is missed.
+        let seen = changed.notifications();
+        let is_called = milliseconds > GLANCE && self.end_call();
+        if is_called || !state.is_unknown() {
+            return state;
+        }
+        drop(state);
+        changed.sleep(rt, seen, Duration::from_millis(milliseconds));
+        if milliseconds > GLANCE {
+            self.end_call();
+        }
+        self.state.lock(rt)
+    }
 }
 
 impl<R: Read + Drop> Post<R> {
@@ -179,7 +220,7 @@ impl<R: Read + Drop> Post<R> {
         ensures read { HasRead result.0 buf.new result.1.value result.2.value }
     {
         let mut state = self
-            .changed
+            .changed()
             .wait_while(rt, self.state.lock(rt), |state| state.is_looking());
         let came = Snapshot::of(&*state);
         let answer = state.read(buf);
@@ -194,7 +235,7 @@ fn look_out<R: Read + Drop, T: Wait>(rt: &T, post: &Post<R>) -> Snapshot<State<R
 {
     for _ in rt.forever() {
         let mut state = post
-            .changed
+            .changed()
             .wait_while(rt, post.state.lock(rt), |state| !state.has_task());
         let Some(mut lent) = state.lend() else {
             return Snapshot::of(&*state);
@@ -207,7 +248,7 @@ fn look_out<R: Read + Drop, T: Wait>(rt: &T, post: &Post<R>) -> Snapshot<State<R
         post.tell(false);
         drop(state);
         if is_to_tell {
-            post.changed.notify_all();
+            post.changed().notify_all();
         }
     }
     unreachable!()
@@ -226,7 +267,7 @@ impl<R: Read + Drop, T: Wait + Drop> Drop for Lookout<R, T> {
     fn drop(self) {
         let Self { rt, post } = self;
         *post.state.lock(&rt) = State::Over;
-        post.changed.notify_all();
+        post.changed().notify_all();
     }
 }
 
@@ -253,7 +294,7 @@ impl<R: Read + Drop, T: Wait + Drop> Lookout<R, T> {
 
     /// Tells whether reads of what is wanted would be answered at once: with bytes, with the end, or with a
     /// fault. It waits for that at most so many milliseconds, but for a glance only where that wasn't asked
-    /// before.
+    /// before, and no longer once the client is called ([`Reading::call`]).
     pub fn outlook(&self, milliseconds: u64, wanted: Wanted) -> Outlook<R>
     where
         T: Clock,
@@ -265,15 +306,11 @@ impl<R: Read + Drop, T: Wait + Drop> Lookout<R, T> {
         let is_new = state.ask(wanted);
         let asked = Snapshot::of(&*state);
         if is_new {
-            self.post.changed.notify_all();
+            self.post.changed().notify_all();
         } else if milliseconds <= GLANCE {
             return Outlook::new(found, asked, &*state);
         }
-        let patience = Duration::from_millis(milliseconds);
-        let (state, _) = self
-            .post
-            .changed
-            .wait_timeout_while(&self.rt, state, patience, |state| state.is_unknown());
+        let state = self.post.await_news(&self.rt, state, milliseconds);
         Outlook::new(found, asked, &*state)
     }
 }

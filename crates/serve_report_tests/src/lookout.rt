@@ -282,6 +282,23 @@ fn a_read_is_told_to_others_until_it_comes_back(rt: HostRuntime) {
     same_at(&rt, comes(&rt, &reading, false), true, "the read came back");
 }
 
+#[test]
+fn a_call_ends_a_wait_that_is_no_glance(rt: HostRuntime) {
+    let (door, reader) = shut(&rt, rt.alloc(), Tape::new(TEXT, false), 0);
+    let reading = Reading::new(rt.alloc()).expect(&rt, "was memory refused?");
+    let Some(looker) = Looker::start(&rt, rt.alloc(), reading.for_another()) else {
+        return;
+    };
+    let Ok(lookout) = looker.look_out(rt.alloc(), reader) else {
+        return;
+    };
+    reading.call();
+    let wanted = Wanted::data(TEXT.len());
+    answers(&rt, &lookout, wanted, &[0, 1, PATIENCE], false);
+    door.open(&rt);
+    answers(&rt, &lookout, wanted, &[PATIENCE], true);
+}
+
 /// What is looked out at an input with, which waits or doesn't.
 fn inflow<T>(rt: &T, alloc: Global, waits: bool) -> Inflow<&'static [u8], Tape<'static>, T>
 where

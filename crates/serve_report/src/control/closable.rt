@@ -1,5 +1,5 @@
 //! A source that is closed by another thread.
-ghost use Rattle.std.specs.Prelude.{◌≡◌};
+ghost use Rattle.std.specs.Prelude.{◌≡◌, ◌≤◌};
 ghost use Rattle.std.specs.Io.{ReadsAtMost};
 ghost use Rattle.std.specs.Io.KnownBytes.{ReadConsumes};
 ghost use Rattle.serve_files.specs.Inlets.{inflow_remaining};
@@ -12,7 +12,14 @@ use std::sync::{Arc, Wait};
 use std::time::Clock;
 use y4m_stream::{Source, Wanted};
 
-/// The inflow of an order. A read that begins when the order is closed fails, and takes nothing.
+/// A wait of so many milliseconds is a client's that has other work.
+const GLANCE: u64 = 1;
+
+/// For how many milliseconds an input is waited for where no image is to come.
+const IDLE_PATIENCE: u64 = 50;
+
+/// The inflow of an order. A read that begins when the order is closed fails, and takes nothing. Where no image
+/// is to come it is waited for longer than is asked for: the client is called where its epoch ends.
 #[derive(Drop)]
 pub struct Closable<R: Read, S: Read + Drop, T: Wait + Drop> {
     inflow: Inflow<R, S, T>,
@@ -30,6 +37,17 @@ impl<R: Read, S: Read + Drop, T: Wait + Drop> Closable<R, S, T> {
             inflow,
             order,
             failures: 0,
+        }
+    }
+
+    /// For how many milliseconds the input is waited for where so many are asked for.
+    fn patience(&self, milliseconds: u64) -> u64
+        ensures { milliseconds ≤ result }
+    {
+        if milliseconds > GLANCE && self.order.is_idle() {
+            milliseconds.max(IDLE_PATIENCE)
+        } else {
+            milliseconds
         }
     }
 
@@ -61,6 +79,10 @@ impl<R: Read, S: Read + Drop, T: Wait + Clock + Drop> Source for Closable<R, S, 
     }
 
     fn is_ready(&self, milliseconds: u64, wanted: Wanted) -> bool {
-        self.order.is_closed() || self.inflow.is_ready(milliseconds, wanted)
+        self.order.is_closed() || self.inflow.is_ready(self.patience(milliseconds), wanted)
+    }
+
+    fn frame_ended(&mut self) {
+        self.order.frame_ended();
     }
 }

@@ -260,6 +260,10 @@ where
         }
         ends_epoch
     }
+
+    fn epoch_is_over(&self) {
+        self.lobby.table.lock(self.rt).call_all();
+    }
 }
 
 impl<'l, 'o, R, W, S, O, E, K, T, L> Chronicle for Doorway<'l, 'o, R, W, S, O, E, K, T, L>

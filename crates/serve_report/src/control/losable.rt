@@ -60,5 +60,6 @@ impl<W: Sink> Sink for Losable<W> {
 
     fn image_ended(&mut self) {
         self.sink.image_ended();
+        self.order.image_ended();
     }
 }

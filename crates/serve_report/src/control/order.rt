@@ -5,7 +5,7 @@ use serve_files::Reading;
 use serve_watch::Presence;
 use serve_words::StreamWord;
 use std::alloc::{AllocError, Global};
-use std::sync::atomic::{AtomicBool, Ordering};
+use std::sync::atomic::{AtomicBool, AtomicU64, Ordering};
 
 /// A stream as it was asked for: `q` units of work in every `t` moments. Any thread may close it.
 #[derive(Drop)]
@@ -24,6 +24,9 @@ pub struct Order {
     /// Whether it isn't told yet what it came to.
     pub presence: Presence,
     is_closed: AtomicBool,
+    /// How many of its frames were read whole, and how many images of these were written.
+    frames: AtomicU64,
+    images: AtomicU64,
     /// Whether a write to its output has failed.
     has_lost_output: AtomicBool,
 }
@@ -54,6 +57,8 @@ impl Order {
             reading: Reading::new(alloc)?,
             presence: Presence::new(alloc)?,
             is_closed: AtomicBool::new(false),
+            frames: AtomicU64::new(0),
+            images: AtomicU64::new(0),
             has_lost_output: AtomicBool::new(false),
         })
     }
@@ -81,7 +86,24 @@ impl Order {
 
     /// No read of it is begun from here on. Answers whether that is new.
     pub fn close(&self) -> bool {
-        !self.is_closed.swap(true, Ordering::SeqCst)
+        let is_new = !self.is_closed.swap(true, Ordering::SeqCst);
+        self.reading.call();
+        is_new
+    }
+
+    /// Notes that one more frame was read.
+    pub fn frame_ended(&self) {
+        self.frames.fetch_add(1, Ordering::SeqCst);
+    }
+
+    /// Notes that one more image was written.
+    pub fn image_ended(&self) {
+        self.images.fetch_add(1, Ordering::SeqCst);
+    }
+
+    /// Whether no image is to come of the frames that were read.
+    pub fn is_idle(&self) -> bool {
+        self.frames.load(Ordering::SeqCst) == self.images.load(Ordering::SeqCst)
     }
 
     /// Whether a write to its output has failed.

@@ -361,6 +361,13 @@ impl<R: Source + Drop, W: Sink + Drop, S: Drop> Table<R, W, S> {
         self.entries.iter().any(|entry| entry.is_ready())
     }
 
+    /// Calls the client of each stream.
+    pub fn call_all(&self) {
+        for entry in &self.entries {
+            entry.order.reading.call();
+        }
+    }
+
     /// Whether a stream waits to be served, or it is asked how they stand.
     pub fn has_request(&self) -> bool {
         self.asked > 0 || self.has_ready()
