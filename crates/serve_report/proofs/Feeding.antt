@@ -191,6 +191,29 @@ module _ (held : List ℕ) where
       let same : behind.0 ≡ [] = cc in
       ap Some (nothing ∙ sym (behind.2 ∙ ap behind_first same))
 
+-- so many bytes of it came before the rest
+abbrev pub RunsOn : ℕ → Option (List ℕ) → Option (List ℕ) → Type 0
+RunsOn n start now = IfSome start (λ text. IfSome now (λ rest. n + length rest ≤ length text))
+
+pub runs_first : (start : Option (List ℕ)) → RunsOn 0 start start
+runs_first None = tt
+runs_first (Some text) = omega arith
+
+pub runs_more : (n : ℕ) (held : List ℕ) (start left after : Option (List ℕ)) → 0 < length held
+    → Behind start (prepend_known held left) → RunsOn n start (prepend_known held left) → Keeps (prepend_known [] left) after
+    → RunsOn (n + 1) start after
+runs_more n held None left after some behind many keeps = tt
+runs_more n held (Some text) None after some behind many keeps = cc
+runs_more n held (Some text) (Some left) None some behind many keeps = tt
+runs_more n held (Some text) (Some left) (Some after) some behind many keeps =
+    omega (arith, many, length-append held left, ap length keeps, some)
+
+pub runs_on : (n most : ℕ) → n ≡ most → (start now : Option (List ℕ)) → Behind start now → RunsOn n start now
+    → IfSome start (λ text. most ≤ length text)
+runs_on n most all None now behind many = tt
+runs_on n most all (Some text) None behind many = cc
+runs_on n most all (Some text) (Some rest) behind many = omega (arith, all, many)
+
 -- ---- what is told of a line
 
 -- of the first line of known bytes this is told, and then these are left

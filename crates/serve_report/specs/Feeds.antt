@@ -1,11 +1,13 @@
 -- What a control gives, line by line.
-use Rattle.std.specs.Prelude.{ℕ, ◌≡◌, ◌≤◌, ◌<◌, ◌+◌, ◌-◌, ◌^◌, ◌==◌, min, nat_le, if◌then◌else◌}
+use Rattle.std.specs.Prelude.{ℕ, ◌≡◌, ◌≤◌, ◌<◌, ◌+◌, ◌-◌, ◌^◌, ◌==◌, ◌⊎◌, min, nat_le, if◌then◌else◌}
 use Rattle.std.specs.Prelude.{List, [], ◌∷◌, length, codes, position, take, Option, Some, None, IfSome, unwrap_or}
+use Rattle.std.specs.Prelude.{Result, Ok, Err}
 use Rattle.std.specs.Io.KnownBytes.{IsAtEnd, prepend_known}
 use Rattle.std.specs.List.{before_first}
 use Rattle.std.specs.Option.{option_map_or}
 use Rattle.std.specs.Str.{bytes_eq}
 use Rattle.y4m_header.specs.Text.{text_after}
+use Rattle.y4m_stream.specs.Failures.{one_more}
 use Rattle.serve_report.specs.declared.control.feed.Feeding.{Feeding}
 use Rattle.serve_report.specs.declared.control.feed.Feeding.TheVariants as came
 use Rattle.serve_report.specs.declared.control.feed.Found.{Found}
@@ -16,13 +18,14 @@ use Rattle.serve_report.specs.declared.control.line.LineFault.{LineFault}
 use Rattle.serve_report.specs.declared.control.line.LineFault.TheVariants.{BadLine, TooLong}
 
 -- the last line, the bytes that were read and not yet taken, what the reader has left, how many lines came,
--- and how the last of them began that is too long or isn't ended
+-- how the last of them began that is too long or isn't ended, and how many reads failed
 pub record FeedState : Type 0 where
   pub line : List ℕ
   pub held : List ℕ
   pub left : Option (List ℕ)
   pub number : ℕ
   pub head : List ℕ
+  pub failures : ℕ
 
 -- all that is to be taken
 abbrev pub rest_of : FeedState → Option (List ℕ)
@@ -77,6 +80,23 @@ numbered came.Line number = min (number + 1) (2 ^ 64 - 1)
 numbered (came.Fault fault) number = min (number + 1) (2 ^ 64 - 1)
 numbered came.End number = number
 numbered came.ReadFailed number = number
+
+-- a read failed; or a line didn't end within as many bytes as a number of 64 bits counts
+abbrev pub FailsOrRunsOn : FeedState → FeedState → Type 0
+FailsOrRunsOn old new =
+    (new.failures ≡ one_more old.failures) ⊎ IfSome (rest_of old) (λ text. 2 ^ 64 - 1 ≤ length text)
+
+-- a read failed only where it is told so
+abbrev pub CountsFailure : FeedState → Feeding → FeedState → Type 0
+CountsFailure old came.Line new = new.failures ≡ old.failures
+CountsFailure old (came.Fault fault) new = new.failures ≡ old.failures
+CountsFailure old came.End new = new.failures ≡ old.failures
+CountsFailure old came.ReadFailed new = FailsOrRunsOn old new
+
+-- the same of a line that is lost
+abbrev pub CountsLoss : {T E : Type 0} → Result T E → FeedState → FeedState → Type 0
+CountsLoss (Ok x) old new = new.failures ≡ old.failures
+CountsLoss (Err e) old new = FailsOrRunsOn old new
 
 -- a line and its line feed are lost
 abbrev pub LosesLine : Option (List ℕ) → Option (List ℕ) → Type 0

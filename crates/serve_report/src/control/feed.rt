@@ -2,7 +2,9 @@
 ghost use Rattle.std.specs.Prelude.{◌≡◌, ◌≤◌, ◌<◌, ◌+◌, ◌==◌, ◌↔◌, [], drop, take, length, position};
 ghost use Rattle.std.specs.Prelude.{IfOk, IsTrue, OnOk, false, true};
 ghost use Rattle.std.specs.Io.KnownBytes.{IsAtEnd, Keeps};
-ghost use Rattle.serve_report.specs.Feeds.{Feeds, IsFound, LosesLine, numbered, rest_of};
+ghost use Rattle.y4m_stream.specs.Failures.{failures_after};
+ghost use Rattle.serve_report.specs.Feeds.{CountsFailure, CountsLoss, Feeds, IsFound, LosesLine, numbered};
+ghost use Rattle.serve_report.specs.Feeds.{rest_of};
 ghost use Rattle.serve_report.specs.declared.control.quoted.TheConstants.{MOST_TOLD};
 
 use super::line::LineFault;
@@ -10,6 +12,7 @@ use super::quoted::MOST_TOLD;
 use std::io::{self, ErrorKind, Read};
 use std::marker::Model;
 use y4m_header::text::place_of;
+use y4m_stream::{OverRead, Source};
 
 /// The longest line, in bytes.
 pub const LONGEST_LINE: usize = 1024;
@@ -29,7 +32,7 @@ pub enum Feeding {
     Fault(LineFault),
     /// No line is left.
     End,
-    /// The reader failed. What was read of a line that didn't come whole isn't taken for one.
+    /// A read failed. What was read of a line that didn't come whole isn't taken for one.
     ReadFailed,
 }
 
@@ -47,7 +50,7 @@ enum Found {
 /// A reader whose bytes are taken line by line. No memory is taken but that of a line.
 #[derive(Drop)]
 pub struct Feed<R: Read> {
-    reader: R,
+    reader: OverRead<R>,
     room: [u8; ROOM],
     /// Where the last line begins and ends.
     line_from: usize,
@@ -72,9 +75,10 @@ impl<R: Read> Model for Feed<R> {
     ghost view = { λ f. record {
       line = drop f.line_from (take f.line_to f.room);
       held = drop f.from (take f.to f.room);
-      left = R.remaining f.reader;
+      left = R.remaining f.reader.reader;
       number = f.number;
       head = take f.head_to f.head;
+      failures = f.reader.failures;
     } };
 
     ghost invariant = { λ f. (f.from ≤ f.to) × (f.to ≤ ROOM)
@@ -84,11 +88,17 @@ impl<R: Read> Model for Feed<R> {
 impl<R: Read> Feed<R> {
     /// Nothing is read yet, and no line was given.
     pub fn new(reader: R) -> Feed<R>
-        ensures { result
-            ≡ record { line = []; held = []; left = R.remaining reader; number = 0; head = [] } }
+        ensures { result ≡ record {
+          line = [];
+          held = [];
+          left = R.remaining reader;
+          number = 0;
+          head = [];
+          failures = 0;
+        } }
     {
         Feed {
-            reader,
+            reader: OverRead::new(reader),
             room: [0; ROOM],
             line_from: 0,
             line_to: 0,
@@ -126,6 +136,7 @@ impl<R: Read> Feed<R> {
     pub fn next(&mut self) -> Feeding
         ensures line { Feeds self.old result self.new }
         ensures number { self.new.number ≡ numbered result self.old.number }
+        ensures failures { CountsFailure self.old result self.new }
     {
         let came = self.take_next();
         if matches!(came, Feeding::Line | Feeding::Fault(_)) {
@@ -138,6 +149,7 @@ impl<R: Read> Feed<R> {
     fn take_next(&mut self) -> Feeding
         ensures line { Feeds self.old result self.new }
         ensures number { self.new.number ≡ self.old.number }
+        ensures failures { CountsFailure self.old result self.new }
     {
         match self.find() {
             Ok(Found::Ended(place)) => {
@@ -161,6 +173,7 @@ impl<R: Read> Feed<R> {
         ensures bytes { Keeps (rest_of self.old) (rest_of self.new) }
         ensures found { IfOk result (IsFound self.new) }
         ensures number { self.new.number ≡ self.old.number }
+        ensures failures { self.new.failures ≡ failures_after result self.old.failures }
     {
         while !self.is_long() {
             if let Some(place) = self.line_end() {
@@ -209,6 +222,7 @@ impl<R: Read> Feed<R> {
             (λ came. came ≡ false → (self.new.held ≡ self.old.held) × IsAtEnd self.new.left) }
         ensures number { self.new.number ≡ self.old.number }
         ensures head { self.new.head ≡ self.old.head }
+        ensures failures { self.new.failures ≡ failures_after result self.old.failures }
     {
         let held = self.to - self.from;
         self.room.copy_within(self.from..self.to, 0);
@@ -252,11 +266,13 @@ impl<R: Read> Feed<R> {
 
     /// Loses a line with its line feed, or all that there is where there is none.
     fn lose_line(&mut self) -> io::Result<()>
+        requires { LONGEST_LINE < length self.old.held }
         ensures line { OnOk result (LosesLine (rest_of self.old) (rest_of self.new)) }
         ensures number { self.new.number ≡ self.old.number }
         ensures head { self.new.head ≡ self.old.head }
+        ensures failures { CountsLoss result self.old self.new }
     {
-        for _ in 0..u64::MAX {
+        for _losses in 0..u64::MAX {
             if let Some(place) = self.line_end() {
                 self.take_line(place);
                 return Ok(());
@@ -274,6 +290,7 @@ impl<R: Read> Feed<R> {
         requires { IsFound self.old Found.Last }
         ensures line { Feeds self.old result self.new }
         ensures number { self.new.number ≡ self.old.number }
+        ensures failures { CountsFailure self.old result self.new }
     {
         if self.bytes().is_empty() {
             return Feeding::End;

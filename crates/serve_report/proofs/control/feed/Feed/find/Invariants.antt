@@ -7,6 +7,7 @@ abbrev pub invariant-loop-self : goal.invariant-loop-self
 invariant-loop-self g l = record {
   bytes : Keeps (rest_of l.fn.self) (rest_of l.self);
   number : l.self.number ≡ l.fn.self.number;
+  failures : l.self.failures ≡ l.fn.self.failures;
 }
 
 abbrev pub decreases-loop-self : goal.decreases-loop-self
