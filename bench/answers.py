@@ -52,10 +52,15 @@ class Stream(Line):
         self.parts = -(-self.q * WHOLE // self.t)
         self.own_clash = False
         self.is_taken, self.sign, self.admitted, self.row_at, self.row = True, None, None, None, None
-        self.freed_at, self.until, self.stood = None, None, (0, 0, 0, 0, 0)
+        self.freed_at, self.is_gone, self.until, self.stood = None, False, None, (0, 0, 0, 0, 0)
 
     def clashes(self, other):
         return any(one[0] == two[0] and (one[1] or one[2] or two[2]) for one in self.uses for two in other.uses)
+
+    def may_hold(self, q, t, until):
+        """Whether it may hold this share until then: it ended, and stood at no later deadline."""
+        has_ended = self.admitted is not None and self.row is not None and not self.is_gone
+        return has_ended and (self.q, self.t) == (q, t) and self.until in (None, until) and self.stood[4] <= until
 
     def is_left(self, at):
         """Whether its end had been told before the answer of this number."""
@@ -223,7 +228,7 @@ class Model:
         if stream.admitted is None:
             stream.freed_at = at
         elif not self.served():
-            self.free(at, self.streams)
+            self.free(at, self.streams, True)
         self.tell_end(stream)
 
     def refused(self, at, stream, stop):
@@ -234,10 +239,11 @@ class Model:
         stream.is_taken, stream.freed_at = False, at
 
     @staticmethod
-    def free(at, streams):
+    def free(at, streams, are_gone):
+        """The shares of those of them that ended are free. `are_gone` tells whether none is told as held from here on."""
         for one in streams:
-            if one.row is not None and one.freed_at is None:
-                one.freed_at = at
+            if one.row is not None:
+                one.freed_at, one.is_gone = at if one.freed_at is None else one.freed_at, one.is_gone or are_gone
 
     # a state
 
@@ -268,11 +274,13 @@ class Model:
 
     def take_held(self, at, name, q, t, until):
         q, t, until = int(q), int(t), int(until)
-        found = [one for one in self.all_named(name) if one.admitted is not None and one.row is not None and (one.q, one.t) == (q, t)
-                 and one.freed_at is None and one.until in (None, until)]
-        check(found and until >= found[-1].stood[4], f"{name!r} holds {q}:{t} until {until}")
-        found[-1].until = until
-        self.in_block(at, name, 2)["held"].append(found[-1])
+        held = self.in_block(at, name, 2)["held"]
+        found = [one for one in self.all_named(name) if one not in held and one.may_hold(q, t, until)]
+        check(found, f"{name!r} holds {q}:{t} until {until}")
+        # of two of one name and share, that one of which this was told before, or the earlier
+        one = min(found, key=lambda one: one.until is None)
+        one.until = until
+        held.append(one)
 
     def take_shares(self, at, kept, whole):
         block = self.in_block(at, b"shares", 3)
@@ -291,7 +299,8 @@ class Model:
         check(moment >= self.now, f"the clock went back: {moment} behind {self.now}")
         check(all(one.until > moment for one in block["held"]), f"a share is held at {moment} until an earlier moment")
         ended = [one for one in self.streams if one.row is not None and one.row_at < block["from"] and one not in block["held"]]
-        self.free(at, ended)
+        # a share that was given on isn't told as held, and is once more where who got it ends before that moment
+        self.free(at, ended, not told)
         self.now, self.shown, self.block = moment, self.shown + 1, None
 
     # the end
