@@ -17,7 +17,7 @@ Status:
   0  All went well.
   1  A fault of a stream or of the script, a stop of 'serve' that is not whole
      or closed, but of a stream that a line of FILE asked for, or no memory.
-  2  Wrong words, or a stream that would go to a terminal.
+  2  A usage error, or a stream that would go to a terminal.
 A pipe has the status of its last program, but with 'set -o pipefail' that of
 one that failed.
 
@@ -39,9 +39,9 @@ pub const OPERATIONS: &str = "1 to 8 operations joined by '+', as crop:16,8,1888
 pub const BAND: &str = "Luma rows of a band, even, 2 to 128";
 
 /// What `--band` is, at length.
-pub const BAND_LONG: &str = "Luma rows of a band, the part of a picture that is worked on at a time:
-even, 2 to 128. The images are the same for each B, and a frame costs
-less for a higher one";
+pub const BAND_LONG: &str = "Luma rows of a band, the part of a picture that is worked on at a
+time: even, 2 to 128. The images are the same for each B, and a frame
+costs less for a higher one";
 
 /// What `--threads` is.
 pub const THREADS: &str = "Threads, 1 or 2";
@@ -49,9 +49,9 @@ pub const THREADS: &str = "Threads, 1 or 2";
 /// What `--threads` is, at length.
 pub const THREADS_LONG: &str =
     "Threads, 1 or 2. With 2, a frame of 262144 bytes or more is read while
-the image of the one before it is made and written, a smaller one behind
-it; one frame more may have been read where a write fails. The images are
-the same";
+the image of the one before it is made and written, a smaller one
+behind it; one frame more may have been read where a write fails. The
+images are the same";
 
 /// What `--quiet` of `filter` is.
 pub const QUIET: &str = "Show no progress and no hint on a terminal; faults are told";
@@ -86,15 +86,15 @@ Limits:
   a line               1024 bytes, with its line feed
   frames               16777216
   cost of a frame      32768: each band of blur:R costs 1 + R, any other band 1
-  chroma (C)           420, 420jpeg, 420mpeg2, 420paldv, 422, 411, 444, 444alpha,
-                       mono; 420 where there is no C
+  chroma (C)           420, 420jpeg, 420mpeg2, 420paldv, 422, 411, 444,
+                       444alpha, mono; 420 where there is no C
 
 Faults, each one line on standard error behind 'y4mserve: '; status 2:
   bad band              B is odd.
   BadOp                 A part of OPS has none of the forms above.
   TooManyOps            OPS has more than 8 parts.
-  output is a terminal  The stream would be shown as text: send it to a pipe or a
-                        file.
+  output is a terminal  The stream would be shown as text: send it to a pipe or
+                        a file.
 Status 1:
   read Header E         The first line is no header line, by E:
       NotY4m            It does not begin with the word YUV4MPEG2.
@@ -110,7 +110,8 @@ Status 1:
   read Device           Reading failed.
   ops BadCrop           The rectangle is empty, leaves the picture or cuts a
                         chroma sample.
-  ops TooManySteps      A frame costs more than its limit: a higher --band helps.
+  ops TooManySteps      A frame costs more than its limit: a higher --band
+                        helps.
   write N               Writing failed, or nobody reads on; N bytes went out.
   TooManyFrames         One more frame follows the last that is read.
   NoMemory              No memory was left; also behind 'read' and 'ops'.
@@ -156,22 +157,23 @@ Commands of a session script before 'start'; a setting prints 'ok':
                  16777216; at first 16777216.
   stream NAME Q T QUEUE OUTBOX OPS HEADER  Prints 'stream S', S counted from 0.
                  A stream with an account of Q units in every T moments, where
-                 1 <= Q <= T <= 1048576, with at most QUEUE frames unfinished and
-                 OUTBOX images waiting, each 1 to 256. OPS is as for 'filter';
-                 HEADER is all that follows, spaces too: the header line of its
-                 frames. The line is checked in this order: its form, the name,
-                 OPS, HEADER, and the chain of OPS for such frames with the last
-                 'band'.
-  start          Prints 'started'. There are 1 to 64 streams. A stream's share is
-                 Q * 1000000 / T, rounded up; all together are at most 1000000
-                 for each worker. The numbers are checked here: first all limits,
-                 then stream by stream Q and T and the share.
+                 1 <= Q <= T <= 1048576, with at most QUEUE frames unfinished
+                 and OUTBOX images waiting, each 1 to 256. OPS is as for
+                 'filter'; HEADER is all that follows, spaces too: the header
+                 line of its frames. The line is checked in this order: its
+                 form, the name, OPS, HEADER, and the chain of OPS for such
+                 frames with the last 'band'.
+  start          Prints 'started'. There are 1 to 64 streams. A stream's share
+                 is Q * 1000000 / T, rounded up; all together are at most
+                 1000000 for each worker. The numbers are checked here: first
+                 all limits, then stream by stream Q and T and the share.
 
 Commands of a session script after 'start':
   arrive NAME HEX  A frame arrives, with the line 'FRAME'; HEX is its samples,
-                 the planes one after another: 'accepted SEQ', SEQ counted from 0
-                 in its stream. Where no frame of the stream was unfinished, its
-                 account moves as by 'idle' at the moment that the clock shows.
+                 the planes one after another: 'accepted SEQ', SEQ counted from
+                 0 in its stream. Where no frame of the stream was unfinished,
+                 its account moves as by 'idle' at the moment that the clock
+                 shows.
   lease W        The worker asks for a lease: 'leased NAME SEQ grant G'. It goes
                  to the ready stream with the earliest deadline, then the lowest
                  number, for at most the quantum, the bands that are left, and
@@ -193,8 +195,8 @@ Commands of a session script after 'start':
   admit NAME Q T QUEUE OUTBOX OPS HEADER  Prints 'admitted S', the next number.
                  One stream more is asked for. The line is read and checked as
                  that of 'stream', with the last 'band' and 'frames'. The shares
-                 that are held have to leave room for its own: a stream holds its
-                 share until it is closed, all its frames are finished and
+                 that are held have to leave room for its own: a stream holds
+                 its share until it is closed, all its frames are finished and
                  collected, and the clock has come to its deadline. A refused
                  stream's name stays free.
 
@@ -203,8 +205,8 @@ Refusals change nothing, and the script goes on: 'refused N WORD', the lowest N:
   2 Closed         A frame arrives, and the stream was closed.
   3 WrongSize      A frame of the stream has another number of samples.
   4 TooManyFrames  The stream has accepted as many frames as it may.
-  5 Full           As many frames as QUEUE says are unfinished. A leased one keeps
-                   its place.
+  5 Full           As many frames as QUEUE says are unfinished. A leased one
+                   keeps its place.
   6 NoMemory       There was no memory for the frame's images; or for a stream
                    that is asked for, and nothing else speaks against it.
   7 NoWorker       There is no such worker.
@@ -216,16 +218,18 @@ Refusals change nothing, and the script goes on: 'refused N WORD', the lowest N:
   13 ClockEnd      The moment is too late.
   14 AlreadyClosed  The stream was closed before.
   15 Empty         No image waits, and 16 doesn't hold.
-  16 Drained       No image will come: the stream is closed and all is collected.
+  16 Drained       No image will come: the stream is closed and all is
+                   collected.
   20 TooManyStreams  64 streams have a number, and none is used again.
   21 BadLimits     A number of the line that asks for a stream is outside its
                    limits, or the last 'frames' is.
   22 BadBandwidth  Its Q and T are out of range.
-  23 Overload      The shares that are held leave the stream less than its share.
+  23 Overload      The shares that are held leave the stream less than its
+                   share.
 
-Example: with one worker these lines print 'stream 0', 'stream 1', 'stream 2' and
-'line 4: Overload c', status 1; behind 'workers 2', which prints 'ok', the last
-one prints 'started', status 0:
+Example: with one worker these lines print 'stream 0', 'stream 1', 'stream 2'
+and 'line 4: Overload c', status 1; behind 'workers 2', which prints 'ok', the
+last one prints 'started', status 0:
   stream a 1 3 4 4 invert YUV4MPEG2 W1 H1 Cmono
   stream b 1 3 4 4 invert YUV4MPEG2 W1 H1 Cmono
   stream c 1 3 4 4 invert YUV4MPEG2 W1 H1 Cmono
@@ -248,8 +252,8 @@ Faults of the script, printed as the last line, 'line N: WORD'; status 1:
   UnknownChroma  C of HEADER.
   NotDivisible   W or H of HEADER.
   TooLarge       W, H or a frame of HEADER.
-  BadCrop        A rectangle of OPS is empty, leaves the picture or cuts a chroma
-                 sample.
+  BadCrop        A rectangle of OPS is empty, leaves the picture or cuts a
+                 chroma sample.
   TooManySteps   A frame of the stream costs more than 32768 units.
   BadLimits      A number is outside its limits: at 'band', else at 'start'.
   BadBandwidth   Q and T of 'account' are out of range, or at 'start', with NAME
@@ -272,7 +276,7 @@ and Q:T is a stream's share of these. When all streams have ended, a line for
 each is printed. With --control streams come and go while others run.";
 
 /// What a word of a stream is.
-pub const STREAM: &str = "A stream: its name, its two files, its share and its operations";
+pub const STREAM: &str = "A stream: its name, files, share and operations";
 
 /// What a word of a stream is, at length.
 pub const STREAM_LONG: &str = "A stream, in six parts; there may be 64:
@@ -282,35 +286,35 @@ pub const STREAM_LONG: &str = "A stream, in six parts; there may be 64:
   Q, T  The stream's share: Q units in every T moments, where
         1 <= Q <= T <= 1048576.
   OPS   Its operations, as for 'filter'.
-IN and OUT hold no colon. Either may be a FIFO (see mkfifo), so that decoders
-and encoders stand on both sides, and IN may be /dev/stdin";
+IN and OUT hold no colon. Either may be a FIFO (see mkfifo), so that
+decoders and encoders stand on both sides, and IN may be /dev/stdin";
 
 /// What `--workers` is.
 pub const WORKERS: &str = "Threads that filter, 1 to 16";
 
 /// What `--workers` is, at length.
-pub const WORKERS_LONG: &str =
-    "Threads that filter, 1 to 16. Each stream has one more, which reads and
-writes. As many as the machine has processors is the fastest. Shares decide
-only where streams wait for a worker, so where workers are fewer than streams";
+pub const WORKERS_LONG: &str = "Threads that filter, 1 to 16. Each stream has one more, which reads
+and writes. As many as the machine has processors is the fastest.
+Shares decide only where streams wait for a worker, so where workers
+are fewer than streams";
 
 /// What `--quantum` is.
-pub const QUANTUM: &str = "Most bands that a worker does at a time, 1 to 64";
+pub const QUANTUM: &str = "Most bands a worker does at a time, 1 to 64";
 
 /// What `--quantum` is, at length.
 pub const QUANTUM_LONG: &str = "Most bands of a frame that a worker does before it looks again which
-stream comes first, 1 to 64. A lower one lets a stream that is behind its
-share come sooner, a higher one costs less";
+stream comes first, 1 to 64. A lower one lets a stream that is behind
+its share come sooner, a higher one costs less";
 
 /// What `--journal` is.
-pub const JOURNAL: &str = "Most entries of a journal, 66 to 1048576";
+pub const JOURNAL: &str = "Most journal entries, 66 to 1048576";
 
 /// What `--journal` is, at length.
 pub const JOURNAL_LONG: &str =
     "Most entries of a journal, 66 to 1048576; with --control 130 at least.
-Each call of a stream or a worker is an entry; where the journal is full,
-all streams stand still until each client is back. A longer one is full
-less often, and takes more memory";
+Each call of a stream or a worker is an entry; where the journal is
+full, all streams stand still until each client is back. A longer one
+is full less often, and takes more memory";
 
 /// What `--control` is.
 pub const CONTROL: &str = "File of lines that ask for more streams while others run";
@@ -321,8 +325,8 @@ standard input:
   NAME:IN:OUT:Q:T:OPS  A stream comes.
   close NAME           No more is read of the stream of this name.
   state                How the streams stand is told.
-  end                  No stream is taken after it, and the streams end
-                       by themselves.
+  end                  No stream is taken after it, and the streams
+                       end by themselves.
   stop                 The same, and no more is read of all streams.
 An empty line and one that begins with '#' do nothing. Streams may be
 named on the command line too, or none may";
@@ -466,7 +470,7 @@ Status 1, in place of the report, or with --control beside it:
   write                 The report couldn't be written.
 Status 1, beside the report:
   control read          Reading FILE failed, and no more of it is read.
-  trace                 The file of --trace couldn't be made or written whole, or
-                        there was no memory for some of the trace.
+  trace                 The file of --trace couldn't be made or written whole,
+                        or there was no memory for some of the trace.
 Status 1 also where a stop is not whole or closed, but of a stream that a line
 of FILE asked for.";
