@@ -33,7 +33,7 @@ fn session_of<'a, W: Sink + Drop + Send>(
 ) -> Result<Vec<Served<Taped<'a>, W>>, Unended<Taped<'a>, W>>
     requires one { IsInput one.0 one.1 }
     requires other { IsInput other.0 other.1 }
-    ensures { IfErr result (GivesBack W.contents W.failures (one.1 ∷ other.1 ∷ [])) }
+    ensures { IfErr result (GivesBack W.contents W.failures (one.entry.1 ∷ other.entry.1 ∷ [])) }
 {
     let specs = two_of(rt, alloc, one.0, other.0);
     let inputs = two_of(rt, alloc, one.1, other.1);
